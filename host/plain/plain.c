@@ -1,0 +1,91 @@
+/*
+ * Answers a trace: reads calls in the trace form on standard input and writes
+ * each with its answer on standard output. It is written from the papers
+ * alone, so that what it answers can be laid beside what the library under
+ * proof answers.
+ *
+ * Status 0: every line was understood; 1: some line was not, and was answered
+ * by "? LINE"; 2: the output could not be written or the input not read.
+ *
+ * The awkward case: a line is known not to be understood only after its
+ * arguments are looked at, so the echo of the call is put first and taken
+ * back then.
+ */
+#include <stdio.h>
+
+#include "plain_words.h"
+
+static plain_input input;
+static plain_line line;
+static plain_session session;
+
+static void put_call(plain_text *text, const plain_call *call)
+{
+    for (size_t at = 0; at < call->count; at++) {
+        if (at > 0)
+            plain_text_string(text, " ");
+        plain_text_put(text, call->words[at].text, call->words[at].length);
+    }
+}
+
+static void put_line_not_understood(void)
+{
+    plain_text_string(&session.text, "? ");
+    plain_text_put(&session.text, line.text, line.length);
+    while (plain_input_rest(&input, &line)) {
+        plain_text_flush(&session.text);
+        plain_text_put(&session.text, line.text, line.length);
+    }
+    plain_text_end_line(&session.text);
+}
+
+static const plain_meaning *meaning_of(const plain_meaning *meanings,
+                                       plain_word word)
+{
+    while (meanings->name != NULL && !plain_word_is(word, meanings->name))
+        meanings++;
+    return meanings->name != NULL ? meanings : NULL;
+}
+
+/* False, with nothing put, where the call is not understood. */
+static bool answer_call(const plain_call *call)
+{
+    const plain_meaning *meaning =
+        meaning_of(plain_header_words, call->words[0]);
+    size_t begin = session.text.used;
+
+    if (meaning == NULL || call->count - 1 != meaning->arguments)
+        return false;
+    put_call(&session.text, call);
+    if (!meaning->answer(&session, call->words + 1)) {
+        session.text.used = begin;
+        return false;
+    }
+    plain_text_end_line(&session.text);
+    return true;
+}
+
+int main(void)
+{
+    bool all_understood = true;
+    plain_call call;
+
+    input.file = stdin;
+    session.text.file = stdout;
+    while (plain_input_line(&input, &line)) {
+        plain_kind kind = plain_line_split(&line, &call);
+
+        if (kind == PLAIN_NOTHING)
+            continue;
+        if (kind == PLAIN_NOT_UNDERSTOOD || !answer_call(&call)) {
+            all_understood = false;
+            put_line_not_understood();
+        }
+    }
+    plain_text_flush(&session.text);
+    if (session.text.failed || ferror(stdin)) {
+        fputs("plain: cannot read the input or write the output\n", stderr);
+        return 2;
+    }
+    return all_understood ? 0 : 1;
+}

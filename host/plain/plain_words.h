@@ -1,0 +1,48 @@
+/*
+ * The words of the trace form and what each does. A word's function reads its
+ * arguments, calls the library and puts " = " and the answer; it answers
+ * false where an argument is not understood, and has then called nothing.
+ */
+#ifndef PLAIN_WORDS_H
+#define PLAIN_WORDS_H
+
+#include <stdbool.h>
+#include <stddef.h>
+#include <stdint.h>
+
+#include "plain_text.h"
+#include "plain_trace.h"
+
+enum {
+    PLAIN_ROOM_MOST = 65535,
+    PLAIN_GUARD = 64 /* octets watched beyond the room */
+};
+
+/* What lasts from one call to the next. */
+typedef struct {
+    plain_octets octets;
+    uint8_t output[PLAIN_ROOM_MOST + PLAIN_GUARD];
+    plain_text text;
+} plain_session;
+
+/* The arguments: the words after the first. */
+typedef bool plain_answer(plain_session *session, const plain_word *arguments);
+
+typedef struct {
+    const char *name;
+    size_t arguments;
+    plain_answer *answer;
+} plain_meaning;
+
+/* The words for headers, addresses and checksum; the last has no name. */
+extern const plain_meaning plain_header_words[];
+
+/* Sets the output to a5, as far as it is watched. */
+void plain_output_lend(plain_session *session, uint32_t room);
+
+/* Puts the octets that were to be written, or "-" for none, and " !" where
+ * any other octet changed. */
+void plain_output_answer(plain_session *session, uint32_t room,
+                         uint32_t written);
+
+#endif
