@@ -39,22 +39,24 @@ static void put_line_not_understood(void)
     plain_text_end_line(&session.text);
 }
 
-static const plain_meaning *meaning_of(const plain_meaning *meanings,
-                                       plain_word word)
+/* Answers the nameless last one where no word is so named. */
+static const plain_meaning *look_up(const plain_meaning *meanings,
+                                    plain_word word)
 {
     while (meanings->name != NULL && !plain_word_is(word, meanings->name))
         meanings++;
-    return meanings->name != NULL ? meanings : NULL;
+    return meanings;
 }
 
 /* False, with nothing put, where the call is not understood. */
 static bool answer_call(const plain_call *call)
 {
-    const plain_meaning *meaning =
-        meaning_of(plain_header_words, call->words[0]);
+    const plain_meaning *meaning = look_up(plain_relay_words, call->words[0]);
     size_t begin = session.text.used;
 
-    if (meaning == NULL || call->count - 1 != meaning->arguments)
+    if (meaning->name == NULL)
+        meaning = look_up(plain_header_words, call->words[0]);
+    if (meaning->name == NULL || call->count - 1 != meaning->arguments)
         return false;
     put_call(&session.text, call);
     if (!meaning->answer(&session, call->words + 1)) {
@@ -72,6 +74,7 @@ int main(void)
 
     input.file = stdin;
     session.text.file = stdout;
+    plain_relay_fresh(&session.relay);
     while (plain_input_line(&input, &line)) {
         plain_kind kind = plain_line_split(&line, &call);
 

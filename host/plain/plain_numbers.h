@@ -11,7 +11,12 @@
 #define PLAIN_NUMBERS_H
 
 enum {
-    PLAIN_LENGTH_MOST = 8191, /* 13 bits */
+    PLAIN_PORTS = 8,
+    PLAIN_ROUTES = 64,
+    PLAIN_GROUPS = 16,
+    PLAIN_PATHS = 16,
+    PLAIN_QUEUE_ENTRIES = 32,
+    PLAIN_LENGTH_MOST = 8191, /* 13 bits; the largest MTU too */
     PLAIN_HEADER_MOST = 50,
     PLAIN_DATA_MOST = 8141
 };
@@ -23,9 +28,28 @@ typedef enum {
     PLAIN_BAD_LENGTH = 3,
     PLAIN_BAD_FORM = 4,
     PLAIN_BAD_CHECKSUM = 5,
+    PLAIN_BAD_ADDRESS = 6,
+    PLAIN_NO_DOMAIN = 7,
+    PLAIN_NOT_CARRIED = 8,
+    PLAIN_NOT_FOR_US = 9,
+    PLAIN_HOPS_USED_UP = 10,
+    PLAIN_NO_ROUTE = 11,
+    PLAIN_ROUTE_NOT_UP = 12,
+    PLAIN_LEAVES_DOMAIN = 13,
+    PLAIN_TOO_BIG = 14,
+    PLAIN_ALL_FULL = 15,
+    PLAIN_NO_PORT = 16,
     PLAIN_NO_ROOM = 17,
+    PLAIN_NOTHING_WAITS = 18,
     PLAIN_FIELD_OUT_OF_RANGE = 19,
-    PLAIN_TOO_MUCH_DATA = 20
+    PLAIN_TOO_MUCH_DATA = 20,
+    PLAIN_SET_NUMBER = 21, /* settings: place or port */
+    PLAIN_SET_MASK = 22,
+    PLAIN_SET_SAME = 23,
+    PLAIN_SET_CODE = 24,
+    PLAIN_SET_CLASS = 25,
+    PLAIN_UNKNOWN_TP_ID = 26,
+    PLAIN_SET_WAITING = 35
 } plain_refusal;
 
 #endif

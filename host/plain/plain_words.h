@@ -10,6 +10,7 @@
 #include <stddef.h>
 #include <stdint.h>
 
+#include "plain_relay.h"
 #include "plain_text.h"
 #include "plain_trace.h"
 
@@ -20,6 +21,7 @@ enum {
 
 /* What lasts from one call to the next. */
 typedef struct {
+    plain_relay relay;
     plain_octets octets;
     uint8_t output[PLAIN_ROOM_MOST + PLAIN_GUARD];
     plain_text text;
@@ -34,7 +36,9 @@ typedef struct {
     plain_answer *answer;
 } plain_meaning;
 
-/* The words for headers, addresses and checksum; the last has no name. */
+/* The words of the relay, and those for headers, addresses and checksum; the
+ * last of each has no name. */
+extern const plain_meaning plain_relay_words[];
 extern const plain_meaning plain_header_words[];
 
 /* Sets the output to a5, as far as it is watched. */

@@ -273,6 +273,23 @@ static void test_read_refusals(void)
     }
 }
 
+/* The octets end where their array ends, so that a sanitizer sees a P-field
+ * or a control octet that is looked at without being there. */
+static void test_nothing_read_beyond(void)
+{
+    static const uint8_t before_p_field[] = {0x20, 0x05, 0x1a, 0x10, 0x14};
+    static const uint8_t before_octet_5[] = {0x20, 0x04, 0x1a, 0x80};
+    static const uint8_t before_octet_4[] = {0x20, 0x04, 0x1a};
+    plain_header header;
+
+    CHECK_EQUAL(plain_header_read(before_p_field, sizeof before_p_field,
+                                  &header), PLAIN_BAD_LENGTH);
+    CHECK_EQUAL(plain_header_read(before_octet_5, sizeof before_octet_5,
+                                  &header), PLAIN_SHORT);
+    CHECK_EQUAL(plain_header_read(before_octet_4, sizeof before_octet_4,
+                                  &header), PLAIN_SHORT);
+}
+
 /* A control field longer than it need be is read, and octets beyond the
  * length field are not looked at. */
 static void test_long_control_field(void)
@@ -486,6 +503,7 @@ int main(void)
     test_checksum();
     test_good_headers();
     test_read_refusals();
+    test_nothing_read_beyond();
     test_long_control_field();
     test_send_on();
     test_build_refusals();

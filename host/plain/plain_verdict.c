@@ -1,0 +1,289 @@
+/*
+ * The verdict on one received datagram, in the steps of page 01: the checks
+ * that end the call, the local half, the ports wanted, those struck out, the
+ * copies.
+ *
+ * The steps of the onward half hand on a set of ports that only grows smaller
+ * and end the half by a refusal. A set that is empty from the start, without a
+ * refusal, is "not asked".
+ *
+ * The awkward cases: a path is never compared with an address, even of the
+ * same number, so a datagram has either a destination or a path and the
+ * findings of the other kind stay "no"; and a one-octet address is filled in
+ * from the arrival port, never from the port it leaves by.
+ */
+#include "plain_header.h"
+#include "plain_relay.h"
+#include "plain_search.h"
+
+/* The assigned numbers of table 3-2, as 2^n; 0 is reserved, not assigned. */
+#define ASSIGNED_TP_IDS \
+    (1u << 1 | 1u << 4 | 1u << 5 | 1u << 6 | 1u << 8 | 1u << 10 | 1u << 11)
+
+/* What is known of the datagram once no check refuses it. */
+typedef struct {
+    plain_header header;
+    uint32_t arrival;
+    bool by_path;
+    plain_address destination;     /* where not by path */
+    plain_path path;               /* where by path */
+    plain_class class;             /* of the destination, else invalid */
+    bool for_this_node;            /* a port's address, limited broadcast */
+    bool our_broadcast;
+    bool subscribed;               /* multicast, on the arrival port */
+    const plain_group *group;      /* where multicast */
+    const plain_path_place *place; /* where by path */
+} datagram;
+
+static uint32_t domain_of(plain_address address)
+{
+    return address.bits & 0xffffff00;
+}
+
+static plain_set without(plain_set set, uint32_t port)
+{
+    set.bits &= ~((uint32_t)1 << port);
+    return set;
+}
+
+/* Steps 5 and 6: fills in what is one octet, then judges the classes. */
+static plain_refusal judge_addresses(const plain_relay *relay, datagram *d)
+{
+    const plain_fields *fields = &d->header.fields;
+    plain_address own = relay->ports[d->arrival].address;
+    uint32_t domain = fields->extended ? 0 : domain_of(own);
+    uint32_t destination = domain | (uint32_t)fields->destination.low;
+    plain_address source = {domain | (uint32_t)fields->source.low};
+
+    if (!fields->extended && own.bits >> 24 != 10)
+        return PLAIN_NO_DOMAIN;
+    d->by_path = !fields->source_present;
+    d->class = PLAIN_INVALID;
+    if (d->by_path) {
+        d->path.bits = destination;
+        return plain_path_valid(d->path) ? PLAIN_GOOD : PLAIN_BAD_ADDRESS;
+    }
+    d->destination.bits = destination;
+    d->class = plain_address_class(d->destination);
+    if (d->class == PLAIN_INVALID ||
+        plain_address_class(source) != PLAIN_UNICAST)
+        return PLAIN_BAD_ADDRESS;
+    return PLAIN_GOOD;
+}
+
+/* Steps 2 to 6. */
+static plain_refusal judge(const plain_relay *relay, const uint8_t *octets,
+                           size_t count, datagram *d)
+{
+    plain_refusal refusal = plain_header_read(octets, count, &d->header);
+
+    if (refusal != PLAIN_GOOD)
+        return refusal;
+    if (d->header.fields.routing != 0 || d->header.fields.ipv6)
+        return PLAIN_NOT_CARRIED;
+    return judge_addresses(relay, d);
+}
+
+/* Looks up all that either half will ask. */
+static void recognise(const plain_relay *relay, datagram *d)
+{
+    d->for_this_node = false;
+    d->our_broadcast = false;
+    d->subscribed = false;
+    d->group = NULL;
+    d->place = NULL;
+    if (d->by_path) {
+        d->place = plain_search_path(relay, d->path);
+        return;
+    }
+    d->for_this_node = d->class == PLAIN_LIMITED_BROADCAST ||
+                       plain_search_own(relay, d->destination);
+    d->our_broadcast = plain_search_broadcast(relay, d->destination);
+    if (d->class == PLAIN_MULTICAST)
+        d->group = plain_search_group(relay, d->destination);
+    if (d->group != NULL)
+        d->subscribed = plain_set_has(d->group->subscribed, d->arrival);
+}
+
+static uint32_t local_half(const datagram *d)
+{
+    bool here = d->place != NULL && d->place->here;
+
+    if (!d->for_this_node && !d->our_broadcast && !d->subscribed && !here &&
+        !d->header.fields.intermediate)
+        return PLAIN_LOCAL_NO;
+    if ((ASSIGNED_TP_IDS >> d->header.fields.tp_id & 1) == 0)
+        return PLAIN_UNKNOWN_TP_ID;
+    return PLAIN_LOCAL_DELIVERED;
+}
+
+static plain_refusal wanted_for_group(const plain_relay *relay,
+                                      const datagram *d, plain_set *wanted)
+{
+    if (d->subscribed && without(relay->set_up, d->arrival).bits == 0)
+        return PLAIN_GOOD;
+    if (d->group != NULL)
+        *wanted = without(d->group->send, d->arrival);
+    return wanted->bits != 0 ? PLAIN_GOOD : PLAIN_NO_ROUTE;
+}
+
+static plain_refusal wanted_for_path(const datagram *d, plain_set *wanted)
+{
+    if (d->place == NULL)
+        return PLAIN_NO_ROUTE;
+    *wanted = without(d->place->send, d->arrival);
+    return wanted->bits != 0 || d->place->here ? PLAIN_GOOD : PLAIN_NO_ROUTE;
+}
+
+static plain_refusal wanted_by_route(const plain_relay *relay,
+                                     const datagram *d, plain_set *wanted)
+{
+    const plain_route *route = plain_search_route(relay, d->destination);
+
+    if (route == NULL)
+        return PLAIN_NO_ROUTE;
+    if (route->availability != PLAIN_UP)
+        return PLAIN_ROUTE_NOT_UP;
+    wanted->bits = (uint32_t)1 << route->port;
+    return PLAIN_GOOD;
+}
+
+/* The first line that fits decides. The set wanted comes in empty; where it
+ * stays so without a refusal, the onward half is not asked. */
+static plain_refusal wanted_ports(const plain_relay *relay, const datagram *d,
+                                  uint32_t local, plain_set *wanted)
+{
+    if (d->for_this_node)
+        return PLAIN_GOOD;
+    if (!relay->router)
+        return local != PLAIN_LOCAL_NO ? PLAIN_GOOD : PLAIN_NOT_FOR_US;
+    if (d->our_broadcast) {
+        *wanted = without(relay->set_up, d->arrival);
+        return PLAIN_GOOD;
+    }
+    if (d->class == PLAIN_MULTICAST)
+        return wanted_for_group(relay, d, wanted);
+    if (d->by_path)
+        return wanted_for_path(d, wanted);
+    return wanted_by_route(relay, d, wanted);
+}
+
+static plain_set inside_domain(const plain_relay *relay, plain_set set,
+                               uint32_t arrival)
+{
+    uint32_t domain = domain_of(relay->ports[arrival].address);
+
+    for (uint32_t port = 0; port < PLAIN_PORTS; port++)
+        if (domain_of(relay->ports[port].address) != domain)
+            set = without(set, port);
+    return set;
+}
+
+static plain_set large_enough(const plain_relay *relay, plain_set set,
+                              uint32_t length)
+{
+    for (uint32_t port = 0; port < PLAIN_PORTS; port++)
+        if (relay->ports[port].mtu < length)
+            set = without(set, port);
+    return set;
+}
+
+/* Leaves of the wanted ports the granted ones. */
+static plain_refusal strike_out(const plain_relay *relay, const datagram *d,
+                                plain_set *wanted)
+{
+    const plain_fields *fields = &d->header.fields;
+
+    if (fields->hop_present && fields->hop <= 1)
+        return PLAIN_HOPS_USED_UP;
+    if (!fields->extended)
+        *wanted = inside_domain(relay, *wanted, d->arrival);
+    if (wanted->bits == 0)
+        return PLAIN_LEAVES_DOMAIN;
+    *wanted = large_enough(relay, *wanted, d->header.length);
+    return wanted->bits != 0 ? PLAIN_GOOD : PLAIN_TOO_BIG;
+}
+
+/* The ports of the set that took an entry; the others drop theirs. */
+static plain_set put_copies(plain_relay *relay, plain_set granted,
+                            plain_entry entry)
+{
+    plain_set took = {0};
+
+    for (uint32_t port = 0; port < PLAIN_PORTS; port++) {
+        if (!plain_set_has(granted, port))
+            continue;
+        if (plain_queue_put(&relay->queues[port], entry))
+            took.bits |= (uint32_t)1 << port;
+        else
+            plain_count(&relay->counters, PLAIN_OUT_DISCARDS);
+    }
+    return took;
+}
+
+static uint32_t onward_half(plain_relay *relay, const datagram *d,
+                            uint32_t local, plain_slot slot, plain_set *took)
+{
+    plain_entry entry = {slot, (uint16_t)d->header.fields.precedence};
+    plain_set wanted = {0};
+    plain_refusal refusal = wanted_ports(relay, d, local, &wanted);
+
+    if (refusal != PLAIN_GOOD)
+        return refusal;
+    if (wanted.bits == 0)
+        return PLAIN_ONWARD_NOT_ASKED;
+    refusal = strike_out(relay, d, &wanted);
+    if (refusal != PLAIN_GOOD)
+        return refusal;
+    *took = put_copies(relay, wanted, entry);
+    if (took->bits == 0)
+        return PLAIN_ALL_FULL;
+    return PLAIN_ONWARD_SENT;
+}
+
+static void count_halves(plain_counters *counters,
+                         const plain_verdict *verdict)
+{
+    if (verdict->local == PLAIN_LOCAL_DELIVERED)
+        plain_count(counters, PLAIN_IN_DELIVERS);
+    else if (verdict->local != PLAIN_LOCAL_NO)
+        plain_count_refusal(counters, (plain_refusal)verdict->local);
+    if (verdict->onward == PLAIN_ONWARD_SENT)
+        plain_count(counters, PLAIN_FORW_DATAGRAMS);
+    else if (verdict->onward != PLAIN_ONWARD_NOT_ASKED)
+        plain_count_refusal(counters, (plain_refusal)verdict->onward);
+}
+
+plain_verdict plain_receive(plain_relay *relay, uint32_t arrival,
+                            plain_slot slot, const uint8_t *octets,
+                            size_t count, uint8_t *output, size_t room)
+{
+    plain_verdict verdict = {PLAIN_GOOD, 0, 0, {0}, 0};
+    datagram d;
+
+    if (!plain_set_has(relay->set_up, arrival)) {
+        verdict.refusal = PLAIN_NO_PORT;
+        return verdict;
+    }
+    if (room < PLAIN_HEADER_MOST) {
+        verdict.refusal = PLAIN_NO_ROOM;
+        return verdict;
+    }
+    plain_count(&relay->counters, PLAIN_IN_RECEIVES);
+    d.arrival = arrival;
+    verdict.refusal = judge(relay, octets, count, &d);
+    if (verdict.refusal != PLAIN_GOOD) {
+        plain_count_refusal(&relay->counters, verdict.refusal);
+        return verdict;
+    }
+    recognise(relay, &d);
+    verdict.local = local_half(&d);
+    verdict.onward =
+        onward_half(relay, &d, verdict.local, slot, &verdict.ports);
+    count_halves(&relay->counters, &verdict);
+    if (verdict.ports.bits != 0) {
+        plain_header_send_on(&d.header, octets, output);
+        verdict.header_length = d.header.header_length;
+    }
+    return verdict;
+}
