@@ -1,0 +1,120 @@
+# Harpjuniper: the library's archive, the host programs, and the gate.
+#
+#   make test      everything, ending with `rt ci`; its last line is rt's own
+#   make archive   build/libharpjuniper.a, which C links (x86-64)
+#   make replay    build/replay, which answers a trace by the library
+#   make plain     build/plain, which answers it by the independent C program
+#   make compare   the two of them on a generated trace
+#   make clean     removes build/ and target/
+#
+# Everything that is made stands in build/. The archive is x86-64 code, and so is
+# each program that links it. On another machine such a program NAME is linked as
+# NAME.x86-64, and NAME is scripts/emulated, which runs it.
+
+MACHINE := $(shell uname -m)
+STRICT := -Wall -Wextra -Wpedantic -Werror
+CFLAGS := -std=c99 -O2 $(STRICT)
+
+ARCHIVE := build/libharpjuniper.a
+REPLAY := $(addprefix host/,replay.c words_header.c lent.c trace.c text.c)
+GENERATE := $(addprefix host/,generate.c generate_build.c form.c settings.c text.c)
+COVERAGE := $(addprefix host/,coverage.c settings.c trace.c)
+PLAIN := $(wildcard host/plain/plain_*.c)
+HEADERS := $(wildcard include/*.h host/*.h host/plain/*.h)
+
+# `make test` goes through its parts in this order, whatever -j says.
+.NOTPARALLEL:
+.DELETE_ON_ERROR:
+.PHONY: test archive replay plain compare clean prepare format header readme \
+	host-tests promises gate
+
+test: prepare format archive header readme host-tests compare promises gate
+
+archive: $(ARCHIVE)
+replay: build/replay
+plain: build/plain
+
+prepare:
+	@scripts/prepare
+
+format: | prepare
+	rt fmt --check
+
+# The folders are named too, since a file that is gone changes its folder only.
+# `rt ci` removes target/, so the archive is copied out of it.
+$(ARCHIVE): crates.txt $(shell find crates 2>/dev/null) | prepare
+	rt staticlib harpjuniper
+	@mkdir -p build
+	cp target/staticlib/libharpjuniper.a $@
+
+# ---- Programs for the archive's machine
+
+ifeq ($(MACHINE),x86_64)
+link = gcc $(CFLAGS) -Iinclude -Ihost -static -o $@
+emulate =
+else
+link = x86_64-linux-gnu-gcc $(CFLAGS) -Iinclude -Ihost -static -o $@.x86-64
+emulate = @cp scripts/emulated $@
+endif
+
+build/replay: $(REPLAY) $(ARCHIVE) $(HEADERS) scripts/emulated | prepare
+	$(link) $(REPLAY) $(ARCHIVE)
+	$(emulate)
+
+build/calls: tests/calls.c $(ARCHIVE) $(HEADERS) scripts/emulated | prepare
+	$(link) tests/calls.c $(ARCHIVE)
+	$(emulate)
+
+build/readme.c: README.md scripts/readme-program | prepare
+	@mkdir -p build
+	scripts/readme-program $@ build/readme.expected
+
+build/readme: build/readme.c $(ARCHIVE) $(HEADERS) scripts/emulated | prepare
+	$(link) build/readme.c $(ARCHIVE)
+	$(emulate)
+
+# ---- Programs for this machine
+
+build/plain: host/plain/plain.c $(PLAIN) $(HEADERS) | prepare
+	@mkdir -p build
+	gcc $(CFLAGS) -o $@ host/plain/plain.c $(PLAIN)
+
+build/test_plain: host/plain/test_plain.c $(PLAIN) $(HEADERS) | prepare
+	@mkdir -p build
+	gcc $(CFLAGS) -o $@ host/plain/test_plain.c $(PLAIN)
+
+build/generate: $(GENERATE) $(HEADERS) | prepare
+	@mkdir -p build
+	gcc $(CFLAGS) -o $@ $(GENERATE)
+
+build/coverage: $(COVERAGE) $(HEADERS) | prepare
+	@mkdir -p build
+	gcc $(CFLAGS) -o $@ $(COVERAGE)
+
+# ---- Tests
+
+header: | prepare
+	gcc -std=c99 $(STRICT) -Iinclude -fsyntax-only tests/header_clean.c
+	g++ -std=c++11 $(STRICT) -Iinclude -fsyntax-only -x c++ tests/header_clean.c
+
+readme: build/readme
+	build/readme > build/readme.output
+	cmp build/readme.output build/readme.expected
+
+host-tests: build/calls build/test_plain build/replay build/plain
+	build/calls
+	build/test_plain
+	scripts/check-traces build/replay build/plain
+	python3 tests/test_scripts.py
+
+compare: build/generate build/plain build/replay build/coverage
+	scripts/compare
+
+promises: | prepare
+	scripts/check-promises
+
+gate: | prepare
+	@scripts/gate
+
+clean:
+	rm -rf build target

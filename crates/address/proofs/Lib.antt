@@ -1,0 +1,12 @@
+-- The laws of the address crate. To be read: Row, ClassTable, Marked, Paths, Masks and MaskTable; the others serve these and the code's proofs.
+pub mod Clash
+pub mod Families
+pub mod Row
+pub mod RowClass
+pub mod RowFound
+pub mod ClassTable
+pub mod Marked
+pub mod Paths
+pub mod Ones
+pub mod Masks
+pub mod MaskTable

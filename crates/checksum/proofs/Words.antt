@@ -1,0 +1,97 @@
+-- What the sum of a list of words keeps, and what the words of octets are where the list grows or is cut: the steps behind
+-- `Laws` and behind the loop of `ones_sum`. Each follows the recursion of `words`, two octets at a time, or of `sumFrom`.
+-- Assumes nothing.
+use Prim.Native.Nat.{ℕ, zero, suc, _+_, _*_, _%_, _<_}
+use mathlib.Core.Path.{_≡_, refl, ap}
+use mathlib.Core.List.{List, [], _∷_, _++_}
+use native.Mathlib.Omega.{arith}
+use native.Mathlib.Numerals.{add-one}
+use lib.ListN.{getD, length, drop, drop-of-length-le}
+use lib.Seq.{drop-cons}
+use Rattle.checksum.specs.Sum.{word, words, around, sumFrom}
+
+-- a list of octets
+abbrev pub Octets : List ℕ → Type 0
+Octets l = (i : ℕ) → getD l i 0 < 256
+
+-- the plain sum of numbers, no carry brought round
+unfoldable pub plain : List ℕ → ℕ
+plain [] = 0
+plain (w ∷ ws) = w + plain ws
+
+pub words-fit : (l : List ℕ) → Octets l → (i : ℕ) → getD (words l) i 0 < 65536
+unfolding words
+words-fit [] h i = omega arith
+words-fit (a ∷ []) h zero = omega (arith, h 0)
+words-fit (a ∷ []) h (suc i) = omega arith
+words-fit (a ∷ b ∷ l) h zero = omega (arith, h 0, h 1)
+words-fit (a ∷ b ∷ l) h (suc i) = words-fit l (λ j. h (suc (suc j))) i
+
+pub words-zero : (l : List ℕ) → ((i : ℕ) → getD (words l) i 0 ≡ 0) → (i : ℕ) → getD l i 0 ≡ 0
+unfolding words
+words-zero [] h i = refl
+words-zero (a ∷ []) h zero = omega (arith, h 0)
+words-zero (a ∷ []) h (suc i) = refl
+words-zero (a ∷ b ∷ l) h zero = omega (arith, h 0)
+words-zero (a ∷ b ∷ l) h (suc zero) = omega (arith, h 0)
+words-zero (a ∷ b ∷ l) h (suc (suc i)) = words-zero l (λ j. h (suc j)) i
+
+-- two zero octets are one zero word more, also where they straddle two words
+pub words-blank : (l : List ℕ) → words (l ++ 0 ∷ 0 ∷ []) ≡ words l ++ 0 ∷ []
+unfolding words
+words-blank [] = refl
+words-blank (a ∷ []) = refl
+words-blank (a ∷ b ∷ l) = ap (λ (ws : List ℕ). word a b ∷ ws) (words-blank l)
+
+-- behind whole words any two octets are one word more
+pub words-even : (l : List ℕ) (a b : ℕ) → length l % 2 ≡ 0 → words (l ++ a ∷ b ∷ []) ≡ words l ++ word a b ∷ []
+unfolding words
+words-even [] a b even = refl
+words-even (x ∷ []) a b even = absurd (omega arith)
+words-even (x ∷ y ∷ l) a b even = ap (λ (ws : List ℕ). word x y ∷ ws) (words-even l a b (omega arith))
+
+pub sumFrom-append : (v : ℕ) (xs ys : List ℕ) → sumFrom v (xs ++ ys) ≡ sumFrom (sumFrom v xs) ys
+unfolding sumFrom
+sumFrom-append v [] ys = refl
+sumFrom-append v (x ∷ xs) ys = sumFrom-append (around (v + x)) xs ys
+
+pub sumFrom-fits : (v : ℕ) (ws : List ℕ) → v < 65536 → ((i : ℕ) → getD ws i 0 < 65536) → sumFrom v ws < 65536
+unfolding sumFrom
+sumFrom-fits v [] fits h = fits
+sumFrom-fits v (w ∷ ws) fits h = sumFrom-fits (around (v + w)) ws (omega (arith, h 0)) (λ i. h (suc i))
+
+-- 65536 is 1 more than 65535: a carry brought round changes nothing modulo 65535
+pub sumFrom-plain : (v : ℕ) (ws : List ℕ) → sumFrom v ws % 65535 ≡ (v + plain ws) % 65535
+unfolding sumFrom plain
+sumFrom-plain v [] = omega arith
+sumFrom-plain v (w ∷ ws) = omega (arith, sumFrom-plain (around (v + w)) ws)
+
+-- a sum is 0 only where it starts at 0 and each word is 0
+sumFrom-start : (v : ℕ) (ws : List ℕ) → sumFrom v ws ≡ 0 → v ≡ 0
+unfolding sumFrom
+sumFrom-start v [] e = e
+sumFrom-start v (w ∷ ws) e = omega (arith, sumFrom-start (around (v + w)) ws e)
+
+pub sumFrom-zero : (v : ℕ) (ws : List ℕ) → sumFrom v ws ≡ 0 → (i : ℕ) → getD ws i 0 ≡ 0
+unfolding sumFrom
+sumFrom-zero v [] e i = refl
+sumFrom-zero v (w ∷ ws) e zero = omega (arith, sumFrom-start (around (v + w)) ws e)
+sumFrom-zero v (w ∷ ws) e (suc i) = sumFrom-zero (around (v + w)) ws e i
+
+-- what is left of l from its octet 2 * i on, where two octets or more are left
+pub sum-two : (v : ℕ) (l : List ℕ) (i : ℕ) → 2 * i + 1 < length l
+    → sumFrom v (words (drop (2 * i) l)) ≡ sumFrom (around (v + word (getD l (2 * i) 0) (getD l (2 * i + 1) 0))) (words (drop (2 * (i + 1)) l))
+unfolding words sumFrom
+sum-two v l i h =
+    let e : 2 * (i + 1) ≡ suc (suc (2 * i)) = omega arith in
+    rw (e, drop-cons l (2 * i) 0 (omega arith), drop-cons l (suc (2 * i)) 0 (omega arith), add-one (2 * i))
+
+-- where one is left
+pub sum-one : (v : ℕ) (l : List ℕ) (n : ℕ) → length l ≡ n + 1 → sumFrom v (words (drop n l)) ≡ around (v + word (getD l n 0) 0)
+unfolding words sumFrom
+sum-one v l n e = rw (drop-cons l n 0 (omega arith), drop-of-length-le l {i = suc n} (omega arith))
+
+-- where none is left
+pub sum-none : (v : ℕ) (l : List ℕ) (n : ℕ) → length l ≡ n → sumFrom v (words (drop n l)) ≡ v
+unfolding words sumFrom
+sum-none v l n e = rw (drop-of-length-le l {i = n} (omega arith))

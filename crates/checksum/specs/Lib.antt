@@ -1,0 +1,2 @@
+-- What the checksum is. Assumes nothing.
+pub mod Sum

@@ -1,0 +1,59 @@
+use Rattle.harpjuniper.proofs.Laws.{no-room, no-fields, built, refused-reading, good-reading, reading-fits}
+use mathlib.Core.Path.{sym, _∙_}
+use borrow.Author.Needs.{needs}
+use Rattle.harpjuniper.proofs.hj_build.Statement.{statement}
+use Rattle.harpjuniper.proofs.hj_build.Tie as tie
+
+refusal-requires : tie.Need-refusal-requires
+refusal-requires c κs = search needs
+
+returns : tie.Need-returns
+returns c = no-room (c .before .before .before .args .fields) (c .before .before .before .args .size) (c .before .before .before .args .output .now) (c .before .if1 .taken) _ (c .refusal .ensures)
+
+check-numbers-requires : tie.Need-check-numbers-requires
+check-numbers-requires c κs = search needs
+
+enum-told : tie.Need-enum-told
+enum-told c = search needs
+
+enum-told-2 : tie.Need-enum-told-2
+enum-told-2 c = search needs
+
+refusal-requires-2 : tie.Need-refusal-requires-2
+refusal-requires-2 c κs = search needs
+
+returns-2 : tie.Need-returns-2
+returns-2 c = no-fields (c .before .before .before .before .before .before .args .fields) (c .before .before .before .before .before .before .args .size) (c .before .before .before .before .before .before .args .output .now) (c .before .before .before .before .if1 .left) (sym (c .before .before .before .check-numbers .ensures) ∙ c .before .enum-told2 .given .1) _ (c .refusal2 .ensures)
+
+fields-from-requires : tie.Need-fields-from-requires
+fields-from-requires c κs = search needs
+
+build-header-requires : tie.Need-build-header-requires
+build-header-requires c κs = search needs
+
+built-answer-requires : tie.Need-built-answer-requires
+built-answer-requires c κs = search needs
+
+same-length : tie.Need-same-length
+same-length c = search needs
+
+returns-3 : tie.Need-returns-3
+returns-3 c = built (c .before .before .before .before .before .before .before .before .before .before .before .args .fields) (c .before .before .before .before .before .before .before .before .before .before .before .args .size) (c .before .before .before .before .before .before .before .before .before .before .before .args .output .now) (c .before .before .before .before .before .before .before .before .before .if1 .left) (sym (c .before .before .before .before .before .before .before .before .check-numbers .ensures) ∙ c .before .before .before .before .before .before .enum-told .given .1) _ _ _ _ (c .before .before .before .before .before .fields-from .ensures)
+    (c .before .before .before .build-header .ensures .0) (c .before .before .before .build-header .ensures .1) (c .built-answer .ensures)
+
+pub hj-build-spec : {M : Type 1} → statement M
+hj-build-spec =
+    tie.close
+    (tie.spec
+    refusal-requires
+    returns
+    check-numbers-requires
+    enum-told
+    enum-told-2
+    refusal-requires-2
+    returns-2
+    fields-from-requires
+    build-header-requires
+    built-answer-requires
+    same-length
+    returns-3)

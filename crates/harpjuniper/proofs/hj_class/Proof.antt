@@ -1,0 +1,15 @@
+use borrow.Author.Needs.{needs}
+use Rattle.harpjuniper.proofs.hj_class.Statement.{statement}
+use Rattle.harpjuniper.proofs.hj_class.Tie as tie
+
+class-of-requires : tie.Need-class-of-requires
+class-of-requires c κs = search needs
+
+class-number-requires : tie.Need-class-number-requires
+class-number-requires c κs = search needs
+
+returns : tie.Need-returns
+returns c = cc
+
+pub hj-class-spec : {M : Type 1} → statement M
+hj-class-spec = tie.close (tie.spec class-of-requires class-number-requires returns)

@@ -1,0 +1,15 @@
+use borrow.Author.Needs.{needs}
+use Rattle.harpjuniper.proofs.hj_path.Statement.{statement}
+use Rattle.harpjuniper.proofs.hj_path.Tie as tie
+
+path-form-requires : tie.Need-path-form-requires
+path-form-requires c κs = search needs
+
+path-number-requires : tie.Need-path-number-requires
+path-number-requires c κs = search needs
+
+returns : tie.Need-returns
+returns c = cc
+
+pub hj-path-spec : {M : Type 1} → statement M
+hj-path-spec = tie.close (tie.spec path-form-requires path-number-requires returns)

@@ -1,0 +1,70 @@
+-- The numbers that C gets (include/harpjuniper.h). Assumes nothing.
+use Prim.Native.Nat.{ℕ, _*_}
+use mathlib.Core.List.{List, [], _∷_}
+use mathlib.Core.Bool.{Bool, _||_}
+use lib.ListN.{length}
+use lib.Dec.{eqb, ltb}
+use Rattle.checks.specs.Order.{pick, Checks, firstOf}
+use Rattle.octets.specs.Octets.{fronted}
+use Rattle.header.specs.Range.{outOfRange}
+use Rattle.header.specs.Build.{sizeOf, headerOctets}
+use Rattle.header.specs.declared.Read.{Read}
+use Rattle.header.specs.declared.Read.the-variants as read
+use Rattle.header.specs.declared.Built.{Built}
+use Rattle.header.specs.declared.Built.the-variants as built
+use Rattle.numbers.specs.Numbers.{narrow, numbersOf}
+use Rattle.numbers.specs.declared.Numbers.{Numbers}
+use Rattle.intake.specs.Fields.{numbersOut, fieldsFrom}
+use Rattle.harpjuniper.specs.declared.Reading.{Reading}
+
+-- ---- reading
+
+-- no number of a header
+abbrev pub nothing : Numbers
+nothing =
+    record {
+      destination = narrow 0;
+      source = narrow 0;
+      time = 0;
+      tpid = 0;
+      sourced = 0;
+      extended = 0;
+      ipv6 = 0;
+      qualified = 0;
+      precedence = 0;
+      routing = 0;
+      program = 0;
+      counted = 0;
+      hops = 0;
+      format = 0;
+      pfield = 0;
+      expands = 0;
+      expanded = 0;
+      checksum = 0;
+      intermediate = 0;
+    }
+
+-- the refusal, or 0 with length field, header's own length and the numbers of the fields
+unfoldable pub readingOf : Read → Reading
+readingOf (read.Refused n) = record { refusal = n; length = 0; header = 0; fields = nothing }
+readingOf (read.Good h) = record { refusal = 0; length = h .length; header = h .size; fields = numbersOf (h .fields) }
+
+-- ---- building
+
+-- an answer that is a refusal or a value: the refusal above a value of 32 bits
+abbrev pub answerBy : ℕ → ℕ → ℕ
+answerBy refusal value = pick (eqb refusal 0) value (refusal * 4294967296)
+
+abbrev pub builtAnswer : Built → ℕ
+builtAnswer (built.Done size) = size
+builtAnswer (built.Refused n) = n * 4294967296
+
+-- room under 50 octets; numbers that stand for no fields, or for fields out of range; data over 8,141 (page 01, "Refusal numbers")
+unfoldable pub buildChecks : Numbers → ℕ → ℕ → Checks
+buildChecks n size room = (ltb room 50, 17) ∷ (numbersOut n || outOfRange (fieldsFrom n), 19) ∷ (ltb 8141 size, 20) ∷ []
+
+unfoldable pub buildAnswer : Numbers → ℕ → ℕ → ℕ
+buildAnswer n size room = answerBy (firstOf (buildChecks n size room)) (sizeOf (fieldsFrom n))
+
+unfoldable pub buildOutput : Numbers → ℕ → List ℕ → List ℕ
+buildOutput n size lent = pick (eqb (firstOf (buildChecks n size (length lent))) 0) (fronted (headerOctets (fieldsFrom n) size) lent) lent

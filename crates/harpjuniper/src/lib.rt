@@ -1,0 +1,141 @@
+// What C calls.
+//
+// Each function takes numbers and lent octets, calls the floor below and gives its answer as numbers; the C header
+// (include/harpjuniper.h) has a doc block for each. None requires anything: whatever octets, lengths or numbers come, the answer is the
+// one that the definitions state. An answer that is a refusal or a value is one number of 64 bits, the refusal above the value.
+use address::Address;
+use address::PathAddress;
+use checks::Check;
+use header::Built;
+use header::Read;
+use numbers::Numbers;
+use numbers::Wide;
+ghost use mathlib.Core.Path.{_≡_};
+ghost use Prim.Native.Nat.{_*_};
+ghost use lib.ListN.{length};
+ghost use Rattle.address.specs.Class.{classOf, classNumber};
+ghost use Rattle.address.specs.Path.{pathForm, pathNumber};
+ghost use Rattle.checksum.specs.Sum.{checksumOf};
+ghost use Rattle.header.specs.Read.{readOf};
+ghost use Rattle.harpjuniper.specs.Face.{readingOf, nothing, builtAnswer, buildAnswer, buildOutput};
+
+// What reading found: the refusal, or 0 and the numbers of the header.
+#[repr(C)]
+pub struct Reading {
+    pub refusal: u32,
+    pub length: u32,
+    pub header: u32,
+    pub fields: Numbers,
+}
+
+// The numbers of no header.
+fn no_numbers() -> Numbers
+    ensures { λ r. ⌜ r ≡ nothing ⌝ }
+{
+    Numbers {
+        destination: Wide { high: 0, low: 0 },
+        source: Wide { high: 0, low: 0 },
+        time: 0,
+        tpid: 0,
+        sourced: 0,
+        extended: 0,
+        ipv6: 0,
+        qualified: 0,
+        precedence: 0,
+        routing: 0,
+        program: 0,
+        counted: 0,
+        hops: 0,
+        format: 0,
+        pfield: 0,
+        expands: 0,
+        expanded: 0,
+        checksum: 0,
+        intermediate: 0,
+    }
+}
+
+// Reads the header that the octets begin with.
+#[no_mangle]
+pub extern "C" fn hj_read(octets: &[u8]) -> Reading
+    ensures { λ r. ⌜ r ≡ readingOf (readOf (now (octets .entry))) ⌝ }
+{
+    match reader::read_header(octets) {
+        Read::Refused(number) => {
+            let fields = no_numbers();
+            Reading {
+                refusal: number as u32,
+                length: 0,
+                header: 0,
+                fields,
+            }
+        }
+        Read::Good(h) => {
+            let f = h.fields;
+            let fields = numbers::numbers_of(f);
+            Reading {
+                refusal: 0,
+                length: h.length as u32,
+                header: h.size as u32,
+                fields,
+            }
+        }
+    }
+}
+
+// A refusal, with no value below it.
+fn refusal(number: u8) -> u64
+    ensures { λ r. ⌜ r ≡ number * 4294967296 ⌝ }
+{
+    number as u64 * 4294967296
+}
+
+// What building answers, as one number.
+fn built_answer(b: Built) -> u64
+    ensures { λ r. ⌜ r ≡ builtAnswer b ⌝ }
+{
+    match b {
+        Built::Done(size) => size as u64,
+        Built::Refused(number) => refusal(number),
+    }
+}
+
+// Builds the header of a datagram with so many octets of user data at the front of the output.
+#[no_mangle]
+pub extern "C" fn hj_build(fields: Numbers, size: usize, output: &mut [u8]) -> u64
+    ensures { λ r. ⌜ r ≡ buildAnswer fields size (length (now (output .entry))) ⌝ }
+    ensures { λ _. ⌜ now (output .exit) ≡ buildOutput fields size (now (output .entry)) ⌝ }
+{
+    if output.len() < 50 {
+        return refusal(17);
+    }
+    let Check::Passed = intake::check_numbers(fields) else {
+        return refusal(19);
+    };
+    let f = intake::fields_from(fields);
+    built_answer(builder::build_header(f, size, output))
+}
+
+// The class of a four-octet address.
+#[no_mangle]
+pub extern "C" fn hj_class(address: u32) -> u32
+    ensures { λ r. ⌜ r ≡ classNumber (classOf address) ⌝ }
+{
+    address::class_number(address::class_of(Address(address)))
+}
+
+// Whether a path address is valid.
+#[no_mangle]
+pub extern "C" fn hj_path(path: u32) -> u32
+    ensures { λ r. ⌜ r ≡ pathNumber (pathForm path) ⌝ }
+{
+    address::path_number(address::path_form(PathAddress(path)))
+}
+
+// The checksum of RFC 1071.
+#[no_mangle]
+pub extern "C" fn hj_checksum(octets: &[u8]) -> u16
+    ensures { λ r. ⌜ r ≡ checksumOf (now (octets .entry)) ⌝ }
+{
+    checksum::checksum(octets)
+}

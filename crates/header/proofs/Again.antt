@@ -1,0 +1,189 @@
+-- Building what was read gives the same header octets where the control field was shortest and the data at most 8,141 octets (page 01, "Refusal
+-- numbers"). That unused bits are zero is no hypothesis: others are refused by 4. Assumes nothing.
+use native.Mathlib.Omega.{arith}
+use native.Mathlib.Nat.{zero-mul, mod-eq-of-lt, div-add-mod'}
+use Prim.Native.Nat.{ℕ, _+_, _*_, _-_, _/_, _%_, _≤_, _<_}
+use mathlib.Core.Path.{_≡_, refl, ap, sym, _∙_}
+use mathlib.Core.List.{List, _++_, append-assoc}
+use mathlib.Core.Logic.{_⊎_, inl, inr}
+use lib.ListN.{getD, length, take, drop, length-append}
+use lib.Seq.{length-take-le}
+use lib.Arith.{mod-mul}
+use lib.Dec.{T, ltb, lit<}
+use borrow.Author.Tests.{le-ltb}
+use Rattle.checks.specs.Order.{firstOf}
+use Rattle.octets.specs.Octets.{octet, number, octets}
+use Rattle.header.specs.Form.{controlOf, layoutOf, placesOf, bit20, bit24, hasChecksum, hasHops, hasQos, hasExpanded, stampFormat}
+use Rattle.header.specs.Read.{fieldsOf, headerOf, lengthOf, readOf}
+use Rattle.header.specs.Build.{present, thirdOctet, secondOctet, firstBits, frontOctets, restOctets, bodyOctets, sizeOf, headerOctets, buildChecks, builtOf, outputOf}
+use Rattle.header.specs.declared.Control.{Control}
+use Rattle.header.specs.declared.Layout.{Layout}
+use Rattle.header.specs.declared.Fields.{Fields}
+use Rattle.header.specs.declared.Header.{Header}
+use Rattle.header.specs.declared.Read.the-variants.{Good}
+use Rattle.header.specs.declared.Built.the-variants.{Done}
+use Rattle.header.proofs.Bounds.{gate, control-end, Placed, placed, Allowed, allowed}
+use Rattle.header.proofs.Passed.{Passed, passed}
+use Rattle.header.proofs.Answers.{read-in-range, not-out-of-range}
+use Rattle.header.proofs.Back.{bit, number-back, octet-back, control-again, octet-again, qos-again, stamp-again, addresses-again, checksum-again}
+
+-- page 01, "where the control field was shortest": no octet of it stands there to say nothing
+abbrev pub shortest : Control → Type 0
+shortest k = (bit20 k ≡ present (k .second)) × (bit24 k ≡ present (k .third))
+
+-- the octets of a control field are octets
+control-lt : (s : List ℕ) → ((i : ℕ) → getD s i 0 < 256) → (controlOf s .second < 256) × (controlOf s .third < 256)
+unfolding controlOf
+control-lt s small =
+    (omega (arith, gate (controlOf s .first / 8) (octet s 3), small 3), omega (arith, gate (controlOf s .second / 128) (octet s 4), small 4))
+
+-- no control field of the same bits is shorter: t has those of s, but for 20 and 24
+module _ (s t : List ℕ) (small : (i : ℕ) → getD s i 0 < 256) (short : shortest (controlOf s))
+    (second : controlOf t .second % 128 ≡ controlOf s .second % 128) (third : controlOf t .third ≡ controlOf s .third) where
+  absent : (n : ℕ) → n ≡ 0 → present n ≡ 0
+  absent n e = rw e
+
+  none-24 : bit24 (controlOf t) ≡ 0 → bit24 (controlOf s) ≡ 0
+  unfolding controlOf
+  none-24 z =
+      let c : controlOf t .third ≡ 0 = rw (z, zero-mul) in
+      short .1 ∙ absent _ (sym third ∙ c)
+
+  least-case : (bit20 (controlOf t) ≡ 0) ⊎ (bit20 (controlOf t) ≡ 1) → (bit24 (controlOf t) ≡ 0) ⊎ (bit24 (controlOf t) ≡ 1) → controlOf s .end ≤ controlOf t .end
+  unfolding controlOf
+  least-case (inl none) y =
+      let b : controlOf t .second ≡ 0 = rw (none, zero-mul) in
+      let u = none-24 (rw b) in
+      let v : controlOf s .second ≡ 0 = omega (arith, b, u, control-lt s small .0) in
+      omega (arith, u, short .0 ∙ absent _ v)
+  least-case (inr more) (inl none) = omega (arith, none-24 none)
+  least-case (inr more) (inr most) = omega arith
+
+  pub shortest-least : controlOf s .end ≤ controlOf t .end
+  shortest-least = least-case (bit (bit20 (controlOf t)) (omega arith)) (bit (bit24 (controlOf t)) (omega arith))
+
+-- ---- a control octet is the sum of its bits
+
+-- the remainder by a product of weights: its highest digit, and the remainder below it
+digit : (n m c : ℕ) → T (ltb 0 m) → T (ltb 0 c) → n % (m * c) ≡ n / c % m * c + n % c
+digit n m c h g = mod-mul n (lit< h) (lit< g)
+
+third-sum : (c : ℕ) → c < 256 → c % 16 ≡ 0 → c / 128 % 2 ≡ 0 → 64 * (c / 64 % 2) + 32 * (c / 32 % 2) + 16 * (c / 16 % 2) ≡ c
+third-sum c h z t =
+    let e : c / 128 % 2 * 128 + (c / 64 % 2 * 64 + (c / 32 % 2 * 32 + (c / 16 % 2 * 16 + c % 16))) ≡ c =
+    rw (← digit c 2 16 tt tt, ← digit c 2 32 tt tt, ← digit c 2 64 tt tt, ← digit c 2 128 tt tt) (mod-eq-of-lt h) in
+    omega arith
+
+second-sum : (b : ℕ) → b < 256 → b / 4 % 2 ≡ 0
+    → 128 * (b / 128 % 2) + 64 * (b / 64 % 2) + 32 * (b / 32 % 2) + 8 * (b / 8 % 4) + 2 * (b / 2 % 2) + b % 2 ≡ b
+second-sum b h z =
+    let e : b / 128 % 2 * 128 + (b / 64 % 2 * 64 + (b / 32 % 2 * 32 + (b / 8 % 4 * 8 + (b / 4 % 2 * 4 + (b / 2 % 2 * 2 + b % 2))))) ≡ b =
+    rw (← digit b 2 2 tt tt, ← digit b 2 4 tt tt, ← digit b 4 8 tt tt, ← digit b 2 32 tt tt, ← digit b 2 64 tt tt, ← digit b 2 128 tt tt) (mod-eq-of-lt h) in
+    omega arith
+
+first-sum : (a : ℕ) → a < 16 → a / 4 % 2 ≡ 0 → a / 2 % 2 ≡ 1 → 8 * (a / 8 % 2) + 2 + a % 2 ≡ a
+first-sum a h z o =
+    let e : a / 8 % 2 * 8 + (a / 4 % 2 * 4 + (a / 2 % 2 * 2 + a % 2)) ≡ a =
+    rw (← digit a 2 2 tt tt, ← digit a 2 4 tt tt, ← digit a 2 8 tt tt) (mod-eq-of-lt h) in
+    omega arith
+
+-- the third control octet stands right after the second, or there is none
+third-at : (s : List ℕ) → (bit20 (controlOf s) ≡ 0) ⊎ (bit20 (controlOf s) ≡ 1) → controlOf s .third ≡ bit24 (controlOf s) * octet s (3 + bit20 (controlOf s))
+unfolding controlOf
+third-at s (inl none) = simp (none, zero-mul)
+third-at s (inr one) = simp one
+
+-- fields give the control octets of s, and its octets from there to the checksum
+record Same (s : List ℕ) (f : Fields) : Type 0 where
+  pub third : thirdOctet f ≡ controlOf s .third
+  pub second : secondOctet f ≡ controlOf s .second
+  pub first : firstBits f ≡ controlOf s .first
+  pub rest : take (controlOf s .end) s ++ restOctets f ≡ take (placesOf s .checksum) s
+
+module _ (s : List ℕ) (h : Header) (small : (i : ℕ) → getD s i 0 < 256) (e : readOf s ≡ Good h) (short : shortest (controlOf s)) where
+  p : Passed s h
+  p = passed s h e
+
+  abbrev k : Control
+  k = controlOf s
+
+  abbrev l : Layout
+  l = placesOf s
+
+  abbrev f : Fields
+  f = fieldsOf s k l
+
+  bits : Allowed k
+  bits = allowed k (p .allowed)
+
+  places : Placed s k
+  places = placed s k (control-end s .1)
+
+  room : l .size ≤ length s
+  room = omega (arith, p)
+
+  same : Same s f
+  unfolding controlOf layoutOf fieldsOf firstBits secondOctet thirdOctet restOctets
+  same =
+      let a = addresses-again s small k (bits .six) (omega (arith, places, room)) in
+      let q = qos-again s small (hasQos k) (l .qos) (omega arith) (omega (arith, places, room)) in
+      let o = octet-again s small (hasHops k) (l .hops) (omega arith) (omega (arith, places, room)) in
+      let t = stamp-again s small (stampFormat k) (l .stamp) (omega arith) (omega (arith, places, room)) in
+      let x = octet-again s small (hasExpanded k) (l .expanded) (omega arith) (omega (arith, places, room)) in
+      let lt = control-lt s small in
+      let third : thirdOctet f ≡ k .third = rw (a .2, x .0) (third-sum (k .third) (lt .1) (bits .zeros) (bits .zero32)) in
+      let second : secondOctet f ≡ k .second = rw (third, ← short .1, a .0, o .0, t .0, q .0, a .1) (second-sum (k .second) (lt .0) (bits .zero29)) in
+      let first : firstBits f ≡ k .first = rw (second, ← short .0) (first-sum (k .first) (omega arith) (bits .zero21) (bits .destination)) in
+      record { third = third; second = second; first = first; rest = simp (← append-assoc, a .3, q .1, o .1, t .1, x .1) }
+
+  tpid-is : f .tpid * 16 + firstBits f ≡ octet s 2
+  unfolding fieldsOf controlOf
+  tpid-is = rw (same .first) (div-add-mod' (octet s 2) 16)
+
+  size-is : sizeOf f ≡ l .size
+  unfolding sizeOf controlOf fieldsOf
+  size-is =
+      let inside : l .checksum ≤ length s = omega (arith, places, room) in
+      let r = simp (length-append, length-take-le (k .end) s (p .whole), length-take-le (l .checksum) s inside) at (ap length (same .rest)) in
+      rw (same .second, same .third, ← short .0, ← short .1) (omega (arith, places))
+
+  front-is : frontOctets (lengthOf s) (octet s 2) (k .second) (k .third) ≡ take (k .end) s
+  unfolding frontOctets controlOf lengthOf number
+  front-is =
+      let length-is : 8192 + lengthOf s ≡ number s 0 2 = omega (arith, p .version) in
+      let two : octets 2 (8192 + lengthOf s) ≡ take 2 s = rw length-is (number-back s small 0 2 (omega (arith, p .long))) in
+      let three = octet-back s small 2 (octet s 2) refl (p .long) in
+      let four = control-again s small (bit20 k) 3 (k .second) (omega arith) refl (omega (arith, p .whole)) in
+      let five = control-again s small (bit24 k) (3 + bit20 k) (k .third) (omega arith) (third-at s (bit (bit20 k) (omega arith))) (p .whole) in
+      rw (← short .0, ← short .1) (simp (← append-assoc, two, three, four, five))
+
+  body-is : bodyOctets f (sizeOf f + (lengthOf s - l .size)) ≡ take (l .checksum) s
+  unfolding bodyOctets
+  body-is =
+      let n : sizeOf f + (lengthOf s - l .size) ≡ lengthOf s = omega (arith, size-is, p .fits) in
+      rw (n, tpid-is, same .second, same .third, front-is) (same .rest)
+
+  header-is : headerOctets f (lengthOf s - l .size) ≡ take (l .size) s
+  unfolding headerOctets layoutOf fieldsOf
+  header-is = rw body-is (checksum-again s small (hasChecksum k) (l .checksum) (omega arith) (p .right) room)
+
+  -- ---- the laws
+
+  pub built-again : headerOctets (h .fields) (h .length - h .size) ≡ take (h .size) s
+  unfolding headerOf
+  built-again = rw (p .is) header-is
+
+  -- the builder refuses it for nothing but its data, and says the size that was read
+  pub done-again : (room : ℕ) → 50 ≤ room → h .length - h .size ≤ 8141 → builtOf (h .fields) (h .length - h .size) room ≡ Done (h .size)
+  unfolding headerOf builtOf buildChecks firstOf
+  done-again room enough few =
+      let size : sizeOf (h .fields) ≡ h .size = rw (p .is) size-is in
+      simp (le-ltb room 50 enough, not-out-of-range (h .fields) (read-in-range s h small e), le-ltb 8141 (h .length - h .size) few, size)
+
+  -- and writes the octets that were read
+  pub output-again : (lent : List ℕ) → 50 ≤ length lent → h .length - h .size ≤ 8141
+      → outputOf (h .fields) (h .length - h .size) lent ≡ take (h .size) s ++ drop (h .size) lent
+  unfolding headerOf outputOf
+  output-again lent enough few =
+      let fits : h .size ≤ length s = rw (p .is) room in
+      rw (done-again (length lent) enough few, built-again, length-take-le (h .size) s fits)

@@ -1,0 +1,124 @@
+-- Bounds of the pieces of a header, and the control bits that are not forbidden. Assumes nothing.
+use Prim.Native.Nat.{ℕ, _+_, _*_, _/_, _%_, _≤_, _<_}
+use mathlib.Core.Path.{_≡_, refl, sym}
+use mathlib.Core.List.{List}
+use mathlib.Core.Bool.{Bool, true, false, not, _&&_, _||_}
+use lib.Dec.{eqb}
+use native.Mathlib.Nat.{mul-le-mul-right, one-mul}
+use native.Mathlib.Omega.{arith}
+use borrow.Author.Tests.{eqb-true, eqb-false}
+use Rattle.checks.specs.Order.{pick}
+use Rattle.checks.proofs.Bools.{or-false, not-false}
+use Rattle.octets.specs.Octets.{octet}
+use Rattle.header.specs.declared.Control.{Control}
+use Rattle.header.specs.Form.{controlOf, layoutOf, placesOf, forbidden, addressSize, stampSize, stampFormat, timeSize, bit20, bit21, bit24, bit29, bit32, bits36to39, hasDestination, hasSource, isIpv6, isExtended}
+
+-- a bit times n
+pub gate : (x n : ℕ) → x % 2 * n ≤ n
+gate x n =
+    let h : x % 2 ≤ 1 = omega arith in
+    rw (one-mul n) at (mul-le-mul-right n h)
+
+pick-le : (t : Bool) (a b n : ℕ) → a ≤ n → b ≤ n → pick t a b ≤ n
+pick-le true a b n p q = p
+pick-le false a b n p q = q
+
+pick-ge : (t : Bool) (a b n : ℕ) → n ≤ a → n ≤ b → n ≤ pick t a b
+pick-ge true a b n p q = p
+pick-ge false a b n p q = q
+
+-- an address has 1 to 16 octets, a timestamp at most 8
+pub addressSize-le : (k : Control) → addressSize k ≤ 16
+unfolding addressSize
+addressSize-le k =
+    pick-le (eqb (isIpv6 k) 1) 16 (pick (eqb (isExtended k) 1) 4 1) 16 (omega arith) (pick-le (eqb (isExtended k) 1) 4 1 16 (omega arith) (omega arith))
+
+pub addressSize-ge : (k : Control) → 1 ≤ addressSize k
+unfolding addressSize
+addressSize-ge k =
+    pick-ge (eqb (isIpv6 k) 1) 16 (pick (eqb (isExtended k) 1) 4 1) 1 (omega arith) (pick-ge (eqb (isExtended k) 1) 4 1 1 (omega arith) (omega arith))
+
+pub stampSize-le : (f p : ℕ) → stampSize f p ≤ 8
+unfolding stampSize
+stampSize-le f p =
+    pick-le (eqb f 0) 0 (pick (eqb f 1) 3 (pick (eqb f 2) (1 + timeSize p) 4)) 8 (omega arith)
+    (pick-le (eqb f 1) 3 (pick (eqb f 2) (1 + timeSize p) 4) 8 (omega arith) (pick-le (eqb f 2) (1 + timeSize p) 4 8 (omega arith) (omega arith)))
+
+-- a control field ends at the octet 5 at the latest
+pub control-end : (s : List ℕ) → (3 ≤ controlOf s .end) × (controlOf s .end ≤ 5)
+unfolding controlOf
+control-end s = (omega arith, omega arith)
+
+-- where the elements stand, behind a control field that ends at octet 3 to 5
+pub record Placed (s : List ℕ) (k : Control) : Type 0 where
+  pub stamp : layoutOf s k .stamp ≤ 39
+  pub hops : layoutOf s k .hops ≤ layoutOf s k .stamp
+  pub qos : layoutOf s k .qos ≤ layoutOf s k .hops
+  pub first : k .end + 1 ≤ layoutOf s k .qos
+  pub expanded : layoutOf s k .stamp ≤ layoutOf s k .expanded
+  pub checksum : layoutOf s k .expanded ≤ layoutOf s k .checksum
+  pub most : layoutOf s k .checksum ≤ 48
+  pub size : layoutOf s k .size ≡ layoutOf s k .checksum + 2 * (k .first % 2)
+
+pub placed : (s : List ℕ) (k : Control) → k .end ≤ 5 → Placed s k
+unfolding layoutOf
+placed s k e =
+    let a = addressSize-le k in
+    let b = addressSize-ge k in
+    let g = gate (k .second / 64) (addressSize k) in
+    let t = stampSize-le (stampFormat k) (octet s (layoutOf s k .stamp)) in
+    record {
+      stamp = omega arith;
+      hops = omega arith;
+      qos = omega arith;
+      first = omega arith;
+      expanded = omega arith;
+      checksum = omega arith;
+      most = omega arith;
+      size = refl;
+    }
+
+-- the octets of a header itself
+pub header-size : (s : List ℕ) → (4 ≤ placesOf s .size) × (placesOf s .size ≤ 50)
+header-size s =
+    let e = control-end s in
+    let p = placed s (controlOf s) (e .1) in
+    (omega arith, omega arith)
+
+-- what bits that are not forbidden are
+pub record Allowed (k : Control) : Type 0 where
+  pub zero21 : bit21 k ≡ 0
+  pub destination : hasDestination k ≡ 1
+  pub zero29 : bit29 k ≡ 0
+  pub zero32 : bit32 k ≡ 0
+  pub zeros : bits36to39 k ≡ 0
+  pub six : isIpv6 k ≡ 1 → (isExtended k ≡ 0) × (hasSource k ≡ 1)
+
+six-case : (k : Control) (t : Bool) → eqb (isIpv6 k) 1 ≡ t → (t && (eqb (isExtended k) 1 || eqb (hasSource k) 0)) ≡ false → isIpv6 k ≡ 1 → (isExtended k ≡ 0) × (hasSource k ≡ 1)
+six-case k true e h o =
+    let p = or-false (eqb (isExtended k) 1) (eqb (hasSource k) 0) h in
+    let a = eqb-false (isExtended k) 1 (p .0) in
+    let b = eqb-false (hasSource k) 0 (p .1) in
+    (omega arith, omega arith)
+six-case k false e h o = absurd (eqb-false (isIpv6 k) 1 e o)
+
+pub allowed : (k : Control) → forbidden k ≡ false → Allowed k
+unfolding forbidden
+allowed k h =
+    let p₁ = or-false (eqb (bit21 k) 1) _ h in
+    let p₂ = or-false (eqb (hasDestination k) 0) _ (p₁ .1) in
+    let p₃ = or-false (eqb (bit29 k) 1) _ (p₂ .1) in
+    let p₄ = or-false (eqb (bit32 k) 1) _ (p₃ .1) in
+    let p₅ = or-false (not (eqb (bits36to39 k) 0)) _ (p₄ .1) in
+    let n₁ = eqb-false (bit21 k) 1 (p₁ .0) in
+    let n₂ = eqb-false (hasDestination k) 0 (p₂ .0) in
+    let n₃ = eqb-false (bit29 k) 1 (p₃ .0) in
+    let n₄ = eqb-false (bit32 k) 1 (p₄ .0) in
+    record {
+      zero21 = omega arith;
+      destination = omega arith;
+      zero29 = omega arith;
+      zero32 = omega arith;
+      zeros = eqb-true (bits36to39 k) 0 (not-false (eqb (bits36to39 k) 0) (p₅ .0));
+      six = six-case k (eqb (isIpv6 k) 1) refl (p₅ .1);
+    }

@@ -1,0 +1,10 @@
+pub mod Bounds
+pub mod Passed
+pub mod Bits
+pub mod Pieces
+pub mod BuiltLaws
+pub mod Trip
+pub mod Back
+pub mod Again
+pub mod Answers
+pub mod SentOn

@@ -1,0 +1,360 @@
+-- The header sent on (page 01, "One received datagram", last sentence) is as long as the one that came, differs from it in nothing but the hop
+-- count and the checksum, and is read as the same fields with the hop count less one. Everything read up to the checksum stands in octets at
+-- places: where another string has these octets too, the same is read of it (`Alike`), though the control field need not be the shortest, so
+-- that the laws of built headers would not do. Assumes nothing.
+use native.Mathlib.Omega.{arith}
+use Prim.Native.Nat.{ℕ, zero, suc, _+_, _-_, _/_, _%_, _≤_, _<_}
+use mathlib.Core.Path.{_≡_, refl, ap, sym, _∙_}
+use mathlib.Core.List.{List, [], _∷_, _++_, append-assoc}
+use mathlib.Core.Bool.{Bool, true, false}
+use mathlib.Core.Logic.{_⊎_, inl, inr}
+use lib.ListN.{getD, set, length, take, drop, length-append, length-drop, length-set, take-append-drop, List·getD-append}
+use lib.Seq.{length-take-le, drop-at, drop-append-le, getD-take, getD-drop, ext-getD, set-append-left, getD-set-same, getD-set-other, set-getD}
+use lib.Dec.{eqb}
+use borrow.Author.Tests.{eqb-true}
+use Rattle.checks.specs.Order.{pick}
+use Rattle.octets.specs.Octets.{octet, number}
+use Rattle.checksum.specs.Sum.{elementOf}
+use Rattle.checksum.proofs.Words.{Octets}
+use Rattle.header.specs.Form.{controlOf, secondControl, thirdControl, layoutOf, placesOf, stampSize, hasQos, hasHops, stampFormat, hasExpanded, hasChecksum}
+use Rattle.header.specs.Read.{addressesOf, qosOf, octetOf, stampOf, lengthOf, fieldsOf, headerOf, readOf}
+use Rattle.header.specs.Build.{stampOctets, checksumOctets}
+use Rattle.header.specs.Range.{InRange}
+use Rattle.header.specs.Onward.{lessened, sentBody, sentOn, oneLess}
+use Rattle.header.specs.declared.Control.{Control}
+use Rattle.header.specs.declared.Layout.{Layout}
+use Rattle.header.specs.declared.Header.{Header}
+use Rattle.header.specs.declared.Octet.{Octet}
+use Rattle.header.specs.declared.Octet.the-variants as octet
+use Rattle.header.specs.declared.Read.the-variants.{Good}
+use Rattle.header.proofs.Bounds.{control-end, Placed, placed, allowed}
+use Rattle.header.proofs.Passed.{Passed, passed, read-passed}
+use Rattle.header.proofs.Pieces.{Stands, addresses-read, qos-read, octet-read, stamp-read, stamp-size}
+use Rattle.header.proofs.BuiltLaws.{checksum-length, append-small, pick-small}
+use Rattle.header.proofs.Trip.{right}
+use Rattle.header.proofs.Back.{bit, addresses-again, qos-again, octet-again, stamp-again, checksum-again}
+use Rattle.header.proofs.Answers.{fields-in-range}
+
+-- ---- one octet less one
+
+length-case : (t : Bool) (at v : ℕ) (l : List ℕ) → length (pick t (set l at v) l) ≡ length l
+length-case true at v l = length-set l at v
+length-case false at v l = refl
+
+length-lessened : (on at : ℕ) (l : List ℕ) → length (lessened on at l) ≡ length l
+unfolding lessened
+length-lessened on at l = length-case (eqb on 1) at (octet l at - 1) l
+
+append-case : (t : Bool) (on at : ℕ) (l rest : List ℕ) → eqb on 1 ≡ t → (on ≡ 1 → at < length l)
+    → pick t (set (l ++ rest) at (octet (l ++ rest) at - 1)) (l ++ rest) ≡ pick t (set l at (octet l at - 1)) l ++ rest
+append-case true on at l rest e h =
+    let inside : at < length l = h (eqb-true on 1 e) in
+    rw (List·getD-append l rest 0 at inside) (set-append-left l rest at (octet l at - 1) inside)
+append-case false on at l rest e h = refl
+
+-- what comes after the octets does not matter
+pub lessened-append : (on at : ℕ) (l rest : List ℕ) → (on ≡ 1 → at < length l) → lessened on at (l ++ rest) ≡ lessened on at l ++ rest
+unfolding lessened
+lessened-append on at l rest h = append-case (eqb on 1) on at l rest refl h
+
+-- another octet is not changed
+other-case : (on at : ℕ) (l : List ℕ) (i : ℕ) → (on ≡ 0) ⊎ (on ≡ 1) → (on ≡ 1 → i ≡ at → ⊥) → octet (lessened on at l) i ≡ octet l i
+unfolding lessened
+other-case on at l i (inl none) other = rw none
+other-case on at l i (inr one) other = rw one (getD-set-other l at i (octet l at - 1) 0 (other one))
+
+set-le : (l : List ℕ) (at v i : ℕ) → v ≤ octet l at → octet (set l at v) i ≤ octet l i
+set-le [] at v i h = omega arith
+set-le (x ∷ l) zero v zero h = h
+set-le (x ∷ l) zero v (suc i) h = omega arith
+set-le (x ∷ l) (suc at) v zero h = omega arith
+set-le (x ∷ l) (suc at) v (suc i) h = set-le l at v i h
+
+less-case : (t : Bool) (at : ℕ) (l : List ℕ) (i : ℕ) → octet (pick t (set l at (octet l at - 1)) l) i ≤ octet l i
+less-case true at l i = set-le l at (octet l at - 1) i (omega arith)
+less-case false at l i = omega arith
+
+take-le : (n : ℕ) (l : List ℕ) (i : ℕ) → octet (take n l) i ≤ octet l i
+take-le zero l i = omega arith
+take-le (suc n) [] i = omega arith
+take-le (suc n) (x ∷ l) zero = omega arith
+take-le (suc n) (x ∷ l) (suc i) = take-le n l i
+
+-- ---- the octets of the header sent on
+
+module _ (s : List ℕ) where
+  places : Placed s (controlOf s)
+  places = placed s (controlOf s) (control-end s .1)
+
+  -- a hop count stands before the checksum
+  pub hops-before : hasHops (controlOf s) ≡ 1 → placesOf s .hops < placesOf s .checksum
+  unfolding layoutOf
+  hops-before on = omega (arith, places)
+
+  pub sent-body-length : placesOf s .checksum ≤ length s → length (sentBody s) ≡ placesOf s .checksum
+  unfolding sentBody
+  sent-body-length h =
+      length-lessened (hasHops (controlOf s)) (placesOf s .hops) (take (placesOf s .checksum) s) ∙ length-take-le (placesOf s .checksum) s h
+
+  -- they are octets
+  pub sent-small : Octets s → Octets (sentOn s)
+  unfolding sentOn sentBody lessened checksumOctets
+  sent-small small =
+      let front = take (placesOf s .checksum) s in
+      let body : Octets (sentBody s) =
+      λ i. omega (arith, small i, take-le (placesOf s .checksum) s i, less-case (eqb (hasHops (controlOf s)) 1) (placesOf s .hops) front i) in
+      append-small (sentBody s) _ body (pick-small (eqb (hasChecksum (controlOf s)) 1) _)
+
+module _ (s : List ℕ) (room : placesOf s .size ≤ length s) where
+  inside : placesOf s .checksum ≤ length s
+  inside = omega (arith, places s)
+
+  pub sent-length : length (sentOn s) ≡ placesOf s .size
+  unfolding sentOn
+  sent-length =
+      simp (length-append, sent-body-length s inside, checksum-length (hasChecksum (controlOf s)) (omega arith)) (sym (places s .size))
+
+  body-front : (i : ℕ) → i < placesOf s .checksum → octet (sentOn s) i ≡ octet (sentBody s) i
+  unfolding sentOn
+  body-front i below = List·getD-append (sentBody s) _ 0 i (omega (arith, sent-body-length s inside))
+
+  -- same form, same addresses: only the octet of the hop count and the two of the checksum may differ
+  pub sent-same : (i : ℕ) → i < placesOf s .checksum → (hasHops (controlOf s) ≡ 1 → i ≡ placesOf s .hops → ⊥) → octet (sentOn s) i ≡ octet s i
+  unfolding sentBody
+  sent-same i below other =
+      let front = take (placesOf s .checksum) s in
+      let body-same = other-case (hasHops (controlOf s)) (placesOf s .hops) front i (bit _ (omega arith)) other in
+      body-front i below ∙ (body-same ∙ getD-take (placesOf s .checksum) s i 0 below)
+
+  -- the hop count is one less; 0 stays 0
+  pub sent-hops : hasHops (controlOf s) ≡ 1 → octet (sentOn s) (placesOf s .hops) ≡ octet s (placesOf s .hops) - 1
+  unfolding sentBody lessened
+  sent-hops on =
+      let at = placesOf s .hops in
+      let front = take (placesOf s .checksum) s in
+      let below = hops-before s on in
+      let there : at < length front = omega (arith, length-take-le (placesOf s .checksum) s inside) in
+      body-front at below ∙ rw (on, getD-set-same front at _ 0 there, getD-take (placesOf s .checksum) s at 0 below)
+
+-- ---- what is read where octets agree
+
+-- octets that stand in s from one place to another stand in t where the two agree there
+moved : (s t : List ℕ) → length t ≡ length s → (from to : ℕ) (x : List ℕ) → from ≤ to → to ≤ length s
+    → ((i : ℕ) → from ≤ i → i < to → octet t i ≡ octet s i) → take from s ++ x ≡ take to s → Stands t from x (drop to t)
+moved s t long from to x order inside same e =
+    let length-s : length (take to s) ≡ to = length-take-le to s inside in
+    let length-t : length (take to t) ≡ to = length-take-le to t (omega arith) in
+    let there : from ≤ length (take to t) = omega arith in
+    let x-is : drop from (take to s) ≡ x = rw (← e) (drop-at (take from s) x from (length-take-le from s (omega arith))) in
+    let agree : drop from (take to t) ≡ drop from (take to s) =
+    ext-getD 0 _ _ (simp (length-drop, length-s, length-t))
+    (λ i h.
+    let below : from + i < to = omega (arith, length-drop from (take to t)) in
+    simp (getD-drop, getD-take to t (from + i) 0 below, getD-take to s (from + i) 0 below) (same (from + i) (omega arith) below)) in
+    let cut : drop from t ≡ drop from (take to t) ++ drop to t = rw (← drop-append-le from (take to t) (drop to t) there, take-append-drop to t) in
+    record { is = cut ∙ ap (λ (y : List ℕ). y ++ drop to t) (agree ∙ x-is) }
+
+-- t is as long as s and has its octets up to the checksum, but for the hop count
+record Alike (s t : List ℕ) : Type 0 where
+  long : length t ≡ length s
+  same : (i : ℕ) → i < placesOf s .checksum → (hasHops (controlOf s) ≡ 1 → i ≡ placesOf s .hops → ⊥) → octet t i ≡ octet s i
+
+-- the third control octet matters only where bit 24 says that it is there
+third-case : (s t : List ℕ) → secondControl t ≡ secondControl s → (secondControl s / 128 % 2 ≡ 0) ⊎ (secondControl s / 128 % 2 ≡ 1)
+    → (secondControl s / 128 % 2 ≡ 1 → octet t 4 ≡ octet s 4) → thirdControl t ≡ thirdControl s
+third-case s t second (inl none) four = rw (second, none) (omega arith)
+third-case s t second (inr one) four = rw (second, one, four one)
+
+-- a header with another hop count
+abbrev pub withHops : Octet → Header → Header
+withHops hops h =
+    record {
+      fields = record {
+        tpid = h .fields .tpid;
+        addresses = h .fields .addresses;
+        qos = h .fields .qos;
+        hops = hops;
+        stamp = h .fields .stamp;
+        expanded = h .fields .expanded;
+        checksum = h .fields .checksum;
+        intermediate = h .fields .intermediate;
+      };
+      length = h .length;
+      size = h .size;
+    }
+
+module _ (s t : List ℕ) (h : Header) (small : Octets s) (p : Passed s h) (alike : Alike s t) where
+  abbrev k : Control
+  k = controlOf s
+
+  abbrev l : Layout
+  l = placesOf s
+
+  fits : l .size ≤ length s
+  fits = omega (arith, p)
+
+  before-hops : (i : ℕ) → i < l .hops → octet t i ≡ octet s i
+  unfolding layoutOf
+  before-hops i below = alike .same i (omega (arith, places s)) (λ on e. omega arith)
+
+  after-hops : (i : ℕ) → l .stamp ≤ i → i < l .checksum → octet t i ≡ octet s i
+  unfolding layoutOf
+  after-hops i above below = alike .same i below (λ on e. omega arith)
+
+  -- what stands in s before or after the hop count stands in t
+  early : (from to : ℕ) (x : List ℕ) → from ≤ to → to ≤ l .hops → take from s ++ x ≡ take to s → Stands t from x (drop to t)
+  early from to x order end =
+      moved s t (alike .long) from to x order (omega (arith, places s, fits)) (λ i above below. before-hops i (omega arith))
+
+  late : (from to : ℕ) (x : List ℕ) → from ≤ to → l .stamp ≤ from → to ≤ l .checksum → take from s ++ x ≡ take to s → Stands t from x (drop to t)
+  late from to x order start end =
+      moved s t (alike .long) from to x order (omega (arith, places s, fits)) (λ i above below. after-hops i (omega arith) (omega arith))
+
+  control-same : controlOf t ≡ k
+  unfolding controlOf
+  control-same =
+      let two = before-hops 2 (omega (arith, places s, control-end s)) in
+      let three = before-hops 3 (omega (arith, places s, control-end s)) in
+      let second : secondControl t ≡ secondControl s = rw (two, three) in
+      let third = third-case s t second (bit _ (omega arith)) (λ on. before-hops 4 (omega (arith, places s, control-end s))) in
+      rw (third, second, two)
+
+  -- each element that was read is in range, and is read again where its octets stand
+  range : InRange (fieldsOf s k l)
+  range = fields-in-range s small k l
+
+  addresses-same : addressesOf t k ≡ addressesOf s k
+  unfolding layoutOf fieldsOf
+  addresses-same =
+      let a = addresses-again s small k (allowed k (p .allowed) .six) (omega (arith, places s, fits)) in
+      let there = early (k .end) (l .qos) _ (omega (arith, places s)) (omega (arith, places s)) (a .3) in
+      addresses-read k (addressesOf s k) (record { ipv6 = sym (a .2); extended = sym (a .1); source = sym (a .0) }) there (range .addresses)
+
+  qos-same : qosOf t (hasQos k) (l .qos) ≡ qosOf s (hasQos k) (l .qos)
+  unfolding layoutOf fieldsOf
+  qos-same =
+      let a = qos-again s small (hasQos k) (l .qos) (omega arith) (omega (arith, places s, fits)) in
+      let there = early (l .qos) (l .hops) _ (omega (arith, places s)) (omega arith) (a .1) in
+      rw (a .0) at (qos-read (qosOf s (hasQos k) (l .qos)) there (range .qos))
+
+  -- a timestamp is read alike, and so is its size
+  stamp-same : (stampOf t (stampFormat k) (l .stamp) ≡ stampOf s (stampFormat k) (l .stamp))
+      × (stampSize (stampFormat k) (octet t (l .stamp)) ≡ stampSize (stampFormat k) (octet s (l .stamp)))
+  unfolding layoutOf fieldsOf
+  stamp-same =
+      let m = stampOf s (stampFormat k) (l .stamp) in
+      let a = stamp-again s small (stampFormat k) (l .stamp) (omega arith) (omega (arith, places s, fits)) in
+      let here = moved s s refl (l .stamp) (l .expanded) (stampOctets m) (omega (arith, places s)) (omega (arith, places s, fits)) (λ i above below. refl) (a .1) in
+      let there = late (l .stamp) (l .expanded) (stampOctets m) (omega (arith, places s)) (omega arith) (omega (arith, places s)) (a .1) in
+      (rw (a .0) at (stamp-read m there (range .stamp)), rw (a .0) at (stamp-size m there (range .stamp) ∙ sym (stamp-size m here (range .stamp))))
+
+  expanded-same : octetOf t (hasExpanded k) (l .expanded) ≡ octetOf s (hasExpanded k) (l .expanded)
+  unfolding layoutOf fieldsOf
+  expanded-same =
+      let a = octet-again s small (hasExpanded k) (l .expanded) (omega arith) (omega (arith, places s, fits)) in
+      let there = late (l .expanded) (l .checksum) _ (omega (arith, places s)) (omega (arith, places s)) (omega arith) (a .1) in
+      rw (a .0) at (octet-read (octetOf s (hasExpanded k) (l .expanded)) there (range .expanded))
+
+  places-same : placesOf t ≡ l
+  unfolding layoutOf
+  places-same = rw (control-same, stamp-same .1)
+
+  length-same : lengthOf t ≡ lengthOf s
+  unfolding lengthOf
+  length-same = rw (before-hops 0 (omega (arith, places s)), before-hops 1 (omega (arith, places s, control-end s)))
+
+  header-same : headerOf t ≡ withHops (octetOf t (hasHops k) (l .hops)) (headerOf s)
+  unfolding headerOf fieldsOf
+  header-same =
+      let two = before-hops 2 (omega (arith, places s, control-end s)) in
+      rw (places-same, control-same, length-same, two, addresses-same, qos-same, stamp-same .0, expanded-same)
+
+  -- t is read as s with t's own hop count, where its checksum is what it should be
+  read-alike : (hasChecksum k ≡ 1 → number t (l .checksum) 2 ≡ elementOf t (l .checksum)) → readOf t ≡ Good (withHops (octetOf t (hasHops k) (l .hops)) h)
+  read-alike is-right =
+      read-passed t _
+      (record {
+        long = omega (arith, alike .long, p .long);
+        version = rw (before-hops 0 (omega (arith, places s))) (p .version);
+        whole = rw (control-same, alike .long) (p .whole);
+        allowed = rw control-same (p .allowed);
+        inside = rw (length-same, alike .long) (p .inside);
+        fits = rw (places-same, length-same) (p .fits);
+        right = λ on. rw places-same (is-right (rw control-same at on));
+        is = rw (header-same, p .is);
+      })
+
+-- ---- the laws
+
+-- an octet less one is read as one less
+hops-case : (s t : List ℕ) (on at : ℕ) → (on ≡ 0) ⊎ (on ≡ 1) → (on ≡ 1 → octet t at ≡ octet s at - 1) → octetOf t on at ≡ oneLess (octetOf s on at)
+unfolding octetOf
+hops-case s t on at (inl none) less = rw none
+hops-case s t on at (inr one) less = rw (one, less one)
+
+-- an octet that one less leaves as it was is not changed
+kept-case : (s l : List ℕ) (on at : ℕ) → (on ≡ 0) ⊎ (on ≡ 1) → oneLess (octetOf s on at) ≡ octetOf s on at → (on ≡ 1 → octet l at ≡ octet s at) → lessened on at l ≡ l
+unfolding octetOf lessened
+kept-case s l on at (inl none) e same = rw none
+kept-case s l on at (inr one) e same =
+    let read : octet.Present (octet s at - 1) ≡ octet.Present (octet s at) = rw one at e in
+    let stays : octet s at - 1 ≡ octet s at = cc in
+    rw (one, same one, stays, ← same one) (set-getD l at 0)
+
+module _ (s : List ℕ) (h : Header) (small : (i : ℕ) → getD s i 0 < 256) (e : readOf s ≡ Good h) where
+  was : Passed s h
+  was = passed s h e
+
+  enough : placesOf s .size ≤ length s
+  enough = omega (arith, was)
+
+  size-is : h .size ≡ placesOf s .size
+  unfolding headerOf
+  size-is = rw (was .is)
+
+  hops-are : h .fields .hops ≡ octetOf s (hasHops (controlOf s)) (placesOf s .hops)
+  unfolding headerOf fieldsOf
+  hops-are = rw (was .is)
+
+  -- as many octets as came
+  pub sent-size : length (sentOn s) ≡ h .size
+  sent-size = sent-length s enough ∙ sym size-is
+
+  -- with no hop count, or one of 0, every octet goes on as it came, those of the checksum too
+  pub sent-as-it-came : oneLess (h .fields .hops) ≡ h .fields .hops → sentOn s ≡ take (h .size) s
+  unfolding sentOn sentBody
+  sent-as-it-came none =
+      let at = placesOf s .checksum in
+      let body-is : sentBody s ≡ take at s =
+      kept-case s (take at s) (hasHops (controlOf s)) (placesOf s .hops) (bit _ (omega arith)) (rw hops-are at none)
+      (λ on. getD-take at s (placesOf s .hops) 0 (hops-before s on)) in
+      rw (body-is, size-is, places s .size)
+      (checksum-again s small (hasChecksum (controlOf s)) at (omega arith) (was .right) (omega (arith, places s, enough)))
+
+  -- the header sent on, and the datagram's data behind it
+  abbrev sent : List ℕ
+  sent = sentOn s ++ drop (h .size) s
+
+  front : (i : ℕ) → i < placesOf s .size → octet sent i ≡ octet (sentOn s) i
+  front i below = List·getD-append (sentOn s) _ 0 i (omega (arith, sent-length s enough))
+
+  sent-alike : Alike s sent
+  sent-alike =
+      record {
+        long = simp (length-append, length-drop, sent-length s enough) (omega (arith, size-is, enough));
+        same = λ i below other. front i (omega (arith, places s)) ∙ sent-same s enough i below other;
+      }
+
+  sent-less : octetOf sent (hasHops (controlOf s)) (placesOf s .hops) ≡ oneLess (h .fields .hops)
+  sent-less =
+      let less : hasHops (controlOf s) ≡ 1 → octet sent (placesOf s .hops) ≡ octet s (placesOf s .hops) - 1 =
+      λ on. front (placesOf s .hops) (omega (arith, places s, hops-before s on)) ∙ sent-hops s enough on in
+      rw hops-are (hops-case s sent (hasHops (controlOf s)) (placesOf s .hops) (bit _ (omega arith)) less)
+
+  sent-right : hasChecksum (controlOf s) ≡ 1 → number sent (placesOf s .checksum) 2 ≡ elementOf sent (placesOf s .checksum)
+  unfolding sentOn
+  sent-right on = rw (append-assoc, ← sent-body-length s (inside s enough)) (right (hasChecksum (controlOf s)) (sentBody s) _ on)
+
+  -- it is read as the same fields with the hop count less one
+  pub read-sent-on : readOf (sentOn s ++ drop (h .size) s) ≡ Good (withHops (oneLess (h .fields .hops)) h)
+  read-sent-on = rw (← sent-less) (read-alike s sent h small was sent-alike sent-right)

@@ -1,0 +1,28 @@
+-- The header sent on (page 01, "One received datagram", last sentence): as it came, hop count less one and checksum redone, where present.
+-- Assumes nothing.
+use Prim.Native.Nat.{ℕ, _-_}
+use mathlib.Core.List.{List, _++_}
+use lib.ListN.{set, take}
+use lib.Dec.{eqb}
+use Rattle.checks.specs.Order.{pick}
+use Rattle.octets.specs.Octets.{octet}
+use Rattle.header.specs.Form.{controlOf, placesOf, hasHops, hasChecksum}
+use Rattle.header.specs.Build.{checksumOctets}
+use Rattle.header.specs.declared.Octet.{Octet}
+use Rattle.header.specs.declared.Octet.the-variants as octet
+
+-- the octet at a place less one, where that element is on; 0 stays 0
+unfoldable pub lessened : ℕ → ℕ → List ℕ → List ℕ
+lessened on at l = pick (eqb on 1) (set l at (octet l at - 1)) l
+
+-- the octets before the checksum, as they go on
+unfoldable pub sentBody : List ℕ → List ℕ
+sentBody s = lessened (hasHops (controlOf s)) (placesOf s .hops) (take (placesOf s .checksum) s)
+
+unfoldable pub sentOn : List ℕ → List ℕ
+sentOn s = sentBody s ++ checksumOctets (hasChecksum (controlOf s)) (sentBody s)
+
+-- a hop count less one, where there is one
+abbrev pub oneLess : Octet → Octet
+oneLess octet.Absent = octet.Absent
+oneLess (octet.Present v) = octet.Present (v - 1)

@@ -1,0 +1,32 @@
+use borrow.Author.Tests.{eq-eqb, ne-eqb, le-leb, lt-leb}
+use Rattle.intake.specs.Fields.{addressWidthsOut, stampOut, addressLimit, wideOut, pfieldLimit}
+use borrow.Author.Needs.{needs}
+use Rattle.intake.proofs.check_stamp.Statement.{statement}
+use Rattle.intake.proofs.check_stamp.Tie as tie
+
+returns : tie.Need-returns
+unfolding stampOut
+returns c = simp (le-leb _ _ (c .if1 .taken))
+
+pfield-limit-requires : tie.Need-pfield-limit-requires
+pfield-limit-requires c κs = search needs
+
+returns-2 : tie.Need-returns-2
+unfolding stampOut
+returns-2 c = rw (← c .before .before .pfield-limit .ensures) (simp (lt-leb _ _ (c .before .before .before .if1 .left), le-leb _ _ (c .if2 .taken)))
+
+returns-3 : tie.Need-returns-3
+unfolding stampOut
+returns-3 c = rw (← c .before .before .before .before .pfield-limit .ensures) (simp (lt-leb _ _ (c .before .before .before .before .before .if1 .left), lt-leb _ _ (c .before .before .if2 .left), ne-eqb _ _ (c .if3 .taken)))
+
+returns-4 : tie.Need-returns-4
+unfolding stampOut
+returns-4 c = rw (← c .before .before .before .before .before .before .pfield-limit .ensures) (simp (lt-leb _ _ (c .before .before .before .before .before .before .before .if1 .left), lt-leb _ _ (c .before .before .before .before .if2 .left), eq-eqb _ _ (c .before .before .if3 .left), ne-eqb _ _ (c .if4 .taken)))
+
+returns-5 : tie.Need-returns-5
+unfolding stampOut
+returns-5 c = rw (← c .before .before .before .before .before .before .pfield-limit .ensures) (simp (lt-leb _ _ (c .before .before .before .before .before .before .before .if1 .left), lt-leb _ _ (c .before .before .before .before .if2 .left), eq-eqb _ _ (c .before .before .if3 .left), eq-eqb _ _ (c .if4 .left)))
+
+pub check-stamp-spec : {M : Type 1} → statement M
+check-stamp-spec =
+    tie.close (tie.spec returns pfield-limit-requires returns-2 returns-3 returns-4 returns-5)

@@ -1,0 +1,15 @@
+use Rattle.intake.specs.Fields.{addressFlagsOut, addressWidthsOut, octetOut, qosOut, stampOut, octetsOut, elementsOut, numbersOut, addressesFrom, qosFrom, octetFrom, stampFrom, fieldsFrom, addressLimit, wideOut}
+use borrow.Author.Tests.{eq-eqb, ne-eqb}
+use Rattle.intake.specs.Fields.{addressFlagsOut, addressWidthsOut, octetOut, qosOut, stampOut, octetsOut, elementsOut, numbersOut, addressesFrom, qosFrom, octetFrom, stampFrom, fieldsFrom}
+use borrow.Author.Needs.{needs}
+use Rattle.intake.proofs.pfield_limit.Statement.{statement}
+use Rattle.intake.proofs.pfield_limit.Tie as tie
+
+returns : tie.Need-returns
+returns c = simp (eq-eqb _ _ (c .if1 .taken))
+
+returns-2 : tie.Need-returns-2
+returns-2 c = simp (ne-eqb _ _ (c .if1 .left))
+
+pub pfield-limit-spec : {M : Type 1} → statement M
+pfield-limit-spec = tie.close (tie.spec returns returns-2)

@@ -1,0 +1,181 @@
+// The fields of a header as numbers.
+//
+// C has neither enums with data nor kinds of address, so the fields travel as one struct of numbers (`hj_fields` in the C header has
+// the same members in the same order). Outward nothing can go wrong: what is absent is 0. The way back, where much can, is crate
+// intake.
+use header::Addresses;
+use header::Fields;
+use header::Octet;
+use header::Qos;
+use header::Timestamp;
+ghost use mathlib.Core.Path.{_≡_};
+ghost use Rattle.numbers.specs.Numbers.{
+  destinationOf,
+  sourceOf,
+  precedenceOf,
+  routingOf,
+  programOf,
+  valueOf,
+  timeOf,
+  pfieldOf,
+  numbersOf,
+};
+// A number of up to sixteen octets.
+#[repr(C)]
+pub struct Wide {
+    pub high: u64,
+    pub low: u64,
+}
+
+// The fields of a header. `sourced`, `qualified`, `counted` and `expands` are the flags of source, basic QOS, hop count and
+// expanded QOS.
+#[repr(C)]
+pub struct Numbers {
+    pub destination: Wide,
+    pub source: Wide,
+    pub time: u64,
+    pub tpid: u32,
+    pub sourced: u32,
+    pub extended: u32,
+    pub ipv6: u32,
+    pub qualified: u32,
+    pub precedence: u32,
+    pub routing: u32,
+    pub program: u32,
+    pub counted: u32,
+    pub hops: u32,
+    pub format: u32,
+    pub pfield: u32,
+    pub expands: u32,
+    pub expanded: u32,
+    pub checksum: u32,
+    pub intermediate: u32,
+}
+
+fn destination_of(a: Addresses) -> Wide
+    ensures { λ r. ⌜ r ≡ destinationOf a ⌝ }
+{
+    match a {
+        Addresses::BasicPath(d) => narrow(d as u64),
+        Addresses::ExtendedPath(p) => narrow(p.0 as u64),
+        Addresses::BasicEndSystem(d, _) => narrow(d as u64),
+        Addresses::ExtendedEndSystem(d, _) => narrow(d.0 as u64),
+        Addresses::Ipv6(d, _) => Wide {
+            high: d.high,
+            low: d.low,
+        },
+    }
+}
+
+fn source_of(a: Addresses) -> Wide
+    ensures { λ r. ⌜ r ≡ sourceOf a ⌝ }
+{
+    match a {
+        Addresses::BasicPath(_) => narrow(0),
+        Addresses::ExtendedPath(_) => narrow(0),
+        Addresses::BasicEndSystem(_, s) => narrow(s as u64),
+        Addresses::ExtendedEndSystem(_, s) => narrow(s.0 as u64),
+        Addresses::Ipv6(_, s) => Wide {
+            high: s.high,
+            low: s.low,
+        },
+    }
+}
+
+fn narrow(v: u64) -> Wide
+    ensures { λ r. ⌜ r ≡ record { high = 0; low = v } ⌝ }
+{
+    Wide { high: 0, low: v }
+}
+
+fn precedence_of(q: Qos) -> u32
+    ensures { λ r. ⌜ r ≡ precedenceOf q ⌝ }
+{
+    match q {
+        Qos::Absent => 0,
+        Qos::Present(precedence, _, _) => precedence as u32,
+    }
+}
+
+fn routing_of(q: Qos) -> u32
+    ensures { λ r. ⌜ r ≡ routingOf q ⌝ }
+{
+    match q {
+        Qos::Absent => 0,
+        Qos::Present(_, routing, _) => routing as u32,
+    }
+}
+
+fn program_of(q: Qos) -> u32
+    ensures { λ r. ⌜ r ≡ programOf q ⌝ }
+{
+    match q {
+        Qos::Absent => 0,
+        Qos::Present(_, _, program) => program as u32,
+    }
+}
+
+fn value_of(o: Octet) -> u32
+    ensures { λ r. ⌜ r ≡ valueOf o ⌝ }
+{
+    match o {
+        Octet::Absent => 0,
+        Octet::Present(v) => v as u32,
+    }
+}
+
+fn time_of(t: Timestamp) -> u64
+    ensures { λ r. ⌜ r ≡ timeOf t ⌝ }
+{
+    match t {
+        Timestamp::Absent => 0,
+        Timestamp::Implicit(time) => time,
+        Timestamp::Explicit(_, time) => time,
+        Timestamp::Binary(time) => time,
+    }
+}
+
+fn pfield_of(t: Timestamp) -> u32
+    ensures { λ r. ⌜ r ≡ pfieldOf t ⌝ }
+{
+    match t {
+        Timestamp::Absent => 0,
+        Timestamp::Implicit(_) => 0,
+        Timestamp::Explicit(p, _) => p as u32,
+        Timestamp::Binary(_) => 0,
+    }
+}
+
+// The numbers of a header's fields, 0 for what is absent.
+pub fn numbers_of(f: Fields) -> Numbers
+    ensures { λ r. ⌜ r ≡ numbersOf f ⌝ }
+{
+    let addresses = f.addresses;
+    let qos = f.qos;
+    let hops = f.hops;
+    let stamp = f.stamp;
+    let expanded = f.expanded;
+    let destination = destination_of(addresses);
+    let source = source_of(addresses);
+    Numbers {
+        destination,
+        source,
+        time: time_of(stamp),
+        tpid: f.tpid as u32,
+        sourced: flags::source_flag(addresses) as u32,
+        extended: flags::extended_flag(addresses) as u32,
+        ipv6: flags::ipv6_flag(addresses) as u32,
+        qualified: flags::qos_flag(qos) as u32,
+        precedence: precedence_of(qos),
+        routing: routing_of(qos),
+        program: program_of(qos),
+        counted: flags::octet_flag(hops) as u32,
+        hops: value_of(hops),
+        format: flags::stamp_format(stamp) as u32,
+        pfield: pfield_of(stamp),
+        expands: flags::octet_flag(expanded) as u32,
+        expanded: value_of(expanded),
+        checksum: f.checksum as u32,
+        intermediate: f.intermediate as u32,
+    }
+}

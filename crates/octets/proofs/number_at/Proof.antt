@@ -1,0 +1,76 @@
+use borrow.Author.Needs.{needs}
+use native.Mathlib.Omega.{arith}
+use native.Mathlib.Numerals.{add-one}
+use native.Mathlib.Nat.{pow-suc, pow-le-pow-right}
+use Prim.Native.Nat.{ℕ, suc, _+_, _*_, _-_, _^_, _≤_, _<_}
+use mathlib.Core.Path.{_≡_, refl, ap, _∙_}
+use lib.Dec.{lit<}
+use Rattle.octets.proofs.Laws.{number-more, bound-more}
+use Rattle.octets.specs.Octets.{number}
+use Rattle.octets.proofs.number_at.Statement.{statement}
+use Rattle.octets.proofs.number_at.Tie as tie
+
+abbrev Inv-loop : tie.InvT-loop
+Inv-loop s place count value₀ i₀ value i =
+    (i ≤ count) × ((value ≡ number s place i) × (value < 256 ^ i))
+
+abbrev μ-loop : tie.MeasureT-loop
+μ-loop s place count value₀ i₀ value i = count - i
+
+loop-holds : tie.Need-loop-holds Inv-loop μ-loop
+unfolding number
+loop-holds c = (search needs, (refl, search needs))
+
+small : (c : tie.In-loop Inv-loop μ-loop) → c .before .loop .value < 256 ^ 7
+small c =
+    let h : 256 ^ (c .before .loop .i) ≤ 256 ^ 7 = let k : c .before .loop .i ≤ 7 = omega arith in pow-le-pow-right {n = 256} (lit< tt) k in
+    omega arith
+
+mul-value : tie.Need-mul-value Inv-loop μ-loop
+mul-value c = omega (arith, small c)
+
+add-octet-at : tie.Need-add-octet-at Inv-loop μ-loop
+add-octet-at c = omega arith
+
+octet-at-requires : tie.Need-octet-at-requires Inv-loop μ-loop
+octet-at-requires c κs = search needs
+
+wide-requires : tie.Need-wide-requires Inv-loop μ-loop
+wide-requires c κs = search needs
+
+add-value : tie.Need-add-value Inv-loop μ-loop
+add-value c = omega (arith, small (c .before .before))
+
+add-i : tie.Need-add-i Inv-loop μ-loop
+add-i c = omega arith
+
+loop-less : tie.Need-loop-less Inv-loop μ-loop
+loop-less c = omega arith
+
+loop-again : tie.Need-loop-again Inv-loop μ-loop
+loop-again c =
+    let a = c .before .before .before .before .before .args in
+    let l = c .before .before .before .loop in
+    rw add-one (omega arith, (number-more (a .s .now) (a .place) (l .i) (l .value) (c .wide .result) (l .inv .1 .0) (c .wide .ensures ∙ c .before .octet-at .ensures), bound-more (l .i) (l .value) (c .wide .result) (l .inv .1 .1) (omega arith)))
+
+returns : tie.Need-returns Inv-loop μ-loop
+returns c =
+    let h : c .before .loop .i ≡ c .before .before .before .args .count = omega arith in
+    (rw h at (c .before .loop .inv .1 .0), rw h at (c .before .loop .inv .1 .1))
+
+pub number-at-spec : {M : Type 1} → statement M
+number-at-spec =
+    tie.close
+    (tie.spec
+    Inv-loop
+    μ-loop
+    loop-holds
+    mul-value
+    add-octet-at
+    octet-at-requires
+    wide-requires
+    add-value
+    add-i
+    loop-less
+    loop-again
+    returns)

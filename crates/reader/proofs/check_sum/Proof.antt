@@ -1,0 +1,26 @@
+use borrow.Author.Tests.{eq-eqb, ne-eqb}
+use borrow.Author.Needs.{needs}
+use Rattle.reader.proofs.check_sum.Statement.{statement}
+use Rattle.reader.proofs.check_sum.Tie as tie
+
+returns : tie.Need-returns
+returns c = simp (ne-eqb _ _ (c .if1 .taken))
+
+number-at-requires : tie.Need-number-at-requires
+number-at-requires c κs = search needs
+
+element-requires : tie.Need-element-requires
+element-requires c κs = search needs
+
+cast-due : tie.Need-cast-due
+cast-due c = search needs
+
+returns-2 : tie.Need-returns-2
+returns-2 c = rw (← c .before .before .number-at .ensures .0, ← c .before .element .ensures) (simp (eq-eqb _ _ (c .before .before .before .if1 .left), ne-eqb _ _ (c .if2 .taken)))
+
+returns-3 : tie.Need-returns-3
+returns-3 c = rw (← c .before .before .number-at .ensures .0, ← c .before .element .ensures) (simp (eq-eqb _ _ (c .before .before .before .if1 .left), eq-eqb _ _ (c .if2 .left)))
+
+pub check-sum-spec : {M : Type 1} → statement M
+check-sum-spec =
+    tie.close (tie.spec returns number-at-requires element-requires cast-due returns-2 returns-3)

@@ -1,0 +1,20 @@
+use Rattle.header.specs.Read.{sixOf, addressesOf, qosOf, octetOf, stampOf, lengthOf, fieldsOf, headerOf, readChecks, readOf}
+use borrow.Author.Needs.{needs}
+use Rattle.reader.proofs.six_at.Statement.{statement}
+use Rattle.reader.proofs.six_at.Tie as tie
+
+number-at-requires : tie.Need-number-at-requires
+number-at-requires c κs = search needs
+
+add-number-at : tie.Need-add-number-at
+add-number-at c = search needs
+
+number-at-requires-2 : tie.Need-number-at-requires-2
+number-at-requires-2 c κs = search needs
+
+returns : tie.Need-returns
+unfolding sixOf
+returns c = cc
+
+pub six-at-spec : {M : Type 1} → statement M
+six-at-spec = tie.close (tie.spec number-at-requires add-number-at number-at-requires-2 returns)

@@ -1,0 +1,26 @@
+/*
+ * words.h: the words of the trace form. A word's function takes the arguments
+ * of its line, calls the library and adds the answer; it answers false where an
+ * argument is not understood, and has then called nothing.
+ *
+ * A new word is one function here and one row of the table in replay.c.
+ */
+#ifndef WORDS_H
+#define WORDS_H
+
+#include <stdbool.h>
+
+#include "text.h"
+#include "trace.h"
+
+typedef bool answer_word(const struct trace_word *arguments,
+                         struct text *answer);
+
+/* words_header.c: addresses, checksum and headers. */
+answer_word answer_class;
+answer_word answer_path;
+answer_word answer_checksum;
+answer_word answer_read;
+answer_word answer_build;
+
+#endif

@@ -1,0 +1,379 @@
+#!/usr/bin/env python3
+"""The scripts of the gate on small trees of their own: what they must accept,
+and what they must refuse and say of it.
+
+A tree is made in a temporary folder, since an .antt or .rt file of the
+repository that no crate has would fail `rt ci`. Where a script calls rt or the
+host programs, the tree has stand-ins for them.
+"""
+import os
+import shutil
+import subprocess
+import tempfile
+import unittest
+
+ROOT = os.path.dirname(os.path.dirname(os.path.abspath(__file__)))
+
+
+class Tree(unittest.TestCase):
+    """A temporary folder with files in it."""
+
+    def setUp(self):
+        folder = tempfile.TemporaryDirectory()
+        self.addCleanup(folder.cleanup)
+        self.root = folder.name
+
+    def write(self, path, text, mode=0o644):
+        path = os.path.join(self.root, path)
+        os.makedirs(os.path.dirname(path), exist_ok=True)
+        with open(path, "w", encoding="utf-8") as file:
+            file.write(text)
+        os.chmod(path, mode)
+
+    def copy_script(self, name):
+        with open(os.path.join(ROOT, "scripts", name), encoding="utf-8") as file:
+            self.write(f"scripts/{name}", file.read(), 0o755)
+
+    def run_script(self, *words, path=None):
+        environment = dict(os.environ, PATH=path or os.environ["PATH"])
+        ended = subprocess.run(words, capture_output=True, text=True, env=environment, check=False)
+        return ended.returncode, ended.stdout + ended.stderr
+
+
+LAWS = """-- Laws of the classes.
+use Prim.Native.Nat.{ℕ, _<_}
+
+pub one-class : (a : ℕ) →
+    classNumber (classOf a) < 7
+one-class a = search needs
+
+unfoldable pub twice {ℓ} : ℕ → ℕ
+twice n = n + n
+
+hidden : ℕ
+hidden = 0
+
+module Inside (n : ℕ) where
+    within : n ≡ n
+    within = refl
+"""
+
+PAGE = """# Promises
+
+Each address has one class: `one-class`, in `crates/address/proofs/Laws.antt`.
+
+```antt
+pub one-class : (a : ℕ) → classNumber (classOf a) < 7
+```
+
+| Law | Theorem | File |
+|---|---|---|
+| twice | `twice` | `crates/address/proofs/Laws.antt` |
+| within | `within` | `crates/address/proofs/Laws.antt` |
+
+```antt
+twice {ℓ} : ℕ → ℕ
+```
+
+```antt
+within : n ≡ n
+```
+
+The file `crates/address/proofs/Laws.antt` has no more.
+"""
+
+
+class Promises(Tree):
+    def check(self, page):
+        self.write("docs/PROMISES.md", page)
+        self.write("crates/address/proofs/Laws.antt", LAWS)
+        return self.run_script(os.path.join(ROOT, "scripts/check-promises"), self.root)
+
+    def refused(self, page, *says):
+        status, output = self.check(page)
+        self.assertEqual(status, 1, output)
+        for words in says:
+            self.assertIn(words, output)
+
+    def test_sections_and_rows_are_taken(self):
+        status, output = self.check(PAGE)
+        self.assertEqual((status, output), (0, "promises: 3 statements are quoted as they stand\n"))
+
+    def test_another_statement(self):
+        self.refused(PAGE.replace("< 7", "< 8"), "PROMISES.md:3: one-class is quoted as", "< 8", "< 7")
+
+    def test_a_statement_cut_short(self):
+        self.refused(PAGE.replace(" → classNumber (classOf a) < 7", ""), "one-class is quoted as")
+
+    def test_no_such_file(self):
+        self.refused(PAGE.replace("Laws.antt`.", "Law.antt`."), "there is no crates/address/proofs/Law.antt")
+
+    def test_no_such_theorem(self):
+        self.refused(PAGE.replace("one-class", "two-class"), "declares no two-class")
+
+    def test_a_private_declaration(self):
+        page = "`hidden` in `crates/address/proofs/Laws.antt`\n```antt\nhidden : ℕ\n```\n"
+        self.refused(page, "declares no hidden")
+
+    def test_a_theorem_without_quotation(self):
+        self.refused(PAGE.replace("```antt\nwithin : n ≡ n\n```", ""), "within is not quoted")
+
+    def test_a_quotation_without_theorem(self):
+        self.refused(PAGE + "```antt\nother : ℕ\n```\n", "belongs to no theorem")
+
+    def test_a_page_without_theorems(self):
+        self.refused("# Promises\n", "names no theorem")
+
+    def test_no_page(self):
+        status, output = self.run_script(os.path.join(ROOT, "scripts/check-promises"), self.root)
+        self.assertEqual((status, output), (1, "promises: there is no docs/PROMISES.md\n"))
+
+
+SOURCE = """// A brace { in a comment.
+ghost use lib.ListN.{length};
+
+pub fn half(x: [u8; 2]) -> u8
+    requires within { ⌜ x < 9 ⌝ }
+    ensures { λ r. ⌜ r ≡ halfOf x ⌝ }
+{
+    let brace = b'}';
+    if brace == 1 { x / 2 } else { 0 }
+}
+
+impl Pair {
+    pub fn first(self) -> u8
+        ensures { λ r. ⌜ r ≡ self .0 ⌝ }
+    {
+        self.0
+    }
+}
+"""
+
+PROOF = """returns : tie.Need-returns
+returns c = search needs
+
+small : (c : tie.In-loop) → c .i < 8
+small c = omega arith
+
+pub half-spec : {M : Type 1} → statement M
+half-spec = tie.close (tie.spec returns)
+"""
+
+FAILS = "`returns`: `omega`: the goal does not follow from what it read"
+FOLLOWS = "`half-spec`: `returns` was not admitted (it has holes or undetermined implicits, or was rejected), so ..."
+
+
+class MustFail(Tree):
+    def setUp(self):
+        super().setUp()
+        self.write("crates/pair/src/lib.rt", SOURCE)
+        self.write("must-fail.txt", "# those that C calls\npair::half  # twice\n")
+
+    def edit(self, label, *errors, text=None, lines=("fn pair::half: not proved",), old="x / 2", new="x / 3"):
+        """An edit and the log that rt left of it."""
+        folder = f"target/must-fail/pair/{label}"
+        text = text or f"# not the half\nfile: src/lib.rt\nold: {old}\nnew: {new}\n"
+        self.write(f"crates/pair/must-fail/{label}.edit", text)
+        self.write(f"{folder}/proofs/half/Proof.antt", PROOF)
+        where = f"{os.path.join(self.root, folder)}/proofs/half/Proof.antt"
+        log = [f"{where}:2:9: error: {error}" for error in errors] + list(lines) + ["logic=not-proved"]
+        self.write(f"{folder}/.log", "\n".join(log) + "\n")
+
+    def check(self):
+        return self.run_script(os.path.join(ROOT, "scripts/check-must-fail"), self.root)
+
+    def refused(self, says):
+        self.edit("other", FAILS, FOLLOWS)
+        status, output = self.check()
+        self.assertEqual(status, 1, output)
+        self.assertIn(says, output)
+        self.assertIn("pair::half has 1 good edits, and needs 2", output)
+
+    def test_two_good_edits(self):
+        caller = "fn pair::whole: not proved; it calls `pair::half`, which is not proved"
+        self.edit("third", FAILS, FOLLOWS, lines=("fn pair::half: not proved", caller))
+        made = "fn pair::half: no proof: expected `half-spec` in Proof.antt; `search` does not close `div`, `returns`"
+        self.edit("fourth", lines=(made,), new="x / 4")
+        status, output = self.check()
+        self.assertEqual(status, 0, output)
+        self.assertIn("must-fail pair/fourth: pair::half fails at div, returns\n", output)
+        self.assertIn("must-fail pair/third: pair::half fails at returns\n", output)
+
+    def test_a_method(self):
+        line = "fn pair::Pair::first: no proof: expected `first-spec` in Proof.antt; `search` does not close `returns`"
+        self.edit("second", lines=(line,), old="        self.0", new="        self.1")
+        self.edit("third", FAILS)
+        self.edit("fourth", FAILS)
+        status, output = self.check()
+        self.assertEqual(status, 0, output)
+        self.assertIn("pair::Pair::first fails at returns", output)
+
+    def test_a_function_that_is_not_tried(self):
+        self.write("must-fail.txt", "pair::whole\n")
+        self.edit("third", FAILS)
+        self.assertIn("pair::whole has 0 good edits", self.check()[1])
+
+    def test_an_empty_list(self):
+        self.write("must-fail.txt", "# none yet\n")
+        self.edit("third", FAILS)
+        self.assertIn("lists no function", self.check()[1])
+
+    def test_no_comment(self):
+        self.edit("third", FAILS, text="#\nfile: src/lib.rt\nold: x / 2\nnew: x / 3\n")
+        self.refused("no comment that says what is wrong")
+
+    def test_a_change_of_the_promise(self):
+        self.edit("third", FAILS, old="halfOf x", new="halfOf 2")
+        self.refused("stands in the body of no function")
+
+    def test_a_change_of_a_definition(self):
+        self.edit("third", FAILS, text="# less\nfile: specs/Half.antt\nold: x / 2\nnew: x / 3\n")
+        self.refused("it changes specs/Half.antt, and not src/")
+
+    def test_a_text_that_stands_twice(self):
+        self.edit("third", FAILS, old="x", new="y")
+        self.refused("times in src/lib.rt")
+
+    def test_two_functions(self):
+        text = "# both\nfile: src/lib.rt\nold: x / 2\nnew: x / 3\nold:         self.0\nnew: 1\n"
+        self.edit("third", FAILS, text=text)
+        self.refused("it changes 2 functions: pair::Pair::first, pair::half")
+
+    def test_a_need_that_is_gone(self):
+        gone = "`returns`: `tie.Need-returns`: module `Tie` has no `Need-returns` that can be named from here"
+        self.edit("third", FAILS, gone)
+        self.refused("the proof no longer fits, at returns")
+
+    def test_needs_that_have_changed(self):
+        self.edit("third", FAILS, "`half-spec`: the two types first differ")
+        self.refused("the proof no longer fits, at half-spec")
+
+    def test_a_lemma_alone(self):
+        self.edit("third", "`small`: `omega`: the goal does not follow", FOLLOWS)
+        self.refused("no need of pair::half fails")
+
+    def test_another_function_fails_too(self):
+        self.edit("third", FAILS, lines=("fn pair::half: not proved", "fn pair::whole: not proved"))
+        self.refused("pair::half is changed, and pair::whole fails too")
+
+    def test_another_function_fails_instead(self):
+        self.edit("third", lines=("fn pair::half: proved", "fn pair::whole: not proved"))
+        self.refused("pair::half is changed, and does not fail")
+
+    def test_no_log(self):
+        self.edit("third", FAILS)
+        os.remove(os.path.join(self.root, "target/must-fail/pair/third/.log"))
+        self.refused("rt left no log")
+
+
+class Gate(Tree):
+    """scripts/gate with a stand-in for rt and for the look at the logs."""
+
+    def gate(self, rt, logs="exit 0"):
+        self.copy_script("gate")
+        self.write("scripts/check-must-fail", f"#!/bin/sh\necho looked at the logs\n{logs}\n", 0o755)
+        self.write("bin/rt", f"#!/bin/sh\n{rt}\n", 0o755)
+        path = os.path.join(self.root, "bin") + os.pathsep + os.environ["PATH"]
+        status, output = self.run_script(os.path.join(self.root, "scripts/gate"), path=path)
+        return status, output.strip().split("\n")
+
+    def test_rt_has_the_last_line(self):
+        status, lines = self.gate("echo proving >&2; echo rt: ok; echo 4 passed, 0 failed")
+        self.assertEqual((status, lines), (0, ["proving", "rt: ok", "looked at the logs", "4 passed, 0 failed"]))
+
+    def test_rt_fails(self):
+        status, lines = self.gate("echo rt: FAILED; echo 3 passed, 1 failed; exit 1")
+        self.assertEqual(status, 1)
+        self.assertEqual(lines[-2:], ["3 passed, 1 failed", "gate: FAILED: rt ci ended with status 1"])
+
+    def test_the_logs_fail(self):
+        status, lines = self.gate("echo 4 passed, 0 failed", logs="exit 1")
+        self.assertEqual(status, 1)
+        self.assertIn("gate: FAILED", lines[-1])
+
+    def test_rt_says_something_else(self):
+        for last in ("done", "0 passed, 0 failed", "4 passed, 1 failed"):
+            status, lines = self.gate(f"echo {last}")
+            self.assertEqual(status, 1, last)
+            self.assertIn("gate: FAILED", lines[-1])
+
+
+class Compare(Tree):
+    """scripts/compare with stand-ins for the four programs."""
+
+    def compare(self, replay="cat", coverage="cat >/dev/null"):
+        self.copy_script("compare")
+        programs = {"generate": "echo a; echo b", "plain": "cat", "replay": replay, "coverage": coverage}
+        for name, body in programs.items():
+            self.write(f"build/{name}", f"#!/bin/sh\n{body}\n", 0o755)
+        return self.run_script(os.path.join(self.root, "scripts/compare"))
+
+    def test_no_difference(self):
+        status, output = self.compare()
+        self.assertEqual(status, 0, output)
+        self.assertIn("2 calls, not one difference", output)
+
+    def test_one_difference(self):
+        status, output = self.compare(replay="sed s/b/c/")
+        self.assertEqual(status, 1)
+        self.assertIn("plain:  b\nreplay: c\ncompare: FAILED: 1 lines differ", output)
+
+    def test_a_line_too_few_or_too_many(self):
+        for replay in ("head -n 1", "cat; echo c"):
+            status, output = self.compare(replay=replay)
+            self.assertEqual(status, 1)
+            self.assertIn("FAILED: 1 lines differ", output)
+
+    def test_a_program_that_fails(self):
+        self.assertNotEqual(self.compare(replay="cat; exit 1")[0], 0)
+
+    def test_something_not_reached(self):
+        self.assertNotEqual(self.compare(coverage="cat >/dev/null; exit 1")[0], 0)
+
+
+class Prepare(Tree):
+    """scripts/prepare on machines that lack something."""
+
+    TOOLS = ("bash", "env", "uname", "make", "python3", "gcc", "g++", "x86_64-linux-gnu-gcc", "as", "ld", "apt-get")
+
+    def prepare(self, without=(), user="0", machine=None):
+        stand_ins = {"id": f"echo {user}", "apt-get": "echo apt-get $*; exit 1", "rt": "exit 0"}
+        if machine:
+            stand_ins["uname"] = f"echo {machine}"
+        for name, body in stand_ins.items():
+            self.write(f"bin/{name}", f"#!/bin/sh\n{body}\n", 0o755)
+        for name in self.TOOLS:
+            found = shutil.which(name)
+            target = os.path.join(self.root, "bin", name)
+            if found and not os.path.lexists(target):
+                os.symlink(found, target)
+        for name in without:
+            os.remove(os.path.join(self.root, "bin", name))
+        return self.run_script(os.path.join(ROOT, "scripts/prepare"), path=os.path.join(self.root, "bin"))
+
+    def test_everything_is_there(self):
+        self.assertEqual(self.prepare(), (0, ""))
+
+    def test_no_rt(self):
+        status, output = self.prepare(without=("rt",))
+        self.assertEqual(status, 1)
+        self.assertIn("there is no rt", output)
+
+    def test_missing_and_not_root(self):
+        status, output = self.prepare(without=("g++",), user="1000")
+        self.assertEqual(status, 1)
+        self.assertIn("missing: g++. Only root may install it: apt-get install", output)
+
+    def test_missing_and_not_to_be_had(self):
+        status, output = self.prepare(without=("g++",))
+        self.assertEqual(status, 1)
+        self.assertIn("apt-get update failed; missing: g++", output)
+
+    def test_another_machine(self):
+        status, output = self.prepare(machine="riscv64")
+        self.assertEqual(status, 1)
+        self.assertIn("this is a riscv64", output)
+
+
+if __name__ == "__main__":
+    unittest.main()
