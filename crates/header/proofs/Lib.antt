@@ -8,3 +8,5 @@ pub mod Back
 pub mod Again
 pub mod Answers
 pub mod SentOn
+pub mod Refusals
+pub mod Promises

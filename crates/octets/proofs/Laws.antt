@@ -1,20 +1,19 @@
--- Laws of `number` and `octets`. Assumes nothing.
-use Prim.Native.Nat.{ℕ, zero, suc, _+_, _*_, _/_, _%_, _-_, _^_, _≤_, _<_}
+-- Numbers read from octets and octets made of numbers are each other's inverse, and pieces put one after the other join: the laws behind the
+-- reader, the builder and the header sent on. Assumes nothing.
+use Prim.Native.Nat.{ℕ, zero, suc, _+_, _*_, _/_, _%_, _^_, _≤_, _<_}
 use mathlib.Core.Path.{_≡_, refl, ap, sym, _∙_}
-use mathlib.Core.List.{List, [], _∷_, _++_}
-use native.Mathlib.Nat.{pow-suc, pow-zero, div-add-mod', div-lt-iff-lt-mul, add-zero, mod-eq-of-lt, pow-succ'}
+use mathlib.Core.List.{List, [], _∷_, _++_, append-assoc}
+use native.Mathlib.Nat.{pow-suc, div-add-mod', div-lt-iff-lt-mul, add-zero}
 use native.Mathlib.Omega.{arith}
-use lib.Arith.{digits-lt, digits-div, digits-mod}
-use lib.ListN.{getD, length, take, drop, length-append, List·getD-append}
-use lib.Seq.{getD-at, getD-append-add, drop-append-add, getD-append-seam}
-use lib.ListN.{set, take-append-drop, length-take, length-drop, length-set}
-use lib.Seq.{take-set-le, drop-set-add, drop-cons, set-split, take-append-le, drop-drop, take-take, take-append-add, drop-append-le, drop-append-seam, take-append-seam, length-take-le, drop-at, take-at}
-use mathlib.Core.List.{append-assoc}
-use native.Mathlib.Numerals.{add-one}
-use native.Mathlib.Nat.{add-assoc}
-use Rattle.octets.specs.Octets.{number, octets, pasted}
+use lib.Arith.{digits-lt}
+use lib.ListN.{getD, set, length, take, drop, length-append, length-take, take-append-drop, List·getD-append}
+use lib.Seq.{getD-append-seam, take-set-le, set-split, drop-drop, take-append-seam, length-take-le, drop-at, take-at}
+use Rattle.octets.specs.Octets.{octet, number, octets, pasted, fronted}
 
-pub number-more : (s : List ℕ) (at i v b : ℕ) → v ≡ number s at i → b ≡ getD s (at + i) 0 → v * 256 + b ≡ number s at (suc i)
+-- ---- numbers
+
+-- one octet more
+pub number-more : (s : List ℕ) (at i v b : ℕ) → v ≡ number s at i → b ≡ octet s (at + i) → v * 256 + b ≡ number s at (suc i)
 unfolding number
 number-more s at i v b p q = rw (p, q)
 
@@ -27,12 +26,17 @@ unfolding number
 number-lt s at zero h = omega arith
 number-lt s at (suc n) h = bound-more n _ _ (number-lt s at n h) (h (at + n))
 
+-- an octet is the number of one octet
+pub octet-number : (s : List ℕ) (at : ℕ) → octet s at ≡ number s at 1
+unfolding number
+octet-number s at = rw add-zero (omega arith)
+
 pub length-octets : (n v : ℕ) → length (octets n v) ≡ n
 unfolding octets
 length-octets zero v = refl
 length-octets (suc n) v = simp (length-append, length-octets n (v / 256)) (omega arith)
 
--- an element of what stands before does not matter
+-- what stands behind does not matter
 pub number-append : (s t : List ℕ) (n : ℕ) → n ≤ length s → number (s ++ t) 0 n ≡ number s 0 n
 unfolding number
 number-append s t zero h = refl
@@ -40,14 +44,6 @@ number-append s t (suc n) h =
     let k : n ≤ length s = omega arith in
     let j : 0 + n < length s = omega arith in
     rw (number-append s t n k, List·getD-append s t 0 (0 + n) j)
-
--- from a place after p on
-pub number-after : (p s : List ℕ) (n : ℕ) → number (p ++ s) (length p) n ≡ number s 0 n
-unfolding number
-number-after p s zero = refl
-number-after p s (suc n) =
-    let e : 0 + n ≡ n = omega arith in
-    rw (number-after p s n, getD-append-add p s n 0, e)
 
 -- the number of a number's octets is that number
 pub number-octets : (n v : ℕ) → v < 256 ^ n → number (octets n v) 0 n ≡ v
@@ -59,16 +55,14 @@ number-octets (suc n) v h =
     let e : 0 + n ≡ length (octets n (v / 256)) = omega (arith, length-octets n (v / 256)) in
     rw (number-append (octets n (v / 256)) (v % 256 ∷ []) n l, number-octets n (v / 256) q, e, getD-append-seam (octets n (v / 256)) (v % 256) [] 0) (div-add-mod' v 256)
 
+-- ---- octets over a list
+
 pub pasted-none : (l : List ℕ) (at : ℕ) → pasted l at [] ≡ l
 unfolding pasted
-pasted-none l at = rw (add-zero) (take-append-drop at l)
-
-pub length-pasted : (l : List ℕ) (at : ℕ) (vs : List ℕ) → at + length vs ≤ length l → length (pasted l at vs) ≡ length l
-unfolding pasted
-length-pasted l at vs h = simp (length-append, length-take, length-drop) (omega arith)
+pasted-none l at = rw add-zero (take-append-drop at l)
 
 -- the last octet of what is pasted may be stored first
-pub pasted-last : (l xs : List ℕ) (at y : ℕ) → at + length xs < length l → pasted l at (xs ++ (y ∷ [])) ≡ pasted (set l (at + length xs) y) at xs
+pasted-last : (l xs : List ℕ) (at y : ℕ) → at + length xs < length l → pasted l at (xs ++ (y ∷ [])) ≡ pasted (set l (at + length xs) y) at xs
 unfolding pasted
 pasted-last l xs at y h =
     let k : ℕ = at + length xs in
@@ -78,6 +72,13 @@ pasted-last l xs at y h =
     let t : take at (set l k y) ≡ take at l = take-set-le at l k y (omega arith) in
     let n : at + length (xs ++ (y ∷ [])) ≡ suc k = simp length-append (omega arith) in
     rw (d, t, n, append-assoc)
+
+pub octets-step : (l : List ℕ) (at i w : ℕ) → at + i < length l → pasted l at (octets (suc i) w) ≡ pasted (set l (at + i) (w % 256)) at (octets i (w / 256))
+unfolding octets
+octets-step l at i w h =
+    let e : length (octets i (w / 256)) ≡ i = length-octets i (w / 256) in
+    let room : at + length (octets i (w / 256)) < length l = omega arith in
+    rw e at (pasted-last l (octets i (w / 256)) at (w % 256) room)
 
 -- two pieces, one after the other
 pub pasted-on : (l vs ws : List ℕ) (at : ℕ) → at + length vs + length ws ≤ length l → pasted (pasted l at vs) (at + length vs) ws ≡ pasted l at (vs ++ ws)
@@ -94,38 +95,6 @@ pasted-on l vs ws at h =
     let n : at + length (vs ++ ws) ≡ k + length ws = simp length-append (omega arith) in
     rw (e, t, q, n) (simp append-assoc)
 
-pub octets-step : (l : List ℕ) (at i w : ℕ) → at + i < length l → pasted l at (octets (suc i) w) ≡ pasted (set l (at + i) (w % 256)) at (octets i (w / 256))
-unfolding octets
-octets-step l at i w h =
-    let e : length (octets i (w / 256)) ≡ i = length-octets i (w / 256) in
-    let h′ : at + length (octets i (w / 256)) < length l = omega arith in
-    rw e at (pasted-last l (octets i (w / 256)) at (w % 256) h′)
-
--- one number put, said of its octets
-pub put-one : (l m : List ℕ) (at i v r : ℕ) → (r ≡ at + i) × (m ≡ pasted l at (octets i v)) → (r ≡ at + length (octets i v)) × (m ≡ pasted l at (octets i v))
-put-one l m at i v r p = (omega (arith, length-octets i v, p .0), p .1)
-
--- two pieces put, one after the other
-pub put-two : (l m m′ vs ws : List ℕ) (at r r′ : ℕ) → (r ≡ at + length vs) × (m ≡ pasted l at vs) → (r′ ≡ r + length ws) × (m′ ≡ pasted m r ws)
-    → at + length vs + length ws ≤ length l → (r′ ≡ at + length (vs ++ ws)) × (m′ ≡ pasted l at (vs ++ ws))
-put-two l m m′ vs ws at r r′ p q h =
-    (simp length-append (omega (arith, p .0, q .0)), q .1 ∙ (rw (p .0, p .1) (pasted-on l vs ws at h)))
-
--- two numbers put, one after the other
-pub put-numbers : (l m m′ : List ℕ) (at i v j w r r′ : ℕ) → (r ≡ at + i) × (m ≡ pasted l at (octets i v)) → (r′ ≡ r + j) × (m′ ≡ pasted m r (octets j w))
-    → at + i + j ≤ length l → (r′ ≡ at + length (octets i v ++ octets j w)) × (m′ ≡ pasted l at (octets i v ++ octets j w))
-put-numbers l m m′ at i v j w r r′ p q h =
-    put-two l m m′ (octets i v) (octets j w) at r r′ (put-one l m at i v r p) (put-one m m′ r j w r′ q) (omega (arith, length-octets i v, length-octets j w))
-
-pub put-none : (l : List ℕ) (at : ℕ) → (at ≡ at + length {A = ℕ} []) × (l ≡ pasted l at [])
-put-none l at = (omega arith, sym (pasted-none l at))
-
-pub pasted-front : (l vs : List ℕ) → pasted l 0 vs ≡ vs ++ drop (length vs) l
-unfolding pasted
-pasted-front l vs =
-    let e : 0 + length vs ≡ length vs = omega arith in
-    rw e
-
 -- the piece before may be put last
 pub pasted-before : (l vs ws : List ℕ) (k : ℕ) → length vs ≡ k → k + length ws ≤ length l → pasted (pasted l k ws) 0 vs ≡ pasted l 0 (vs ++ ws)
 unfolding pasted
@@ -135,6 +104,38 @@ pasted-before l vs ws k e h =
     let n : 0 + length (vs ++ ws) ≡ k + length ws = simp length-append (omega arith) in
     rw (z, drop-at (take k l) (ws ++ drop (k + length ws) l) k t, n) (simp append-assoc)
 
+pub pasted-front : (l vs : List ℕ) → pasted l 0 vs ≡ fronted vs l
+unfolding pasted
+pasted-front l vs =
+    let e : 0 + length vs ≡ length vs = omega arith in
+    rw e
+
 -- what was written is read back
 pub take-front : (l vs : List ℕ) → take (length vs) (pasted l 0 vs) ≡ vs
 take-front l vs = rw (pasted-front l vs) (take-append-seam vs (drop (length vs) l))
+
+-- ---- what a call that puts a piece promises
+
+-- m is l with vs over it from a place on, and r the place behind it
+abbrev pub Put : List ℕ → List ℕ → ℕ → ℕ → List ℕ → Type 0
+Put l m at r vs = (r ≡ at + length vs) × (m ≡ pasted l at vs)
+
+-- the same of n octets of a number, as `put_number` says it
+abbrev pub PutNumber : List ℕ → List ℕ → ℕ → ℕ → ℕ → ℕ → Type 0
+PutNumber l m at r n v = (r ≡ at + n) × (m ≡ pasted l at (octets n v))
+
+pub put-none : (l : List ℕ) (at : ℕ) → Put l l at at []
+put-none l at = (omega arith, sym (pasted-none l at))
+
+pub put-one : (l m : List ℕ) (at i v r : ℕ) → PutNumber l m at r i v → Put l m at r (octets i v)
+put-one l m at i v r p = (omega (arith, length-octets i v, p .0), p .1)
+
+-- two pieces put, one after the other
+pub put-two : (l m m′ vs ws : List ℕ) (at r r′ : ℕ) → Put l m at r vs → Put m m′ r r′ ws → at + length vs + length ws ≤ length l → Put l m′ at r′ (vs ++ ws)
+put-two l m m′ vs ws at r r′ p q h = (simp length-append (omega (arith, p .0, q .0)), q .1 ∙ rw (p .0, p .1) (pasted-on l vs ws at h))
+
+-- two numbers put, one after the other
+pub put-numbers : (l m m′ : List ℕ) (at i v j w r r′ : ℕ) → PutNumber l m at r i v → PutNumber m m′ r r′ j w → at + i + j ≤ length l
+    → Put l m′ at r′ (octets i v ++ octets j w)
+put-numbers l m m′ at i v j w r r′ p q h =
+    put-two l m m′ (octets i v) (octets j w) at r r′ (put-one l m at i v r p) (put-one m m′ r j w r′ q) (omega (arith, length-octets i v, length-octets j w))

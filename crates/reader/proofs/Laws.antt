@@ -1,14 +1,15 @@
--- What the reader returns after each check, said over plain variables: one law a return. Assumes nothing.
+-- What the reader returns after each check, said over plain variables: what is known past the checks, and one law a return. Assumes nothing.
 use Prim.Native.Nat.{ℕ, _≤_, _<_}
-use mathlib.Core.Path.{_≡_, refl, sym, ap, _∙_}
+use mathlib.Core.Path.{_≡_, refl, ap, _∙_}
 use mathlib.Core.List.{List}
-use mathlib.Core.Bool.{Bool, true, false}
+use mathlib.Core.Bool.{true, false}
+use mathlib.Core.Logic.{inl, inr}
 use lib.ListN.{length}
 use lib.Dec.{ltb}
 use native.Mathlib.Omega.{arith}
-use Rattle.checks.specs.Order.{checkOf, firstOf}
-use Rattle.checks.specs.declared.Check.the-variants.{Passed, Failed}
-use Rattle.checks.proofs.Laws.{passed-false, failed-true}
+use borrow.Author.Tests.{ne-eqb}
+use Rattle.checks.specs.Order.{firstHolds}
+use Rattle.checks.proofs.Laws.{first-number, none-zero}
 use Rattle.header.specs.Form.{controlOf, layoutOf, placesOf, forbidden}
 use Rattle.header.specs.Read.{fieldsOf, lengthOf, headerOf, readChecks, readOf, otherVersion, cut, misfit, wrongChecksum}
 use Rattle.header.specs.declared.Control.{Control}
@@ -17,66 +18,88 @@ use Rattle.header.specs.declared.Fields.{Fields}
 use Rattle.header.specs.declared.Read.the-variants.{Good, Refused}
 use Rattle.header.proofs.Bounds.{control-end, placed}
 
+-- ---- past the checks
+
+-- of the start and the version
+pub record Started (s : List ℕ) : Type 0 where
+  pub long : ltb (length s) 3 ≡ false
+  pub version : otherVersion s ≡ false
+
+-- of the control field
+pub record Formed (s : List ℕ) (k : Control) : Type 0 where
+  pub started : Started s
+  pub control : k ≡ controlOf s
+  pub whole : cut s k ≡ false
+  pub allowed : forbidden k ≡ false
+
+-- of the length field
+pub record Laid (s : List ℕ) (k : Control) (l : Layout) : Type 0 where
+  pub formed : Formed s k
+  pub layout : l ≡ layoutOf s k
+  pub fits : misfit s l ≡ false
+
+-- ---- the returns
+
+-- the first condition that holds gives the answer
+refused : (s : List ℕ) (n : ℕ) → (n ≡ 0 → ⊥) → firstHolds (readChecks s) n → Refused n ≡ readOf s
+unfolding readOf
+refused s n some h = rw (first-number (readChecks s) n h, ne-eqb n 0 some)
+
 module _ (s : List ℕ) where
-  pub short : checkOf (ltb (length s) 3) ≡ Failed → Refused 1 ≡ readOf s
-  unfolding readOf readChecks firstOf
-  short f = simp (failed-true (ltb (length s) 3) f)
+  pub short : ltb (length s) 3 ≡ true → Refused 1 ≡ readOf s
+  unfolding readChecks
+  short h = refused s 1 (omega arith) (inl (h, refl))
 
-  module _ (long : checkOf (ltb (length s) 3) ≡ Passed) where
-    no-start : ltb (length s) 3 ≡ false
-    no-start = passed-false (ltb (length s) 3) long
+  pub bad-version : ltb (length s) 3 ≡ false → otherVersion s ≡ true → Refused 2 ≡ readOf s
+  unfolding readChecks
+  bad-version long h = refused s 2 (omega arith) (inr (long, inl (h, refl)))
 
-    pub old : checkOf (otherVersion s) ≡ Failed → Refused 2 ≡ readOf s
-    unfolding readOf readChecks firstOf
-    old f = simp (no-start, failed-true (otherVersion s) f)
+  module _ (k : Control) where
+    pub ends-inside : Started s → k ≡ controlOf s → cut s k ≡ true → Refused 1 ≡ readOf s
+    unfolding readChecks
+    ends-inside p e h = refused s 1 (omega arith) (inr (p .long, inr (p .version, inl (rw e at h, refl))))
 
-    module _ (assigned : checkOf (otherVersion s) ≡ Passed) (k : Control) (K : k ≡ controlOf s) where
-      no-version : otherVersion s ≡ false
-      no-version = passed-false (otherVersion s) assigned
+    pub bad-form : Started s → k ≡ controlOf s → cut s k ≡ false → forbidden k ≡ true → Refused 4 ≡ readOf s
+    unfolding readChecks
+    bad-form p e whole h = refused s 4 (omega arith) (inr (p .long, inr (p .version, inr (rw e at whole, inl (rw e at h, refl)))))
 
-      pub ends-inside : checkOf (cut s k) ≡ Failed → Refused 1 ≡ readOf s
-      unfolding readOf readChecks firstOf
-      ends-inside f = simp (no-start, no-version, rw K at (failed-true (cut s k) f))
+    pub control-small : k ≡ controlOf s → k .end ≤ 5
+    control-small e = rw e (control-end s .1)
 
-      pub control-small : k .end ≤ 5
-      control-small = rw K (control-end s .1)
+    module _ (l : Layout) where
+      pub stamp-near : k ≡ controlOf s → l ≡ layoutOf s k → l .stamp < 64
+      stamp-near e el = let p = placed s k (control-small e) in rw el (omega arith)
 
-      module _ (whole : checkOf (cut s k) ≡ Passed) where
-        no-cut : cut s (controlOf s) ≡ false
-        no-cut = rw K at (passed-false (cut s k) whole)
+      pub checksum-near : k ≡ controlOf s → l ≡ layoutOf s k → l .checksum < 64
+      checksum-near e el = let p = placed s k (control-small e) in rw el (omega arith)
 
-        pub bad-form : checkOf (forbidden k) ≡ Failed → Refused 4 ≡ readOf s
-        unfolding readOf readChecks firstOf
-        bad-form f = simp (no-start, no-version, no-cut, rw K at (failed-true (forbidden k) f))
+      pub bad-length : Formed s k → l ≡ layoutOf s k → misfit s l ≡ true → Refused 3 ≡ readOf s
+      unfolding readChecks
+      bad-length p el h =
+          let e = p .control in
+          let b = p .started in
+          let places : l ≡ placesOf s = el ∙ ap (layoutOf s) e in
+          refused s 3 (omega arith) (inr (b .long, inr (b .version, inr (rw e at (p .whole), inr (rw e at (p .allowed), inl (rw places at h, refl))))))
 
-        module _ (allowed : checkOf (forbidden k) ≡ Passed) (l : Layout) (L : l ≡ layoutOf s k) where
-          no-form : forbidden (controlOf s) ≡ false
-          no-form = rw K at (passed-false (forbidden k) allowed)
+      module _ (p : Laid s k l) where
+        places : l ≡ placesOf s
+        places = p .layout ∙ ap (layoutOf s) (p .formed .control)
 
-          places : l ≡ placesOf s
-          places = L ∙ rw K
+        pub bad-sum : wrongChecksum s k l ≡ true → Refused 5 ≡ readOf s
+        unfolding readChecks
+        bad-sum h =
+            let e = p .formed .control in
+            let b = p .formed .started in
+            refused s 5 (omega arith)
+            (inr (b .long, inr (b .version, inr (rw e at (p .formed .whole), inr (rw e at (p .formed .allowed), inr (rw places at (p .fits), inl (rw (places, e) at h, refl)))))))
 
-          pub stamp-near : l .stamp < 64
-          stamp-near = let p = placed s k control-small in rw L (omega arith)
-
-          pub checksum-near : l .checksum < 64
-          checksum-near = let p = placed s k control-small in rw L (omega arith)
-
-          pub bad-length : checkOf (misfit s l) ≡ Failed → Refused 3 ≡ readOf s
-          unfolding readOf readChecks firstOf
-          bad-length f = simp (no-start, no-version, no-cut, no-form, rw places at (failed-true (misfit s l) f))
-
-          module _ (fits : checkOf (misfit s l) ≡ Passed) where
-            no-misfit : misfit s (placesOf s) ≡ false
-            no-misfit = rw places at (passed-false (misfit s l) fits)
-
-            pub bad-sum : checkOf (wrongChecksum s k l) ≡ Failed → Refused 5 ≡ readOf s
-            unfolding readOf readChecks firstOf
-            bad-sum f = simp (no-start, no-version, no-cut, no-form, no-misfit, rw (places, K) at (failed-true (wrongChecksum s k l) f))
-
-            pub good : checkOf (wrongChecksum s k l) ≡ Passed → (f : Fields) (n : ℕ) → f ≡ fieldsOf s k l → n ≡ lengthOf s
-                → Good (record { fields = f; length = n; size = l .size }) ≡ readOf s
-            unfolding readOf readChecks firstOf headerOf
-            good p f n F N =
-                simp (no-start, no-version, no-cut, no-form, no-misfit, rw (places, K) at (passed-false (wrongChecksum s k l) p))
-                (rw (F, N, places, K))
+        pub good : wrongChecksum s k l ≡ false → (f : Fields) (n : ℕ) → f ≡ fieldsOf s k l → n ≡ lengthOf s
+            → Good (record { fields = f; length = n; size = l .size }) ≡ readOf s
+        unfolding readOf readChecks headerOf
+        good h f n ef en =
+            let e = p .formed .control in
+            let b = p .formed .started in
+            let none =
+            none-zero (readChecks s)
+            (b .long, (b .version, (rw e at (p .formed .whole), (rw e at (p .formed .allowed), (rw places at (p .fits), (rw (places, e) at h, tt)))))) in
+            rw (none, ef, en, places, e)

@@ -1,8 +1,9 @@
-use Prim.Native.Nat.{_*_, _/_, _%_}
-use Rattle.header.specs.Form.{controlOf, layoutOf, addressSize, stampSize, forbidden}
-use native.Mathlib.Omega.{arith}
-use Rattle.header.proofs.Bounds.{gate, addressSize-le, stampSize-le}
+-- `layout::control_of` meets its contract: a control octet that is not there, by the bit before it, is 0. Assumes nothing.
 use borrow.Author.Needs.{needs}
+use Prim.Native.Nat.{_*_, _/_, _%_}
+use native.Mathlib.Omega.{arith}
+use Rattle.header.specs.Form.{controlOf}
+use Rattle.header.proofs.Bounds.{gate}
 use Rattle.layout.proofs.control_of.Statement.{statement}
 use Rattle.layout.proofs.control_of.Tie as tie
 
@@ -19,7 +20,9 @@ octet-at-requires-3 : tie.Need-octet-at-requires-3
 octet-at-requires-3 c κs = search needs
 
 mul-third : tie.Need-mul-third
-mul-third c = omega (arith, gate (c .before .before .octet-at .result % 16 / 8) (c .before .octet-at2 .result), gate (c .before .before .octet-at .result % 16 / 8 % 2 * c .before .octet-at2 .result / 128) (c .octet-at3 .result))
+mul-third c =
+    let second = c .before .before .octet-at .result % 16 / 8 % 2 * c .before .octet-at2 .result in
+    omega (arith, gate (second / 128) (c .octet-at3 .result))
 
 cast-t8 : tie.Need-cast-t8
 cast-t8 c = search needs
@@ -35,7 +38,7 @@ add-t12 c = search needs
 
 returns : tie.Need-returns
 unfolding controlOf
-returns c = cc
+returns c = rw (c .before .before .octet-at .ensures, c .before .octet-at2 .ensures, c .octet-at3 .ensures)
 
 pub control-of-spec : {M : Type 1} → statement M
 control-of-spec =

@@ -1,7 +1,8 @@
-use native.Mathlib.Omega.{arith}
-use borrow.Author.Tests.{eq-eqb, ne-eqb}
-use Rattle.header.specs.Form.{controlOf, layoutOf, addressSize, stampSize, forbidden}
+-- `layout::stamp_size` meets its contract, format by format. Assumes nothing.
 use borrow.Author.Needs.{needs}
+use borrow.Author.Tests.{ne-eqb}
+use native.Mathlib.Omega.{arith}
+use Rattle.header.specs.Form.{stampSize}
 use Rattle.layout.proofs.stamp_size.Statement.{statement}
 use Rattle.layout.proofs.stamp_size.Tie as tie
 
@@ -19,7 +20,7 @@ add-result-2 c = search needs
 
 returns : tie.Need-returns
 unfolding stampSize
-returns c = search (eq-eqb, ne-eqb)
+returns c = simp (c .match .keys1)
 
 returns-2 : tie.Need-returns-2
 unfolding stampSize
@@ -31,7 +32,7 @@ returns-3 c = simp (c .match .keys3) (omega arith)
 
 returns-4 : tie.Need-returns-4
 unfolding stampSize
-returns-4 c = search (eq-eqb, ne-eqb)
+returns-4 c = let r = c .match .rest in simp (ne-eqb _ _ (r .0 .0 .1), ne-eqb _ _ (r .0 .1), ne-eqb _ _ (r .1))
 
 pub stamp-size-spec : {M : Type 1} → statement M
 stamp-size-spec =

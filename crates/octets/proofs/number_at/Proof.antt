@@ -1,18 +1,19 @@
+-- `octets::number_at` meets its contract. The loop's invariant: the value is the number of the octets passed so far, and fits them.
+-- Assumes nothing.
 use borrow.Author.Needs.{needs}
-use native.Mathlib.Omega.{arith}
+use Prim.Native.Nat.{_-_, _^_, _≤_, _<_}
+use mathlib.Core.Path.{_≡_, refl, _∙_}
+use native.Mathlib.Nat.{pow-le-pow-right}
 use native.Mathlib.Numerals.{add-one}
-use native.Mathlib.Nat.{pow-suc, pow-le-pow-right}
-use Prim.Native.Nat.{ℕ, suc, _+_, _*_, _-_, _^_, _≤_, _<_}
-use mathlib.Core.Path.{_≡_, refl, ap, _∙_}
+use native.Mathlib.Omega.{arith}
 use lib.Dec.{lit<}
-use Rattle.octets.proofs.Laws.{number-more, bound-more}
 use Rattle.octets.specs.Octets.{number}
+use Rattle.octets.proofs.Laws.{number-more, bound-more}
 use Rattle.octets.proofs.number_at.Statement.{statement}
 use Rattle.octets.proofs.number_at.Tie as tie
 
 abbrev Inv-loop : tie.InvT-loop
-Inv-loop s place count value₀ i₀ value i =
-    (i ≤ count) × ((value ≡ number s place i) × (value < 256 ^ i))
+Inv-loop s place count value₀ i₀ value i = (i ≤ count) × ((value ≡ number s place i) × (value < 256 ^ i))
 
 abbrev μ-loop : tie.MeasureT-loop
 μ-loop s place count value₀ i₀ value i = count - i
@@ -21,9 +22,11 @@ loop-holds : tie.Need-loop-holds Inv-loop μ-loop
 unfolding number
 loop-holds c = (search needs, (refl, search needs))
 
+-- an eighth octet still fits
 small : (c : tie.In-loop Inv-loop μ-loop) → c .before .loop .value < 256 ^ 7
 small c =
-    let h : 256 ^ (c .before .loop .i) ≤ 256 ^ 7 = let k : c .before .loop .i ≤ 7 = omega arith in pow-le-pow-right {n = 256} (lit< tt) k in
+    let k : c .before .loop .i ≤ 7 = omega arith in
+    let h = pow-le-pow-right {n = 256} (lit< tt) k in
     omega arith
 
 mul-value : tie.Need-mul-value Inv-loop μ-loop
@@ -51,12 +54,16 @@ loop-again : tie.Need-loop-again Inv-loop μ-loop
 loop-again c =
     let a = c .before .before .before .before .before .args in
     let l = c .before .before .before .loop in
-    rw add-one (omega arith, (number-more (a .s .now) (a .place) (l .i) (l .value) (c .wide .result) (l .inv .1 .0) (c .wide .ensures ∙ c .before .octet-at .ensures), bound-more (l .i) (l .value) (c .wide .result) (l .inv .1 .1) (omega arith)))
+    let octet = c .wide .ensures ∙ c .before .octet-at .ensures in
+    let value = number-more (a .s .now) (a .place) (l .i) (l .value) (c .wide .result) (l .inv .1 .0) octet in
+    let fits = bound-more (l .i) (l .value) (c .wide .result) (l .inv .1 .1) (omega arith) in
+    rw add-one (omega arith, (value, fits))
 
 returns : tie.Need-returns Inv-loop μ-loop
 returns c =
-    let h : c .before .loop .i ≡ c .before .before .before .args .count = omega arith in
-    (rw h at (c .before .loop .inv .1 .0), rw h at (c .before .loop .inv .1 .1))
+    let l = c .before .loop in
+    let all : l .i ≡ c .before .before .before .args .count = omega arith in
+    (rw all at (l .inv .1 .0), rw all at (l .inv .1 .1))
 
 pub number-at-spec : {M : Type 1} → statement M
 number-at-spec =

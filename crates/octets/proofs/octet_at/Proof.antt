@@ -1,6 +1,7 @@
+-- `octets::octet_at` meets its contract: past the end a list has its default, 0. Assumes nothing.
 use borrow.Author.Needs.{needs}
-use lib.ListN.{List·getD-eq-default}
 use mathlib.Core.Path.{sym}
+use lib.ListN.{List·getD-eq-default}
 use Rattle.octets.proofs.octet_at.Statement.{statement}
 use Rattle.octets.proofs.octet_at.Tie as tie
 

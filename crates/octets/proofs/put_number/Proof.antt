@@ -1,6 +1,8 @@
-use native.Mathlib.Omega.{arith}
-use Prim.Native.Nat.{ℕ, suc, _+_, _-_, _/_, _%_, _≤_, _<_}
+-- `octets::put_number` meets its contract. The loop's invariant: what is still to be put over what stands there now makes what was to be made.
+-- Assumes nothing.
+use Prim.Native.Nat.{suc, _+_, _-_, _≤_, _<_}
 use mathlib.Core.Path.{_≡_, refl, sym, _∙_}
+use native.Mathlib.Omega.{arith}
 use lib.ListN.{length, length-set}
 use Rattle.octets.specs.Octets.{octets, pasted}
 use Rattle.octets.proofs.Laws.{pasted-none, octets-step}
@@ -35,10 +37,11 @@ loop-less c = omega arith
 loop-again : tie.Need-loop-again Inv-loop μ-loop
 loop-again c =
     let l = c .before .loop in
-    let a = c .before .before .args in
-    let h : a .place + (l .i - 1) < length (l .out) = omega arith in
+    let place = c .before .before .args .place in
+    let room : place + (l .i - 1) < length (l .out) = omega arith in
     let e : suc (l .i - 1) ≡ l .i = omega arith in
-    (omega arith, (sym (octets-step (l .out) (a .place) (l .i - 1) (l .rest) h) ∙ rw e (l .inv .1 .0), simp length-set (l .inv .1 .1)))
+    let step = sym (octets-step (l .out) place (l .i - 1) (l .rest) room) in
+    (omega arith, (step ∙ rw e (l .inv .1 .0), simp length-set (l .inv .1 .1)))
 
 add-result : tie.Need-add-result Inv-loop μ-loop
 add-result c = omega arith
@@ -50,8 +53,8 @@ returns : tie.Need-returns Inv-loop μ-loop
 unfolding octets
 returns c =
     let l = c .before .loop in
-    let e : l .i ≡ 0 = omega arith in
-    (refl, sym (pasted-none (l .out) (c .before .before .args .place)) ∙ rw e at (l .inv .1 .0))
+    let none : l .i ≡ 0 = omega arith in
+    (refl, sym (pasted-none (l .out) (c .before .before .args .place)) ∙ rw none at (l .inv .1 .0))
 
 pub put-number-spec : {M : Type 1} → statement M
 put-number-spec =

@@ -1,3 +1,4 @@
+-- `range::check_stamp` meets its contract: `check_time` over the octets of time that each format gives. Assumes nothing.
 use borrow.Author.Needs.{needs}
 use Rattle.range.proofs.check_stamp.Statement.{statement}
 use Rattle.range.proofs.check_stamp.Tie as tie

@@ -1,5 +1,6 @@
-use borrow.Author.Tests.{le-leb, lt-leb}
+-- `range::check_time` meets its contract: one test against the bound that `numbers_in` answers. Assumes nothing.
 use borrow.Author.Needs.{needs}
+use borrow.Author.Tests.{le-leb, lt-leb}
 use Rattle.range.proofs.check_time.Statement.{statement}
 use Rattle.range.proofs.check_time.Tie as tie
 

@@ -1,6 +1,7 @@
-use borrow.Author.Tests.{eq-eqb, ne-eqb}
-use Rattle.header.specs.Read.{sixOf, addressesOf, qosOf, octetOf, stampOf, lengthOf, fieldsOf, headerOf, readChecks, readOf}
+-- `reader::addresses_at` meets its contract, row by row of table 3-5. Assumes nothing.
 use borrow.Author.Needs.{needs}
+use borrow.Author.Tests.{eq-eqb, ne-eqb}
+use Rattle.header.specs.Read.{addressesOf}
 use Rattle.reader.proofs.addresses_at.Statement.{statement}
 use Rattle.reader.proofs.addresses_at.Tie as tie
 
@@ -15,7 +16,8 @@ six-at-requires-2 c κs = search needs
 
 returns : tie.Need-returns
 unfolding addressesOf
-returns c = search (eq-eqb, ne-eqb)
+returns c =
+    rw (c .before .six-at .ensures, c .six-at2 .ensures) (simp (eq-eqb _ _ (c .before .before .if1 .taken)))
 
 word-at-requires : tie.Need-word-at-requires
 word-at-requires c κs = search needs
@@ -28,11 +30,17 @@ word-at-requires-2 c κs = search needs
 
 returns-2 : tie.Need-returns-2
 unfolding addressesOf
-returns-2 c = simp (ne-eqb _ _ (c .before .before .before .before .before .before .if1 .left), eq-eqb _ _ (c .before .before .before .before .if2 .taken), eq-eqb _ _ (c .before .if3 .taken)) cc
+returns-2 c =
+    let destination = c .before .before .before in
+    rw (destination .word-at .ensures, c .word-at2 .ensures)
+    (simp (ne-eqb _ _ (destination .before .before .before .if1 .left), eq-eqb _ _ (destination .before .if2 .taken), eq-eqb _ _ (c .before .if3 .taken)))
 
 returns-3 : tie.Need-returns-3
 unfolding addressesOf
-returns-3 c = simp (ne-eqb _ _ (c .before .before .before .before .before .if1 .left), eq-eqb _ _ (c .before .before .before .if2 .taken), ne-eqb _ _ (c .if3 .left)) cc
+returns-3 c =
+    let destination = c .before .before in
+    rw (destination .word-at .ensures)
+    (simp (ne-eqb _ _ (destination .before .before .before .if1 .left), eq-eqb _ _ (destination .before .if2 .taken), ne-eqb _ _ (c .if3 .left)))
 
 octet-at-requires : tie.Need-octet-at-requires
 octet-at-requires c κs = search needs
@@ -45,11 +53,17 @@ octet-at-requires-2 c κs = search needs
 
 returns-4 : tie.Need-returns-4
 unfolding addressesOf
-returns-4 c = simp (ne-eqb _ _ (c .before .before .before .before .before .before .if1 .left), ne-eqb _ _ (c .before .before .before .before .if2 .left), eq-eqb _ _ (c .before .if4 .taken)) cc
+returns-4 c =
+    let destination = c .before .before .before in
+    rw (destination .octet-at .ensures, c .octet-at2 .ensures)
+    (simp (ne-eqb _ _ (destination .before .before .before .if1 .left), ne-eqb _ _ (destination .before .if2 .left), eq-eqb _ _ (c .before .if4 .taken)))
 
 returns-5 : tie.Need-returns-5
 unfolding addressesOf
-returns-5 c = simp (ne-eqb _ _ (c .before .before .before .before .before .if1 .left), ne-eqb _ _ (c .before .before .before .if2 .left), ne-eqb _ _ (c .if4 .left)) cc
+returns-5 c =
+    let destination = c .before .before in
+    rw (destination .octet-at .ensures)
+    (simp (ne-eqb _ _ (destination .before .before .before .if1 .left), ne-eqb _ _ (destination .before .if2 .left), ne-eqb _ _ (c .if4 .left)))
 
 pub addresses-at-spec : {M : Type 1} → statement M
 addresses-at-spec =

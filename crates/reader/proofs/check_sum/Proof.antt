@@ -1,5 +1,6 @@
-use borrow.Author.Tests.{eq-eqb, ne-eqb}
+-- `reader::check_sum` meets its contract: where there is a checksum, the number carried against the one due. Assumes nothing.
 use borrow.Author.Needs.{needs}
+use borrow.Author.Tests.{eq-eqb, ne-eqb}
 use Rattle.reader.proofs.check_sum.Statement.{statement}
 use Rattle.reader.proofs.check_sum.Tie as tie
 
@@ -16,10 +17,16 @@ cast-due : tie.Need-cast-due
 cast-due c = search needs
 
 returns-2 : tie.Need-returns-2
-returns-2 c = rw (← c .before .before .number-at .ensures .0, ← c .before .element .ensures) (simp (eq-eqb _ _ (c .before .before .before .if1 .left), ne-eqb _ _ (c .if2 .taken)))
+returns-2 c =
+    let carried = c .before .before in
+    rw (← carried .number-at .ensures .0, ← c .before .element .ensures)
+    (simp (eq-eqb _ _ (carried .before .if1 .left), ne-eqb _ _ (c .if2 .taken)))
 
 returns-3 : tie.Need-returns-3
-returns-3 c = rw (← c .before .before .number-at .ensures .0, ← c .before .element .ensures) (simp (eq-eqb _ _ (c .before .before .before .if1 .left), eq-eqb _ _ (c .if2 .left)))
+returns-3 c =
+    let carried = c .before .before in
+    rw (← carried .number-at .ensures .0, ← c .before .element .ensures)
+    (simp (eq-eqb _ _ (carried .before .if1 .left), eq-eqb _ _ (c .if2 .left)))
 
 pub check-sum-spec : {M : Type 1} → statement M
 check-sum-spec =

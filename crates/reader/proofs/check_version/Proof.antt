@@ -1,5 +1,6 @@
-use borrow.Author.Tests.{eq-eqb, ne-eqb}
+-- `reader::check_version` meets its contract: one test of the first octet. Assumes nothing.
 use borrow.Author.Needs.{needs}
+use borrow.Author.Tests.{eq-eqb, ne-eqb}
 use Rattle.reader.proofs.check_version.Statement.{statement}
 use Rattle.reader.proofs.check_version.Tie as tie
 

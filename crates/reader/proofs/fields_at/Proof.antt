@@ -1,5 +1,6 @@
-use Rattle.header.specs.Read.{sixOf, addressesOf, qosOf, octetOf, stampOf, lengthOf, fieldsOf, headerOf, readChecks, readOf}
+-- `reader::fields_at` meets its contract: each field is what its own reader answers. Assumes nothing.
 use borrow.Author.Needs.{needs}
+use Rattle.header.specs.Read.{fieldsOf}
 use Rattle.reader.proofs.fields_at.Statement.{statement}
 use Rattle.reader.proofs.fields_at.Tie as tie
 
@@ -23,7 +24,15 @@ octet-at-requires c κs = search needs
 
 returns : tie.Need-returns
 unfolding fieldsOf
-returns c = cc
+returns c =
+    let first = c .before .before in
+    let expanded = first .before in
+    let stamp = expanded .before .before in
+    let hops = stamp .before .before in
+    let qos = hops .before .before in
+    let addresses = qos .before .before in
+    rw
+    (first .octet-at .ensures, expanded .element-at2 .ensures, stamp .stamp-at .ensures, hops .element-at .ensures, qos .qos-at .ensures, addresses .addresses-at .ensures)
 
 pub fields-at-spec : {M : Type 1} → statement M
 fields-at-spec =

@@ -1,5 +1,6 @@
-use Rattle.header.specs.Read.{sixOf, addressesOf, qosOf, octetOf, stampOf, lengthOf, fieldsOf, headerOf, readChecks, readOf}
+-- `reader::length_at` meets its contract: five bits of the first octet and the whole second. Assumes nothing.
 use borrow.Author.Needs.{needs}
+use Rattle.header.specs.Read.{lengthOf}
 use Rattle.reader.proofs.length_at.Statement.{statement}
 use Rattle.reader.proofs.length_at.Tie as tie
 
@@ -23,7 +24,7 @@ add-result c = search needs
 
 returns : tie.Need-returns
 unfolding lengthOf
-returns c = cc
+returns c = rw (c .before .octet-at .ensures, c .octet-at2 .ensures)
 
 pub length-at-spec : {M : Type 1} → statement M
 length-at-spec =

@@ -1,12 +1,13 @@
-use borrow.Author.Tests.{eq-eqb, ne-eqb}
-use Rattle.header.specs.Read.{sixOf, addressesOf, qosOf, octetOf, stampOf, lengthOf, fieldsOf, headerOf, readChecks, readOf}
+-- `reader::qos_at` meets its contract, absent and present. Assumes nothing.
 use borrow.Author.Needs.{needs}
+use borrow.Author.Tests.{eq-eqb, ne-eqb}
+use Rattle.header.specs.Read.{qosOf}
 use Rattle.reader.proofs.qos_at.Statement.{statement}
 use Rattle.reader.proofs.qos_at.Tie as tie
 
 returns : tie.Need-returns
 unfolding qosOf
-returns c = search (eq-eqb, ne-eqb)
+returns c = simp (eq-eqb _ _ (c .if1 .taken))
 
 octet-at-requires : tie.Need-octet-at-requires
 octet-at-requires c κs = search needs

@@ -1,5 +1,6 @@
-use Rattle.header.specs.Read.{sixOf, addressesOf, qosOf, octetOf, stampOf, lengthOf, fieldsOf, headerOf, readChecks, readOf}
+-- `reader::six_at` meets its contract: two numbers of eight octets. Assumes nothing.
 use borrow.Author.Needs.{needs}
+use Rattle.header.specs.Read.{sixOf}
 use Rattle.reader.proofs.six_at.Statement.{statement}
 use Rattle.reader.proofs.six_at.Tie as tie
 
@@ -14,7 +15,7 @@ number-at-requires-2 c κs = search needs
 
 returns : tie.Need-returns
 unfolding sixOf
-returns c = cc
+returns c = rw (c .before .number-at .ensures .0, c .number-at2 .ensures .0)
 
 pub six-at-spec : {M : Type 1} → statement M
 six-at-spec = tie.close (tie.spec number-at-requires add-number-at number-at-requires-2 returns)

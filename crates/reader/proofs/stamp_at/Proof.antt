@@ -1,6 +1,7 @@
-use borrow.Author.Tests.{eq-eqb, ne-eqb}
-use Rattle.header.specs.Read.{sixOf, addressesOf, qosOf, octetOf, stampOf, lengthOf, fieldsOf, headerOf, readChecks, readOf}
+-- `reader::stamp_at` meets its contract, format by format. Assumes nothing.
 use borrow.Author.Needs.{needs}
+use borrow.Author.Tests.{ne-eqb}
+use Rattle.header.specs.Read.{stampOf}
 use Rattle.reader.proofs.stamp_at.Statement.{statement}
 use Rattle.reader.proofs.stamp_at.Tie as tie
 
@@ -33,19 +34,21 @@ number-at-requires-3 c κs = search needs
 
 returns : tie.Need-returns
 unfolding stampOf
-returns c = search (eq-eqb, ne-eqb)
+returns c = simp (c .match .keys1)
 
 returns-2 : tie.Need-returns-2
 unfolding stampOf
-returns-2 c = simp (c .before .match .keys2) cc
+returns-2 c = rw (c .number-at .ensures .0) (simp (c .before .match .keys2))
 
 returns-3 : tie.Need-returns-3
 unfolding stampOf
-returns-3 c = simp (c .before .before .match .keys3) cc
+returns-3 c = rw (c .number-at2 .ensures .0, c .before .octet-at .ensures) (simp (c .before .before .match .keys3))
 
 returns-4 : tie.Need-returns-4
 unfolding stampOf
-returns-4 c = search (eq-eqb, ne-eqb)
+returns-4 c =
+    let r = c .before .match .rest in
+    rw (c .number-at3 .ensures .0) (simp (ne-eqb _ _ (r .0 .0 .1), ne-eqb _ _ (r .0 .1), ne-eqb _ _ (r .1)))
 
 pub stamp-at-spec : {M : Type 1} → statement M
 stamp-at-spec =
