@@ -191,7 +191,8 @@ class MustFail(Tree):
 
     def test_two_good_edits(self):
         caller = "fn pair::whole: not proved; it calls `pair::half`, which is not proved"
-        self.edit("third", FAILS, FOLLOWS, lines=("fn pair::half: not proved", caller))
+        callers = "fn pair::both: not proved; it calls `pair::half` and `pair::whole`, which are not proved"
+        self.edit("third", FAILS, FOLLOWS, lines=("fn pair::half: not proved", caller, callers))
         made = "fn pair::half: no proof: expected `half-spec` in Proof.antt; `search` does not close `div`, `returns`"
         self.edit("fourth", lines=(made,), new="x / 4")
         status, output = self.check()
