@@ -1,7 +1,7 @@
-use Rattle.intake.specs.Fields.{addressFlagsOut, addressWidthsOut, octetOut, qosOut, stampOut, octetsOut, elementsOut, numbersOut, addressesFrom, qosFrom, octetFrom, stampFrom, fieldsFrom, addressLimit, wideOut}
-use borrow.Author.Tests.{eq-eqb, ne-eqb}
-use Rattle.intake.specs.Fields.{addressFlagsOut, addressWidthsOut, octetOut, qosOut, stampOut, octetsOut, elementsOut, numbersOut, addressesFrom, qosFrom, octetFrom, stampFrom, fieldsFrom}
+-- `intake::addresses_from` meets its contract, by the tests of the three flags. Assumes nothing.
 use borrow.Author.Needs.{needs}
+use borrow.Author.Tests.{eq-eqb, ne-eqb}
+use Rattle.intake.specs.Fields.{addressesFrom}
 use Rattle.intake.proofs.addresses_from.Statement.{statement}
 use Rattle.intake.proofs.addresses_from.Tie as tie
 
@@ -13,7 +13,7 @@ six-from-requires-2 c κs = search needs
 
 returns : tie.Need-returns
 unfolding addressesFrom
-returns c = simp (eq-eqb _ _ (c .before .before .if1 .taken)) cc
+returns c = simp (eq-eqb _ _ (c .before .before .if1 .taken), c .before .six-from .ensures, c .six-from2 .ensures)
 
 cast-destination : tie.Need-cast-destination
 cast-destination c = search needs
@@ -23,11 +23,16 @@ cast-source c = search needs
 
 returns-2 : tie.Need-returns-2
 unfolding addressesFrom
-returns-2 c = simp (ne-eqb _ _ (c .before .before .before .before .before .before .if1 .left), eq-eqb _ _ (c .before .before .before .before .if2 .taken), eq-eqb _ _ (c .before .if3 .taken)) cc
+returns-2 c =
+    let c₃ = c .before in
+    let c₂ = c₃ .before .before .before in
+    simp (ne-eqb _ _ (c₂ .before .before .if1 .left), eq-eqb _ _ (c₂ .if2 .taken), eq-eqb _ _ (c₃ .if3 .taken))
 
 returns-3 : tie.Need-returns-3
 unfolding addressesFrom
-returns-3 c = simp (ne-eqb _ _ (c .before .before .before .before .before .if1 .left), eq-eqb _ _ (c .before .before .before .if2 .taken), ne-eqb _ _ (c .if3 .left)) cc
+returns-3 c =
+    let c₂ = c .before .before .before in
+    simp (ne-eqb _ _ (c₂ .before .before .if1 .left), eq-eqb _ _ (c₂ .if2 .taken), ne-eqb _ _ (c .if3 .left))
 
 cast-t16 : tie.Need-cast-t16
 cast-t16 c = search needs
@@ -37,14 +42,20 @@ cast-t18 c = search needs
 
 returns-4 : tie.Need-returns-4
 unfolding addressesFrom
-returns-4 c = simp (ne-eqb _ _ (c .before .before .before .before .before .before .if1 .left), ne-eqb _ _ (c .before .before .before .before .if2 .left), eq-eqb _ _ (c .before .before .if4 .taken)) cc
+returns-4 c =
+    let c₄ = c .before .before in
+    let c₂ = c₄ .before .before in
+    simp (ne-eqb _ _ (c₂ .before .before .if1 .left), ne-eqb _ _ (c₂ .if2 .left), eq-eqb _ _ (c₄ .if4 .taken))
 
 cast-t20 : tie.Need-cast-t20
 cast-t20 c = search needs
 
 returns-5 : tie.Need-returns-5
 unfolding addressesFrom
-returns-5 c = simp (ne-eqb _ _ (c .before .before .before .before .before .if1 .left), ne-eqb _ _ (c .before .before .before .if2 .left), ne-eqb _ _ (c .before .if4 .left)) cc
+returns-5 c =
+    let c₄ = c .before in
+    let c₂ = c₄ .before .before in
+    simp (ne-eqb _ _ (c₂ .before .before .if1 .left), ne-eqb _ _ (c₂ .if2 .left), ne-eqb _ _ (c₄ .if4 .left))
 
 pub addresses-from-spec : {M : Type 1} → statement M
 addresses-from-spec =

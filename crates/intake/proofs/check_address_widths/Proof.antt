@@ -1,8 +1,9 @@
-use borrow.Author.Tests.{eq-eqb, ne-eqb, le-leb, lt-leb}
-use Rattle.intake.specs.Fields.{addressWidthsOut, stampOut, addressLimit, wideOut, pfieldLimit}
+-- `intake::check_address_widths` meets its contract: each address is held to the limit that its flags give. Assumes nothing.
+use borrow.Author.Needs.{needs}
+use borrow.Author.Tests.{eq-eqb, ne-eqb}
 use mathlib.Core.Path.{sym, _∙_}
 use Rattle.checks.proofs.Laws.{passed-false, failed-true}
-use borrow.Author.Needs.{needs}
+use Rattle.intake.specs.Fields.{wideOut, addressLimit, addressWidthsOut}
 use Rattle.intake.proofs.check_address_widths.Statement.{statement}
 use Rattle.intake.proofs.check_address_widths.Tie as tie
 
@@ -24,7 +25,12 @@ enum-told-2 c = search needs
 
 returns-2 : tie.Need-returns-2
 unfolding addressWidthsOut
-returns-2 c = simp (ne-eqb _ _ (c .before .before .before .before .before .if1 .left), failed-true (wideOut (addressLimit 1 (c .before .before .before .before .before .before .before .args .n .extended)) (c .before .before .before .before .before .before .before .args .n .destination)) (rw (c .before .before .before .address-limit .ensures) at (sym (c .before .before .check-wide .ensures)) ∙ c .enum-told2 .given .1))
+returns-2 c =
+    let limit = c .before .before .before in
+    let six = limit .before .before in
+    let n = six .before .before .args .n in
+    let answer = rw (limit .address-limit .ensures) at (sym (c .before .before .check-wide .ensures)) ∙ c .enum-told2 .given .1 in
+    simp (ne-eqb _ _ (six .if1 .left), failed-true (wideOut (addressLimit 1 (n .extended)) (n .destination)) answer)
 
 address-limit-requires-2 : tie.Need-address-limit-requires-2
 address-limit-requires-2 c κs = search needs
@@ -34,7 +40,13 @@ check-wide-requires-2 c κs = search needs
 
 returns-3 : tie.Need-returns-3
 unfolding addressWidthsOut
-returns-3 c = simp (ne-eqb _ _ (c .before .before .before .before .before .before .before .before .if1 .left), passed-false (wideOut (addressLimit 1 (c .before .before .before .before .before .before .before .before .before .before .args .n .extended)) (c .before .before .before .before .before .before .before .before .before .before .args .n .destination)) (rw (c .before .before .before .before .before .before .address-limit .ensures) at (sym (c .before .before .before .before .before .check-wide .ensures)) ∙ c .before .before .before .enum-told .given .1))
+returns-3 c =
+    let told = c .before .before .before in
+    let limit = told .before .before .before in
+    let six = limit .before .before in
+    let n = six .before .before .args .n in
+    let answer = rw (limit .address-limit .ensures) at (sym (told .before .before .check-wide .ensures)) ∙ told .enum-told .given .1 in
+    simp (ne-eqb _ _ (six .if1 .left), passed-false (wideOut (addressLimit 1 (n .extended)) (n .destination)) answer)
     (rw (c .before .address-limit2 .ensures) at (c .check-wide2 .ensures))
 
 pub check-address-widths-spec : {M : Type 1} → statement M

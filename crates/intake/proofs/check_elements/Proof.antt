@@ -1,7 +1,8 @@
+-- `intake::check_elements` meets its contract, check by check: what each answers tells its condition. Assumes nothing.
+use borrow.Author.Needs.{needs}
 use mathlib.Core.Path.{sym, _∙_}
 use Rattle.checks.proofs.Laws.{passed-false, failed-true}
-use Rattle.intake.specs.Fields.{addressFlagsOut, addressWidthsOut, octetOut, qosOut, stampOut, octetsOut, elementsOut, numbersOut, addressesFrom, qosFrom, octetFrom, stampFrom, fieldsFrom, addressLimit, wideOut}
-use borrow.Author.Needs.{needs}
+use Rattle.intake.specs.Fields.{octetOut, qosOut, elementsOut}
 use Rattle.intake.proofs.check_elements.Statement.{statement}
 use Rattle.intake.proofs.check_elements.Tie as tie
 
@@ -16,7 +17,10 @@ enum-told-2 c = search needs
 
 returns : tie.Need-returns
 unfolding elementsOut
-returns c = simp (failed-true (qosOut (c .before .before .before .args .n)) (sym (c .before .before .check-qos .ensures) ∙ c .enum-told2 .given .1))
+returns c =
+    let n = c .before .before .before .args .n in
+    let qos = failed-true (qosOut n) (sym (c .before .before .check-qos .ensures) ∙ c .enum-told2 .given .1) in
+    simp qos
 
 check-octet-requires : tie.Need-check-octet-requires
 check-octet-requires c κs = search needs
@@ -29,7 +33,12 @@ enum-told-4 c = search needs
 
 returns-2 : tie.Need-returns-2
 unfolding elementsOut
-returns-2 c = simp (passed-false (qosOut (c .before .before .before .before .before .before .args .n)) (sym (c .before .before .before .before .before .check-qos .ensures) ∙ c .before .before .before .enum-told .given .1), failed-true (octetOut (c .before .before .before .before .before .before .args .n .counted) (c .before .before .before .before .before .before .args .n .hops)) (sym (c .before .before .check-octet .ensures) ∙ c .enum-told4 .given .1))
+returns-2 c =
+    let c₁ = c .before .before .before in
+    let n = c₁ .before .before .before .args .n in
+    let qos = passed-false (qosOut n) (sym (c₁ .before .before .check-qos .ensures) ∙ c₁ .enum-told .given .1) in
+    let hops = failed-true (octetOut (n .counted) (n .hops)) (sym (c .before .before .check-octet .ensures) ∙ c .enum-told4 .given .1) in
+    simp (qos, hops)
 
 check-octet-requires-2 : tie.Need-check-octet-requires-2
 check-octet-requires-2 c κs = search needs
@@ -42,14 +51,29 @@ enum-told-6 c = search needs
 
 returns-3 : tie.Need-returns-3
 unfolding elementsOut
-returns-3 c = simp (passed-false (qosOut (c .before .before .before .before .before .before .before .before .before .args .n)) (sym (c .before .before .before .before .before .before .before .before .check-qos .ensures) ∙ c .before .before .before .before .before .before .enum-told .given .1), passed-false (octetOut (c .before .before .before .before .before .before .before .before .before .args .n .counted) (c .before .before .before .before .before .before .before .before .before .args .n .hops)) (sym (c .before .before .before .before .before .check-octet .ensures) ∙ c .before .before .before .enum-told3 .given .1), failed-true (octetOut (c .before .before .before .before .before .before .before .before .before .args .n .expands) (c .before .before .before .before .before .before .before .before .before .args .n .expanded)) (sym (c .before .before .check-octet2 .ensures) ∙ c .enum-told6 .given .1))
+returns-3 c =
+    let c₂ = c .before .before .before in
+    let c₁ = c₂ .before .before .before in
+    let n = c₁ .before .before .before .args .n in
+    let qos = passed-false (qosOut n) (sym (c₁ .before .before .check-qos .ensures) ∙ c₁ .enum-told .given .1) in
+    let hops = passed-false (octetOut (n .counted) (n .hops)) (sym (c₂ .before .before .check-octet .ensures) ∙ c₂ .enum-told3 .given .1) in
+    let expanded = failed-true (octetOut (n .expands) (n .expanded)) (sym (c .before .before .check-octet2 .ensures) ∙ c .enum-told6 .given .1) in
+    simp (qos, hops, expanded)
 
 check-stamp-requires : tie.Need-check-stamp-requires
 check-stamp-requires c κs = search needs
 
 returns-4 : tie.Need-returns-4
 unfolding elementsOut
-returns-4 c = simp (passed-false (qosOut (c .before .before .before .before .before .before .before .before .before .before .args .n)) (sym (c .before .before .before .before .before .before .before .before .before .check-qos .ensures) ∙ c .before .before .before .before .before .before .before .enum-told .given .1), passed-false (octetOut (c .before .before .before .before .before .before .before .before .before .before .args .n .counted) (c .before .before .before .before .before .before .before .before .before .before .args .n .hops)) (sym (c .before .before .before .before .before .before .check-octet .ensures) ∙ c .before .before .before .before .enum-told3 .given .1), passed-false (octetOut (c .before .before .before .before .before .before .before .before .before .before .args .n .expands) (c .before .before .before .before .before .before .before .before .before .before .args .n .expanded)) (sym (c .before .before .before .check-octet2 .ensures) ∙ c .before .enum-told5 .given .1)) (c .check-stamp .ensures)
+returns-4 c =
+    let c₃ = c .before in
+    let c₂ = c₃ .before .before .before in
+    let c₁ = c₂ .before .before .before in
+    let n = c₁ .before .before .before .args .n in
+    let qos = passed-false (qosOut n) (sym (c₁ .before .before .check-qos .ensures) ∙ c₁ .enum-told .given .1) in
+    let hops = passed-false (octetOut (n .counted) (n .hops)) (sym (c₂ .before .before .check-octet .ensures) ∙ c₂ .enum-told3 .given .1) in
+    let expanded = passed-false (octetOut (n .expands) (n .expanded)) (sym (c₃ .before .before .check-octet2 .ensures) ∙ c₃ .enum-told5 .given .1) in
+    simp (qos, hops, expanded) (c .check-stamp .ensures)
 
 pub check-elements-spec : {M : Type 1} → statement M
 check-elements-spec =

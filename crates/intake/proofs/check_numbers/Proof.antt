@@ -1,7 +1,8 @@
+-- `intake::check_numbers` meets its contract, check by check: what each answers tells its condition. Assumes nothing.
+use borrow.Author.Needs.{needs}
 use mathlib.Core.Path.{sym, _∙_}
 use Rattle.checks.proofs.Laws.{passed-false, failed-true}
-use Rattle.intake.specs.Fields.{addressFlagsOut, addressWidthsOut, octetOut, qosOut, stampOut, octetsOut, elementsOut, numbersOut, addressesFrom, qosFrom, octetFrom, stampFrom, fieldsFrom, addressLimit, wideOut}
-use borrow.Author.Needs.{needs}
+use Rattle.intake.specs.Fields.{octetsOut, addressFlagsOut, addressWidthsOut, numbersOut}
 use Rattle.intake.proofs.check_numbers.Statement.{statement}
 use Rattle.intake.proofs.check_numbers.Tie as tie
 
@@ -16,7 +17,10 @@ enum-told-2 c = search needs
 
 returns : tie.Need-returns
 unfolding numbersOut
-returns c = simp (failed-true (octetsOut (c .before .before .before .args .n)) (sym (c .before .before .check-octets .ensures) ∙ c .enum-told2 .given .1))
+returns c =
+    let n = c .before .before .before .args .n in
+    let octets = failed-true (octetsOut n) (sym (c .before .before .check-octets .ensures) ∙ c .enum-told2 .given .1) in
+    simp octets
 
 check-address-flags-requires : tie.Need-check-address-flags-requires
 check-address-flags-requires c κs = search needs
@@ -29,7 +33,12 @@ enum-told-4 c = search needs
 
 returns-2 : tie.Need-returns-2
 unfolding numbersOut
-returns-2 c = simp (passed-false (octetsOut (c .before .before .before .before .before .before .args .n)) (sym (c .before .before .before .before .before .check-octets .ensures) ∙ c .before .before .before .enum-told .given .1), failed-true (addressFlagsOut (c .before .before .before .before .before .before .args .n)) (sym (c .before .before .check-address-flags .ensures) ∙ c .enum-told4 .given .1))
+returns-2 c =
+    let c₁ = c .before .before .before in
+    let n = c₁ .before .before .before .args .n in
+    let octets = passed-false (octetsOut n) (sym (c₁ .before .before .check-octets .ensures) ∙ c₁ .enum-told .given .1) in
+    let flags = failed-true (addressFlagsOut n) (sym (c .before .before .check-address-flags .ensures) ∙ c .enum-told4 .given .1) in
+    simp (octets, flags)
 
 check-address-widths-requires : tie.Need-check-address-widths-requires
 check-address-widths-requires c κs = search needs
@@ -42,14 +51,29 @@ enum-told-6 c = search needs
 
 returns-3 : tie.Need-returns-3
 unfolding numbersOut
-returns-3 c = simp (passed-false (octetsOut (c .before .before .before .before .before .before .before .before .before .args .n)) (sym (c .before .before .before .before .before .before .before .before .check-octets .ensures) ∙ c .before .before .before .before .before .before .enum-told .given .1), passed-false (addressFlagsOut (c .before .before .before .before .before .before .before .before .before .args .n)) (sym (c .before .before .before .before .before .check-address-flags .ensures) ∙ c .before .before .before .enum-told3 .given .1), failed-true (addressWidthsOut (c .before .before .before .before .before .before .before .before .before .args .n)) (sym (c .before .before .check-address-widths .ensures) ∙ c .enum-told6 .given .1))
+returns-3 c =
+    let c₂ = c .before .before .before in
+    let c₁ = c₂ .before .before .before in
+    let n = c₁ .before .before .before .args .n in
+    let octets = passed-false (octetsOut n) (sym (c₁ .before .before .check-octets .ensures) ∙ c₁ .enum-told .given .1) in
+    let flags = passed-false (addressFlagsOut n) (sym (c₂ .before .before .check-address-flags .ensures) ∙ c₂ .enum-told3 .given .1) in
+    let widths = failed-true (addressWidthsOut n) (sym (c .before .before .check-address-widths .ensures) ∙ c .enum-told6 .given .1) in
+    simp (octets, flags, widths)
 
 check-elements-requires : tie.Need-check-elements-requires
 check-elements-requires c κs = search needs
 
 returns-4 : tie.Need-returns-4
 unfolding numbersOut
-returns-4 c = simp (passed-false (octetsOut (c .before .before .before .before .before .before .before .before .before .before .args .n)) (sym (c .before .before .before .before .before .before .before .before .before .check-octets .ensures) ∙ c .before .before .before .before .before .before .before .enum-told .given .1), passed-false (addressFlagsOut (c .before .before .before .before .before .before .before .before .before .before .args .n)) (sym (c .before .before .before .before .before .before .check-address-flags .ensures) ∙ c .before .before .before .before .enum-told3 .given .1), passed-false (addressWidthsOut (c .before .before .before .before .before .before .before .before .before .before .args .n)) (sym (c .before .before .before .check-address-widths .ensures) ∙ c .before .enum-told5 .given .1)) (c .check-elements .ensures)
+returns-4 c =
+    let c₃ = c .before in
+    let c₂ = c₃ .before .before .before in
+    let c₁ = c₂ .before .before .before in
+    let n = c₁ .before .before .before .args .n in
+    let octets = passed-false (octetsOut n) (sym (c₁ .before .before .check-octets .ensures) ∙ c₁ .enum-told .given .1) in
+    let flags = passed-false (addressFlagsOut n) (sym (c₂ .before .before .check-address-flags .ensures) ∙ c₂ .enum-told3 .given .1) in
+    let widths = passed-false (addressWidthsOut n) (sym (c₃ .before .before .check-address-widths .ensures) ∙ c₃ .enum-told5 .given .1) in
+    simp (octets, flags, widths) (c .check-elements .ensures)
 
 pub check-numbers-spec : {M : Type 1} → statement M
 check-numbers-spec =

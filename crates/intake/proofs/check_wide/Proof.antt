@@ -1,7 +1,5 @@
-use Rattle.intake.specs.Fields.{addressFlagsOut, addressWidthsOut, octetOut, qosOut, stampOut, octetsOut, elementsOut, numbersOut, addressesFrom, qosFrom, octetFrom, stampFrom, fieldsFrom, addressLimit, wideOut}
-use borrow.Author.Tests.{eq-eqb, le-leb, lt-leb, ne-eqb}
-use Rattle.intake.specs.Fields.{addressFlagsOut, addressWidthsOut, octetOut, qosOut, stampOut, octetsOut, elementsOut, numbersOut, addressesFrom, qosFrom, octetFrom, stampFrom, fieldsFrom}
-use borrow.Author.Needs.{needs}
+-- `intake::check_wide` meets its contract, test by test. Assumes nothing.
+use borrow.Author.Tests.{eq-eqb, ne-eqb, le-leb, lt-leb}
 use Rattle.intake.proofs.check_wide.Statement.{statement}
 use Rattle.intake.proofs.check_wide.Tie as tie
 

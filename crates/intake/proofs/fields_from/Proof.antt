@@ -1,6 +1,6 @@
-use Rattle.intake.specs.Fields.{addressFlagsOut, addressWidthsOut, octetOut, qosOut, stampOut, octetsOut, elementsOut, numbersOut, addressesFrom, qosFrom, octetFrom, stampFrom, fieldsFrom, addressLimit, wideOut}
-use Rattle.intake.specs.Fields.{addressFlagsOut, addressWidthsOut, octetOut, qosOut, stampOut, octetsOut, elementsOut, numbersOut, addressesFrom, qosFrom, octetFrom, stampFrom, fieldsFrom}
+-- `intake::fields_from` meets its contract: each field is what its function answers. Assumes nothing.
 use borrow.Author.Needs.{needs}
+use Rattle.intake.specs.Fields.{fieldsFrom}
 use Rattle.intake.proofs.fields_from.Statement.{statement}
 use Rattle.intake.proofs.fields_from.Tie as tie
 
@@ -30,7 +30,13 @@ cast-t12 c = search needs
 
 returns : tie.Need-returns
 unfolding fieldsFrom
-returns c = cc
+returns c =
+    let c₅ = c .before .before .before in
+    let c₄ = c₅ .before in
+    let c₃ = c₄ .before in
+    let c₂ = c₃ .before in
+    let c₁ = c₂ .before in
+    rw (c₁ .addresses-from .ensures, c₂ .qos-from .ensures, c₃ .octet-from .ensures, c₄ .stamp-from .ensures, c₅ .octet-from2 .ensures)
 
 pub fields-from-spec : {M : Type 1} → statement M
 fields-from-spec =

@@ -1,7 +1,7 @@
-use Rattle.intake.specs.Fields.{addressFlagsOut, addressWidthsOut, octetOut, qosOut, stampOut, octetsOut, elementsOut, numbersOut, addressesFrom, qosFrom, octetFrom, stampFrom, fieldsFrom, addressLimit, wideOut}
-use borrow.Author.Tests.{eq-eqb, ne-eqb}
-use Rattle.intake.specs.Fields.{addressFlagsOut, addressWidthsOut, octetOut, qosOut, stampOut, octetsOut, elementsOut, numbersOut, addressesFrom, qosFrom, octetFrom, stampFrom, fieldsFrom}
+-- `intake::stamp_from` meets its contract, format by format. Assumes nothing.
 use borrow.Author.Needs.{needs}
+use borrow.Author.Tests.{ne-eqb}
+use Rattle.intake.specs.Fields.{stampFrom}
 use Rattle.intake.proofs.stamp_from.Statement.{statement}
 use Rattle.intake.proofs.stamp_from.Tie as tie
 
@@ -22,7 +22,7 @@ returns-3 c = simp (c .before .match .keys3)
 
 returns-4 : tie.Need-returns-4
 unfolding stampFrom
-returns-4 c = search (eq-eqb, ne-eqb)
+returns-4 c = search ne-eqb
 
 pub stamp-from-spec : {M : Type 1} → statement M
 stamp-from-spec = tie.close (tie.spec cast-t5 returns returns-2 returns-3 returns-4)

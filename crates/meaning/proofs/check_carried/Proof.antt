@@ -1,0 +1,24 @@
+-- `meaning::check_carried` meets its contract: each answer by what its callees ensure. Assumes nothing.
+use borrow.Author.Tests.{eq-eqb, ne-eqb}
+use borrow.Author.Needs.{needs}
+use Rattle.meaning.proofs.check_carried.Statement.{statement}
+use Rattle.meaning.proofs.check_carried.Tie as tie
+
+routing-of-requires : tie.Need-routing-of-requires
+routing-of-requires c κs = search needs
+
+returns : tie.Need-returns
+returns c = rw (← c .before .routing-of .ensures) (simp (ne-eqb _ _ (c .if1 .taken)))
+
+is-ipv6-requires : tie.Need-is-ipv6-requires
+is-ipv6-requires c κs = search needs
+
+returns-2 : tie.Need-returns-2
+returns-2 c = rw (← c .before .before .before .routing-of .ensures, ← c .before .is-ipv6 .ensures) (simp (eq-eqb _ _ (c .before .before .if1 .left), ne-eqb _ _ (c .if2 .taken)))
+
+returns-3 : tie.Need-returns-3
+returns-3 c = rw (← c .before .before .before .routing-of .ensures, ← c .before .is-ipv6 .ensures) (simp (eq-eqb _ _ (c .before .before .if1 .left), eq-eqb _ _ (c .if2 .left)))
+
+pub check-carried-spec : {M : Type 1} → statement M
+check-carried-spec =
+    tie.close (tie.spec routing-of-requires returns is-ipv6-requires returns-2 returns-3)

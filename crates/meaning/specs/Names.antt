@@ -1,0 +1,79 @@
+-- What the addresses of a header name, by the address of the port that it came in by (page 01, steps 4 to 6). Assumes nothing.
+use Prim.Native.Nat.{ℕ, _+_, _*_, _/_, _^_}
+use mathlib.Core.Bool.{Bool, false, not, _&&_, _||_}
+use lib.Dec.{eqb}
+use Rattle.address.specs.Class.{classOf, classNumber}
+use Rattle.address.specs.Path.{pathForm, pathNumber}
+use Rattle.header.specs.declared.Fields.{Fields}
+use Rattle.header.specs.declared.Addresses.{Addresses}
+use Rattle.header.specs.declared.Addresses.the-variants.{BasicPath, ExtendedPath, BasicEndSystem, ExtendedEndSystem, Ipv6}
+use Rattle.header.specs.declared.Qos.{Qos}
+use Rattle.header.specs.declared.Qos.the-variants as qos
+use Rattle.meaning.specs.declared.Aim.{Aim}
+use Rattle.meaning.specs.declared.Aim.the-variants.{Node, Line}
+use Rattle.meaning.specs.declared.Origin.{Origin}
+use Rattle.meaning.specs.declared.Origin.the-variants.{From, Unsaid}
+
+-- step 5: the first three octets of the arrival port's address, then the octet
+abbrev pub filledIn : ℕ → ℕ → ℕ
+filledIn port z = port / 256 * 256 + z
+
+-- what the destination names; a header without a source carries a path
+unfoldable pub aimOf : ℕ → Addresses → Aim
+aimOf port (BasicPath z) = Line (record { 0 = filledIn port z })
+aimOf port (ExtendedPath p) = Line p
+aimOf port (BasicEndSystem z s) = Node (record { 0 = filledIn port z })
+aimOf port (ExtendedEndSystem d s) = Node d
+aimOf port (Ipv6 d s) = Node (record { 0 = 0 })
+
+-- what the source names, where there is one
+unfoldable pub sourceOf : ℕ → Addresses → Origin
+sourceOf port (BasicPath z) = Unsaid
+sourceOf port (ExtendedPath p) = Unsaid
+sourceOf port (BasicEndSystem d z) = From (record { 0 = filledIn port z })
+sourceOf port (ExtendedEndSystem d s) = From s
+sourceOf port (Ipv6 d s) = Unsaid
+
+abbrev pub isBasic : Addresses → ℕ
+isBasic (BasicPath z) = 1
+isBasic (ExtendedPath p) = 0
+isBasic (BasicEndSystem d s) = 1
+isBasic (ExtendedEndSystem d s) = 0
+isBasic (Ipv6 d s) = 0
+
+abbrev pub isIpv6 : Addresses → ℕ
+isIpv6 (BasicPath z) = 0
+isIpv6 (ExtendedPath p) = 0
+isIpv6 (BasicEndSystem d s) = 0
+isIpv6 (ExtendedEndSystem d s) = 0
+isIpv6 (Ipv6 d s) = 1
+
+abbrev pub routingOf : Qos → ℕ
+routingOf qos.Absent = 0
+routingOf (qos.Present precedence routing program) = routing
+
+-- 8: routing requirements not 0, or IPv6 addresses
+abbrev pub notCarried : Fields → Bool
+notCarried f = not (eqb (routingOf (f .qos)) 0) || not (eqb (isIpv6 (f .addresses)) 0)
+
+-- 7: a one-octet address, and the arrival port's address does not begin with 10
+abbrev pub noDomain : ℕ → Addresses → Bool
+noDomain port a = not (eqb (isBasic a) 0) && not (eqb (port / 2 ^ 24) 10)
+
+-- 6: an invalid destination or path, or a source present and not unicast
+abbrev pub badClass : ℕ → Bool
+badClass v = eqb (classNumber (classOf v)) 0
+
+abbrev pub badPath : ℕ → Bool
+badPath v = eqb (pathNumber (pathForm v)) 0
+
+abbrev pub badAim : Aim → Bool
+badAim (Node a) = badClass (a .0)
+badAim (Line p) = badPath (p .0)
+
+abbrev pub notUnicast : ℕ → Bool
+notUnicast v = not (eqb (classNumber (classOf v)) 1)
+
+abbrev pub badSource : Origin → Bool
+badSource (From a) = notUnicast (a .0)
+badSource Unsaid = false

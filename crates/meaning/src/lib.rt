@@ -1,0 +1,187 @@
+// What the addresses of a header name.
+//
+// An address of four octets names the same system everywhere. An address of one octet names one only together with the domain it
+// stands in: the first three octets of the port that it came in by, and never of a port that it goes out by (page 01, step 5; that slip
+// once sent a dose to another domain). So what a header names is a function of the arrival port's address and the header, stated
+// once here; everything later compares names and never bare octets. The awkward case is an IPv6 header, which is not carried: it
+// names 0.0.0.0, which no check lets through.
+use address::Address;
+use address::PathAddress;
+use checks::Check;
+use header::Addresses;
+use header::Fields;
+use header::Qos;
+ghost use mathlib.Core.Path.{_≡_};
+ghost use Rattle.checks.specs.Order.{checkOf};
+ghost use Rattle.meaning.specs.Names.{
+  filledIn,
+  aimOf,
+  sourceOf,
+  isBasic,
+  isIpv6,
+  routingOf,
+  notCarried,
+  noDomain,
+  notUnicast,
+  badClass,
+  badPath,
+  badAim,
+  badSource,
+};
+
+// What a destination names: an end system or group of them, or a path.
+pub enum Aim {
+    Node(Address),
+    Line(PathAddress),
+}
+
+// What a source names, where there is one.
+pub enum Origin {
+    From(Address),
+    Unsaid,
+}
+
+// An address of one octet with the first three of the port.
+fn filled_in(port: Address, octet: u8) -> u32
+    ensures { λ r. ⌜ r ≡ filledIn (port .0) octet ⌝ }
+{
+    port.0 / 256 * 256 + octet as u32
+}
+
+// What the destination names at a port.
+pub fn aim_of(port: Address, a: Addresses) -> Aim
+    ensures { λ r. ⌜ r ≡ aimOf (port .0) a ⌝ }
+{
+    match a {
+        Addresses::BasicPath(d) => Aim::Line(PathAddress(filled_in(port, d))),
+        Addresses::ExtendedPath(p) => Aim::Line(p),
+        Addresses::BasicEndSystem(d, _) => Aim::Node(Address(filled_in(port, d))),
+        Addresses::ExtendedEndSystem(d, _) => Aim::Node(d),
+        Addresses::Ipv6(_, _) => Aim::Node(Address(0)),
+    }
+}
+
+// What the source names at a port.
+pub fn origin_of(port: Address, a: Addresses) -> Origin
+    ensures { λ r. ⌜ r ≡ sourceOf (port .0) a ⌝ }
+{
+    match a {
+        Addresses::BasicPath(_) => Origin::Unsaid,
+        Addresses::ExtendedPath(_) => Origin::Unsaid,
+        Addresses::BasicEndSystem(_, s) => Origin::From(Address(filled_in(port, s))),
+        Addresses::ExtendedEndSystem(_, s) => Origin::From(s),
+        Addresses::Ipv6(_, _) => Origin::Unsaid,
+    }
+}
+
+// 1 for addresses of one octet, else 0.
+pub fn is_basic(a: Addresses) -> u32
+    ensures { λ r. ⌜ r ≡ isBasic a ⌝ }
+{
+    match a {
+        Addresses::BasicPath(_) => 1,
+        Addresses::ExtendedPath(_) => 0,
+        Addresses::BasicEndSystem(_, _) => 1,
+        Addresses::ExtendedEndSystem(_, _) => 0,
+        Addresses::Ipv6(_, _) => 0,
+    }
+}
+
+// 1 for IPv6 addresses, else 0.
+fn is_ipv6(a: Addresses) -> u32
+    ensures { λ r. ⌜ r ≡ isIpv6 a ⌝ }
+{
+    match a {
+        Addresses::BasicPath(_) => 0,
+        Addresses::ExtendedPath(_) => 0,
+        Addresses::BasicEndSystem(_, _) => 0,
+        Addresses::ExtendedEndSystem(_, _) => 0,
+        Addresses::Ipv6(_, _) => 1,
+    }
+}
+
+// The routing requirements, 0 where there is no basic QOS.
+fn routing_of(q: Qos) -> u8
+    ensures { λ r. ⌜ r ≡ routingOf q ⌝ }
+{
+    match q {
+        Qos::Absent => 0,
+        Qos::Present(_, routing, _) => routing,
+    }
+}
+
+// Step 4: point-to-point routing and no IPv6 addresses.
+pub fn check_carried(f: Fields) -> Check
+    ensures { λ r. ⌜ r ≡ checkOf (notCarried f) ⌝ }
+{
+    let qos = f.qos;
+    let addresses = f.addresses;
+    if routing_of(qos) != 0 {
+        return Check::Failed;
+    }
+    if is_ipv6(addresses) != 0 {
+        return Check::Failed;
+    }
+    Check::Passed
+}
+
+// Step 5: an address of one octet needs a port in net 10 to supply its domain.
+pub fn check_domain(port: Address, a: Addresses) -> Check
+    ensures { λ r. ⌜ r ≡ checkOf (noDomain (port .0) a) ⌝ }
+{
+    if is_basic(a) == 0 {
+        return Check::Passed;
+    }
+    if port.0 / 16777216 != 10 {
+        return Check::Failed;
+    }
+    Check::Passed
+}
+
+// A class that only a source may have.
+fn check_unicast(a: Address) -> Check
+    ensures { λ r. ⌜ r ≡ checkOf (notUnicast (a .0)) ⌝ }
+{
+    if address::class_number(address::class_of(a)) != 1 {
+        return Check::Failed;
+    }
+    Check::Passed
+}
+
+// Step 6, first half: a destination of some class, or a valid path.
+pub fn check_aim(aim: Aim) -> Check
+    ensures { λ r. ⌜ r ≡ checkOf (badAim aim) ⌝ }
+{
+    match aim {
+        Aim::Node(a) => check_class(a),
+        Aim::Line(p) => check_path(p),
+    }
+}
+
+fn check_class(a: Address) -> Check
+    ensures { λ r. ⌜ r ≡ checkOf (badClass (a .0)) ⌝ }
+{
+    if address::class_number(address::class_of(a)) == 0 {
+        return Check::Failed;
+    }
+    Check::Passed
+}
+
+fn check_path(p: PathAddress) -> Check
+    ensures { λ r. ⌜ r ≡ checkOf (badPath (p .0)) ⌝ }
+{
+    if address::path_number(address::path_form(p)) == 0 {
+        return Check::Failed;
+    }
+    Check::Passed
+}
+
+// Step 6, second half: a source that is present is unicast.
+pub fn check_origin(o: Origin) -> Check
+    ensures { λ r. ⌜ r ≡ checkOf (badSource o) ⌝ }
+{
+    match o {
+        Origin::From(a) => check_unicast(a),
+        Origin::Unsaid => Check::Passed,
+    }
+}

@@ -1,0 +1,2 @@
+-- What the contracts cite: the networks of an address.
+pub mod Networks

@@ -1,0 +1,72 @@
+-- The answers of the lines and of the copies, over plain variables. Assumes nothing.
+use Prim.Native.Nat.{ℕ}
+use mathlib.Core.Path.{_≡_, refl, sym, ap, _∙_}
+use lib.Bits.{bitAnd}
+use borrow.Author.Tests.{eq-eqb, ne-eqb}
+use Rattle.verdict.specs.Rule.{hereBy, oursBy, wantedHere, localOf, exceptBy, aloneBy, groupLine, pathLine, routeLine, copiesOf}
+use Rattle.verdict.specs.declared.Target.{Target}
+use Rattle.verdict.specs.declared.Case.{Case}
+use Rattle.verdict.specs.declared.Place.{Place}
+use Rattle.verdict.specs.declared.Place.the-variants.{Held}
+use Rattle.verdict.specs.declared.Way.the-variants.{By}
+use Rattle.verdict.specs.declared.Line.the-variants.{Unasked, Refused, Wanted}
+use Rattle.verdict.specs.declared.Ruling.{Ruling}
+
+pub route-down : (set availability : ℕ) → (availability ≡ 1 → ⊥) → Refused 12 ≡ routeLine (By set availability)
+unfolding routeLine
+route-down set availability h = simp (ne-eqb availability 1 h)
+
+pub route-up : (set availability : ℕ) → availability ≡ 1 → Wanted set ≡ routeLine (By set availability)
+unfolding routeLine
+route-up set availability h = simp (eq-eqb availability 1 h)
+
+module _ (send word arrival set : ℕ) (is : set ≡ exceptBy send arrival) where
+  pub path-some : (set ≡ 0 → ⊥) → Wanted set ≡ pathLine (Held send word) arrival
+  unfolding pathLine
+  path-some h = rw (← is) (simp (ne-eqb set 0 h))
+
+  pub path-here : set ≡ 0 → (word ≡ 0 → ⊥) → Unasked ≡ pathLine (Held send word) arrival
+  unfolding pathLine
+  path-here h w = rw (← is) (simp (eq-eqb set 0 h, ne-eqb word 0 w))
+
+  pub path-none : set ≡ 0 → word ≡ 0 → Refused 11 ≡ pathLine (Held send word) arrival
+  unfolding pathLine
+  path-none h w = rw (← is) (simp (eq-eqb set 0 h, eq-eqb word 0 w))
+
+  module _ (others by : ℕ) (a : by ≡ aloneBy word others) where
+    pub group-alone : by ≡ 1 → Unasked ≡ groupLine (Held send word) arrival others
+    unfolding groupLine
+    group-alone h = rw (← a) (simp (eq-eqb by 1 h))
+
+    pub group-none : (by ≡ 1 → ⊥) → set ≡ 0 → Refused 11 ≡ groupLine (Held send word) arrival others
+    unfolding groupLine
+    group-none h z = rw (← a, ← is) (simp (ne-eqb by 1 h, eq-eqb set 0 z))
+
+    pub group-some : (by ≡ 1 → ⊥) → (set ≡ 0 → ⊥) → Wanted set ≡ groupLine (Held send word) arrival others
+    unfolding groupLine
+    group-some h z = rw (← a, ← is) (simp (ne-eqb by 1 h, ne-eqb set 0 z))
+
+module _ (local granted full took : ℕ) (is : took ≡ exceptBy granted full) where
+  pub copies-none : took ≡ 0 → record { local = local; onward = 15; granted = granted; took = took; dropped = bitAnd granted full } ≡ copiesOf local granted full
+  unfolding copiesOf
+  copies-none h = rw (← is) (simp (eq-eqb took 0 h))
+
+  pub copies-some : (took ≡ 0 → ⊥) → record { local = local; onward = 1; granted = granted; took = took; dropped = bitAnd granted full } ≡ copiesOf local granted full
+  unfolding copiesOf
+  copies-some h = rw (← is) (simp (ne-eqb took 0 h))
+
+module _ (t : Target) (p : Place) (c : Case) (here ours would : ℕ) (h : here ≡ hereBy p) (o : ours ≡ oursBy t here) (w : would ≡ wantedHere ours (c .intermediate)) where
+  is : would ≡ wantedHere (oursBy t (hereBy p)) (c .intermediate)
+  is = w ∙ rw (o, h)
+
+  pub local-no : would ≡ 0 → 0 ≡ localOf t p c
+  unfolding localOf
+  local-no z = rw (← is) (simp (eq-eqb would 0 z))
+
+  pub local-unknown : (would ≡ 0 → ⊥) → c .assigned ≡ 0 → 26 ≡ localOf t p c
+  unfolding localOf
+  local-unknown z a = rw (← is) (simp (ne-eqb would 0 z, eq-eqb (c .assigned) 0 a))
+
+  pub local-yes : (would ≡ 0 → ⊥) → (c .assigned ≡ 0 → ⊥) → 1 ≡ localOf t p c
+  unfolding localOf
+  local-yes z a = rw (← is) (simp (ne-eqb would 0 z, ne-eqb (c .assigned) 0 a))
