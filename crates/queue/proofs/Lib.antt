@@ -1,0 +1,10 @@
+-- The laws of the queue. To be read: Order, Cases, Waiting, Sound, Turns and Marked; the others serve these and the code's proofs.
+mod Compare
+pub mod Each
+pub mod Order
+mod Steps
+pub mod Cases
+pub mod Waiting
+pub mod Sound
+pub mod Turns
+pub mod Marked
