@@ -1,0 +1,35 @@
+// The records of the relay's settings: a port, a group place, a path place.
+//
+// Each field is a whole word, and the flags are numbers: a state that C lends may hold any words, and each of them must be some
+// record. A flag says no by 0 and yes by anything else; settings write only 0 and 1. A set of ports has port p as 2^p. The record of
+// a route stands with the search, the queue in a crate of its own.
+use address::Address;
+use address::Mask;
+use address::PathAddress;
+
+// `ready` is 0 where the port is not set up.
+#[repr(C)]
+pub struct Port {
+    pub ready: u32,
+    pub address: Address,
+    pub mask: Mask,
+    pub mtu: u32,
+}
+
+// A multicast address, the set of ports to send to and the set of subscribed ports.
+#[repr(C)]
+pub struct Group {
+    pub filled: u32,
+    pub address: Address,
+    pub send: u32,
+    pub subscribed: u32,
+}
+
+// A path address, the set of ports to send to and whether it is delivered here.
+#[repr(C)]
+pub struct PathPlace {
+    pub filled: u32,
+    pub path: PathAddress,
+    pub send: u32,
+    pub here: u32,
+}

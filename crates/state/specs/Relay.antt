@@ -1,0 +1,112 @@
+-- The state of the relay: page 01, "Numbers that hold everywhere" and "Settings". Each view reads one part, each update changes one.
+-- The counters are fifteen, modulo 2^32, in this order: npInReceives, npInBadLength, npInBadVersion, npInBadAddress, npInBadChecksum,
+-- unsupported, npInAddrErrors, npInUnknownProtos, npInDelivers, npForwHopDiscard, npForwDatagrams, npOutNoRoutes, npOutDiscards,
+-- left domain, too big (page 01, "Refusal numbers"). Assumes nothing.
+use Prim.Native.Nat.{ℕ, _+_, _%_, _^_}
+use mathlib.Core.List.{List}
+use lib.ListN.{getD, set, replicate}
+use Rattle.queue.specs.declared.Queue.{Queue}
+use Rattle.queue.specs.Queue.{fresh as freshQueue}
+use Rattle.routes.specs.declared.Route.{Route}
+use Rattle.routes.specs.Routes.{emptyRoute}
+use Rattle.records.specs.declared.Port.{Port}
+use Rattle.records.specs.declared.Group.{Group}
+use Rattle.records.specs.declared.PathPlace.{PathPlace}
+use Rattle.records.specs.Fresh.{freshPort, freshGroup, freshPath}
+
+-- what will be one mission's
+pub record Mission : Type 0 where
+  pub groups : List Group
+  pub paths : List PathPlace
+  pub queues : List Queue
+  pub counters : List ℕ
+
+-- `router` is 0 for a host
+pub record Relay : Type 0 where
+  pub router : ℕ
+  pub ports : List Port
+  pub mission : Mission
+  pub routes : List Route
+
+-- page 01, "Settings": no port, all places empty, a host, queues empty, counters 0
+unfoldable pub freshRelay : Relay
+freshRelay =
+    record {
+      router = 0;
+      ports = replicate 8 freshPort;
+      mission =
+          record {
+            groups = replicate 16 freshGroup;
+            paths = replicate 16 freshPath;
+            queues = replicate 8 freshQueue;
+            counters = replicate 15 0;
+          };
+      routes = replicate 64 emptyRoute;
+    }
+
+-- ---- views
+abbrev pub portIn : Relay → ℕ → Port
+portIn r p = getD (r .ports) p freshPort
+
+abbrev pub groupIn : Relay → ℕ → Group
+groupIn r i = getD (r .mission .groups) i freshGroup
+
+abbrev pub pathIn : Relay → ℕ → PathPlace
+pathIn r i = getD (r .mission .paths) i freshPath
+
+abbrev pub queueIn : Relay → ℕ → Queue
+queueIn r p = getD (r .mission .queues) p freshQueue
+
+abbrev pub counterIn : Relay → ℕ → ℕ
+counterIn r i = getD (r .mission .counters) i 0
+
+abbrev pub routeIn : Relay → ℕ → Route
+routeIn r i = getD (r .routes) i emptyRoute
+
+-- ---- one field anew
+abbrev pub allPorts : Relay → List Port → Relay
+allPorts r x = record { router = r .router; ports = x; mission = r .mission; routes = r .routes }
+
+abbrev pub allRoutes : Relay → List Route → Relay
+allRoutes r x = record { router = r .router; ports = r .ports; mission = r .mission; routes = x }
+
+abbrev pub withMission : Relay → Mission → Relay
+withMission r x = record { router = r .router; ports = r .ports; mission = x; routes = r .routes }
+
+abbrev pub allGroups : Mission → List Group → Mission
+allGroups m x = record { groups = x; paths = m .paths; queues = m .queues; counters = m .counters }
+
+abbrev pub allPaths : Mission → List PathPlace → Mission
+allPaths m x = record { groups = m .groups; paths = x; queues = m .queues; counters = m .counters }
+
+abbrev pub allQueues : Mission → List Queue → Mission
+allQueues m x = record { groups = m .groups; paths = m .paths; queues = x; counters = m .counters }
+
+abbrev pub allCounters : Mission → List ℕ → Mission
+allCounters m x = record { groups = m .groups; paths = m .paths; queues = m .queues; counters = x }
+
+-- ---- updates: one place of a field anew
+abbrev pub withRouter : Relay → ℕ → Relay
+withRouter r x = record { router = x; ports = r .ports; mission = r .mission; routes = r .routes }
+
+abbrev pub withPort : Relay → ℕ → Port → Relay
+withPort r p x = allPorts r (set (r .ports) p x)
+
+abbrev pub withGroup : Relay → ℕ → Group → Relay
+withGroup r i x = withMission r (allGroups (r .mission) (set (r .mission .groups) i x))
+
+abbrev pub withPath : Relay → ℕ → PathPlace → Relay
+withPath r i x = withMission r (allPaths (r .mission) (set (r .mission .paths) i x))
+
+abbrev pub withQueue : Relay → ℕ → Queue → Relay
+withQueue r p x = withMission r (allQueues (r .mission) (set (r .mission .queues) p x))
+
+abbrev pub withCounter : Relay → ℕ → ℕ → Relay
+withCounter r i x = withMission r (allCounters (r .mission) (set (r .mission .counters) i x))
+
+abbrev pub withRoute : Relay → ℕ → Route → Relay
+withRoute r i x = allRoutes r (set (r .routes) i x)
+
+-- n more at counter i, modulo 2^32
+abbrev pub added : Relay → ℕ → ℕ → Relay
+added r i n = withCounter r i ((counterIn r i + n) % 2 ^ 32)

@@ -1,0 +1,2 @@
+-- What the search's helper promises of the best place.
+pub mod Best

@@ -1,0 +1,3 @@
+-- What the loops over a queue's words hand together, and what owning its entries tells.
+pub mod Queues
+pub mod Held

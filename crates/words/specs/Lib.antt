@@ -1,0 +1,2 @@
+-- What a list of words is cut into.
+pub mod Cut
