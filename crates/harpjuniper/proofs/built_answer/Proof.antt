@@ -1,3 +1,4 @@
+-- `harpjuniper::built_answer` meets its contract, variant by variant. Assumes nothing.
 use borrow.Author.Needs.{needs}
 use Rattle.harpjuniper.proofs.built_answer.Statement.{statement}
 use Rattle.harpjuniper.proofs.built_answer.Tie as tie

@@ -1,6 +1,7 @@
-use Rattle.harpjuniper.proofs.Laws.{no-room, no-fields, built, refused-reading, good-reading, reading-fits}
-use mathlib.Core.Path.{sym, _∙_}
+-- `harpjuniper::hj_build` meets its contract: the law of no room, of no fields, or of what the builder answers. Assumes nothing.
 use borrow.Author.Needs.{needs}
+use mathlib.Core.Path.{sym, _∙_}
+use Rattle.harpjuniper.proofs.Laws.{no-room, no-fields, built}
 use Rattle.harpjuniper.proofs.hj_build.Statement.{statement}
 use Rattle.harpjuniper.proofs.hj_build.Tie as tie
 
@@ -8,7 +9,9 @@ refusal-requires : tie.Need-refusal-requires
 refusal-requires c κs = search needs
 
 returns : tie.Need-returns
-returns c = no-room (c .before .before .before .args .fields) (c .before .before .before .args .size) (c .before .before .before .args .output .now) (c .before .if1 .taken) _ (c .refusal .ensures)
+returns c =
+    let a = c .before .before .before .args in
+    no-room (a .fields) (a .size) (a .output .now) (c .before .if1 .taken) _ (c .refusal .ensures)
 
 check-numbers-requires : tie.Need-check-numbers-requires
 check-numbers-requires c κs = search needs
@@ -23,7 +26,11 @@ refusal-requires-2 : tie.Need-refusal-requires-2
 refusal-requires-2 c κs = search needs
 
 returns-2 : tie.Need-returns-2
-returns-2 c = no-fields (c .before .before .before .before .before .before .args .fields) (c .before .before .before .before .before .before .args .size) (c .before .before .before .before .before .before .args .output .now) (c .before .before .before .before .if1 .left) (sym (c .before .before .before .check-numbers .ensures) ∙ c .before .enum-told2 .given .1) _ (c .refusal2 .ensures)
+returns-2 c =
+    let checked = c .before .before .before in
+    let room = checked .before in
+    let a = room .before .before .args in
+    no-fields (a .fields) (a .size) (a .output .now) (room .if1 .left) (sym (checked .check-numbers .ensures) ∙ c .before .enum-told2 .given .1) _ (c .refusal2 .ensures)
 
 fields-from-requires : tie.Need-fields-from-requires
 fields-from-requires c κs = search needs
@@ -38,8 +45,14 @@ same-length : tie.Need-same-length
 same-length c = search needs
 
 returns-3 : tie.Need-returns-3
-returns-3 c = built (c .before .before .before .before .before .before .before .before .before .before .before .args .fields) (c .before .before .before .before .before .before .before .before .before .before .before .args .size) (c .before .before .before .before .before .before .before .before .before .before .before .args .output .now) (c .before .before .before .before .before .before .before .before .before .if1 .left) (sym (c .before .before .before .before .before .before .before .before .check-numbers .ensures) ∙ c .before .before .before .before .before .before .enum-told .given .1) _ _ _ _ (c .before .before .before .before .before .fields-from .ensures)
-    (c .before .before .before .build-header .ensures .0) (c .before .before .before .build-header .ensures .1) (c .built-answer .ensures)
+returns-3 c =
+    let made = c .before .before .before in
+    let told = made .before .before .before in
+    let checked = told .before .before in
+    let room = checked .before in
+    let a = room .before .before .args in
+    built (a .fields) (a .size) (a .output .now) (room .if1 .left) (sym (checked .check-numbers .ensures) ∙ told .enum-told .given .1) _ _ _ _
+    (made .before .before .fields-from .ensures) (made .build-header .ensures .0) (made .build-header .ensures .1) (c .built-answer .ensures)
 
 pub hj-build-spec : {M : Type 1} → statement M
 hj-build-spec =

@@ -1,3 +1,4 @@
+-- `harpjuniper::hj_class` meets its contract: the number of the class of the address. Assumes nothing.
 use borrow.Author.Needs.{needs}
 use Rattle.harpjuniper.proofs.hj_class.Statement.{statement}
 use Rattle.harpjuniper.proofs.hj_class.Tie as tie
@@ -9,7 +10,7 @@ class-number-requires : tie.Need-class-number-requires
 class-number-requires c κs = search needs
 
 returns : tie.Need-returns
-returns c = cc
+returns c = rw (c .class-number .ensures, c .before .class-of .ensures)
 
 pub hj-class-spec : {M : Type 1} → statement M
 hj-class-spec = tie.close (tie.spec class-of-requires class-number-requires returns)

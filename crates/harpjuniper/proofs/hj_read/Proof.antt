@@ -1,7 +1,8 @@
-use Rattle.harpjuniper.proofs.Laws.{no-room, no-fields, built, refused-reading, good-reading, reading-fits}
+-- `harpjuniper::hj_read` meets its contract: the law of a refusal or that of a header, from what the reader answers; what it answers fits 32 bits. Assumes nothing.
+use borrow.Author.Needs.{needs}
 use mathlib.Core.Path.{sym, _∙_}
 use native.Mathlib.Omega.{arith}
-use borrow.Author.Needs.{needs}
+use Rattle.harpjuniper.proofs.Laws.{refused-reading, good-reading, reading-fits}
 use Rattle.harpjuniper.proofs.hj_read.Statement.{statement}
 use Rattle.harpjuniper.proofs.hj_read.Tie as tie
 
@@ -24,16 +25,28 @@ numbers-of-requires : tie.Need-numbers-of-requires
 numbers-of-requires c κs = search needs
 
 cast-t10 : tie.Need-cast-t10
-cast-t10 c = let b = reading-fits _ _ (λ i. c .before .before .before .before .before .before .before .shared-slice-known .given i .fits) (sym (c .before .before .before .before .before .before .read-header .ensures) ∙ c .before .before .before .before .h .given .1) in omega arith
+cast-t10 c =
+    let told = c .before .before .before .before in
+    let read = told .before .before in
+    let fits = reading-fits _ _ (λ i. read .before .shared-slice-known .given i .fits) (sym (read .read-header .ensures) ∙ told .h .given .1) in
+    omega arith
 
 cast-t11 : tie.Need-cast-t11
-cast-t11 c = let b = reading-fits _ _ (λ i. c .before .before .before .before .before .before .before .before .shared-slice-known .given i .fits) (sym (c .before .before .before .before .before .before .before .read-header .ensures) ∙ c .before .before .before .before .before .h .given .1) in omega arith
+cast-t11 c =
+    let told = c .before .before .before .before .before in
+    let read = told .before .before in
+    let fits = reading-fits _ _ (λ i. read .before .shared-slice-known .given i .fits) (sym (read .read-header .ensures) ∙ told .h .given .1) in
+    omega arith
 
 returns : tie.Need-returns
-returns c = refused-reading _ _ _ (sym (c .before .before .before .before .read-header .ensures) ∙ c .before .before .number .given .1) (c .no-numbers .ensures)
+returns c =
+    let told = c .before .before in
+    refused-reading _ _ _ (sym (told .before .before .read-header .ensures) ∙ told .number .given .1) (c .no-numbers .ensures)
 
 returns-2 : tie.Need-returns-2
-returns-2 c = good-reading _ _ _ (sym (c .before .before .before .before .before .before .before .read-header .ensures) ∙ c .before .before .before .before .before .h .given .1) (c .before .before .numbers-of .ensures)
+returns-2 c =
+    let told = c .before .before .before .before .before in
+    good-reading _ _ _ (sym (told .before .before .read-header .ensures) ∙ told .h .given .1) (c .before .before .numbers-of .ensures)
 
 pub hj-read-spec : {M : Type 1} → statement M
 hj-read-spec =

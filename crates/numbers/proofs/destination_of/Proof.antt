@@ -1,3 +1,4 @@
+-- `numbers::destination_of` meets its contract: the destination of each variant, made wide by `narrow` where it is short. Assumes nothing.
 use borrow.Author.Needs.{needs}
 use Rattle.numbers.proofs.destination_of.Statement.{statement}
 use Rattle.numbers.proofs.destination_of.Tie as tie

@@ -1,5 +1,6 @@
-use Rattle.numbers.specs.Numbers.{numbersOf}
+-- `numbers::numbers_of` meets its contract: each number is what its function answers. Assumes nothing.
 use borrow.Author.Needs.{needs}
+use Rattle.numbers.proofs.Laws.{made}
 use Rattle.numbers.proofs.numbers_of.Statement.{statement}
 use Rattle.numbers.proofs.numbers_of.Tie as tie
 
@@ -82,8 +83,24 @@ cast-t32 : tie.Need-cast-t32
 cast-t32 c = search needs
 
 returns : tie.Need-returns
-unfolding numbersOf
-returns c = cc
+returns c =
+    let c₁₆ = c .before .before in
+    let c₁₅ = c₁₆ .before in
+    let c₁₄ = c₁₅ .before in
+    let c₁₃ = c₁₄ .before in
+    let c₁₂ = c₁₃ .before in
+    let c₁₁ = c₁₂ .before in
+    let c₁₀ = c₁₁ .before in
+    let c₉ = c₁₀ .before in
+    let c₈ = c₉ .before in
+    let c₇ = c₈ .before in
+    let c₆ = c₇ .before in
+    let c₅ = c₆ .before in
+    let c₄ = c₅ .before in
+    let c₃ = c₄ .before .before in
+    let c₂ = c₃ .before in
+    let c₁ = c₂ .before in
+    made (c₁ .before .args .f) (c₁ .destination-of .ensures) (c₂ .source-of .ensures) (c₃ .time-of .ensures) (c₄ .source-flag .ensures) (c₅ .extended-flag .ensures) (c₆ .ipv6-flag .ensures) (c₇ .qos-flag .ensures) (c₈ .precedence-of .ensures) (c₉ .routing-of .ensures) (c₁₀ .program-of .ensures) (c₁₁ .octet-flag .ensures) (c₁₂ .value-of .ensures) (c₁₃ .stamp-format .ensures) (c₁₄ .pfield-of .ensures) (c₁₅ .octet-flag2 .ensures) (c₁₆ .value-of2 .ensures)
 
 pub numbers-of-spec : {M : Type 1} → statement M
 numbers-of-spec =

@@ -1,3 +1,4 @@
+-- `numbers::source_of` meets its contract: the source of each variant, 0 where it has none. Assumes nothing.
 use borrow.Author.Needs.{needs}
 use Rattle.numbers.proofs.source_of.Statement.{statement}
 use Rattle.numbers.proofs.source_of.Tie as tie

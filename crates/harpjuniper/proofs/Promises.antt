@@ -1,0 +1,107 @@
+-- What C sees of building and reading: which refusal comes when, that a refusal leaves the output as it was, and that what was built is read
+-- as the numbers that it was built from. `Words n` says that addresses and time fit 64 bits, as C's types have it. Assumes nothing.
+use native.Mathlib.Omega.{arith}
+use Prim.Native.Nat.{ℕ, _+_, _*_, _^_, _≤_, _<_}
+use mathlib.Core.Path.{_≡_, refl}
+use mathlib.Core.List.{List, [], _∷_, _++_}
+use mathlib.Core.Bool.{Bool, true, false, _||_}
+use mathlib.Core.Logic.{_↔_}
+use lib.ListN.{length, take, drop}
+use lib.Seq.{take-at}
+use lib.Dec.{eqb, ltb}
+use borrow.Author.Tests.{ltb-true, ltb-false, lt-ltb, le-ltb}
+use Rattle.checks.specs.Order.{pick, firstOf}
+use Rattle.checks.proofs.Bools.{or-false}
+use Rattle.header.specs.Range.{outOfRange, InRange}
+use Rattle.header.specs.Read.{readOf}
+use Rattle.header.specs.Build.{sizeOf, headerOctets}
+use Rattle.header.proofs.BuiltLaws.{header-length, built-size, in-range}
+use Rattle.header.proofs.Trip.{read-built}
+use Rattle.numbers.specs.declared.Numbers.{Numbers}
+use Rattle.intake.specs.Fields.{numbersOut, fieldsFrom}
+use Rattle.intake.proofs.Inverse.{Words, typed, numbers-back}
+use Rattle.harpjuniper.specs.Face.{readingOf, answerBy, buildChecks, buildAnswer, buildOutput}
+
+-- the numbers stand for no fields, or for fields out of range
+abbrev pub fieldsOut : Numbers → Bool
+fieldsOut n = numbersOut n || outOfRange (fieldsFrom n)
+
+fields-in : (n : Numbers) → Words n → fieldsOut n ≡ false → InRange (fieldsFrom n)
+fields-in n w h = in-range (fieldsFrom n) (typed n w) (or-false (numbersOut n) (outOfRange (fieldsFrom n)) h .1)
+
+-- ---- refusals
+
+-- which of the three conditions an answer tells; a value is below 2^32, and so no refusal
+record First (a b c : Bool) (answer : ℕ) : Type 0 where
+  is-17 : answer ≡ 17 * 2 ^ 32 → a ≡ true
+  is-19 : answer ≡ 19 * 2 ^ 32 → (a ≡ false) × (b ≡ true)
+  is-20 : answer ≡ 20 * 2 ^ 32 → (a ≡ false) × ((b ≡ false) × (c ≡ true))
+
+first : (a b c : Bool) (value : ℕ) → (b ≡ false → value ≤ 50) → First a b c (answerBy (firstOf ((a, 17) ∷ (b, 19) ∷ (c, 20) ∷ [])) value)
+unfolding firstOf
+first true b c v h = record { is-17 = λ e. refl; is-19 = λ e. absurd (omega arith); is-20 = λ e. absurd (omega arith) }
+first false true c v h = record { is-17 = λ e. absurd (omega arith); is-19 = λ e. (refl, refl); is-20 = λ e. absurd (omega arith) }
+first false false true v h = record { is-17 = λ e. absurd (omega arith); is-19 = λ e. absurd (omega arith); is-20 = λ e. (refl, (refl, refl)) }
+first false false false v h =
+    let few = h refl in
+    record { is-17 = λ e. absurd (omega arith); is-19 = λ e. absurd (omega arith); is-20 = λ e. absurd (omega arith) }
+
+-- each refusal exactly where its condition holds and no earlier one
+pub record Refusals (n : Numbers) (size room : ℕ) : Type 0 where
+  pub no-room : (buildAnswer n size room ≡ 17 * 2 ^ 32) ↔ (room < 50)
+  pub no-fields : (buildAnswer n size room ≡ 19 * 2 ^ 32) ↔ ((50 ≤ room) × (fieldsOut n ≡ true))
+  pub too-long : (buildAnswer n size room ≡ 20 * 2 ^ 32) ↔ ((50 ≤ room) × ((fieldsOut n ≡ false) × (8141 < size)))
+
+pub build-refused : (n : Numbers) → Words n → (size room : ℕ) → Refusals n size room
+unfolding buildAnswer buildChecks firstOf
+build-refused n w size room =
+    let p = first (ltb room 50) (fieldsOut n) (ltb 8141 size) (sizeOf (fieldsFrom n)) (λ h. built-size (fieldsFrom n) (fields-in n w h) .1) in
+    record {
+      no-room = (λ e. ltb-true room 50 (p .is-17 e), λ h. simp (lt-ltb room 50 h));
+      no-fields = (λ e. (ltb-false room 50 (p .is-19 e .0), p .is-19 e .1), λ h. simp (le-ltb room 50 (h .0), h .1));
+      too-long = (λ e. (ltb-false room 50 (p .is-20 e .0), (p .is-20 e .1 .0, ltb-true 8141 size (p .is-20 e .1 .1))), λ h. simp (le-ltb room 50 (h .0), h .1 .0, lt-ltb 8141 size (h .1 .1)));
+    }
+
+kept : (a b c : Bool) (value : ℕ) (built lent : List ℕ) → (b ≡ false → value ≤ 50) → 2 ^ 32 ≤ answerBy (firstOf ((a, 17) ∷ (b, 19) ∷ (c, 20) ∷ [])) value
+    → pick (eqb (firstOf ((a, 17) ∷ (b, 19) ∷ (c, 20) ∷ [])) 0) built lent ≡ lent
+unfolding firstOf
+kept true b c v built lent h e = refl
+kept false true c v built lent h e = refl
+kept false false true v built lent h e = refl
+kept false false false v built lent h e = let few = h refl in absurd (omega arith)
+
+-- where the answer is a refusal, the output is as it was lent
+pub refusal-writes-nothing : (n : Numbers) → Words n → (size : ℕ) (lent : List ℕ) → 2 ^ 32 ≤ buildAnswer n size (length lent) → buildOutput n size lent ≡ lent
+unfolding buildAnswer buildOutput buildChecks
+refusal-writes-nothing n w size lent h =
+    kept (ltb (length lent) 50) (fieldsOut n) (ltb 8141 size) (sizeOf (fieldsFrom n)) _ lent (λ e. built-size (fieldsFrom n) (fields-in n w e) .1) h
+
+-- ---- what was built
+
+-- the answer is the header's length, and the header stands at the front of the output
+pub built-octets : (n : Numbers) → Words n → (size : ℕ) (lent : List ℕ) → 50 ≤ length lent → fieldsOut n ≡ false → size ≤ 8141
+    → (buildAnswer n size (length lent) ≡ sizeOf (fieldsFrom n)) × (buildOutput n size lent ≡ headerOctets (fieldsFrom n) size ++ drop (sizeOf (fieldsFrom n)) lent)
+unfolding buildAnswer buildOutput buildChecks firstOf
+built-octets n w size lent room good short =
+    let a = le-ltb (length lent) 50 room in
+    let c = le-ltb 8141 size short in
+    (simp (a, good, c), simp (a, good, c) (rw (header-length (fieldsFrom n) size (fields-in n w good .checksum))))
+
+-- with its data after it, the header is read as the numbers that it was built from
+pub built-then-read : (n : Numbers) → Words n → (size : ℕ) (userData : List ℕ) → fieldsOut n ≡ false → size ≤ 8141 → size ≤ length userData
+    → readingOf (readOf (headerOctets (fieldsFrom n) size ++ userData))
+    ≡ record { refusal = 0; length = sizeOf (fieldsFrom n) + size; header = sizeOf (fieldsFrom n); fields = n }
+unfolding readingOf
+built-then-read n w size userData good short enough =
+    rw (read-built (fieldsFrom n) size userData (fields-in n w good) short enough, numbers-back n (or-false (numbersOut n) _ good .0))
+
+-- the same as C sees it: as many octets of the output as hj_build answers, and the data after them, given to hj_read
+pub hj-build-then-hj-read : (n : Numbers) → Words n → (size : ℕ) (lent userData : List ℕ) → 50 ≤ length lent → fieldsOut n ≡ false → size ≤ 8141
+    → size ≤ length userData
+    → readingOf (readOf (take (buildAnswer n size (length lent)) (buildOutput n size lent) ++ userData))
+    ≡ record { refusal = 0; length = buildAnswer n size (length lent) + size; header = buildAnswer n size (length lent); fields = n }
+hj-build-then-hj-read n w size lent userData room good short enough =
+    let built = built-octets n w size lent room good short in
+    let long = header-length (fieldsFrom n) size (fields-in n w good .checksum) in
+    let front = take-at (headerOctets (fieldsFrom n) size) (drop (sizeOf (fieldsFrom n)) lent) (sizeOf (fieldsFrom n)) long in
+    rw (built .0, built .1, front) (built-then-read n w size userData good short enough)
