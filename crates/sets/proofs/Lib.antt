@@ -1,0 +1,2 @@
+-- The laws that loops over ports and places are proved by.
+pub mod Loops

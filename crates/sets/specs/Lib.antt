@@ -1,0 +1,2 @@
+-- What loops over ports and places gather.
+pub mod Sets
