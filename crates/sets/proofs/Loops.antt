@@ -1,12 +1,14 @@
 -- What one more turn of a loop makes of what is gathered, at `n + 1` as the code has it; and what is found. Assumes nothing.
 use native.Mathlib.Omega.{arith}
-use Prim.Native.Nat.{ℕ, zero, suc, _+_, _-_, _^_, _≤_, _<_}
+use Prim.Native.Nat.{ℕ, zero, suc, _+_, _-_, _*_, _%_, _^_, _≤_, _<_}
 use mathlib.Core.Path.{_≡_, refl, sym, ap, _∙_}
 use mathlib.Core.Bool.{Bool, true, false, _||_}
 use native.Mathlib.Numerals.{add-one}
-use borrow.Author.Tests.{eq-eqb, ne-eqb}
+use native.Mathlib.Nat.{mod-eq-of-lt}
+use lib.Pow.{pow-lt}
+use borrow.Author.Tests.{eq-eqb, ne-eqb, lt-ltb, le-ltb}
 use Rattle.checks.specs.Order.{pick}
-use Rattle.sets.specs.Sets.{portSet, anyBelow, firstBelow}
+use Rattle.sets.specs.Sets.{onlyPort, portSet, anyBelow, firstBelow}
 
 pub portSet-next : (test : ℕ → Bool) (p : ℕ) → portSet test (p + 1) ≡ portSet test p + pick (test p) (2 ^ p) 0
 portSet-next test p = ap (portSet test) (add-one p)
@@ -45,3 +47,14 @@ pub firstBelow-found :
     (test : ℕ → Bool) (i n : ℕ) → i < n → firstBelow test i ≡ i → test i ≡ true → firstBelow test n ≡ i
 firstBelow-found test i n under none holds =
     ap (firstBelow test) (let e : n ≡ suc (i + (n - suc i)) = omega arith in e) ∙ first-later test i (n - suc i) (first-here test i none holds)
+
+-- ---- the set of one port, as a shift makes it
+pub port-below : (p : ℕ) → p < 8 → 2 ^ p < 256
+port-below p h = pow-lt {i = p} {j = 8} h
+
+pub only-shifted : (p : ℕ) → p < 8 → 1 * 2 ^ p % 2 ^ 32 ≡ onlyPort p
+only-shifted p h =
+    mod-eq-of-lt (omega (arith, port-below p h)) ∙ (let e : 1 * 2 ^ p ≡ 2 ^ p = omega arith in e) ∙ sym (simp (lt-ltb p 8 h))
+
+pub only-none : (p : ℕ) → 8 ≤ p → 0 ≡ onlyPort p
+only-none p h = simp (le-ltb p 8 h)

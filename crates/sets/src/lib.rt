@@ -1,6 +1,18 @@
 // Sets of ports, and places that a test holds at.
 //
-// There is no code here: what a loop over ports or places gathers is said once, for any test, and the laws that such loops are proved
-// by stand beside it. A set of ports is a number in which port p is 2 to the power of p. Each definition grows at its end, as the loops
-// do: what is gathered of the first p + 1 is made of what is gathered of the first p. The awkward case is a search for the first place
-// that finds none: it answers the number of places, which is no place.
+// A set of ports is a number in which port p is 2 to the power of p. What a loop over ports or places gathers is said once, for any
+// test, and the laws that such loops are proved by stand beside it. Each definition grows at its end, as the loops do: what is gathered
+// of the first p + 1 is made of what is gathered of the first p. The awkward cases: a search for the first place that finds none answers
+// the number of places, which is no place; and a port over 7 is in no set, so that its set is the empty one.
+ghost use mathlib.Core.Path.{_≡_};
+ghost use Rattle.sets.specs.Sets.{onlyPort};
+
+// The set of one port.
+pub fn only_port(port: u32) -> u32
+    ensures { λ r. ⌜ r ≡ onlyPort port ⌝ }
+{
+    if port < 8 {
+        return 1 << port;
+    }
+    0
+}

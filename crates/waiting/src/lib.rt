@@ -79,6 +79,23 @@ pub fn queue_of(state: &[u32], p: usize) -> Queue
     read_queue(&state[from..to])
 }
 
+fn read_count(s: &[u32]) -> u32
+    requires { ⌜ length (now s) ≡ 33 ⌝ }
+    ensures { λ r. ⌜ r ≡ queueOf (now (s .entry)) .count ⌝ }
+{
+    s[ENTRIES]
+}
+
+// How many wait on a port, as its queue says.
+pub fn count_of(state: &[u32], p: usize) -> u32
+    requires { ⌜ (length (now state) ≡ stateWords) × (p < 8) ⌝ }
+    ensures { λ r. ⌜ r ≡ queueIn (decode (now (state .entry))) p .count ⌝ }
+{
+    let from = QUEUES + p * QUEUE_WORDS;
+    let to = from + QUEUE_WORDS;
+    read_count(&state[from..to])
+}
+
 pub fn put_queue(state: &mut [u32], p: usize, q: Queue)
     requires { ⌜ (length (now state) ≡ stateWords) × (p < 8) ⌝ }
     ensures { λ _. ⌜ decode (now (state .exit)) ≡ withQueue (decode (now (state .entry))) p q ⌝ }

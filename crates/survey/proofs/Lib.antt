@@ -1,0 +1,2 @@
+-- What the walk over the ports hands together.
+pub mod Walk

@@ -1,0 +1,2 @@
+-- What the contracts cite: the survey of the ports.
+pub mod Survey
