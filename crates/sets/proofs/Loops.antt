@@ -58,3 +58,8 @@ only-shifted p h =
 
 pub only-none : (p : ℕ) → 8 ≤ p → 0 ≡ onlyPort p
 only-none p h = simp (le-ltb p 8 h)
+
+-- nothing is found among all n
+pub firstBelow-end :
+    (test : ℕ → Bool) {n : ℕ} (i : ℕ) → n ≤ i → (i ≤ n) × (firstBelow test i ≡ i) → i ≡ firstBelow test n
+firstBelow-end test {n} i h e = sym (e .1) ∙ ap (firstBelow test) (let z : i ≡ n = omega (arith, e .0) in z)

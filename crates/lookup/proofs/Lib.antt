@@ -1,0 +1,2 @@
+-- What the searches of groups and of paths share.
+pub mod Found

@@ -1,0 +1,65 @@
+-- `lookup::find_group` meets its contract: no place below i is the group's. Assumes nothing.
+use native.Mathlib.Omega.{arith}
+use Prim.Native.Nat.{ℕ, _-_, _≤_}
+use mathlib.Core.Path.{_≡_, refl, sym, ap, _∙_}
+use borrow.Author.Needs.{needs}
+use Rattle.sets.specs.Sets.{firstBelow}
+use Rattle.sets.proofs.Loops.{firstBelow-none, firstBelow-found, firstBelow-end}
+use Rattle.state.specs.Layout.{decode}
+use Rattle.state.specs.Relay.{groupIn}
+use Rattle.lookup.specs.Lookup.{holdsGroup}
+use Rattle.lookup.proofs.Found.{test-read}
+use Rattle.lookup.proofs.find_group.Statement.{statement}
+use Rattle.lookup.proofs.find_group.Tie as tie
+
+abbrev Inv-loop : tie.InvT-loop
+Inv-loop state a i₀ i = (i ≤ 16) × (firstBelow (λ (j : ℕ). holdsGroup (groupIn (decode state) j) a) i ≡ i)
+
+abbrev μ-loop : tie.MeasureT-loop
+μ-loop state a i₀ i = 16 - i
+
+loop-holds : tie.Need-loop-holds Inv-loop μ-loop
+loop-holds c = (omega arith, refl)
+
+group-of-requires : tie.Need-group-of-requires Inv-loop μ-loop
+group-of-requires c κs = search needs
+
+holds-group-requires : tie.Need-holds-group-requires Inv-loop μ-loop
+holds-group-requires c κs = tt
+
+returns : tie.Need-returns Inv-loop μ-loop
+returns c =
+    sym
+    (firstBelow-found _ _ 16 (c .before .before .before .loop-test .taken) (c .before .before .before .before .loop .inv .1)
+    (test-read holdsGroup _ (c .before .holds-group .ensures) (c .before .before .group-of .ensures) (c .if1 .taken)))
+
+add-i : tie.Need-add-i Inv-loop μ-loop
+add-i c = search needs
+
+loop-less : tie.Need-loop-less Inv-loop μ-loop
+loop-less c = search needs
+
+loop-again : tie.Need-loop-again Inv-loop μ-loop
+loop-again c = (
+  omega arith,
+  firstBelow-none _ _ (c .before .before .before .before .loop .inv .1)
+      (test-read holdsGroup _ (c .before .holds-group .ensures) (c .before .before .group-of .ensures) (c .if1 .left)),
+)
+
+returns-2 : tie.Need-returns-2 Inv-loop μ-loop
+returns-2 c = firstBelow-end _ _ (c .loop-test .left) (c .before .loop .inv)
+
+pub find-group-spec : {M : Type 1} → statement M
+find-group-spec =
+    tie.close
+    (tie.spec
+    Inv-loop
+    μ-loop
+    loop-holds
+    group-of-requires
+    holds-group-requires
+    returns
+    add-i
+    loop-less
+    loop-again
+    returns-2)

@@ -1,0 +1,2 @@
+-- What the contracts cite: the places of groups and paths.
+pub mod Lookup

@@ -1,0 +1,95 @@
+// The places of groups and paths, as a datagram asks for them.
+//
+// Group and path addresses are matched exactly and differ from place to place, so that at most one place holds an address; what is
+// found is told to the verdict as the ports to send to, and whether this node is meant too. The awkward case is a state that no
+// history leaves, with one address in two places: the lower place holds.
+use address::Address;
+use address::PathAddress;
+use records::Group;
+use records::PathPlace;
+use verdict::Place;
+ghost use mathlib.Core.Path.{_≡_};
+ghost use lib.ListN.{length};
+ghost use Rattle.state.specs.Layout.{stateWords, decode};
+ghost use Rattle.lookup.specs.Lookup.{holdsGroup, holdsPath, groupFound, pathFound, groupPlace, pathPlace};
+
+// How many places there are of each kind; as a place, none of them.
+const PLACES: usize = 16;
+
+// Whether a place is a group's.
+pub fn holds_group(g: Group, a: Address) -> bool
+    ensures { λ r. ⌜ r ≡ holdsGroup g a ⌝ }
+{
+    if g.filled == 0 {
+        return false;
+    }
+    g.address.0 == a.0
+}
+
+// Whether a place is a path's.
+pub fn holds_path(x: PathPlace, p: PathAddress) -> bool
+    ensures { λ r. ⌜ r ≡ holdsPath x p ⌝ }
+{
+    if x.filled == 0 {
+        return false;
+    }
+    x.path.0 == p.0
+}
+
+// The place of a group.
+fn find_group(state: &[u32], a: Address) -> usize
+    requires { ⌜ length (now state) ≡ stateWords ⌝ }
+    ensures { λ r. ⌜ r ≡ groupFound (decode (now (state .entry))) a ⌝ }
+{
+    let mut i = 0;
+    while i < PLACES {
+        let g = places::group_of(state, i);
+        if holds_group(g, a) {
+            return i;
+        }
+        i += 1;
+    }
+    i
+}
+
+// The place of a path.
+fn find_path(state: &[u32], p: PathAddress) -> usize
+    requires { ⌜ length (now state) ≡ stateWords ⌝ }
+    ensures { λ r. ⌜ r ≡ pathFound (decode (now (state .entry))) p ⌝ }
+{
+    let mut i = 0;
+    while i < PLACES {
+        let x = places::path_of(state, i);
+        if holds_path(x, p) {
+            return i;
+        }
+        i += 1;
+    }
+    i
+}
+
+// What the place of a group says; `arrival` is the arrival port as a set.
+pub fn group_place(state: &[u32], a: Address, arrival: u32) -> Place
+    requires { ⌜ length (now state) ≡ stateWords ⌝ }
+    ensures { λ r. ⌜ r ≡ groupPlace (decode (now (state .entry))) a arrival ⌝ }
+{
+    let i = find_group(state, a);
+    if i < PLACES {
+        let g = places::group_of(state, i);
+        return Place::Held(g.send, g.subscribed & arrival);
+    }
+    Place::Missing
+}
+
+// What the place of a path says.
+pub fn path_place(state: &[u32], p: PathAddress) -> Place
+    requires { ⌜ length (now state) ≡ stateWords ⌝ }
+    ensures { λ r. ⌜ r ≡ pathPlace (decode (now (state .entry))) p ⌝ }
+{
+    let i = find_path(state, p);
+    if i < PLACES {
+        let x = places::path_of(state, i);
+        return Place::Held(x.send, x.here);
+    }
+    Place::Missing
+}
