@@ -1,0 +1,2 @@
+-- What the looking up hands together.
+pub mod Steps
