@@ -1,0 +1,74 @@
+-- All that becomes of a received datagram: page 01, "One received datagram, step by step". Each list of checks is in the page's order, and
+-- the first whose condition holds ends the call with its number. Assumes nothing.
+use Prim.Native.Nat.{ℕ}
+use mathlib.Core.Bool.{Bool, not, _||_}
+use mathlib.Core.List.{List, [], _∷_}
+use lib.Dec.{eqb, ltb}
+use Rattle.checks.specs.Order.{pick, Checks, firstOf}
+use Rattle.sets.specs.Sets.{onlyPort}
+use Rattle.address.specs.declared.Address.{Address}
+use Rattle.header.specs.Read.{readOf}
+use Rattle.header.specs.declared.Fields.{Fields}
+use Rattle.header.specs.declared.Header.{Header}
+use Rattle.header.specs.declared.Read.{Read}
+use Rattle.header.specs.declared.Read.the-variants as read
+use Rattle.meaning.specs.Names.{aimOf, sourceOf, notCarried, noDomain, badAim, badSource}
+use Rattle.datagram.specs.Asked.{precedenceOf}
+use Rattle.verdict.specs.declared.Ruling.{Ruling}
+use Rattle.state.specs.Relay.{Relay, portIn}
+use Rattle.rule.specs.Ruling.{ruleOf}
+use Rattle.rule.specs.declared.Arrival.{Arrival}
+use Rattle.judge.specs.declared.Ending.{Ending}
+
+-- a refusal delivers, grants and drops nothing
+abbrev pub noRuling : Ruling
+noRuling = record { local = 0; onward = 0; granted = 0; took = 0; dropped = 0 }
+
+abbrev pub refusedBy : ℕ → Ending
+refusedBy n = record { refusal = n; ruling = noRuling; precedence = 0; size = 0 }
+
+-- the ending by a number that refuses, or where it is 0 by what follows
+abbrev pub orElse : ℕ → Ending → Ending
+orElse n e = pick (eqb n 0) e (refusedBy n)
+
+-- ---- step 1
+-- "Port not set up, or over 7"
+abbrev pub notSetUp : Relay → ℕ → Bool
+notSetUp r port = not (ltb port 8) || eqb (portIn r port .ready) 0
+
+abbrev pub callChecks : Relay → ℕ → ℕ → Checks
+callChecks r port room = (notSetUp r port, 16) ∷ (ltb room 50, 17) ∷ []
+
+-- ---- steps 4, 5 and 6, by the arrival port's address
+abbrev pub arrivalChecks : Address → Fields → Checks
+arrivalChecks at f =
+    (notCarried f, 8)
+    ∷ (noDomain (at .0) (f .addresses), 7)
+    ∷ (badAim (aimOf (at .0) (f .addresses)), 6)
+    ∷ (badSource (sourceOf (at .0) (f .addresses)), 6)
+    ∷ []
+
+-- ---- the ending
+abbrev pub ruled : Relay → Arrival → Header → Ending
+ruled r at h =
+    record {
+      refusal = 0;
+      ruling = ruleOf r at (aimOf (at .address .0) (h .fields .addresses)) h;
+      precedence = precedenceOf (h .fields .qos);
+      size = h .size;
+    }
+
+unfoldable pub headerEnding : Relay → Arrival → Header → Ending
+headerEnding r at h = orElse (firstOf (arrivalChecks (at .address) (h .fields))) (ruled r at h)
+
+-- steps 2 and 3 are the reader's
+abbrev pub octetsEnding : Relay → Arrival → Read → Ending
+octetsEnding r at (read.Good h) = headerEnding r at h
+octetsEnding r at (read.Refused n) = refusedBy n
+
+abbrev pub arrivalAt : Relay → ℕ → Arrival
+arrivalAt r port = record { set = onlyPort port; address = portIn r port .address }
+
+-- what becomes of these octets, come in by this port, with so much room for output
+unfoldable pub endingOf : Relay → ℕ → List ℕ → ℕ → Ending
+endingOf r port octets room = orElse (firstOf (callChecks r port room)) (octetsEnding r (arrivalAt r port) (readOf octets))

@@ -1,0 +1,2 @@
+-- What the contracts cite: what becomes of a received datagram.
+pub mod Ending
