@@ -1,13 +1,13 @@
+-- `builder::presence` meets its contract: one test. Assumes nothing.
 use borrow.Author.Tests.{eq-eqb, ne-eqb}
-use borrow.Author.Needs.{needs}
 use Rattle.builder.proofs.presence.Statement.{statement}
 use Rattle.builder.proofs.presence.Tie as tie
 
 returns : tie.Need-returns
-returns c = search (eq-eqb, ne-eqb)
+returns c = simp (eq-eqb _ _ (c .if1 .taken))
 
 returns-2 : tie.Need-returns-2
-returns-2 c = search (eq-eqb, ne-eqb)
+returns-2 c = simp (ne-eqb _ _ (c .if1 .left))
 
 pub presence-spec : {M : Type 1} → statement M
 presence-spec = tie.close (tie.spec returns returns-2)

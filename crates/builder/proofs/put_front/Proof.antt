@@ -1,7 +1,8 @@
-use native.Mathlib.Omega.{arith}
-use Rattle.builder.proofs.Laws.{put-front as front-put}
-use Rattle.header.proofs.Pieces.{present-le}
+-- `builder::put_front` meets its contract: four numbers, one after the other, of which the last two may have no octets. Assumes nothing.
 use borrow.Author.Needs.{needs}
+use native.Mathlib.Omega.{arith}
+use Rattle.header.proofs.Pieces.{present-le}
+use Rattle.builder.proofs.Laws.{front-put}
 use Rattle.builder.proofs.put_front.Statement.{statement}
 use Rattle.builder.proofs.put_front.Tie as tie
 
@@ -21,7 +22,12 @@ cast-put-number : tie.Need-cast-put-number
 cast-put-number c = search needs
 
 put-number-requires-3 : tie.Need-put-number-requires-3
-put-number-requires-3 c κs = omega (arith, present-le (c .before .before .before .before .before .before .before .before .before .before .before .args .second), c .before .before .before .before .before .before .before .before .before .before .before .pre, c .presence .ensures, c .before .before .before .before .before .before .before .before .put-number .ensures .0, c .before .before .before .before .before .before .before .before .put-number .kept .0, c .before .before .before .before .put-number2 .ensures .0, c .before .before .before .before .put-number2 .kept .0)
+put-number-requires-3 c κs =
+    let shared = c .before .before .before .before in
+    let len = shared .before .before .before .before in
+    let start = len .before .before .before in
+    omega
+    (arith, present-le (start .args .second), start .pre, c .presence .ensures, len .put-number .ensures .0, len .put-number .kept .0, shared .put-number2 .ensures .0, shared .put-number2 .kept .0)
 
 presence-requires-2 : tie.Need-presence-requires-2
 presence-requires-2 c κs = search needs
@@ -30,14 +36,27 @@ cast-put-number-2 : tie.Need-cast-put-number-2
 cast-put-number-2 c = search needs
 
 put-number-requires-4 : tie.Need-put-number-requires-4
-put-number-requires-4 c κs = omega (arith, present-le (c .before .before .before .before .before .before .before .before .before .before .before .before .before .before .before .before .args .second), present-le (c .before .before .before .before .before .before .before .before .before .before .before .before .before .before .before .before .args .third), c .before .before .before .before .before .before .before .before .before .before .before .before .before .before .before .before .pre, c .presence2 .ensures, c .before .before .before .before .before .presence .ensures, c .before .before .before .before .before .before .before .before .before .before .before .before .before .put-number .ensures .0, c .before .before .before .before .before .before .before .before .before .before .before .before .before .put-number .kept .0, c .before .before .before .before .before .before .before .before .before .put-number2 .ensures .0, c .before .before .before .before .before .before .before .before .before .put-number2 .kept .0, c .before .before .before .before .put-number3 .ensures .0, c .before .before .before .before .put-number3 .kept .0)
+put-number-requires-4 c κs =
+    let second = c .before .before .before .before in
+    let shared = second .before .before .before .before .before in
+    let len = shared .before .before .before .before in
+    let start = len .before .before .before in
+    omega
+    (arith, present-le (start .args .second), present-le (start .args .third), start .pre, second .before .presence .ensures, c .presence2 .ensures, len .put-number .ensures .0, len .put-number .kept .0, shared .put-number2 .ensures .0, shared .put-number2 .kept .0, second .put-number3 .ensures .0, second .put-number3 .kept .0)
 
 same-length : tie.Need-same-length
 same-length c = search needs
 
 returns : tie.Need-returns
-returns c = front-put _ _ _ _ _ _ _ _ _ (c .before .before .before .before .before .before .before .before .before .before .before .before .before .before .before .before .before .before .before .args .len) (c .before .before .before .before .before .before .before .before .before .before .before .before .before .before .before .before .before .before .before .args .shared) (c .before .before .before .before .before .before .before .before .before .before .before .before .before .before .before .before .before .before .before .args .second) (c .before .before .before .before .before .before .before .before .before .before .before .before .before .before .before .before .before .before .before .args .third) _ _ (c .before .before .before .before .before .before .before .before .presence .ensures) (c .before .before .before .presence2 .ensures)
-    (c .before .before .before .before .before .before .before .before .before .before .before .before .before .before .before .before .put-number .ensures) (c .before .before .before .before .before .before .before .before .before .before .before .before .put-number2 .ensures) (c .before .before .before .before .before .before .before .put-number3 .ensures) (c .before .before .put-number4 .ensures) (c .before .before .before .before .before .before .before .before .before .before .before .before .before .before .before .before .before .before .before .pre .0)
+returns c =
+    let third = c .before .before in
+    let second = third .before .before .before .before .before in
+    let shared = second .before .before .before .before .before in
+    let len = shared .before .before .before .before in
+    let start = len .before .before .before in
+    let args = start .args in
+    front-put _ _ _ _ _ _ _ _ _ (args .len) (args .shared) (args .second) (args .third) _ _ (second .before .presence .ensures) (third .before .presence2 .ensures)
+    (len .put-number .ensures) (shared .put-number2 .ensures) (second .put-number3 .ensures) (third .put-number4 .ensures) (start .pre .0)
 
 pub put-front-spec : {M : Type 1} → statement M
 put-front-spec =

@@ -1,8 +1,9 @@
-use Rattle.octets.proofs.Laws.{put-none, put-one, put-two, put-numbers, length-octets}
-use Rattle.header.proofs.Pieces.{six-length}
-use Rattle.header.specs.Build.{sixOctets, addressesOctets, qosOctets, octetOctets, stampOctets}
-use native.Mathlib.Omega.{arith}
+-- `elements::put_addresses` meets its contract, row by row of table 3-5: one piece, or two one after the other. Assumes nothing.
 use borrow.Author.Needs.{needs}
+use native.Mathlib.Omega.{arith}
+use Rattle.octets.proofs.Laws.{put-one, put-two, put-numbers}
+use Rattle.header.specs.Build.{addressesOctets}
+use Rattle.header.proofs.Pieces.{six-length}
 use Rattle.elements.proofs.put_addresses.Statement.{statement}
 use Rattle.elements.proofs.put_addresses.Tie as tie
 
@@ -82,21 +83,31 @@ same-length-3 c = search needs
 
 returns-3 : tie.Need-returns-3
 unfolding addressesOctets
-returns-3 c = rw (c .before .before .before .before .before .before .before .before .before .a3 .given .1) (put-numbers _ _ _ _ _ _ _ _ _ _ (c .before .before .before .before .before .before .put-number3 .ensures) (c .before .before .put-number4 .ensures) (omega arith))
+returns-3 c =
+    let first = c .before .before .before .before .before .before in
+    rw (first .before .before .before .a3 .given .1)
+    (put-numbers _ _ _ _ _ _ _ _ _ _ (first .put-number3 .ensures) (c .before .before .put-number4 .ensures) (omega arith))
 
 same-length-4 : tie.Need-same-length-4
 same-length-4 c = search needs
 
 returns-4 : tie.Need-returns-4
 unfolding addressesOctets
-returns-4 c = rw (c .before .before .before .before .before .before .before .before .before .before .before .a4 .given .1) (put-numbers _ _ _ _ _ _ _ _ _ _ (c .before .before .before .before .before .before .before .put-number5 .ensures) (c .before .before .put-number6 .ensures) (omega arith))
+returns-4 c =
+    let first = c .before .before .before .before .before .before .before in
+    rw (first .before .before .before .before .a4 .given .1)
+    (put-numbers _ _ _ _ _ _ _ _ _ _ (first .put-number5 .ensures) (c .before .before .put-number6 .ensures) (omega arith))
 
 same-length-5 : tie.Need-same-length-5
 same-length-5 c = search needs
 
 returns-5 : tie.Need-returns-5
 unfolding addressesOctets
-returns-5 c = rw (c .before .before .before .before .before .before .before .before .before .a5 .given .1) (put-two _ _ _ _ _ _ _ _ (c .before .before .before .before .before .before .put-six .ensures) (c .before .before .put-six2 .ensures) (omega (arith, six-length (c .before .before .before .before .before .before .before .before .before .a5 .given .0 .0), six-length (c .before .before .before .before .before .before .before .before .before .a5 .given .0 .1 .0))))
+returns-5 c =
+    let first = c .before .before .before .before .before .before in
+    let a = first .before .before .before .a5 .given in
+    rw (a .1)
+    (put-two _ _ _ _ _ _ _ _ (first .put-six .ensures) (c .before .before .put-six2 .ensures) (omega (arith, six-length (a .0 .0), six-length (a .0 .1 .0))))
 
 pub put-addresses-spec : {M : Type 1} → statement M
 put-addresses-spec =

@@ -1,7 +1,8 @@
-use Rattle.octets.proofs.Laws.{put-none, put-one, put-two, put-numbers, length-octets}
-use Rattle.header.specs.Build.{sixOctets, addressesOctets, qosOctets, octetOctets, stampOctets}
-use native.Mathlib.Omega.{arith}
+-- `elements::put_six` meets its contract: two numbers of eight octets, one after the other. Assumes nothing.
 use borrow.Author.Needs.{needs}
+use native.Mathlib.Omega.{arith}
+use Rattle.octets.proofs.Laws.{put-numbers}
+use Rattle.header.specs.Build.{sixOctets}
 use Rattle.elements.proofs.put_six.Statement.{statement}
 use Rattle.elements.proofs.put_six.Tie as tie
 
@@ -16,7 +17,8 @@ same-length c = search needs
 
 returns : tie.Need-returns
 unfolding sixOctets
-returns c = put-numbers _ _ _ _ _ _ _ _ _ _ (c .before .before .before .before .before .before .put-number .ensures) (c .before .before .put-number2 .ensures) (omega arith)
+returns c =
+    put-numbers _ _ _ _ _ _ _ _ _ _ (c .before .before .before .before .before .before .put-number .ensures) (c .before .before .put-number2 .ensures) (omega arith)
 
 pub put-six-spec : {M : Type 1} → statement M
 put-six-spec = tie.close (tie.spec put-number-requires put-number-requires-2 same-length returns)
