@@ -9,7 +9,7 @@ use Rattle.checks.specs.Order.{checkOf, firstOf}
 use Rattle.checks.specs.declared.Check.the-variants.{Passed, Failed}
 use Rattle.checks.proofs.Laws.{passed-false, failed-true}
 use Rattle.octets.specs.Octets.{pasted, fronted}
-use Rattle.octets.proofs.Laws.{length-octets, pasted-before, pasted-on, pasted-front, take-front, Put, PutNumber, put-one, put-two}
+use Rattle.octets.proofs.Laws.{length-octets, pasted-before, pasted-on, pasted-front, take-front, Put, put-two}
 use Rattle.header.specs.Range.{outOfRange}
 use Rattle.header.specs.Build.{addressesOctets, qosOctets, octetOctets, stampOctets, present, thirdOctet, secondOctet, firstBits, frontOctets, restOctets, bodyOctets, checksumOctets, sizeOf, headerOctets, buildChecks, builtOf, outputOf}
 use Rattle.header.specs.declared.Fields.{Fields}
@@ -64,21 +64,6 @@ rest-put f l m₁ m₂ m₃ m₄ m₅ at r₁ r₂ r₃ r₄ r₅ p₁ p₂ p₃
     let q₄ = put-two l m₃ m₄ _ _ at r₃ r₄ q₃ p₄ (simp length-append (omega arith)) in
     let q₅ = put-two l m₄ m₅ _ _ at r₄ r₅ q₄ p₅ (simp length-append (omega arith)) in
     simp append-assoc at q₅
-
-pub front-put : (l m₁ m₂ m₃ m₄ : List ℕ) (r₁ r₂ r₃ r₄ len shared second third p q : ℕ) → p ≡ present second → q ≡ present third → PutNumber l m₁ 0 r₁ 2 (8192 + len)
-    → PutNumber m₁ m₂ r₁ r₂ 1 shared → PutNumber m₂ m₃ r₂ r₃ p second → PutNumber m₃ m₄ r₃ r₄ q third → 5 ≤ length l → Put l m₄ 0 r₄ (frontOctets len shared second third)
-unfolding frontOctets
-front-put l m₁ m₂ m₃ m₄ r₁ r₂ r₃ r₄ len shared second third p q ep eq p₁ p₂ p₃ p₄ h =
-    let hp = present-le second in
-    let hq = present-le third in
-    let la = length-octets 2 (8192 + len) in
-    let lb = length-octets 1 shared in
-    let lc = length-octets p second in
-    let ld = length-octets q third in
-    let q₂ = put-two l m₁ m₂ _ _ 0 r₁ r₂ (put-one l m₁ 0 2 _ r₁ p₁) (put-one m₁ m₂ r₁ 1 _ r₂ p₂) (omega arith) in
-    let q₃ = put-two l m₂ m₃ _ _ 0 r₂ r₃ q₂ (put-one m₂ m₃ r₂ p _ r₃ p₃) (simp length-append (omega arith)) in
-    let q₄ = put-two l m₃ m₄ _ _ 0 r₃ r₄ q₃ (put-one m₃ m₄ r₃ q _ r₄ p₄) (simp length-append (omega arith)) in
-    rw (← ep, ← eq) (simp append-assoc at q₄)
 
 -- the three pieces make the header
 pub assembled : (f : Fields) (n : ℕ) (l m₁ m₂ m₃ : List ℕ) (k body : ℕ) → k ≡ 3 + present (secondOctet f) + present (thirdOctet f) → body ≡ k + length (restOctets f)
