@@ -1,8 +1,8 @@
 // The builder: fields to a header at the front of the output, or the number of the first check that fails.
 //
-// A header is its front (crate front), its elements and its checksum (crate elements), end to end. The elements are written before the
-// front, since the length field counts them, and the checksum last, since it sums all. The awkward case is a refusal: everything is
-// tested before the first octet is written.
+// A header is its front (crate front), its addresses (crate addresses), its other elements and its checksum (crate elements), end to
+// end. The elements are written before the front, since the length field counts them, and the checksum last, since it sums all. The
+// awkward case is a refusal: everything is tested before the first octet is written.
 use checks::Check;
 use header::Built;
 use header::Fields;
@@ -23,7 +23,7 @@ fn put_rest(out: &mut [u8], place: usize, f: Fields) -> usize
     let hops = f.hops;
     let stamp = f.stamp;
     let expanded = f.expanded;
-    let a = elements::put_addresses(out, place, addresses);
+    let a = addresses::put_addresses(out, place, addresses);
     let b = elements::put_qos(out, a, qos);
     let c = elements::put_octet(out, b, hops);
     let d = elements::put_stamp(out, c, stamp);

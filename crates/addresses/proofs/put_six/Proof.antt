@@ -1,10 +1,10 @@
--- `elements::put_six` meets its contract: two numbers of eight octets, one after the other. Assumes nothing.
+-- `addresses::put_six` meets its contract: two numbers of eight octets, one after the other. Assumes nothing.
 use borrow.Author.Needs.{needs}
 use native.Mathlib.Omega.{arith}
 use Rattle.octets.proofs.Laws.{put-numbers}
 use Rattle.header.specs.Build.{sixOctets}
-use Rattle.elements.proofs.put_six.Statement.{statement}
-use Rattle.elements.proofs.put_six.Tie as tie
+use Rattle.addresses.proofs.put_six.Statement.{statement}
+use Rattle.addresses.proofs.put_six.Tie as tie
 
 put-number-requires : tie.Need-put-number-requires
 put-number-requires c κs = search needs

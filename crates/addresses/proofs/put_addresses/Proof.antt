@@ -1,11 +1,11 @@
--- `elements::put_addresses` meets its contract, row by row of table 3-5: one piece, or two one after the other. Assumes nothing.
+-- `addresses::put_addresses` meets its contract, row by row of table 3-5: one piece, or two one after the other. Assumes nothing.
 use borrow.Author.Needs.{needs}
 use native.Mathlib.Omega.{arith}
 use Rattle.octets.proofs.Laws.{put-one, put-two, put-numbers}
 use Rattle.header.specs.Build.{addressesOctets}
 use Rattle.header.proofs.Pieces.{six-length}
-use Rattle.elements.proofs.put_addresses.Statement.{statement}
-use Rattle.elements.proofs.put_addresses.Tie as tie
+use Rattle.addresses.proofs.put_addresses.Statement.{statement}
+use Rattle.addresses.proofs.put_addresses.Tie as tie
 
 enum-known-a : tie.Need-enum-known-a
 enum-known-a c = search needs
