@@ -1,7 +1,7 @@
 -- The numbers that C gets (include/harpjuniper.h). Assumes nothing.
 use Prim.Native.Nat.{ℕ, _*_}
 use mathlib.Core.List.{List, [], _∷_}
-use mathlib.Core.Bool.{Bool, _||_}
+use mathlib.Core.Bool.{_||_}
 use lib.ListN.{length}
 use lib.Dec.{eqb, ltb}
 use Rattle.checks.specs.Order.{pick, Checks, firstOf}

@@ -14,8 +14,6 @@ use Rattle.header.specs.declared.Control.{Control}
 use Rattle.header.specs.declared.Layout.{Layout}
 use Rattle.header.specs.declared.Header.{Header}
 use Rattle.header.specs.declared.Read.the-variants.{Good}
-use Rattle.header.specs.declared.Qos.the-variants as qos
-use Rattle.header.specs.declared.Timestamp.the-variants as stamp
 use Rattle.header.proofs.Bounds.{header-size}
 use Rattle.header.proofs.Passed.{passed}
 

@@ -1,6 +1,6 @@
 -- The answers of the lines and of the copies, over plain variables. Assumes nothing.
 use Prim.Native.Nat.{ℕ}
-use mathlib.Core.Path.{_≡_, refl, sym, ap, _∙_}
+use mathlib.Core.Path.{_≡_, _∙_}
 use lib.Bits.{bitAnd}
 use borrow.Author.Tests.{eq-eqb, ne-eqb}
 use Rattle.verdict.specs.Rule.{hereBy, oursBy, wantedHere, localOf, exceptBy, aloneBy, groupLine, pathLine, routeLine, copiesOf}
@@ -10,7 +10,6 @@ use Rattle.verdict.specs.declared.Place.{Place}
 use Rattle.verdict.specs.declared.Place.the-variants.{Held}
 use Rattle.verdict.specs.declared.Way.the-variants.{By}
 use Rattle.verdict.specs.declared.Line.the-variants.{Unasked, Refused, Wanted}
-use Rattle.verdict.specs.declared.Ruling.{Ruling}
 
 pub route-down : (set availability : ℕ) → (availability ≡ 1 → ⊥) → Refused 12 ≡ routeLine (By set availability)
 unfolding routeLine
