@@ -1,7 +1,7 @@
--- `verdict::same_domain` meets its contract: each answer by the tests that led to it. Assumes nothing.
+-- `copies::same_domain` meets its contract: each answer by the tests that led to it. Assumes nothing.
 use borrow.Author.Tests.{eq-eqb, ne-eqb}
-use Rattle.verdict.proofs.same_domain.Statement.{statement}
-use Rattle.verdict.proofs.same_domain.Tie as tie
+use Rattle.copies.proofs.same_domain.Statement.{statement}
+use Rattle.copies.proofs.same_domain.Tie as tie
 
 returns : tie.Need-returns
 returns c = simp (eq-eqb _ _ (c .if1 .taken))

@@ -1,7 +1,7 @@
--- `verdict::wide_enough` meets its contract: each answer by the tests that led to it. Assumes nothing.
+-- `copies::wide_enough` meets its contract: each answer by the tests that led to it. Assumes nothing.
 use borrow.Author.Tests.{eq-eqb, ne-eqb}
-use Rattle.verdict.proofs.wide_enough.Statement.{statement}
-use Rattle.verdict.proofs.wide_enough.Tie as tie
+use Rattle.copies.proofs.wide_enough.Statement.{statement}
+use Rattle.copies.proofs.wide_enough.Tie as tie
 
 returns : tie.Need-returns
 returns c = simp (eq-eqb _ _ (c .if1 .taken))

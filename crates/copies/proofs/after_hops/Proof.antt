@@ -1,7 +1,7 @@
--- `verdict::after_hops` meets its contract: each answer by what its callees ensure. Assumes nothing.
+-- `copies::after_hops` meets its contract: each answer by what its callees ensure. Assumes nothing.
 use borrow.Author.Needs.{needs}
-use Rattle.verdict.proofs.after_hops.Statement.{statement}
-use Rattle.verdict.proofs.after_hops.Tie as tie
+use Rattle.copies.proofs.after_hops.Statement.{statement}
+use Rattle.copies.proofs.after_hops.Tie as tie
 
 enum-told : tie.Need-enum-told
 enum-told c = search needs

@@ -1,7 +1,7 @@
--- `verdict::hops_left` meets its contract: each answer by the tests that led to it. Assumes nothing.
+-- `copies::hops_left` meets its contract: each answer by the tests that led to it. Assumes nothing.
 use borrow.Author.Tests.{eq-eqb, ne-eqb}
-use Rattle.verdict.proofs.hops_left.Statement.{statement}
-use Rattle.verdict.proofs.hops_left.Tie as tie
+use Rattle.copies.proofs.hops_left.Statement.{statement}
+use Rattle.copies.proofs.hops_left.Tie as tie
 
 returns : tie.Need-returns
 returns c = simp (ne-eqb _ _ (c .if1 .taken))

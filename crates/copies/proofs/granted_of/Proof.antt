@@ -1,8 +1,8 @@
--- `verdict::granted_of` meets its contract: each answer by the tests that led to it. Assumes nothing.
+-- `copies::granted_of` meets its contract: each answer by the tests that led to it. Assumes nothing.
 use Rattle.verdict.specs.Rule.{grantedOf}
 use borrow.Author.Needs.{needs}
-use Rattle.verdict.proofs.granted_of.Statement.{statement}
-use Rattle.verdict.proofs.granted_of.Tie as tie
+use Rattle.copies.proofs.granted_of.Statement.{statement}
+use Rattle.copies.proofs.granted_of.Tie as tie
 
 after-hops-requires : tie.Need-after-hops-requires
 after-hops-requires c κs = search needs

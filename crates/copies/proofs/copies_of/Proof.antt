@@ -1,8 +1,8 @@
--- `verdict::copies_of` meets its contract: each answer by the law of its return. Assumes nothing.
-use Rattle.verdict.proofs.Laws.{copies-none, copies-some}
+-- `copies::copies_of` meets its contract: each answer by the law of its return. Assumes nothing.
+use Rattle.copies.proofs.Laws.{copies-none, copies-some}
 use borrow.Author.Needs.{needs}
-use Rattle.verdict.proofs.copies_of.Statement.{statement}
-use Rattle.verdict.proofs.copies_of.Tie as tie
+use Rattle.copies.proofs.copies_of.Statement.{statement}
+use Rattle.copies.proofs.copies_of.Tie as tie
 
 except-requires : tie.Need-except-requires
 except-requires c κs = search needs

@@ -1,8 +1,8 @@
--- `verdict::ruling_of` meets its contract: each answer by what its callees ensure. Assumes nothing.
+-- `copies::ruling_of` meets its contract: each answer by what its callees ensure. Assumes nothing.
 use Rattle.verdict.specs.Rule.{rulingOf}
 use borrow.Author.Needs.{needs}
-use Rattle.verdict.proofs.ruling_of.Statement.{statement}
-use Rattle.verdict.proofs.ruling_of.Tie as tie
+use Rattle.copies.proofs.ruling_of.Statement.{statement}
+use Rattle.copies.proofs.ruling_of.Tie as tie
 
 enum-told : tie.Need-enum-told
 enum-told c = search needs
