@@ -1,31 +1,27 @@
--- Pieces written one after the other make the header, said over plain variables. Assumes nothing.
+-- Pieces written one after the other make the header, and each refusal leaves the output as it was: said over plain variables. Assumes nothing.
 use native.Mathlib.Omega.{arith}
 use Prim.Native.Nat.{ℕ, _+_, _*_, _≤_, _<_}
-use mathlib.Core.Path.{_≡_, refl, ap, sym, _∙_}
-use mathlib.Core.List.{List, [], _∷_, _++_, append-assoc}
-use mathlib.Core.Bool.{Bool, true, false, _||_}
-use lib.ListN.{length, take, drop, length-append}
-use lib.Dec.{eqb, ltb, leb}
-use borrow.Author.Tests.{lt-ltb, le-ltb, leb-false}
-use Rattle.checks.specs.Order.{pick, checkOf, firstOf}
+use mathlib.Core.Path.{_≡_, ap, sym, _∙_}
+use mathlib.Core.List.{List, _++_, append-assoc}
+use lib.ListN.{length, take, length-append}
+use borrow.Author.Tests.{le-ltb}
+use Rattle.checks.specs.Order.{checkOf, firstOf}
 use Rattle.checks.specs.declared.Check.the-variants.{Passed, Failed}
 use Rattle.checks.proofs.Laws.{passed-false, failed-true}
-use Rattle.checks.proofs.Bools.{or-false, true-false}
-use Rattle.octets.specs.Octets.{octets, pasted, fronted}
-use Rattle.octets.proofs.Laws.{length-octets, pasted-before, pasted-on, pasted-front, take-front, put-one, put-two}
-use Rattle.header.specs.Range.{outOfRange, qosOutOfRange, stampOutOfRange}
-use Rattle.header.specs.Build.{addressesOctets, qosOctets, octetOctets, stampOctets, sixOctets, present, thirdOctet, secondOctet, firstBits, frontOctets, restOctets, bodyOctets, checksumOctets, sizeOf, headerOctets, buildChecks, builtOf, outputOf}
+use Rattle.octets.specs.Octets.{pasted, fronted}
+use Rattle.octets.proofs.Laws.{length-octets, pasted-before, pasted-on, pasted-front, take-front, Put, put-two}
+use Rattle.header.specs.Range.{outOfRange}
+use Rattle.header.specs.Build.{addressesOctets, qosOctets, octetOctets, stampOctets, present, thirdOctet, secondOctet, firstBits, frontOctets, restOctets, bodyOctets, checksumOctets, sizeOf, headerOctets, buildChecks, builtOf, outputOf}
 use Rattle.header.specs.declared.Fields.{Fields}
 use Rattle.header.specs.declared.Addresses.{Addresses}
 use Rattle.header.specs.declared.Addresses.the-variants.{BasicPath, ExtendedPath, BasicEndSystem, ExtendedEndSystem, Ipv6}
-use Rattle.header.specs.declared.Timestamp.{Timestamp}
-use Rattle.header.specs.declared.Timestamp.the-variants as stamp
 use Rattle.header.specs.declared.Built.the-variants.{Done, Refused}
-use Rattle.header.proofs.Pieces.{six-length, qos-length, octet-length, qosFlag-le, octetFlag-le, present-le}
+use Rattle.header.proofs.Pieces.{six-length, qos-length, octet-length, stamp-le, qosFlag-le, octetFlag-le, present-le}
+use Rattle.header.proofs.BuiltLaws.{front-length, checksum-length, tested, built-refused}
 
 -- ---- lengths
 
-pub addresses-le : (a : Addresses) → length (addressesOctets a) ≤ 32
+addresses-le : (a : Addresses) → length (addressesOctets a) ≤ 32
 unfolding addressesOctets
 addresses-le (BasicPath d) = omega (arith, length-octets 1 d)
 addresses-le (ExtendedPath p) = omega (arith, length-octets 4 (p .0))
@@ -33,14 +29,7 @@ addresses-le (BasicEndSystem d s) = simp (length-append, length-octets) (omega a
 addresses-le (ExtendedEndSystem d s) = simp (length-append, length-octets) (omega arith)
 addresses-le (Ipv6 d s) = simp (length-append, six-length) (omega arith)
 
-pub stamp-le : (t : Timestamp) → length (stampOctets t) ≤ 8
-unfolding stampOctets
-stamp-le stamp.Absent = omega arith
-stamp-le (stamp.Implicit t) = omega (arith, length-octets 3 t)
-stamp-le (stamp.Explicit p t) = simp (length-append, length-octets) (omega arith)
-stamp-le (stamp.Binary t) = omega (arith, length-octets 4 t)
-
--- the most that stands before each element, and all of them
+-- the most octets that each element has, and all of them
 pub record Sizes (f : Fields) : Type 0 where
   pub addresses : length (addressesOctets (f .addresses)) ≤ 32
   pub qos : length (qosOctets (f .qos)) ≤ 1
@@ -62,72 +51,28 @@ pub rest-le : (f : Fields) → length (restOctets f) ≤ 43
 unfolding restOctets
 rest-le f = let z = sizes f in simp length-append (omega arith)
 
-front-length : (len x second third : ℕ) → length (frontOctets len x second third) ≡ 3 + present second + present third
-unfolding frontOctets
-front-length len x second third = simp (length-append, length-octets) (omega arith)
-
-checksum-case : (t : Bool) (v : ℕ) → length (pick t (octets 2 v) []) ≤ 2
-checksum-case true v = omega (arith, length-octets 2 v)
-checksum-case false v = omega arith
-
-checksum-le : (on : ℕ) (body : List ℕ) → length (checksumOctets on body) ≤ 2
-unfolding checksumOctets
-checksum-le on body = checksum-case (eqb on 1) _
-
 -- ---- chains
 
--- vs stands in m from a place of l on, and r is the place behind it
-abbrev pub Put : List ℕ → List ℕ → ℕ → ℕ → List ℕ → Type 0
-Put l m at r vs = (r ≡ at + length vs) × (m ≡ pasted l at vs)
-
-pub put-five : (l m₁ m₂ m₃ m₄ m₅ a b c d e : List ℕ) (at r₁ r₂ r₃ r₄ r₅ : ℕ) → Put l m₁ at r₁ a → Put m₁ m₂ r₁ r₂ b → Put m₂ m₃ r₂ r₃ c → Put m₃ m₄ r₃ r₄ d
-    → Put m₄ m₅ r₄ r₅ e → at + (length a + (length b + (length c + (length d + length e)))) ≤ length l → Put l m₅ at r₅ (a ++ (b ++ (c ++ (d ++ e))))
-put-five l m₁ m₂ m₃ m₄ m₅ a b c d e at r₁ r₂ r₃ r₄ r₅ p₁ p₂ p₃ p₄ p₅ h =
-    let q₂ = put-two l m₁ m₂ a b at r₁ r₂ p₁ p₂ (omega arith) in
-    let q₃ = put-two l m₂ m₃ (a ++ b) c at r₂ r₃ q₂ p₃ (simp length-append (omega arith)) in
-    let q₄ = put-two l m₃ m₄ ((a ++ b) ++ c) d at r₃ r₄ q₃ p₄ (simp length-append (omega arith)) in
-    let q₅ = put-two l m₄ m₅ (((a ++ b) ++ c) ++ d) e at r₄ r₅ q₄ p₅ (simp length-append (omega arith)) in
-    simp append-assoc at q₅
-
-pub put-rest : (f : Fields) (l m₁ m₂ m₃ m₄ m₅ : List ℕ) (at r₁ r₂ r₃ r₄ r₅ : ℕ) → Put l m₁ at r₁ (addressesOctets (f .addresses)) → Put m₁ m₂ r₁ r₂ (qosOctets (f .qos))
+pub rest-put : (f : Fields) (l m₁ m₂ m₃ m₄ m₅ : List ℕ) (at r₁ r₂ r₃ r₄ r₅ : ℕ) → Put l m₁ at r₁ (addressesOctets (f .addresses)) → Put m₁ m₂ r₁ r₂ (qosOctets (f .qos))
     → Put m₂ m₃ r₂ r₃ (octetOctets (f .hops)) → Put m₃ m₄ r₃ r₄ (stampOctets (f .stamp)) → Put m₄ m₅ r₄ r₅ (octetOctets (f .expanded)) → at + 43 ≤ length l
     → Put l m₅ at r₅ (restOctets f)
 unfolding restOctets
-put-rest f l m₁ m₂ m₃ m₄ m₅ at r₁ r₂ r₃ r₄ r₅ p₁ p₂ p₃ p₄ p₅ h =
+rest-put f l m₁ m₂ m₃ m₄ m₅ at r₁ r₂ r₃ r₄ r₅ p₁ p₂ p₃ p₄ p₅ h =
     let z = sizes f in
-    put-five l m₁ m₂ m₃ m₄ m₅ _ _ _ _ _ at r₁ r₂ r₃ r₄ r₅ p₁ p₂ p₃ p₄ p₅ (omega arith)
-
--- n octets of a number put
-abbrev pub PutNumber : List ℕ → List ℕ → ℕ → ℕ → ℕ → ℕ → Type 0
-PutNumber l m at r n v = (r ≡ at + n) × (m ≡ pasted l at (octets n v))
-
-pub put-front : (l m₁ m₂ m₃ m₄ : List ℕ) (r₁ r₂ r₃ r₄ len shared second third p q : ℕ) → p ≡ present second → q ≡ present third → PutNumber l m₁ 0 r₁ 2 (8192 + len)
-    → PutNumber m₁ m₂ r₁ r₂ 1 shared → PutNumber m₂ m₃ r₂ r₃ p second → PutNumber m₃ m₄ r₃ r₄ q third → 5 ≤ length l → Put l m₄ 0 r₄ (frontOctets len shared second third)
-unfolding frontOctets
-put-front l m₁ m₂ m₃ m₄ r₁ r₂ r₃ r₄ len shared second third p q ep eq p₁ p₂ p₃ p₄ h =
-    let hp = present-le second in
-    let hq = present-le third in
-    let a = octets 2 (8192 + len) in
-    let b = octets 1 shared in
-    let c = octets p second in
-    let d = octets q third in
-    let la = length-octets 2 (8192 + len) in
-    let lb = length-octets 1 shared in
-    let lc = length-octets p second in
-    let ld = length-octets q third in
-    let q₂ = put-two l m₁ m₂ a b 0 r₁ r₂ (put-one l m₁ 0 2 _ r₁ p₁) (put-one m₁ m₂ r₁ 1 _ r₂ p₂) (omega arith) in
-    let q₃ = put-two l m₂ m₃ (a ++ b) c 0 r₂ r₃ q₂ (put-one m₂ m₃ r₂ p _ r₃ p₃) (simp length-append (omega arith)) in
-    let q₄ = put-two l m₃ m₄ ((a ++ b) ++ c) d 0 r₃ r₄ q₃ (put-one m₃ m₄ r₃ q _ r₄ p₄) (simp length-append (omega arith)) in
-    rw (← ep, ← eq) (simp append-assoc at q₄)
+    let q₂ = put-two l m₁ m₂ _ _ at r₁ r₂ p₁ p₂ (omega arith) in
+    let q₃ = put-two l m₂ m₃ _ _ at r₂ r₃ q₂ p₃ (simp length-append (omega arith)) in
+    let q₄ = put-two l m₃ m₄ _ _ at r₃ r₄ q₃ p₄ (simp length-append (omega arith)) in
+    let q₅ = put-two l m₄ m₅ _ _ at r₄ r₅ q₄ p₅ (simp length-append (omega arith)) in
+    simp append-assoc at q₅
 
 -- the three pieces make the header
 pub assembled : (f : Fields) (n : ℕ) (l m₁ m₂ m₃ : List ℕ) (k body : ℕ) → k ≡ 3 + present (secondOctet f) + present (thirdOctet f) → body ≡ k + length (restOctets f)
-    → 50 ≤ length l → m₁ ≡ pasted l k (restOctets f)
+    → f .checksum < 2 → 50 ≤ length l → m₁ ≡ pasted l k (restOctets f)
     → m₂ ≡ pasted m₁ 0 (frontOctets (sizeOf f + n) (f .tpid * 16 + firstBits f) (secondOctet f) (thirdOctet f))
     → m₃ ≡ pasted m₂ body (checksumOctets (f .checksum) (take body m₂))
     → m₃ ≡ fronted (headerOctets f n) l
 unfolding headerOctets bodyOctets
-assembled f n l m₁ m₂ m₃ k body ek eb room e₁ e₂ e₃ =
+assembled f n l m₁ m₂ m₃ k body ek eb flag room e₁ e₂ e₃ =
     let front : List ℕ = frontOctets (sizeOf f + n) (f .tpid * 16 + firstBits f) (secondOctet f) (thirdOctet f) in
     let rest : List ℕ = restOctets f in
     let all : List ℕ = front ++ rest in
@@ -140,7 +85,7 @@ assembled f n l m₁ m₂ m₃ k body ek eb room e₁ e₂ e₃ =
     let a₂ : m₂ ≡ pasted l 0 all = e₂ ∙ (ap (λ (x : List ℕ). pasted x 0 front) e₁ ∙ pasted-before l front rest k fk (omega arith)) in
     let t₂ : take body m₂ ≡ all = rw (a₂, ← al) (take-front l all) in
     let s : List ℕ = checksumOctets (f .checksum) all in
-    let sl = checksum-le (f .checksum) all in
+    let sl = checksum-length (f .checksum) flag all in
     let z : body ≡ 0 + length all = omega arith in
     let on : pasted (pasted l 0 all) (0 + length all) s ≡ pasted l 0 (all ++ s) = pasted-on l all s 0 (omega arith) in
     e₃ ∙ rw (t₂, a₂, z, on) (pasted-front l (all ++ s))
@@ -148,34 +93,24 @@ assembled f n l m₁ m₂ m₃ k body ek eb room e₁ e₂ e₃ =
 -- ---- the checks
 
 pub in-range : (f : Fields) → checkOf (outOfRange f) ≡ Passed → (f .tpid < 16) × ((f .checksum < 2) × (f .intermediate < 2))
-unfolding outOfRange
-in-range f h =
-    let p₁ = or-false (leb 16 (f .tpid)) _ (passed-false _ h) in
-    let p₂ = or-false (leb 2 (f .checksum)) _ (p₁ .1) in
-    let p₃ = or-false (leb 2 (f .intermediate)) _ (p₂ .1) in
-    (leb-false 16 (f .tpid) (p₁ .0), (leb-false 2 (f .checksum) (p₂ .0), leb-false 2 (f .intermediate) (p₃ .0)))
+in-range f h = let t = tested f (passed-false (outOfRange f) h) in (t .tpid, (t .checksum, t .intermediate))
 
 module _ (f : Fields) (n : ℕ) (l : List ℕ) where
+  -- a refusal writes nothing
+  unwritten : (m : ℕ) → builtOf f n (length l) ≡ Refused m → (Refused m ≡ builtOf f n (length l)) × (l ≡ outputOf f n l)
+  unfolding outputOf
+  unwritten m e = (sym e, rw e)
+
   pub no-room : length l < 50 → (Refused 17 ≡ builtOf f n (length l)) × (l ≡ outputOf f n l)
-  unfolding builtOf outputOf buildChecks firstOf
-  no-room h = (simp (lt-ltb (length l) 50 h), simp (lt-ltb (length l) 50 h))
+  no-room h = unwritten 17 (built-refused f n (length l) .no-room .1 h)
 
   module _ (room : 50 ≤ length l) where
     pub no-range : checkOf (outOfRange f) ≡ Failed → (Refused 19 ≡ builtOf f n (length l)) × (l ≡ outputOf f n l)
-    unfolding builtOf outputOf buildChecks firstOf
-    no-range h =
-        let a = le-ltb (length l) 50 room in
-        let b = failed-true (outOfRange f) h in
-        (simp (a, b), simp (a, b))
+    no-range h = unwritten 19 (built-refused f n (length l) .no-range .1 (room, failed-true (outOfRange f) h))
 
     module _ (fits : checkOf (outOfRange f) ≡ Passed) where
       pub too-long : 8141 < n → (Refused 20 ≡ builtOf f n (length l)) × (l ≡ outputOf f n l)
-      unfolding builtOf outputOf buildChecks firstOf
-      too-long h =
-          let a = le-ltb (length l) 50 room in
-          let b = passed-false (outOfRange f) fits in
-          let c = lt-ltb 8141 n h in
-          (simp (a, b, c), simp (a, b, c))
+      too-long h = unwritten 20 (built-refused f n (length l) .too-long .1 (room, (passed-false (outOfRange f) fits, h)))
 
       pub done : n ≤ 8141 → (size : ℕ) (out : List ℕ) → size ≡ sizeOf f → out ≡ fronted (headerOctets f n) l
           → (Done size ≡ builtOf f n (length l)) × (out ≡ outputOf f n l)

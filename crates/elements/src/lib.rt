@@ -1,62 +1,19 @@
-// Each element written at its place.
+// Each element behind the addresses, written at its place.
 //
 // A function for each element writes its octets into the output from a place on and answers the place behind them, so that a header
 // is a chain of calls. An absent element writes nothing and answers its own place. Each promise says what the whole output is
-// afterwards; two neighbours join by one law (`put-two` in crate octets).
+// afterwards; two neighbours join by one law (`put-two` in crate octets). The addresses, which are always there, are crate addresses.
 //
 // The checksum is the last element and is computed over the octets that stand before it by then (003, 3.2.3.10). The awkward case is
 // an odd place: the element then straddles two words, and is never summed where it stands.
-use header::Addresses;
 use header::Octet;
 use header::Qos;
-use header::Six;
 use header::Timestamp;
 ghost use mathlib.Core.Path.{_≡_};
 ghost use Prim.Native.Nat.{_+_, _≤_, _<_};
 ghost use lib.ListN.{length, take};
 ghost use Rattle.octets.specs.Octets.{pasted};
-ghost use Rattle.header.specs.Build.{
-  sixOctets,
-  addressesOctets,
-  qosOctets,
-  octetOctets,
-  stampOctets,
-  checksumOctets,
-};
-
-// An address of sixteen octets.
-pub fn put_six(out: &mut [u8], place: usize, a: Six) -> usize
-    requires { ⌜ place + 16 ≤ length (now out) ⌝ }
-    ensures { λ r. ⌜ r ≡ place + length (sixOctets a) ⌝ }
-    ensures { λ _. ⌜ now (out .exit) ≡ pasted (now (out .entry)) place (sixOctets a) ⌝ }
-{
-    let next = octets::put_number(out, place, 8, a.high);
-    octets::put_number(out, next, 8, a.low)
-}
-
-// The addresses: the destination, then the source where there is one.
-pub fn put_addresses(out: &mut [u8], place: usize, a: Addresses) -> usize
-    requires { ⌜ place + 32 ≤ length (now out) ⌝ }
-    ensures { λ r. ⌜ r ≡ place + length (addressesOctets a) ⌝ }
-    ensures { λ _. ⌜ now (out .exit) ≡ pasted (now (out .entry)) place (addressesOctets a) ⌝ }
-{
-    match a {
-        Addresses::BasicPath(d) => octets::put_number(out, place, 1, d as u64),
-        Addresses::ExtendedPath(p) => octets::put_number(out, place, 4, p.0 as u64),
-        Addresses::BasicEndSystem(d, s) => {
-            let next = octets::put_number(out, place, 1, d as u64);
-            octets::put_number(out, next, 1, s as u64)
-        }
-        Addresses::ExtendedEndSystem(d, s) => {
-            let next = octets::put_number(out, place, 4, d.0 as u64);
-            octets::put_number(out, next, 4, s.0 as u64)
-        }
-        Addresses::Ipv6(d, s) => {
-            let next = put_six(out, place, d);
-            put_six(out, next, s)
-        }
-    }
-}
+ghost use Rattle.header.specs.Build.{qosOctets, octetOctets, stampOctets, checksumOctets};
 
 // Basic QOS: precedence in four bits, then routing requirements and program specific in two each.
 pub fn put_qos(out: &mut [u8], place: usize, q: Qos) -> usize

@@ -18,8 +18,10 @@ use Rattle.header.specs.Build.{sizeOf, headerOctets}
 use Rattle.header.proofs.BuiltLaws.{header-length, built-size, in-range}
 use Rattle.header.proofs.Trip.{read-built}
 use Rattle.numbers.specs.declared.Numbers.{Numbers}
-use Rattle.intake.specs.Fields.{numbersOut, fieldsFrom}
-use Rattle.intake.proofs.Inverse.{Words, typed, numbers-back}
+use Rattle.gather.specs.Fields.{fieldsFrom}
+use Rattle.gather.proofs.Bounds.{Words, typed}
+use Rattle.intake.specs.Out.{numbersOut}
+use Rattle.intake.proofs.Inverse.{numbers-back}
 use Rattle.harpjuniper.specs.Face.{readingOf, answerBy, buildChecks, buildAnswer, buildOutput}
 
 -- the numbers stand for no fields, or for fields out of range

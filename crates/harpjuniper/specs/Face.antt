@@ -1,7 +1,7 @@
 -- The numbers that C gets (include/harpjuniper.h). Assumes nothing.
 use Prim.Native.Nat.{ℕ, _*_}
 use mathlib.Core.List.{List, [], _∷_}
-use mathlib.Core.Bool.{Bool, _||_}
+use mathlib.Core.Bool.{_||_}
 use lib.ListN.{length}
 use lib.Dec.{eqb, ltb}
 use Rattle.checks.specs.Order.{pick, Checks, firstOf}
@@ -14,7 +14,8 @@ use Rattle.header.specs.declared.Built.{Built}
 use Rattle.header.specs.declared.Built.the-variants as built
 use Rattle.numbers.specs.Numbers.{narrow, numbersOf}
 use Rattle.numbers.specs.declared.Numbers.{Numbers}
-use Rattle.intake.specs.Fields.{numbersOut, fieldsFrom}
+use Rattle.gather.specs.Fields.{fieldsFrom}
+use Rattle.intake.specs.Out.{numbersOut}
 use Rattle.harpjuniper.specs.declared.Reading.{Reading}
 
 -- ---- reading

@@ -112,7 +112,7 @@ pub extern "C" fn hj_build(fields: Numbers, size: usize, output: &mut [u8]) -> u
     let Check::Passed = intake::check_numbers(fields) else {
         return refusal(19);
     };
-    let f = intake::fields_from(fields);
+    let f = gather::fields_from(fields);
     built_answer(builder::build_header(f, size, output))
 }
 

@@ -24,7 +24,8 @@ use Rattle.header.specs.declared.Read.the-variants.{Good}
 use Rattle.header.specs.declared.Built.the-variants.{Done}
 use Rattle.header.proofs.Bounds.{gate, control-end, Placed, placed, Allowed, allowed}
 use Rattle.header.proofs.Passed.{Passed, passed}
-use Rattle.header.proofs.Answers.{read-in-range, not-out-of-range}
+use Rattle.header.proofs.BuiltLaws.{not-out}
+use Rattle.header.proofs.Answers.{read-in-range}
 use Rattle.header.proofs.Back.{bit, number-back, octet-back, control-again, octet-again, qos-again, stamp-again, addresses-again, checksum-again}
 
 -- page 01, "where the control field was shortest": no octet of it stands there to say nothing
@@ -178,7 +179,7 @@ module _ (s : List ℕ) (h : Header) (small : (i : ℕ) → getD s i 0 < 256) (e
   unfolding headerOf builtOf buildChecks firstOf
   done-again room enough few =
       let size : sizeOf (h .fields) ≡ h .size = rw (p .is) size-is in
-      simp (le-ltb room 50 enough, not-out-of-range (h .fields) (read-in-range s h small e), le-ltb 8141 (h .length - h .size) few, size)
+      simp (le-ltb room 50 enough, not-out (h .fields) (read-in-range s h small e), le-ltb 8141 (h .length - h .size) few, size)
 
   -- and writes the octets that were read
   pub output-again : (lent : List ℕ) → 50 ≤ length lent → h .length - h .size ≤ 8141

@@ -1,33 +1,21 @@
 -- What the reader answers is in range (page 01, refusal 19: the builder does not refuse it for a field) and within its bounds. Assumes nothing.
 use native.Mathlib.Omega.{arith}
 use Prim.Native.Nat.{ℕ, _+_, _≤_, _<_}
-use mathlib.Core.Path.{_≡_, refl}
+use mathlib.Core.Path.{_≡_}
 use mathlib.Core.List.{List}
-use mathlib.Core.Bool.{Bool, true, false}
 use lib.ListN.{getD, length}
 use lib.Dec.{eqb}
-use borrow.Author.Tests.{lt-leb}
-use Rattle.checks.specs.Order.{pick}
+use Rattle.checks.proofs.Laws.{either}
 use Rattle.octets.proofs.Laws.{number-lt}
 use Rattle.header.specs.Form.{controlOf, placesOf, hasSource, isExtended, isIpv6}
 use Rattle.header.specs.Read.{addressesOf, sixOf, qosOf, octetOf, stampOf, fieldsOf, headerOf, lengthOf, readOf}
-use Rattle.header.specs.Range.{sixFits, addressesFit, qosFits, octetFits, stampFits, InRange, qosOutOfRange, stampOutOfRange, outOfRange}
+use Rattle.header.specs.Range.{sixFits, addressesFit, qosFits, octetFits, stampFits, InRange}
 use Rattle.header.specs.declared.Control.{Control}
 use Rattle.header.specs.declared.Layout.{Layout}
 use Rattle.header.specs.declared.Header.{Header}
-use Rattle.header.specs.declared.Fields.{Fields}
 use Rattle.header.specs.declared.Read.the-variants.{Good}
-use Rattle.header.specs.declared.Qos.{Qos}
-use Rattle.header.specs.declared.Qos.the-variants as qos
-use Rattle.header.specs.declared.Timestamp.{Timestamp}
-use Rattle.header.specs.declared.Timestamp.the-variants as stamp
 use Rattle.header.proofs.Bounds.{header-size}
 use Rattle.header.proofs.Passed.{passed}
-
--- what holds of both holds of the one picked
-either : {A : Type 0} (P : A → Type 0) (t : Bool) {a b : A} → P a → P b → P (pick t a b)
-either P true p q = p
-either P false p q = q
 
 module _ (s : List ℕ) (small : (i : ℕ) → getD s i 0 < 256) where
   six-fits : (at : ℕ) → sixFits (sixOf s at)
@@ -90,20 +78,3 @@ read-bounds s h small e =
     let p = passed s h e in
     let b = header-size s in
     rw (p .is) (b .0, (b .1, (p .fits, (p .inside, length-lt s small))))
-
--- ---- the builder's test finds nothing in what is in range
-
-qos-in-range : (q : Qos) → qosFits q → qosOutOfRange q ≡ false
-qos-in-range qos.Absent h = refl
-qos-in-range (qos.Present precedence routing program) h = simp (lt-leb _ _ (h .0), lt-leb _ _ (h .1 .0), lt-leb _ _ (h .1 .1))
-
-stamp-in-range : (t : Timestamp) → stampFits t → stampOutOfRange t ≡ false
-stamp-in-range stamp.Absent h = refl
-stamp-in-range (stamp.Implicit t) h = lt-leb _ _ h
-stamp-in-range (stamp.Explicit p t) h = lt-leb _ _ (h .1)
-stamp-in-range (stamp.Binary t) h = lt-leb _ _ h
-
-pub not-out-of-range : (f : Fields) → InRange f → outOfRange f ≡ false
-unfolding outOfRange
-not-out-of-range f r =
-    simp (lt-leb _ _ (r .tpid), lt-leb _ _ (r .checksum), lt-leb _ _ (r .intermediate), qos-in-range (f .qos) (r .qos), stamp-in-range (f .stamp) (r .stamp))

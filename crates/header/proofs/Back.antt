@@ -10,6 +10,7 @@ use lib.Arith.{digits-div, digits-mod}
 use lib.ListN.{getD, length, take}
 use lib.Seq.{take-suc}
 use Rattle.octets.specs.Octets.{octet, number, octets}
+use Rattle.octets.proofs.Laws.{octet-number}
 use Rattle.checksum.specs.Sum.{elementOf}
 use Rattle.header.specs.Form.{addressSize, stampSize, timeSize, qosPlace, hasSource, isExtended, isIpv6}
 use Rattle.header.specs.Read.{addressesOf, sixOf, qosOf, octetOf, stampOf}
@@ -21,11 +22,6 @@ pub bit : (n : ℕ) → n ≤ 1 → (n ≡ 0) ⊎ (n ≡ 1)
 bit zero h = inl refl
 bit (suc zero) h = inr refl
 bit (suc (suc n)) h = absurd (omega arith)
-
--- an octet is a number of one octet
-octet-number : (s : List ℕ) (at : ℕ) → octet s at ≡ number s at 1
-unfolding number
-octet-number s at = rw add-zero (omega arith)
 
 -- the addresses have their flags and their octets again
 abbrev pub AddressesAgain : List ℕ → Control → Type 0

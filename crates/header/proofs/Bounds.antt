@@ -1,17 +1,17 @@
 -- Bounds of the pieces of a header, and the control bits that are not forbidden. Assumes nothing.
-use Prim.Native.Nat.{ℕ, _+_, _*_, _/_, _%_, _≤_, _<_}
-use mathlib.Core.Path.{_≡_, refl, sym}
+use Prim.Native.Nat.{ℕ, _+_, _*_, _/_, _%_, _≤_}
+use mathlib.Core.Path.{_≡_, refl}
 use mathlib.Core.List.{List}
 use mathlib.Core.Bool.{Bool, true, false, not, _&&_, _||_}
 use lib.Dec.{eqb}
 use native.Mathlib.Nat.{mul-le-mul-right, one-mul}
 use native.Mathlib.Omega.{arith}
 use borrow.Author.Tests.{eqb-true, eqb-false}
-use Rattle.checks.specs.Order.{pick}
 use Rattle.checks.proofs.Bools.{or-false, not-false}
+use Rattle.checks.proofs.Laws.{either}
 use Rattle.octets.specs.Octets.{octet}
 use Rattle.header.specs.declared.Control.{Control}
-use Rattle.header.specs.Form.{controlOf, layoutOf, placesOf, forbidden, addressSize, stampSize, stampFormat, timeSize, bit20, bit21, bit24, bit29, bit32, bits36to39, hasDestination, hasSource, isIpv6, isExtended}
+use Rattle.header.specs.Form.{controlOf, layoutOf, placesOf, forbidden, addressSize, stampSize, stampFormat, bit21, bit29, bit32, bits36to39, hasDestination, hasSource, isIpv6, isExtended}
 
 -- a bit times n
 pub gate : (x n : ℕ) → x % 2 * n ≤ n
@@ -19,30 +19,22 @@ gate x n =
     let h : x % 2 ≤ 1 = omega arith in
     rw (one-mul n) at (mul-le-mul-right n h)
 
-pick-le : (t : Bool) (a b n : ℕ) → a ≤ n → b ≤ n → pick t a b ≤ n
-pick-le true a b n p q = p
-pick-le false a b n p q = q
-
-pick-ge : (t : Bool) (a b n : ℕ) → n ≤ a → n ≤ b → n ≤ pick t a b
-pick-ge true a b n p q = p
-pick-ge false a b n p q = q
-
 -- an address has 1 to 16 octets, a timestamp at most 8
 pub addressSize-le : (k : Control) → addressSize k ≤ 16
 unfolding addressSize
 addressSize-le k =
-    pick-le (eqb (isIpv6 k) 1) 16 (pick (eqb (isExtended k) 1) 4 1) 16 (omega arith) (pick-le (eqb (isExtended k) 1) 4 1 16 (omega arith) (omega arith))
+    either (λ n. n ≤ 16) (eqb (isIpv6 k) 1) (omega arith) (either (λ n. n ≤ 16) (eqb (isExtended k) 1) (omega arith) (omega arith))
 
 pub addressSize-ge : (k : Control) → 1 ≤ addressSize k
 unfolding addressSize
 addressSize-ge k =
-    pick-ge (eqb (isIpv6 k) 1) 16 (pick (eqb (isExtended k) 1) 4 1) 1 (omega arith) (pick-ge (eqb (isExtended k) 1) 4 1 1 (omega arith) (omega arith))
+    either (λ n. 1 ≤ n) (eqb (isIpv6 k) 1) (omega arith) (either (λ n. 1 ≤ n) (eqb (isExtended k) 1) (omega arith) (omega arith))
 
 pub stampSize-le : (f p : ℕ) → stampSize f p ≤ 8
 unfolding stampSize
 stampSize-le f p =
-    pick-le (eqb f 0) 0 (pick (eqb f 1) 3 (pick (eqb f 2) (1 + timeSize p) 4)) 8 (omega arith)
-    (pick-le (eqb f 1) 3 (pick (eqb f 2) (1 + timeSize p) 4) 8 (omega arith) (pick-le (eqb f 2) (1 + timeSize p) 4 8 (omega arith) (omega arith)))
+    either (λ n. n ≤ 8) (eqb f 0) (omega arith)
+    (either (λ n. n ≤ 8) (eqb f 1) (omega arith) (either (λ n. n ≤ 8) (eqb f 2) (omega arith) (omega arith)))
 
 -- a control field ends at the octet 5 at the latest
 pub control-end : (s : List ℕ) → (3 ≤ controlOf s .end) × (controlOf s .end ≤ 5)

@@ -10,7 +10,8 @@ use lib.ListN.{getD, length, length-append}
 use lib.Dec.{leb, ltb}
 use borrow.Author.Tests.{ltb-true, ltb-false, leb-false, lt-ltb, le-ltb, lt-leb}
 use Rattle.checks.specs.Order.{pick, firstOf}
-use Rattle.checks.proofs.Bools.{or-false}
+use Rattle.checks.proofs.Bools.{true-false, or-false}
+use Rattle.checks.proofs.Laws.{either}
 use Rattle.octets.specs.Octets.{octets}
 use Rattle.octets.proofs.Laws.{length-octets}
 use Rattle.checksum.specs.Sum.{onesSum, checksumOf}
@@ -37,7 +38,7 @@ use Rattle.header.proofs.Bits.{builtControl, bits}
 
 -- ---- the length
 
-front-length : (len x second third : ℕ) → length (frontOctets len x second third) ≡ 3 + present second + present third
+pub front-length : (len x second third : ℕ) → length (frontOctets len x second third) ≡ 3 + present second + present third
 unfolding frontOctets
 front-length len x second third = simp (length-append, length-octets) (omega arith)
 
@@ -64,7 +65,7 @@ built-size f r =
     let addresses = addresses-length k (f .addresses) (bits f r .addresses) in
     simp (length-append, addresses, qos-length, octet-length)
     (omega
-    (arith, present-le (secondOctet f), present-le (thirdOctet f), gate (k .second / 64) (addressSize k), addressSize-le k, addressSize-ge k, qosFlag-le (f .qos), octetFlag-le (f .hops), stamp-le (f .stamp) (r .stamp), octetFlag-le (f .expanded), r .checksum))
+    (arith, present-le (secondOctet f), present-le (thirdOctet f), gate (k .second / 64) (addressSize k), addressSize-le k, addressSize-ge k, qosFlag-le (f .qos), octetFlag-le (f .hops), stamp-le (f .stamp), octetFlag-le (f .expanded), r .checksum))
 
 -- ---- the octets
 
@@ -112,8 +113,7 @@ stamp-small (stamp.Explicit p t) = search (append-small, octets-small)
 stamp-small (stamp.Binary t) = octets-small 4 t
 
 pub pick-small : (t : Bool) (v : ℕ) → Octets (pick t (octets 2 v) [])
-pick-small true v = octets-small 2 v
-pick-small false v = omega arith
+pick-small t v = either Octets t (octets-small 2 v) (omega arith)
 
 -- each octet of a header is below 256
 pub header-small : (f : Fields) (n i : ℕ) → getD (headerOctets f n) i 0 < 256
@@ -156,22 +156,41 @@ stamp-in (stamp.Implicit v) t h = leb-false _ v h
 stamp-in (stamp.Explicit p v) t h = (t .0, leb-false _ v h)
 stamp-in (stamp.Binary v) t h = leb-false _ v h
 
-pub in-range : (f : Fields) → Typed f → outOfRange f ≡ false → InRange f
+-- what the builder's test finds none of, apart
+pub record Tested (f : Fields) : Type 0 where
+  pub tpid : f .tpid < 16
+  pub checksum : f .checksum < 2
+  pub intermediate : f .intermediate < 2
+  pub qos : qosOutOfRange (f .qos) ≡ false
+  pub stamp : stampOutOfRange (f .stamp) ≡ false
+
+pub tested : (f : Fields) → outOfRange f ≡ false → Tested f
 unfolding outOfRange
-in-range f t h =
+tested f h =
     let p = or-false (leb 16 (f .tpid)) _ h in
     let q = or-false (leb 2 (f .checksum)) _ (p .1) in
     let r = or-false (leb 2 (f .intermediate)) _ (q .1) in
     let s = or-false (qosOutOfRange (f .qos)) _ (r .1) in
     record {
       tpid = leb-false 16 (f .tpid) (p .0);
-      addresses = t .addresses;
-      qos = qos-in (f .qos) (s .0);
-      hops = t .hops;
-      stamp = stamp-in (f .stamp) (t .stamp) (s .1);
-      expanded = t .expanded;
       checksum = leb-false 2 (f .checksum) (q .0);
       intermediate = leb-false 2 (f .intermediate) (r .0);
+      qos = s .0;
+      stamp = s .1;
+    }
+
+pub in-range : (f : Fields) → Typed f → outOfRange f ≡ false → InRange f
+in-range f t h =
+    let p = tested f h in
+    record {
+      tpid = p .tpid;
+      addresses = t .addresses;
+      qos = qos-in (f .qos) (p .qos);
+      hops = t .hops;
+      stamp = stamp-in (f .stamp) (t .stamp) (p .stamp);
+      expanded = t .expanded;
+      checksum = p .checksum;
+      intermediate = p .intermediate;
     }
 
 qos-not-out : (m : Qos) → qosFits m → qosOutOfRange m ≡ false
@@ -206,7 +225,7 @@ other : {X : Type 0} (n m : ℕ) → (n ≡ m → ⊥) → Refused n ≡ Refused
 other n m h e = absurd (h cc)
 
 done : {X : Type 0} (n m : ℕ) → Done n ≡ Refused m → X
-done n m e = let z : _≡_ {A = ℕ} 0 1 = cc in absurd (omega arith)
+done n m e = true-false cc
 
 first : (a b c : Bool) (n : ℕ) → First a b c (builtBy (firstOf ((a, 17) ∷ (b, 19) ∷ (c, 20) ∷ [])) n)
 unfolding firstOf

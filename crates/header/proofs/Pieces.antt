@@ -2,20 +2,20 @@
 use native.Mathlib.Omega.{arith}
 use Prim.Native.Nat.{ℕ, zero, suc, _+_, _*_, _/_, _%_, _^_, _≤_, _<_}
 use mathlib.Core.Path.{_≡_, refl, ap, sym, _∙_}
-use mathlib.Core.List.{List, [], _++_, append-assoc}
+use mathlib.Core.List.{List, _++_, append-assoc}
 use mathlib.Core.Bool.{Bool, true, false}
 use lib.ListN.{length, drop, length-append}
 use lib.Seq.{getD-drop, drop-drop, drop-append-seam}
 use lib.Dec.{eqb}
 use borrow.Author.Tests.{eqb-true}
 use Rattle.checks.specs.Order.{pick}
+use Rattle.checks.proofs.Laws.{either}
 use Rattle.octets.specs.Octets.{octet, number, octets}
-use Rattle.octets.proofs.Laws.{number-append, number-octets, length-octets}
+use Rattle.octets.proofs.Laws.{octet-number, number-append, number-octets, length-octets}
 use Rattle.header.specs.Form.{isIpv6, isExtended, hasSource, addressSize, timeSize, stampSize}
 use Rattle.header.specs.Read.{sixOf, addressesOf, qosOf, octetOf, stampOf}
 use Rattle.header.specs.Build.{sixOctets, addressesOctets, qosOctets, octetOctets, stampOctets, sourceFlag, extendedFlag, ipv6Flag, qosFlag, octetFlag, formatOf, present}
 use Rattle.header.specs.Range.{sixFits, addressesFit, qosFits, octetFits, stampFits}
-use Rattle.header.proofs.Bounds.{stampSize-le}
 use Rattle.header.specs.declared.Control.{Control}
 use Rattle.header.specs.declared.Addresses.{Addresses}
 use Rattle.header.specs.declared.Addresses.the-variants.{BasicPath, ExtendedPath, BasicEndSystem, ExtendedEndSystem, Ipv6}
@@ -64,13 +64,6 @@ two-there : {s rest : List ℕ} {at : ℕ} (m v n w : ℕ) → Stands s at (octe
     → (number s at m ≡ v) × (number s (at + m) n ≡ w)
 two-there {s} {rest} {at} m v n w h first second =
     (number-there m v (first-of (octets m v) (octets n w) h) first, number-there n w (second-of (octets m v) (octets n w) h m (length-octets m v)) second)
-
--- an octet is the number of one octet
-pub octet-number : (s : List ℕ) (at : ℕ) → octet s at ≡ number s at 1
-unfolding number
-octet-number s at =
-    let e : at + 0 ≡ at = omega arith in
-    rw e (omega arith)
 
 -- ---- the addresses
 
@@ -171,8 +164,12 @@ unfolding octetOctets
 octet-length octet.Absent = refl
 octet-length (octet.Present v) = length-octets 1 v
 
-pub stamp-le : (m : Timestamp) → stampFits m → length (stampOctets m) ≤ 8
-stamp-le m fits = rw (← stamp-size {rest = []} {at = 0} m (record { is = refl }) fits) (stampSize-le _ _)
+pub stamp-le : (m : Timestamp) → length (stampOctets m) ≤ 8
+unfolding stampOctets
+stamp-le stamp.Absent = omega arith
+stamp-le (stamp.Implicit t) = omega (arith, length-octets 3 t)
+stamp-le (stamp.Explicit p t) = simp (length-append, length-octets) (omega arith)
+stamp-le (stamp.Binary t) = omega (arith, length-octets 4 t)
 
 pub address-flags : (a : Addresses) → (sourceFlag a ≤ 1) × ((ipv6Flag a ≤ sourceFlag a) × (ipv6Flag a + extendedFlag a ≤ 1))
 address-flags (BasicPath d) = omega arith
@@ -195,9 +192,5 @@ format-le (stamp.Implicit t) = omega arith
 format-le (stamp.Explicit p t) = omega arith
 format-le (stamp.Binary t) = omega arith
 
-flag-le : (t : Bool) → pick t 0 1 ≤ 1
-flag-le true = omega arith
-flag-le false = omega arith
-
 pub present-le : (v : ℕ) → present v ≤ 1
-present-le v = flag-le (eqb v 0)
+present-le v = either (λ n. n ≤ 1) (eqb v 0) (omega arith) (omega arith)

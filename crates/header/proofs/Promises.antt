@@ -11,7 +11,7 @@ use Rattle.header.specs.declared.Header.{Header}
 use Rattle.header.specs.declared.Read.the-variants.{Good}
 use Rattle.header.specs.declared.Built.the-variants.{Done}
 use Rattle.header.proofs.Again.{shortest, done-again, output-again}
-use Rattle.header.proofs.SentOn.{withHops, sent-size, read-sent-on, sent-as-it-came}
+use Rattle.header.proofs.SentOn.{withHops, read-sent-on, sent-as-it-came}
 
 -- building what was read gives the same header octets, where the control field was shortest and the data at most 8,141 octets
 pub build-what-was-read : (s : List ℕ) (h : Header) → ((i : ℕ) → getD s i 0 < 256) → readOf s ≡ Good h → shortest (controlOf s)

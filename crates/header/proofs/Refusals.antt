@@ -1,27 +1,27 @@
 -- The reader refuses by the first check that fails, and accepts exactly where none does (page 01, step 2 and "The reader alone gives 1 to 5 in
 -- the order above"). Assumes nothing.
 use Prim.Native.Nat.{ℕ}
-use mathlib.Core.Path.{_≡_, refl, sym, ap, _∙_}
-use mathlib.Core.List.{List, []}
+use mathlib.Core.Path.{_≡_, refl}
+use mathlib.Core.List.{List}
 use mathlib.Core.Bool.{Bool, true, false}
 use mathlib.Core.Logic.{_↔_}
 use lib.Dec.{eqb}
 use native.Mathlib.Omega.{arith}
-use borrow.Author.Tests.{eq-eqb, eqb-true, eqb-false}
+use borrow.Author.Tests.{eqb-true, eqb-false}
 use Rattle.checks.specs.Order.{pick, firstOf, firstHolds, noneHolds}
+use Rattle.checks.proofs.Bools.{true-false}
 use Rattle.checks.proofs.Laws.{zero-none, none-zero, number-first, first-number}
 use Rattle.header.specs.Read.{headerOf, readChecks, readBy, readOf}
 use Rattle.header.specs.declared.Header.{Header}
-use Rattle.header.specs.declared.Read.{Read}
 use Rattle.header.specs.declared.Read.the-variants.{Good, Refused}
 
 refused-case : (t : Bool) (m n : ℕ) (h : Header) → eqb m 0 ≡ t → pick t (Good h) (Refused m) ≡ Refused n → (m ≡ n) × (m ≡ 0 → ⊥)
-refused-case true m n h t e = let z : _≡_ {A = ℕ} 0 1 = cc in absurd (omega arith)
+refused-case true m n h t e = true-false cc
 refused-case false m n h t e = (cc, eqb-false m 0 t)
 
 good-case : (t : Bool) (m : ℕ) (g h : Header) → eqb m 0 ≡ t → pick t (Good g) (Refused m) ≡ Good h → (m ≡ 0) × (h ≡ g)
 good-case true m g h t e = (eqb-true m 0 t, cc)
-good-case false m g h t e = let z : _≡_ {A = ℕ} 0 1 = cc in absurd (omega arith)
+good-case false m g h t e = true-false cc
 
 refused-by : (m : ℕ) (h : Header) → (m ≡ 0 → ⊥) → readBy m h ≡ Refused m
 refused-by m h z = by (eqb m 0) refl

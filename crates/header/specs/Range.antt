@@ -1,5 +1,5 @@
 -- Fields that can be built (page 01, refusal 19): each number fits its element. Assumes nothing.
-use Prim.Native.Nat.{ℕ, _^_, _<_}
+use Prim.Native.Nat.{_^_, _<_}
 use mathlib.Core.Bool.{Bool, false, _||_}
 use lib.Dec.{leb}
 use Rattle.header.specs.Form.{timeSize}

@@ -7,7 +7,7 @@ use lib.Dec.{eqb, ltb}
 use Rattle.checks.specs.Order.{pick, Checks, firstOf}
 use Rattle.octets.specs.Octets.{octet, number}
 use Rattle.checksum.specs.Sum.{elementOf}
-use Rattle.header.specs.Form.{controlOf, layoutOf, placesOf, forbidden, timeSize, hasChecksum, hasSource, hasHops, hasQos, hasExpanded, stampFormat, isExtended, isIpv6, isIntermediate}
+use Rattle.header.specs.Form.{controlOf, placesOf, forbidden, timeSize, hasChecksum, hasSource, hasHops, hasQos, hasExpanded, stampFormat, isExtended, isIpv6, isIntermediate}
 use Rattle.header.specs.declared.Control.{Control}
 use Rattle.header.specs.declared.Layout.{Layout}
 use Rattle.header.specs.declared.Header.{Header}

@@ -24,7 +24,8 @@ use Rattle.header.proofs.BuiltLaws.{Typed, qosTyped, stampTyped}
 use Rattle.numbers.specs.Numbers.{narrow, destinationOf, sourceOf, precedenceOf, routingOf, programOf, valueOf, timeOf, pfieldOf, numbersOf}
 use Rattle.numbers.specs.declared.Wide.{Wide}
 use Rattle.numbers.specs.declared.Numbers.{Numbers}
-use Rattle.intake.specs.Fields.{wideOut, addressFlagsOut, addressWidthsOut, octetOut, qosOut, stampOut, octetsOut, elementsOut, numbersOut, addressesFrom, qosFrom, octetFrom, stampFrom, fieldsFrom}
+use Rattle.gather.specs.Fields.{addressesFrom, qosFrom, octetFrom, stampFrom, fieldsFrom}
+use Rattle.intake.specs.Out.{wideOut, addressFlagsOut, addressWidthsOut, octetOut, qosOut, stampOut, octetsOut, elementsOut, numbersOut}
 
 -- ---- from numbers to fields and back
 
@@ -223,44 +224,3 @@ fields-back f t =
 -- numbers that are refused are those of no fields
 pub out-exactly : (n : Numbers) → numbersOut n ≡ true → (f : Fields) → Typed f → numbersOf f ≡ n → ⊥
 out-exactly n h f t e = true-false (sym h ∙ rw e at (fields-back f t .0))
-
--- ---- the bounds of the types
-
--- what C's types say of the numbers that the fields keep whole; the others are cut to an octet, or to four
-pub record Words (n : Numbers) : Type 0 where
-  pub destination : (n .destination .high < 256 ^ 8) × (n .destination .low < 256 ^ 8)
-  pub source : (n .source .high < 256 ^ 8) × (n .source .low < 256 ^ 8)
-  pub time : n .time < 256 ^ 8
-
-either : {A : Type 0} (P : A → Type 0) (t : Bool) (a b : A) → P a → P b → P (pick t a b)
-either P true a b p q = p
-either P false a b p q = q
-
-addresses-typed : (n : Numbers) → Words n → addressesFit (addressesFrom n)
-unfolding addressesFrom
-addresses-typed n w =
-    either addressesFit (eqb (n .ipv6) 1) _ _ (w .destination, w .source)
-    (either addressesFit (eqb (n .extended) 1) _ _
-    (either addressesFit (eqb (n .sourced) 1) _ _ (omega arith, omega arith) (omega arith))
-    (either addressesFit (eqb (n .sourced) 1) _ _ (omega arith, omega arith) (omega arith)))
-
-stamp-typed : (n : Numbers) → Words n → stampTyped (stampFrom n)
-unfolding stampFrom
-stamp-typed n w =
-    either stampTyped (eqb (n .format) 0) _ _ tt
-    (either stampTyped (eqb (n .format) 1) _ _ (w .time) (either stampTyped (eqb (n .format) 2) _ _ (omega arith, w .time) (w .time)))
-
--- the fields that numbers stand for are within their types
-pub typed : (n : Numbers) → Words n → Typed (fieldsFrom n)
-unfolding fieldsFrom qosFrom octetFrom
-typed n w =
-    record {
-      tpid = omega arith;
-      addresses = addresses-typed n w;
-      qos = either qosTyped (eqb (n .qualified) 0) _ _ tt (omega arith, (omega arith, omega arith));
-      hops = either octetFits (eqb (n .counted) 0) _ _ tt (omega arith);
-      stamp = stamp-typed n w;
-      expanded = either octetFits (eqb (n .expands) 0) _ _ tt (omega arith);
-      checksum = omega arith;
-      intermediate = omega arith;
-    }

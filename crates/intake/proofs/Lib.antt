@@ -1,1 +1,2 @@
+-- Numbers and fields are each other's inverse, and the proofs of the functions. Assumes nothing.
 pub mod Inverse

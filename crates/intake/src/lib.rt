@@ -1,23 +1,15 @@
-// The fields that numbers from C stand for.
+// Whether numbers from C stand for some fields.
 //
-// The numbers are checked first: a flag is 0 or 1, an element that is absent has only zeros, an address fits its type, and no number
-// is wider than the machine word that will hold it; what is narrower still on the wire is the builder's to test. Both give refusal
-// 19. Then the fields are made, each of the lower bits of its number. The awkward case is a source that is absent but has an
-// address: it is refused and not dropped, since whoever wrote it meant something by it.
-use address::Address;
-use address::PathAddress;
+// A flag is 0 or 1, an element that is absent has only zeros, an address fits its type, and no number is wider than the machine word
+// that will hold it; what is narrower still on the wire is the builder's to test. Both give refusal 19. The numbers that pass are
+// exactly those that some fields have, and come back from the fields made of them (crate gather; proofs/Inverse.antt). The awkward
+// case is a source that is absent but has an address: it is refused and not dropped, since whoever wrote it meant something by it.
 use checks::Check;
-use header::Addresses;
-use header::Fields;
-use header::Octet;
-use header::Qos;
-use header::Six;
-use header::Timestamp;
 use numbers::Numbers;
 use numbers::Wide;
 ghost use mathlib.Core.Path.{_≡_};
 ghost use Rattle.checks.specs.Order.{checkOf};
-ghost use Rattle.intake.specs.Fields.{
+ghost use Rattle.intake.specs.Out.{
   wideOut,
   addressLimit,
   addressFlagsOut,
@@ -29,11 +21,6 @@ ghost use Rattle.intake.specs.Fields.{
   octetsOut,
   elementsOut,
   numbersOut,
-  addressesFrom,
-  qosFrom,
-  octetFrom,
-  stampFrom,
-  fieldsFrom,
 };
 
 // A number under a limit.
@@ -209,90 +196,4 @@ pub fn check_numbers(n: Numbers) -> Check
         return Check::Failed;
     };
     check_elements(n)
-}
-
-fn addresses_from(n: Numbers) -> Addresses
-    ensures { λ r. ⌜ r ≡ addressesFrom n ⌝ }
-{
-    let d = n.destination;
-    let s = n.source;
-    if n.ipv6 == 1 {
-        return Addresses::Ipv6(six_from(d), six_from(s));
-    }
-    if n.extended == 1 {
-        let destination = (d.low % 4294967296) as u32;
-        if n.sourced == 1 {
-            let source = (s.low % 4294967296) as u32;
-            return Addresses::ExtendedEndSystem(Address(destination), Address(source));
-        }
-        return Addresses::ExtendedPath(PathAddress(destination));
-    }
-    if n.sourced == 1 {
-        return Addresses::BasicEndSystem((d.low % 256) as u8, (s.low % 256) as u8);
-    }
-    Addresses::BasicPath((d.low % 256) as u8)
-}
-
-fn six_from(w: Wide) -> Six
-    ensures { λ r. ⌜ r ≡ record { high = w .high; low = w .low } ⌝ }
-{
-    Six {
-        high: w.high,
-        low: w.low,
-    }
-}
-
-fn qos_from(n: Numbers) -> Qos
-    ensures { λ r. ⌜ r ≡ qosFrom n ⌝ }
-{
-    if n.qualified == 0 {
-        return Qos::Absent;
-    }
-    Qos::Present(
-        (n.precedence % 256) as u8,
-        (n.routing % 256) as u8,
-        (n.program % 256) as u8,
-    )
-}
-
-fn octet_from(on: u32, v: u32) -> Octet
-    ensures { λ r. ⌜ r ≡ octetFrom on v ⌝ }
-{
-    if on == 0 {
-        return Octet::Absent;
-    }
-    Octet::Present((v % 256) as u8)
-}
-
-fn stamp_from(n: Numbers) -> Timestamp
-    ensures { λ r. ⌜ r ≡ stampFrom n ⌝ }
-{
-    let format = n.format;
-    match format {
-        0 => Timestamp::Absent,
-        1 => Timestamp::Implicit(n.time),
-        2 => Timestamp::Explicit((n.pfield % 256) as u8, n.time),
-        _ => Timestamp::Binary(n.time),
-    }
-}
-
-// The fields that numbers stand for, by the lower bits of each number where it is too wide.
-pub fn fields_from(n: Numbers) -> Fields
-    ensures { λ r. ⌜ r ≡ fieldsFrom n ⌝ }
-{
-    let addresses = addresses_from(n);
-    let qos = qos_from(n);
-    let hops = octet_from(n.counted, n.hops);
-    let stamp = stamp_from(n);
-    let expanded = octet_from(n.expands, n.expanded);
-    Fields {
-        tpid: (n.tpid % 256) as u8,
-        addresses,
-        qos,
-        hops,
-        stamp,
-        expanded,
-        checksum: (n.checksum % 256) as u8,
-        intermediate: (n.intermediate % 256) as u8,
-    }
 }

@@ -2,7 +2,7 @@
 //
 // C has neither enums with data nor kinds of address, so the fields travel as one struct of numbers (`hj_fields` in the C header has
 // the same members in the same order). Outward nothing can go wrong: what is absent is 0. The way back, where much can, is crate
-// intake.
+// gather, and crate intake tests it.
 use header::Addresses;
 use header::Fields;
 use header::Octet;

@@ -1,15 +1,13 @@
 -- What the reader returns after each check, said over plain variables: what is known past the checks, and one law a return. Assumes nothing.
 use Prim.Native.Nat.{ℕ, _≤_, _<_}
-use mathlib.Core.Path.{_≡_, refl, ap, _∙_}
+use mathlib.Core.Path.{_≡_, refl, sym, ap, _∙_}
 use mathlib.Core.List.{List}
 use mathlib.Core.Bool.{true, false}
 use mathlib.Core.Logic.{inl, inr}
 use lib.ListN.{length}
 use lib.Dec.{ltb}
 use native.Mathlib.Omega.{arith}
-use borrow.Author.Tests.{ne-eqb}
-use Rattle.checks.specs.Order.{firstHolds}
-use Rattle.checks.proofs.Laws.{first-number, none-zero}
+use Rattle.checks.specs.Order.{firstHolds, noneHolds}
 use Rattle.header.specs.Form.{controlOf, layoutOf, placesOf, forbidden}
 use Rattle.header.specs.Read.{fieldsOf, lengthOf, headerOf, readChecks, readOf, otherVersion, cut, misfit, wrongChecksum}
 use Rattle.header.specs.declared.Control.{Control}
@@ -17,6 +15,7 @@ use Rattle.header.specs.declared.Layout.{Layout}
 use Rattle.header.specs.declared.Fields.{Fields}
 use Rattle.header.specs.declared.Read.the-variants.{Good, Refused}
 use Rattle.header.proofs.Bounds.{control-end, placed}
+use Rattle.header.proofs.Refusals.{read-refused, read-good}
 
 -- ---- past the checks
 
@@ -42,8 +41,7 @@ pub record Laid (s : List ℕ) (k : Control) (l : Layout) : Type 0 where
 
 -- the first condition that holds gives the answer
 refused : (s : List ℕ) (n : ℕ) → (n ≡ 0 → ⊥) → firstHolds (readChecks s) n → Refused n ≡ readOf s
-unfolding readOf
-refused s n some h = rw (first-number (readChecks s) n h, ne-eqb n 0 some)
+refused s n some h = sym (read-refused s n some .1 h)
 
 module _ (s : List ℕ) where
   pub short : ltb (length s) 3 ≡ true → Refused 1 ≡ readOf s
@@ -95,11 +93,9 @@ module _ (s : List ℕ) where
 
         pub good : wrongChecksum s k l ≡ false → (f : Fields) (n : ℕ) → f ≡ fieldsOf s k l → n ≡ lengthOf s
             → Good (record { fields = f; length = n; size = l .size }) ≡ readOf s
-        unfolding readOf readChecks headerOf
+        unfolding readChecks headerOf
         good h f n ef en =
             let e = p .formed .control in
             let b = p .formed .started in
-            let none =
-            none-zero (readChecks s)
-            (b .long, (b .version, (rw e at (p .formed .whole), (rw e at (p .formed .allowed), (rw places at (p .fits), (rw (places, e) at h, tt)))))) in
-            rw (none, ef, en, places, e)
+            let none : noneHolds (readChecks s) = (b .long, (b .version, (rw e at (p .formed .whole), (rw e at (p .formed .allowed), (rw places at (p .fits), (rw (places, e) at h, tt)))))) in
+            sym (read-good s _ .1 (none, rw (ef, en, places, e)))

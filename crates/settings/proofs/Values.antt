@@ -57,7 +57,7 @@ class-row-taken c a h = (
 
 form-taken : (f : PathForm) → (isInvalid f ≡ false) ↔ (f ≡ Valid)
 form-taken Valid = (λ e. refl, λ e. refl)
-form-taken Bad = (λ e. true-false e, λ e. let z : _≡_ {A = ℕ} 0 1 = cc in absurd (omega arith))
+form-taken Bad = (λ e. true-false e, λ e. true-false cc)
 
 -- 25: A path is taken exactly where its first octet is 10 and its last is not 254.
 pub path-taken : (a b c d : ℕ) → Octet a → Octet b → Octet c → Octet d

@@ -11,6 +11,7 @@ use lib.Dec.{eqb, ltb}
 use lib.ListN.{length, drop}
 use borrow.Author.Tests.{eq-eqb, ne-eqb, lt-ltb, le-ltb}
 use Rattle.checks.specs.Order.{pick}
+use Rattle.checks.proofs.Laws.{either}
 use Rattle.address.specs.Mask.{onesOf}
 use Rattle.address.specs.declared.Address.{Address}
 use Rattle.routes.specs.declared.Route.{Route}
@@ -50,11 +51,7 @@ module _ (rs : List Route) where
 
   pub place-within : (best i : ℕ) → best ≤ 64 → i < 64 → betterPlace rs best i ≤ 64
   unfolding betterPlace
-  place-within best i b l = either (eqb best 64) (le-of-lt l) (either (ltb (routeAt rs best .mask .0) (routeAt rs i .mask .0)) (le-of-lt l) b)
-    where
-      either : {m n : ℕ} (t : Bool) → m ≤ 64 → n ≤ 64 → pick t m n ≤ 64
-      either true p q = p
-      either false p q = q
+  place-within best i b l = either (λ n. n ≤ 64) (eqb best 64) (le-of-lt l) (either (λ n. n ≤ 64) (ltb (routeAt rs best .mask .0) (routeAt rs i .mask .0)) (le-of-lt l) b)
 
   module _ (a : Address) where
     -- A candidate makes the better place the best.

@@ -1,16 +1,14 @@
--- The answers of the lines and of the copies, over plain variables. Assumes nothing.
+-- The answers of the lines, over plain variables. Assumes nothing.
 use Prim.Native.Nat.{ℕ}
-use mathlib.Core.Path.{_≡_, refl, sym, ap, _∙_}
-use lib.Bits.{bitAnd}
+use mathlib.Core.Path.{_≡_, _∙_}
 use borrow.Author.Tests.{eq-eqb, ne-eqb}
-use Rattle.verdict.specs.Rule.{hereBy, oursBy, wantedHere, localOf, exceptBy, aloneBy, groupLine, pathLine, routeLine, copiesOf}
+use Rattle.verdict.specs.Rule.{hereBy, oursBy, wantedHere, localOf, exceptBy, aloneBy, groupLine, pathLine, routeLine}
 use Rattle.verdict.specs.declared.Target.{Target}
 use Rattle.verdict.specs.declared.Case.{Case}
 use Rattle.verdict.specs.declared.Place.{Place}
 use Rattle.verdict.specs.declared.Place.the-variants.{Held}
 use Rattle.verdict.specs.declared.Way.the-variants.{By}
 use Rattle.verdict.specs.declared.Line.the-variants.{Unasked, Refused, Wanted}
-use Rattle.verdict.specs.declared.Ruling.{Ruling}
 
 pub route-down : (set availability : ℕ) → (availability ≡ 1 → ⊥) → Refused 12 ≡ routeLine (By set availability)
 unfolding routeLine
@@ -45,15 +43,6 @@ module _ (send word arrival set : ℕ) (is : set ≡ exceptBy send arrival) wher
     pub group-some : (by ≡ 1 → ⊥) → (set ≡ 0 → ⊥) → Wanted set ≡ groupLine (Held send word) arrival others
     unfolding groupLine
     group-some h z = rw (← a, ← is) (simp (ne-eqb by 1 h, ne-eqb set 0 z))
-
-module _ (local granted full took : ℕ) (is : took ≡ exceptBy granted full) where
-  pub copies-none : took ≡ 0 → record { local = local; onward = 15; granted = granted; took = took; dropped = bitAnd granted full } ≡ copiesOf local granted full
-  unfolding copiesOf
-  copies-none h = rw (← is) (simp (eq-eqb took 0 h))
-
-  pub copies-some : (took ≡ 0 → ⊥) → record { local = local; onward = 1; granted = granted; took = took; dropped = bitAnd granted full } ≡ copiesOf local granted full
-  unfolding copiesOf
-  copies-some h = rw (← is) (simp (ne-eqb took 0 h))
 
 module _ (t : Target) (p : Place) (c : Case) (here ours would : ℕ) (h : here ≡ hereBy p) (o : ours ≡ oursBy t here) (w : would ≡ wantedHere ours (c .intermediate)) where
   is : would ≡ wantedHere (oursBy t (hereBy p)) (c .intermediate)

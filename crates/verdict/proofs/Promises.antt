@@ -1,13 +1,14 @@
 -- What the rule never does, and the ledger of one datagram's copies. Assumes nothing.
 use Prim.Native.Nat.{ℕ, _+_, _-_}
-use mathlib.Core.Path.{_≡_, refl, sym, ap, _∙_}
+use mathlib.Core.Path.{_≡_, refl, sym, _∙_}
 use mathlib.Core.Bool.{Bool, true, false, not, _&&_}
 use native.Mathlib.Omega.{arith}
 use lib.Dec.{eqb}
-use lib.Bits.{bitAnd, and-le-l}
-use borrow.Author.Tests.{eqb-true, eqb-false, eq-eqb, ne-eqb}
+use lib.Bits.{and-le-l}
+use borrow.Author.Tests.{eqb-true, eqb-false}
 use Rattle.checks.specs.Order.{pick}
-use Rattle.verdict.specs.Rule.{hereBy, oursBy, wantedHere, localOf, exceptBy, broadcastLine, aloneBy, groupLine, pathLine, routeLine, routerLine, unheardBy, hostLine, lineOf, copiesOf}
+use Rattle.checks.proofs.Bools.{true-false}
+use Rattle.verdict.specs.Rule.{hereBy, oursBy, localOf, exceptBy, groupLine, pathLine, routeLine, routerLine, hostLine, lineOf, copiesOf}
 use Rattle.verdict.specs.declared.Target.{Target}
 use Rattle.verdict.specs.declared.Target.the-variants.{Here, Broadcast, Group, Path, Route}
 use Rattle.verdict.specs.declared.Place.{Place}
@@ -26,10 +27,10 @@ ledger local granted full = omega (arith, and-le-l granted full)
 -- ---- "no" with "not asked" never occurs
 
 refused-asked : {X : Type 0} (n : ℕ) → Refused n ≡ Unasked → X
-refused-asked n e = let z : _≡_ {A = ℕ} 0 1 = cc in absurd (omega arith)
+refused-asked n e = true-false cc
 
 wanted-asked : {X : Type 0} (n : ℕ) → Wanted n ≡ Unasked → X
-wanted-asked n e = let z : _≡_ {A = ℕ} 0 1 = cc in absurd (omega arith)
+wanted-asked n e = true-false cc
 
 would-case : (t u v : Bool) → _≡_ {A = ℕ} (pick (eqb (pick (t && u) 0 1) 0) 0 (pick v 26 1)) 0 → t ≡ true
 would-case true u v h = refl

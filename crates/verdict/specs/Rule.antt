@@ -1,7 +1,7 @@
 -- The verdict on a datagram that has been read and whose addresses are good (page 01, "Local half" and "Onward half"). A set of ports is a number
 -- in which port p is 2 ^ p. Assumes nothing.
 use Prim.Native.Nat.{ℕ, _-_}
-use mathlib.Core.Bool.{Bool, not, _&&_}
+use mathlib.Core.Bool.{not, _&&_}
 use lib.Dec.{eqb}
 use lib.Bits.{bitAnd}
 use Rattle.checks.specs.Order.{pick}

@@ -1,9 +1,10 @@
-// The rules for one datagram that has been read: what becomes of it here and onward.
+// The rules for one datagram that has been read: what becomes of it here, and which ports it is wanted on.
 //
 // The rule is pure. It is handed what others looked up (which ports are set up, which have the destination's address, what the
-// places for groups and paths hold, which route was found, which queues are full) as small numbers, and says the local half, the
-// onward half and the ports that are granted, took or drop a copy. Nothing is written here; the relay applies the ruling. A set of
-// ports is a number in which port p is 2 to the power of p.
+// places for groups and paths hold, which route was found, which queues are full) as small numbers, and says the local half and the
+// first line of the onward half that fits; crate copies says which of the ports wanted are granted, took or drop a copy. The
+// definitions of both, and the laws between them, stand here. Nothing is written; the relay applies the ruling. A set of ports is a
+// number in which port p is 2 to the power of p.
 //
 // The awkward case is the multicast line: subscribed on the arrival port with no other port set up is "not asked" and comes before
 // the test of the group's set.
@@ -27,15 +28,6 @@ ghost use Rattle.verdict.specs.Rule.{
   unheardBy,
   hostLine,
   lineOf,
-  hopsLeft,
-  sameDomain,
-  wideEnough,
-  afterHops,
-  afterDomain,
-  afterSize,
-  grantedOf,
-  copiesOf,
-  rulingOf,
 };
 
 // Which line of the onward half a destination falls under, apart from what a host makes of it.
@@ -191,7 +183,7 @@ pub fn local_of(t: Target, p: Place, c: Case) -> u32
 }
 
 // A set of ports without those of another.
-fn except(set: u32, others: u32) -> u32
+pub fn except(set: u32, others: u32) -> u32
     ensures { λ r. ⌜ r ≡ exceptBy set others ⌝ }
 {
     set - (set & others)
@@ -311,126 +303,4 @@ pub fn line_of(t: Target, p: Place, w: Way, c: Case, ready: u32, local: u32) -> 
         return host_line(t, local);
     }
     router_line(t, p, w, c.arrival, ready)
-}
-
-// Hops left, else 10.
-fn hops_left(set: u32, spent: u32) -> Line
-    ensures { λ r. ⌜ r ≡ hopsLeft set spent ⌝ }
-{
-    if spent != 0 {
-        return Line::Refused(10);
-    }
-    Line::Wanted(set)
-}
-
-// With addresses of one octet, the ports of the arrival port's domain alone; none left is 13.
-fn same_domain(set: u32, basic: u32, near: u32) -> Line
-    ensures { λ r. ⌜ r ≡ sameDomain set basic near ⌝ }
-{
-    if basic == 0 {
-        return Line::Wanted(set);
-    }
-    let left = set & near;
-    if left == 0 {
-        return Line::Refused(13);
-    }
-    Line::Wanted(left)
-}
-
-// The ports whose MTU holds the datagram; none left is 14.
-fn wide_enough(set: u32, wide: u32) -> Line
-    ensures { λ r. ⌜ r ≡ wideEnough set wide ⌝ }
-{
-    let left = set & wide;
-    if left == 0 {
-        return Line::Refused(14);
-    }
-    Line::Wanted(left)
-}
-
-// Each strikes ports out of those that are wanted, and leaves what is not wanted as it is.
-fn after_hops(l: Line, spent: u32) -> Line
-    ensures { λ r. ⌜ r ≡ afterHops l spent ⌝ }
-{
-    match l {
-        Line::Unasked => Line::Unasked,
-        Line::Refused(number) => Line::Refused(number),
-        Line::Wanted(set) => hops_left(set, spent),
-    }
-}
-
-fn after_domain(l: Line, basic: u32, near: u32) -> Line
-    ensures { λ r. ⌜ r ≡ afterDomain l basic near ⌝ }
-{
-    match l {
-        Line::Unasked => Line::Unasked,
-        Line::Refused(number) => Line::Refused(number),
-        Line::Wanted(set) => same_domain(set, basic, near),
-    }
-}
-
-fn after_size(l: Line, wide: u32) -> Line
-    ensures { λ r. ⌜ r ≡ afterSize l wide ⌝ }
-{
-    match l {
-        Line::Unasked => Line::Unasked,
-        Line::Refused(number) => Line::Refused(number),
-        Line::Wanted(set) => wide_enough(set, wide),
-    }
-}
-
-// The ports that are granted a copy, of those that are wanted: 10, then 13, then 14.
-pub fn granted_of(wanted: Line, c: Case, s: Survey) -> Line
-    ensures { λ r. ⌜ r ≡ grantedOf wanted c s ⌝ }
-{
-    let hops = after_hops(wanted, c.spent);
-    let domain = after_domain(hops, c.basic, s.near);
-    after_size(domain, s.wide)
-}
-
-// The copies granted: each port whose queue is not full takes one, the others drop theirs; all dropped is 15.
-fn copies_of(local: u32, granted: u32, full: u32) -> Ruling
-    ensures { λ r. ⌜ r ≡ copiesOf local granted full ⌝ }
-{
-    let dropped = granted & full;
-    let took = except(granted, full);
-    if took == 0 {
-        return Ruling {
-            local,
-            onward: 15,
-            granted,
-            took,
-            dropped,
-        };
-    }
-    Ruling {
-        local,
-        onward: 1,
-        granted,
-        took,
-        dropped,
-    }
-}
-
-// The ruling, by the local half and what the onward half granted.
-pub fn ruling_of(local: u32, granted: Line, full: u32) -> Ruling
-    ensures { λ r. ⌜ r ≡ rulingOf local granted full ⌝ }
-{
-    match granted {
-        Line::Unasked => Ruling {
-            local,
-            onward: 0,
-            granted: 0,
-            took: 0,
-            dropped: 0,
-        },
-        Line::Refused(number) => Ruling {
-            local,
-            onward: number,
-            granted: 0,
-            took: 0,
-            dropped: 0,
-        },
-        Line::Wanted(set) => copies_of(local, set, full),
-    }
 }

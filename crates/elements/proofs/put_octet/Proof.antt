@@ -1,6 +1,7 @@
-use Rattle.octets.proofs.Laws.{put-none, put-one, put-two, put-numbers, length-octets}
-use Rattle.header.specs.Build.{sixOctets, addressesOctets, qosOctets, octetOctets, stampOctets}
+-- `elements::put_octet` meets its contract, absent and present. Assumes nothing.
 use borrow.Author.Needs.{needs}
+use Rattle.octets.proofs.Laws.{put-none, put-one}
+use Rattle.header.specs.Build.{octetOctets}
 use Rattle.elements.proofs.put_octet.Statement.{statement}
 use Rattle.elements.proofs.put_octet.Tie as tie
 

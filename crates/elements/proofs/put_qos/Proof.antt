@@ -1,6 +1,7 @@
-use Rattle.octets.proofs.Laws.{put-none, put-one, put-two, put-numbers, length-octets}
-use Rattle.header.specs.Build.{sixOctets, addressesOctets, qosOctets, octetOctets, stampOctets}
+-- `elements::put_qos` meets its contract, absent and present. Assumes nothing.
 use borrow.Author.Needs.{needs}
+use Rattle.octets.proofs.Laws.{put-none, put-one}
+use Rattle.header.specs.Build.{qosOctets}
 use Rattle.elements.proofs.put_qos.Statement.{statement}
 use Rattle.elements.proofs.put_qos.Tie as tie
 

@@ -1,7 +1,8 @@
-use Rattle.octets.proofs.Laws.{put-none, put-one, put-two, put-numbers, length-octets}
-use Rattle.header.specs.Build.{sixOctets, addressesOctets, qosOctets, octetOctets, stampOctets}
-use native.Mathlib.Omega.{arith}
+-- `elements::put_stamp` meets its contract, format by format. Assumes nothing.
 use borrow.Author.Needs.{needs}
+use native.Mathlib.Omega.{arith}
+use Rattle.octets.proofs.Laws.{put-none, put-one, put-numbers}
+use Rattle.header.specs.Build.{stampOctets}
 use Rattle.elements.proofs.put_stamp.Statement.{statement}
 use Rattle.elements.proofs.put_stamp.Tie as tie
 
@@ -60,7 +61,10 @@ same-length-2 c = search needs
 
 returns-3 : tie.Need-returns-3
 unfolding stampOctets
-returns-3 c = rw (c .before .before .before .before .before .before .before .before .before .t2 .given .1) (put-numbers _ _ _ _ _ _ _ _ _ _ (c .before .before .before .before .before .before .put-number2 .ensures) (c .before .before .put-number3 .ensures) (omega arith))
+returns-3 c =
+    let first = c .before .before .before .before .before .before in
+    rw (first .before .before .before .t2 .given .1)
+    (put-numbers _ _ _ _ _ _ _ _ _ _ (first .put-number2 .ensures) (c .before .before .put-number3 .ensures) (omega arith))
 
 same-length-3 : tie.Need-same-length-3
 same-length-3 c = search needs

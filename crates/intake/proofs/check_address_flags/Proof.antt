@@ -1,6 +1,6 @@
 -- `intake::check_address_flags` meets its contract, test by test. Assumes nothing.
 use borrow.Author.Tests.{eq-eqb, ne-eqb, le-leb, lt-leb}
-use Rattle.intake.specs.Fields.{addressFlagsOut}
+use Rattle.intake.specs.Out.{addressFlagsOut}
 use Rattle.intake.proofs.check_address_flags.Statement.{statement}
 use Rattle.intake.proofs.check_address_flags.Tie as tie
 

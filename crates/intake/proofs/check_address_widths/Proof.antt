@@ -3,7 +3,7 @@ use borrow.Author.Needs.{needs}
 use borrow.Author.Tests.{eq-eqb, ne-eqb}
 use mathlib.Core.Path.{sym, _∙_}
 use Rattle.checks.proofs.Laws.{passed-false, failed-true}
-use Rattle.intake.specs.Fields.{wideOut, addressLimit, addressWidthsOut}
+use Rattle.intake.specs.Out.{wideOut, addressLimit, addressWidthsOut}
 use Rattle.intake.proofs.check_address_widths.Statement.{statement}
 use Rattle.intake.proofs.check_address_widths.Tie as tie
 

@@ -2,7 +2,7 @@
 use borrow.Author.Needs.{needs}
 use mathlib.Core.Path.{sym, _∙_}
 use Rattle.checks.proofs.Laws.{passed-false, failed-true}
-use Rattle.intake.specs.Fields.{octetOut, qosOut, elementsOut}
+use Rattle.intake.specs.Out.{octetOut, qosOut, elementsOut}
 use Rattle.intake.proofs.check_elements.Statement.{statement}
 use Rattle.intake.proofs.check_elements.Tie as tie
 

@@ -2,7 +2,7 @@
 use borrow.Author.Needs.{needs}
 use mathlib.Core.Path.{sym, _∙_}
 use Rattle.checks.proofs.Laws.{passed-false, failed-true}
-use Rattle.intake.specs.Fields.{octetsOut, addressFlagsOut, addressWidthsOut, numbersOut}
+use Rattle.intake.specs.Out.{octetsOut, addressFlagsOut, addressWidthsOut, numbersOut}
 use Rattle.intake.proofs.check_numbers.Statement.{statement}
 use Rattle.intake.proofs.check_numbers.Tie as tie
 

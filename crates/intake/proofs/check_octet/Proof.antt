@@ -1,6 +1,6 @@
 -- `intake::check_octet` meets its contract, test by test; the limit is 1 where the element is absent. Assumes nothing.
 use borrow.Author.Tests.{eq-eqb, ne-eqb, le-leb, lt-leb}
-use Rattle.intake.specs.Fields.{octetOut}
+use Rattle.intake.specs.Out.{octetOut}
 use Rattle.intake.proofs.check_octet.Statement.{statement}
 use Rattle.intake.proofs.check_octet.Tie as tie
 

@@ -1,6 +1,6 @@
 -- `intake::check_octets` meets its contract, test by test. Assumes nothing.
 use borrow.Author.Tests.{le-leb, lt-leb}
-use Rattle.intake.specs.Fields.{octetsOut}
+use Rattle.intake.specs.Out.{octetsOut}
 use Rattle.intake.proofs.check_octets.Statement.{statement}
 use Rattle.intake.proofs.check_octets.Tie as tie
 

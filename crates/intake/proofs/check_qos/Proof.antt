@@ -2,7 +2,7 @@
 use borrow.Author.Needs.{needs}
 use mathlib.Core.Path.{sym, _∙_}
 use Rattle.checks.proofs.Laws.{passed-false, failed-true}
-use Rattle.intake.specs.Fields.{octetOut}
+use Rattle.intake.specs.Out.{octetOut}
 use Rattle.intake.proofs.check_qos.Statement.{statement}
 use Rattle.intake.proofs.check_qos.Tie as tie
 

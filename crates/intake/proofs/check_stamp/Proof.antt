@@ -1,7 +1,7 @@
 -- `intake::check_stamp` meets its contract, test by test, with the limit that `pfield_limit` gives. Assumes nothing.
 use borrow.Author.Needs.{needs}
 use borrow.Author.Tests.{eq-eqb, ne-eqb, le-leb, lt-leb}
-use Rattle.intake.specs.Fields.{stampOut}
+use Rattle.intake.specs.Out.{stampOut}
 use Rattle.intake.proofs.check_stamp.Statement.{statement}
 use Rattle.intake.proofs.check_stamp.Tie as tie
 

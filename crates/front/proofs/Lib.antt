@@ -1,0 +1,2 @@
+-- The front of a header over plain variables, and the proofs of the functions. Assumes nothing.
+pub mod Laws
