@@ -33,10 +33,10 @@ orElse n e = pick (eqb n 0) e (refusedBy n)
 
 -- ---- step 1
 -- "Port not set up, or over 7"
-abbrev pub notSetUp : Relay → ℕ → Bool
+unfoldable pub notSetUp : Relay → ℕ → Bool
 notSetUp r port = not (ltb port 8) || eqb (portIn r port .ready) 0
 
-abbrev pub callChecks : Relay → ℕ → ℕ → Checks
+unfoldable pub callChecks : Relay → ℕ → ℕ → Checks
 callChecks r port room = (notSetUp r port, 16) ∷ (ltb room 50, 17) ∷ []
 
 -- ---- steps 4, 5 and 6, by the arrival port's address

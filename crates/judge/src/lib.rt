@@ -142,9 +142,10 @@ pub fn judge(state: &[u32], port: u32, octets: &[u8], room: usize) -> Ending
         return refused(17);
     }
     let p = store::port_of(state, port as usize);
+    let address = p.address;
     let at = Arrival {
         set: sets::only_port(port),
-        address: p.address,
+        address,
     };
     judge_octets(state, at, octets)
 }

@@ -74,8 +74,8 @@ fn ruled(t: Target, p: Place, w: Way, c: Case, s: Survey) -> Ruling
 {
     let local = verdict::local_of(t, p, c);
     let line = verdict::line_of(t, p, w, c, s.ready, local);
-    let granted = verdict::granted_of(line, c, s);
-    verdict::ruling_of(local, granted, s.full)
+    let granted = copies::granted_of(line, c, s);
+    copies::ruling_of(local, granted, s.full)
 }
 
 // The ruling where the destination is an end system's address or a group's.

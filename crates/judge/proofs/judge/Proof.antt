@@ -1,5 +1,54 @@
+-- `judge::judge` meets its contract. Assumes nothing.
+use Rattle.judge.proofs.Stages.{is-port, no-port, no-room, judged}
 use borrow.Author.Needs.{needs}
 use Rattle.judge.proofs.judge.Statement.{statement}
+use Rattle.judge.proofs.judge.Tie as tie
+
+check-port-requires : tie.Need-check-port-requires
+check-port-requires c κs = search needs
+
+enum-told : tie.Need-enum-told
+enum-told c = search needs
+
+enum-told-2 : tie.Need-enum-told-2
+enum-told-2 c = search needs
+
+refused-requires : tie.Need-refused-requires
+refused-requires c κs = search needs
+
+returns : tie.Need-returns
+returns c = no-port _ _ _ _ (c .before .before .before .check-port .ensures) (c .before .enum-told2 .given .1) (c .refused .ensures)
+
+refused-requires-2 : tie.Need-refused-requires-2
+refused-requires-2 c κs = search needs
+
+returns-2 : tie.Need-returns-2
+returns-2 c = no-room _ _ _ _ (c .before .before .before .before .check-port .ensures) (c .before .before .enum-told .given .1) (c .before .if1 .taken) (c .refused2 .ensures)
+
+port-of-requires : tie.Need-port-of-requires
+port-of-requires c κs = (c .before .before .before .before .before .before .pre, is-port _ _ (c .before .before .before .check-port .ensures) (c .before .enum-told .given .1))
+
+only-port-requires : tie.Need-only-port-requires
+only-port-requires c κs = search needs
+
+judge-octets-requires : tie.Need-judge-octets-requires
+judge-octets-requires c κs = search needs
+
+returns-3 : tie.Need-returns-3
+returns-3 c = judged _ _ _ _ (c .before .before .before .before .before .before .before .check-port .ensures) (c .before .before .before .before .before .enum-told .given .1) (c .before .before .before .before .if1 .left) (c .before .before .before .port-of .ensures) (c .before .only-port .ensures) (c .judge-octets .ensures)
 
 pub judge-spec : {M : Type 1} → statement M
-judge-spec 𝓤 H 𝓜 𝓖 𝓡 = search needs
+judge-spec =
+    tie.close
+    (tie.spec
+    check-port-requires
+    enum-told
+    enum-told-2
+    refused-requires
+    returns
+    refused-requires-2
+    returns-2
+    port-of-requires
+    only-port-requires
+    judge-octets-requires
+    returns-3)

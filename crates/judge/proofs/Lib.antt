@@ -1,0 +1,2 @@
+-- What the stages hand together.
+pub mod Stages

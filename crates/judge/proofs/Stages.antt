@@ -1,0 +1,106 @@
+-- The stages of the verdict, over plain variables. Assumes nothing.
+use native.Mathlib.Omega.{arith}
+use Prim.Native.Nat.{ℕ, _≤_, _<_}
+use mathlib.Core.Path.{_≡_, refl, sym, ap, _∙_}
+use mathlib.Core.List.{List}
+use lib.ListN.{getD}
+use borrow.Author.Tests.{eq-eqb, ne-eqb, lt-ltb, le-ltb, ltb-true}
+use Rattle.checks.specs.Order.{checkOf, firstOf}
+use Rattle.checks.specs.declared.Check.the-variants.{Passed, Failed}
+use Rattle.checks.proofs.Bools.{or-false, not-false}
+use Rattle.checks.proofs.Laws.{passed-false}
+use Rattle.checks.specs.declared.Check.{Check}
+use Rattle.checks.proofs.Steps.{holds-here, holds-not, fails-here, passes, none-left}
+use Rattle.sets.specs.Sets.{onlyPort}
+use Rattle.address.specs.declared.Address.{Address}
+use Rattle.header.specs.Read.{readOf}
+use Rattle.header.specs.declared.Header.{Header}
+use Rattle.header.specs.declared.Read.the-variants.{Good}
+use Rattle.header.proofs.Answers.{read-bounds}
+use Rattle.meaning.specs.Names.{aimOf, sourceOf, badAim, badSource}
+use Rattle.meaning.specs.declared.Origin.{Origin}
+use Rattle.header.specs.declared.Addresses.{Addresses}
+use Rattle.meaning.specs.declared.Aim.{Aim}
+use Rattle.datagram.specs.Asked.{precedenceOf}
+use Rattle.records.specs.declared.Port.{Port}
+use Rattle.state.specs.Relay.{Relay, portIn}
+use Rattle.verdict.specs.declared.Ruling.{Ruling}
+use Rattle.rule.specs.Ruling.{ruleOf}
+use Rattle.rule.specs.declared.Arrival.{Arrival}
+use Rattle.judge.specs.declared.Ending.{Ending}
+use Rattle.judge.specs.Ending.{refusedBy, orElse, notSetUp, callChecks, arrivalChecks, headerEnding, octetsEnding, arrivalAt, endingOf}
+
+-- ---- the port
+module _ (r : Relay) (port : ℕ) where
+  pub over-seven : 8 ≤ port → Failed ≡ checkOf (notSetUp r port)
+  unfolding notSetUp
+  over-seven h = simp (le-ltb port 8 h)
+
+  pub not-ready : {p : Port} → port < 8 → p ≡ portIn r port → p .ready ≡ 0 → Failed ≡ checkOf (notSetUp r port)
+  unfolding notSetUp
+  not-ready h e z = rw (← e) (simp (lt-ltb port 8 h, eq-eqb _ 0 z))
+
+  pub set-up : {p : Port} → port < 8 → p ≡ portIn r port → (p .ready ≡ 0 → ⊥) → Passed ≡ checkOf (notSetUp r port)
+  unfolding notSetUp
+  set-up h e z = rw (← e) (simp (lt-ltb port 8 h, ne-eqb _ 0 z))
+
+  pub is-port : {c : Check} → c ≡ checkOf (notSetUp r port) → c ≡ Passed → port < 8
+  unfolding notSetUp
+  is-port told is = ltb-true port 8 (not-false _ (or-false _ _ (passed-false _ (sym told ∙ is)) .0))
+
+-- ---- an ending by a number, or by what follows
+pub by-number : {n : ℕ} {e : Ending} (m : ℕ) (rest : Ending) → n ≡ m → (n ≡ 0 → ⊥) → e ≡ refusedBy n → e ≡ orElse m rest
+by-number m rest same h is = rw (← same) (simp (ne-eqb _ 0 h) is)
+
+pub by-rest : {n : ℕ} {e : Ending} (m : ℕ) (rest : Ending) → n ≡ m → n ≡ 0 → e ≡ rest → e ≡ orElse m rest
+by-rest m rest same h is = rw (← same) (simp (eq-eqb _ 0 h) is)
+
+module _ (r : Relay) (at : Arrival) (h : Header) {n : ℕ} (is : n ≡ firstOf (arrivalChecks (at .address) (h .fields))) where
+  pub header-refused : {e : Ending} → (n ≡ 0 → ⊥) → e ≡ refusedBy n → e ≡ headerEnding r at h
+  unfolding headerEnding
+  header-refused some told = by-number _ _ is some told
+
+  pub header-ruled :
+      {aim : Aim} {ruling : Ruling} {precedence : ℕ}
+      → n ≡ 0
+      → aim ≡ aimOf (at .address .0) (h .fields .addresses)
+      → ruling ≡ ruleOf r at aim h
+      → precedence ≡ precedenceOf (h .fields .qos)
+      → _≡_ {A = Ending} (record { refusal = 0; ruling = ruling; precedence = precedence; size = h .size }) (headerEnding r at h)
+  unfolding headerEnding
+  header-ruled none a x p = by-rest _ _ is none cc
+
+-- the length field has 13 bits
+pub short-length : (s : List ℕ) (h : Header) → ((i : ℕ) → getD s i 0 < 256) → readOf s ≡ Good h → h .length < 8192
+short-length s h small e = read-bounds s h small e .1 .1 .1 .1
+
+-- ---- the whole
+module _ (r : Relay) (port : ℕ) (octets : List ℕ) (room : ℕ) {e : Ending} {c : Check} (told : c ≡ checkOf (notSetUp r port)) where
+  pub no-port : c ≡ Failed → e ≡ refusedBy 16 → e ≡ endingOf r port octets room
+  unfolding endingOf callChecks
+  no-port fails is = by-number _ _ (fails-here _ _ _ told fails) (λ z. omega arith) is
+
+  module _ (ready : c ≡ Passed) where
+    pub no-room : room < 50 → e ≡ refusedBy 17 → e ≡ endingOf r port octets room
+    unfolding endingOf callChecks
+    no-room h is = by-number _ _ (passes _ _ _ told ready (holds-here _ _ _ (lt-ltb room 50 h))) (λ z. omega arith) is
+
+    pub judged :
+        {p : Port} {set : ℕ}
+        → 50 ≤ room
+        → p ≡ portIn r port
+        → set ≡ onlyPort port
+        → e ≡ octetsEnding r (record { set = set; address = p .address }) (readOf octets)
+        → e ≡ endingOf r port octets room
+    unfolding endingOf callChecks
+    judged h same only is =
+        by-rest _ _ (passes _ _ _ told ready (holds-not _ _ _ (le-ltb room 50 h) none-left)) refl
+        (is ∙ ap (λ (at : Arrival). octetsEnding r at (readOf octets)) cc)
+
+-- ---- what a check was told of
+pub aim-told : (at : Address) (a : Addresses) {x : Aim} {c : Check} → x ≡ aimOf (at .0) a → c ≡ checkOf (badAim x) → c ≡ checkOf (badAim (aimOf (at .0) a))
+aim-told at a e told = told ∙ ap (λ (x : Aim). checkOf (badAim x)) e
+
+pub origin-told : (at : Address) (a : Addresses) {x : Origin} {c : Check}
+    → x ≡ sourceOf (at .0) a → c ≡ checkOf (badSource x) → c ≡ checkOf (badSource (sourceOf (at .0) a))
+origin-told at a e told = told ∙ ap (λ (x : Origin). checkOf (badSource x)) e
