@@ -1,0 +1,2 @@
+-- What the entering hands together.
+pub mod Entries

@@ -1,0 +1,2 @@
+-- What the contracts cite: what goes out.
+pub mod Outgo

@@ -1,0 +1,2 @@
+-- What the counting hands together.
+pub mod Moves
