@@ -1,0 +1,2 @@
+-- What the calls hand together.
+pub mod Outcomes

@@ -1,0 +1,2 @@
+-- What the contracts cite: the calls on datagrams.
+pub mod Calls

@@ -1,0 +1,66 @@
+// The relay's two calls on datagrams: receiving one, and taking an entry from a port.
+//
+// To receive is to judge and then to do. The verdict reads the state and writes nothing; what it says is then counted, entered in the
+// queues of the ports that took a copy, and the header sent on is written. To take is to hand out the first entry of a port's queue.
+//
+// The awkward case is the output: it is written only where some port took an entry, and then the header was read and there was room,
+// which the verdict has tested.
+use address::Slot;
+use checks::Check;
+use judge::Ending;
+use queue::Entry;
+use queue::Head;
+ghost use mathlib.Core.Path.{_≡_};
+ghost use lib.ListN.{length};
+ghost use Rattle.state.specs.Layout.{stateWords, decode};
+ghost use Rattle.judge.specs.Ending.{endingOf};
+ghost use Rattle.outgo.specs.Outgo.{outputOf};
+ghost use Rattle.relay.specs.Calls.{receivedState, takeOutcome, takenState};
+
+// What becomes of the octets that came in by a port; they are known to the caller by the slot.
+pub fn receive(state: &mut [u32], port: u32, slot: Slot, octets: &[u8], output: &mut [u8]) -> Ending
+    requires { ⌜ length (now state) ≡ stateWords ⌝ }
+    ensures { λ r. ⌜ r ≡ endingOf (decode (now (state .entry))) port (now (octets .entry)) (length (now (output .entry))) ⌝ }
+    ensures { λ r. ⌜ decode (now (state .exit)) ≡ receivedState (decode (now (state .entry))) slot r ⌝ }
+    ensures { λ r. ⌜ now (output .exit) ≡ outputOf (r .ruling .took) (now (octets .entry)) (now (output .entry)) ⌝ }
+{
+    let e = judge::judge(state, port, octets, output.len());
+    let took = e.ruling.took;
+    tally::count(state, e);
+    outgo::enter_all(
+        state,
+        took,
+        Entry {
+            slot,
+            precedence: e.precedence,
+        },
+    );
+    outgo::send(took, octets, output);
+    e
+}
+
+// What taking from a port answers.
+pub enum Taking {
+    Handed(Entry),
+    Refused(u32),
+}
+
+// The first entry that waits on a port, removed.
+pub fn take(state: &mut [u32], port: u32) -> Taking
+    requires { ⌜ length (now state) ≡ stateWords ⌝ }
+    ensures { λ r. ⌜ r ≡ takeOutcome (decode (now (state .entry))) port ⌝ }
+    ensures { λ _. ⌜ decode (now (state .exit)) ≡ takenState (decode (now (state .entry))) port ⌝ }
+{
+    let Check::Passed = judge::check_port(state, port) else {
+        return Taking::Refused(16);
+    };
+    let q = waiting::queue_of(state, port as usize);
+    let taken = q.take();
+    let head = taken.head;
+    let Head::First(entry) = head else {
+        return Taking::Refused(18);
+    };
+    let rest = taken.queue;
+    waiting::put_queue(state, port as usize, rest);
+    Taking::Handed(entry)
+}
