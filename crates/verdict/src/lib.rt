@@ -263,10 +263,11 @@ fn route_line(w: Way) -> Line
 fn router_line(t: Target, p: Place, w: Way, arrival: u32, ready: u32) -> Line
     ensures { λ r. ⌜ r ≡ routerLine t p w arrival ready ⌝ }
 {
+    let others = except(ready, arrival);
     match t {
         Target::Here => Line::Unasked,
-        Target::Broadcast => broadcast_line(except(ready, arrival)),
-        Target::Group => group_line(p, arrival, except(ready, arrival)),
+        Target::Broadcast => broadcast_line(others),
+        Target::Group => group_line(p, arrival, others),
         Target::Path => path_line(p, arrival),
         Target::Route => route_line(w),
     }
@@ -286,12 +287,13 @@ fn unheard(local: u32) -> Line
 fn host_line(t: Target, local: u32) -> Line
     ensures { λ r. ⌜ r ≡ hostLine t local ⌝ }
 {
+    let other = unheard(local);
     match t {
         Target::Here => Line::Unasked,
-        Target::Broadcast => unheard(local),
-        Target::Group => unheard(local),
-        Target::Path => unheard(local),
-        Target::Route => unheard(local),
+        Target::Broadcast => other,
+        Target::Group => other,
+        Target::Path => other,
+        Target::Route => other,
     }
 }
 
