@@ -16,7 +16,8 @@ STRICT := -Wall -Wextra -Wpedantic -Werror
 CFLAGS := -std=c99 -O2 $(STRICT)
 
 ARCHIVE := build/libharpjuniper.a
-REPLAY := $(addprefix host/,replay.c words_header.c lent.c trace.c text.c)
+REPLAY := $(addprefix host/,replay.c words_header.c words_relay.c \
+	lent.c lent_state.c trace.c text.c)
 GENERATE := $(addprefix host/,generate.c generate_build.c form.c settings.c text.c)
 COVERAGE := $(addprefix host/,coverage.c settings.c trace.c)
 PLAIN := $(wildcard host/plain/plain_*.c)
