@@ -18,7 +18,9 @@ CFLAGS := -std=c99 -O2 $(STRICT)
 ARCHIVE := build/libharpjuniper.a
 REPLAY := $(addprefix host/,replay.c words_header.c words_relay.c \
 	lent.c lent_state.c trace.c text.c)
-GENERATE := $(addprefix host/,generate.c generate_build.c form.c settings.c text.c)
+GENERATE := $(addprefix host/,generate.c generate_header.c generate_build.c \
+	history.c history_settings.c history_arrivals.c world.c datagram.c \
+	form.c settings.c text.c)
 COVERAGE := $(addprefix host/,coverage.c settings.c trace.c)
 PLAIN := $(wildcard host/plain/plain_*.c)
 HEADERS := $(wildcard include/*.h host/*.h host/plain/*.h)
