@@ -21,7 +21,9 @@ REPLAY := $(addprefix host/,replay.c words_header.c words_relay.c \
 GENERATE := $(addprefix host/,generate.c generate_header.c generate_build.c \
 	history.c history_settings.c history_arrivals.c world.c datagram.c \
 	form.c settings.c text.c)
-COVERAGE := $(addprefix host/,coverage.c settings.c trace.c)
+COVERAGE := $(addprefix host/,coverage.c coverage_relay.c view.c arriving.c \
+	answered.c settings.c trace.c)
+LEDGER := $(addprefix host/,ledger.c arriving.c answered.c trace.c)
 PLAIN := $(wildcard host/plain/plain_*.c)
 HEADERS := $(wildcard include/*.h host/*.h host/plain/*.h)
 
@@ -94,6 +96,10 @@ build/coverage: $(COVERAGE) $(HEADERS) | prepare
 	@mkdir -p build
 	gcc $(CFLAGS) -o $@ $(COVERAGE)
 
+build/ledger: $(LEDGER) $(HEADERS) | prepare
+	@mkdir -p build
+	gcc $(CFLAGS) -o $@ $(LEDGER)
+
 # ---- Tests
 
 header: | prepare
@@ -110,7 +116,7 @@ host-tests: build/calls build/test_plain build/replay build/plain
 	scripts/check-traces build/replay build/plain
 	python3 tests/test_scripts.py
 
-compare: build/generate build/plain build/replay build/coverage
+compare: build/generate build/plain build/replay build/coverage build/ledger
 	scripts/compare
 
 promises: | prepare

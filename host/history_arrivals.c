@@ -196,7 +196,7 @@ static size_t choose_data(const struct world *world, const struct form *form,
 
     if (length > DATAGRAM_MOST_LENGTH + 1)
         length = DATAGRAM_MOST_LENGTH + 1;
-    if (!random_one_in(random, length > 1000 ? 400 : 2) || length <= octets)
+    if (!random_one_in(random, length > 1000 ? 160 : 2) || length <= octets)
         return random_below(random, 6);
     return length - 1 - octets;
 }

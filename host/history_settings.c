@@ -19,7 +19,7 @@ static uint32_t ways(uint32_t count, struct random *random)
 {
     uint32_t chosen = 1u << random_below(random, count);
 
-    return random_one_in(random, 4) ? chosen | 1u << random_below(random, count)
+    return random_one_in(random, 2) ? chosen | 1u << random_below(random, count)
                                     : chosen;
 }
 
@@ -61,7 +61,7 @@ struct port {
 
 static uint32_t port_mask(uint32_t address, struct random *random)
 {
-    static const uint32_t ONES[] = {8, 16, 22, 24, 24, 24, 28, 30};
+    static const uint32_t ONES[] = {8, 16, 22, 24, 24, 28, 28, 28, 30};
     uint32_t mask = world_mask(address >> 24 == 10 ? 24 : PICK(ONES));
 
     return (address | mask) == 0xffffffffu ? world_mask(24) : mask;
@@ -75,6 +75,8 @@ static uint32_t choose_mtu(struct random *random)
     case 0:
         return PICK(SMALL);
     case 1:
+    case 2:
+    case 3:
         return WORLD_MOST_LENGTH - 1;
     default:
         return WORLD_MOST_LENGTH;

@@ -5,7 +5,7 @@
 
 static const uint32_t DOMAIN[] = {0x0a040900, 0x0a040800, 0x0a070100};
 static const uint32_t NETWORK[] = {0xac100400, 0xac100500, 0xc0000200,
-                                   0xc0000300, 0x2c010200, 0x09090900};
+                                   0x2c010200};
 
 static uint32_t domain(const struct world *world, struct random *random)
 {
@@ -22,10 +22,13 @@ static bool in_net_10(const struct world *world, struct random *random)
 
 uint32_t world_unicast(const struct world *world, struct random *random)
 {
+    /* 3, 7 and 15 are broadcasts of small subnets, and addresses elsewhere. */
+    static const uint8_t LAST[] = {1, 2, 3, 7, 13, 14, 15, 15, 15, 20};
+
     if (in_net_10(world, random))
         return domain(world, random) | 2 * random_below(random, 10);
     return NETWORK[random_below(random, LENGTH(NETWORK))] |
-           (1 + random_below(random, 20));
+           LAST[random_below(random, LENGTH(LAST))];
 }
 
 uint32_t world_multicast(const struct world *world, struct random *random)
