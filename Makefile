@@ -30,10 +30,11 @@ HEADERS := $(wildcard include/*.h host/*.h host/plain/*.h)
 # `make test` goes through its parts in this order, whatever -j says.
 .NOTPARALLEL:
 .DELETE_ON_ERROR:
-.PHONY: test archive replay plain compare clean prepare format header readme \
-	host-tests promises gate
+.PHONY: test archive replay plain compare clean prepare format exports header \
+	readme host-tests promises gate
 
-test: prepare format archive header readme host-tests compare promises gate
+test: prepare format archive exports header readme host-tests compare promises \
+	gate
 
 archive: $(ARCHIVE)
 replay: build/replay
@@ -70,6 +71,10 @@ build/calls: tests/calls.c $(ARCHIVE) $(HEADERS) scripts/emulated | prepare
 	$(link) tests/calls.c $(ARCHIVE)
 	$(emulate)
 
+build/relay_calls: tests/relay_calls.c $(ARCHIVE) $(HEADERS) scripts/emulated | prepare
+	$(link) tests/relay_calls.c $(ARCHIVE)
+	$(emulate)
+
 build/readme.c: README.md scripts/readme-program | prepare
 	@mkdir -p build
 	scripts/readme-program $@ build/readme.expected
@@ -84,9 +89,9 @@ build/plain: host/plain/plain.c $(PLAIN) $(HEADERS) | prepare
 	@mkdir -p build
 	gcc $(CFLAGS) -o $@ host/plain/plain.c $(PLAIN)
 
-build/test_plain: host/plain/test_plain.c $(PLAIN) $(HEADERS) | prepare
+build/test_%: host/plain/test_%.c $(PLAIN) $(HEADERS) | prepare
 	@mkdir -p build
-	gcc $(CFLAGS) -o $@ host/plain/test_plain.c $(PLAIN)
+	gcc $(CFLAGS) -o $@ $< $(PLAIN)
 
 build/generate: $(GENERATE) $(HEADERS) | prepare
 	@mkdir -p build
@@ -102,6 +107,9 @@ build/ledger: $(LEDGER) $(HEADERS) | prepare
 
 # ---- Tests
 
+exports: $(ARCHIVE) | prepare
+	scripts/check-exports $(ARCHIVE)
+
 header: | prepare
 	gcc -std=c99 $(STRICT) -Iinclude -fsyntax-only tests/header_clean.c
 	g++ -std=c++11 $(STRICT) -Iinclude -fsyntax-only -x c++ tests/header_clean.c
@@ -110,9 +118,12 @@ readme: build/readme
 	build/readme > build/readme.output
 	cmp build/readme.output build/readme.expected
 
-host-tests: build/calls build/test_plain build/replay build/plain
+host-tests: build/calls build/relay_calls build/test_plain build/test_relay \
+	build/replay build/plain
 	build/calls
+	build/relay_calls
 	build/test_plain
+	build/test_relay
 	scripts/check-traces build/replay build/plain
 	python3 tests/test_scripts.py
 

@@ -300,11 +300,12 @@ class Gate(Tree):
 
 
 class Compare(Tree):
-    """scripts/compare with stand-ins for the four programs."""
+    """scripts/compare with stand-ins for the five programs."""
 
-    def compare(self, replay="cat", coverage="cat >/dev/null"):
+    def compare(self, replay="cat", coverage="cat >/dev/null", ledger="cat >/dev/null"):
         self.copy_script("compare")
-        programs = {"generate": "echo a; echo b", "plain": "cat", "replay": replay, "coverage": coverage}
+        programs = {"generate": "echo a; echo b", "plain": "cat", "replay": replay}
+        programs |= {"coverage": coverage, "ledger": ledger}
         for name, body in programs.items():
             self.write(f"build/{name}", f"#!/bin/sh\n{body}\n", 0o755)
         return self.run_script(os.path.join(self.root, "scripts/compare"))
@@ -328,8 +329,66 @@ class Compare(Tree):
     def test_a_program_that_fails(self):
         self.assertNotEqual(self.compare(replay="cat; exit 1")[0], 0)
 
+    def test_books_that_do_not_balance(self):
+        self.assertNotEqual(self.compare(ledger="cat >/dev/null; exit 1")[0], 0)
+
     def test_something_not_reached(self):
         self.assertNotEqual(self.compare(coverage="cat >/dev/null; exit 1")[0], 0)
+
+
+HEADER = """/* hj_old(int); was here. */
+static inline int hj_part(int answer)
+{
+    return answer;
+}
+
+/*
+ *     hj_class(1);
+ */
+int hj_class(int address);
+int hj_take(int port,
+            int more);
+"""
+
+
+class Exports(Tree):
+    """scripts/check-exports with stand-ins for nm."""
+
+    def check(self, symbols, names="hj_class\nhj_take\n", header=HEADER):
+        self.copy_script("check-exports")
+        self.write("exports.txt", names)
+        self.write("include/harpjuniper.h", header)
+        shown = "".join(f"echo '{symbol}'\n" for symbol in symbols)
+        for nm in ("nm", "x86_64-linux-gnu-nm"):
+            self.write(f"bin/{nm}", f"#!/bin/sh\n{shown}", 0o755)
+        path = os.path.join(self.root, "bin") + os.pathsep + os.environ["PATH"]
+        return self.run_script(os.path.join(self.root, "scripts/check-exports"), path=path)
+
+    GOOD = ("", "a.o:", "0000 T hj_class", "0010 T hj_take", "0020 T rt_other")
+
+    def refused(self, says, *words, **more):
+        status, output = self.check(*words, **more)
+        self.assertEqual(status, 1, output)
+        self.assertIn(says, output)
+
+    def test_the_list(self):
+        self.assertEqual(self.check(self.GOOD), (0, "check-exports: 2 functions\n"))
+
+    def test_a_function_too_many(self):
+        self.refused("> hj_put", self.GOOD + ("0030 T hj_put",))
+
+    def test_a_function_too_few(self):
+        self.refused("< hj_take", self.GOOD[:3])
+
+    def test_something_that_is_no_code(self):
+        self.refused("D hj_table", self.GOOD + ("0030 D hj_table",))
+
+    def test_a_list_that_is_not_sorted(self):
+        self.refused("not sorted", self.GOOD, names="hj_take\nhj_class\n")
+
+    def test_another_header(self):
+        self.refused("> hj_put", self.GOOD, header=HEADER + "int hj_put(void);\n")
+        self.refused("< hj_take", self.GOOD, header=HEADER[:HEADER.index("int hj_take")])
 
 
 class Prepare(Tree):
