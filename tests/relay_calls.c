@@ -24,8 +24,8 @@ static void expect(bool holds, const char *what)
     }
 }
 
-/* A good datagram to 192.0.2.1, and one to the group 224.0.0.1. */
-static const uint8_t routed[] = {0x20, 12, 0x1a, 0x41, 192, 0, 2, 1,
+/* A good datagram to 192.0.9.1, and one to the group 224.0.0.1. */
+static const uint8_t routed[] = {0x20, 12, 0x1a, 0x41, 192, 0, 9, 1,
                                  10,   10, 0,    4};
 static const uint8_t grouped[] = {0x20, 12, 0x1a, 0x41, 224, 0, 0, 1,
                                   10,   10, 0,    4};
@@ -264,7 +264,7 @@ static void check_dropped(void)
 
 static void check_taken(void)
 {
-    static uint8_t urgent[] = {0x20, 13, 0x1a, 0x43, 192, 0, 2,
+    static uint8_t urgent[] = {0x20, 13, 0x1a, 0x43, 192, 0, 9,
                                1,    10, 10,   0,    4,   0xf0};
     hj_answer taken;
 
