@@ -5,6 +5,7 @@
 #   make replay    build/replay, which answers a trace by the library
 #   make plain     build/plain, which answers it by the independent C program
 #   make compare   the two of them on a generated trace
+#   make bench     instructions per call and stack, of the two of them
 #   make clean     removes build/ and target/
 #
 # Everything that is made stands in build/. The archive is x86-64 code, and so is
@@ -24,13 +25,14 @@ GENERATE := $(addprefix host/,generate.c generate_header.c generate_build.c \
 COVERAGE := $(addprefix host/,coverage.c coverage_relay.c view.c arriving.c \
 	answered.c settings.c trace.c)
 LEDGER := $(addprefix host/,ledger.c arriving.c answered.c trace.c)
+BENCH := $(addprefix host/,bench.c bench_ours.c bench_plain.c painted.c trace.c)
 PLAIN := $(wildcard host/plain/plain_*.c)
 HEADERS := $(wildcard include/*.h host/*.h host/plain/*.h)
 
 # `make test` goes through its parts in this order, whatever -j says.
 .NOTPARALLEL:
 .DELETE_ON_ERROR:
-.PHONY: test archive replay plain compare clean prepare format exports header \
+.PHONY: test archive replay plain compare bench clean prepare format exports header \
 	readme host-tests promises gate
 
 test: prepare format archive exports header readme host-tests compare promises \
@@ -73,6 +75,10 @@ build/calls: tests/calls.c $(ARCHIVE) $(HEADERS) scripts/emulated | prepare
 
 build/relay_calls: tests/relay_calls.c $(ARCHIVE) $(HEADERS) scripts/emulated | prepare
 	$(link) tests/relay_calls.c $(ARCHIVE)
+	$(emulate)
+
+build/bench: $(BENCH) $(PLAIN) $(ARCHIVE) $(HEADERS) scripts/emulated | prepare
+	$(link) $(BENCH) $(PLAIN) $(ARCHIVE)
 	$(emulate)
 
 build/readme.c: README.md scripts/readme-program | prepare
@@ -129,6 +135,9 @@ host-tests: build/calls build/relay_calls build/test_plain build/test_relay \
 
 compare: build/generate build/plain build/replay build/coverage build/ledger
 	scripts/compare
+
+bench: build/bench
+	@scripts/bench
 
 promises: | prepare
 	scripts/check-promises
