@@ -20,8 +20,8 @@ ARCHIVE := build/libharpjuniper.a
 REPLAY := $(addprefix host/,replay.c words_header.c words_relay.c \
 	lent.c lent_state.c trace.c text.c)
 GENERATE := $(addprefix host/,generate.c generate_header.c generate_build.c \
-	history.c history_settings.c history_arrivals.c world.c datagram.c \
-	form.c settings.c text.c)
+	history.c history_ports.c history_settings.c history_arrivals.c world.c \
+	datagram.c form.c settings.c text.c)
 COVERAGE := $(addprefix host/,coverage.c coverage_relay.c view.c arriving.c \
 	answered.c settings.c trace.c)
 LEDGER := $(addprefix host/,ledger.c arriving.c answered.c trace.c)

@@ -2,7 +2,8 @@
  * coverage: reads an answered trace and says how often each answer and each
  * element was reached in it.
  *
- *     coverage headers=N builds=N addresses=N checksums=N histories=N < ANSWERED
+ *     coverage headers=N builds=N addresses=N checksums=N histories=N
+ *              < ANSWERED
  *
  * It prints a table, and fails (status 1) where something was reached under 100
  * times, where fewer calls ran than stated, or where a line holds no answer or

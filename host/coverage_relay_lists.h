@@ -1,7 +1,7 @@
 /*
- * coverage_relay_lists.h: what coverage counts of the relay's calls. Each row is
- * a name and a condition over one answered line; the line counts for the row
- * where it holds. `r` is a receipt, `s` a setting, `v` the view before the call.
+ * coverage_relay_lists.h: what coverage counts of the relay's calls. Each row
+ * is a name and a condition over one answered line; the line counts for the row
+ * where it holds. `r` is a receipt, `s` a setting, `v` the view before it.
  */
 #ifndef COVERAGE_RELAY_LISTS_H
 #define COVERAGE_RELAY_LISTS_H
@@ -126,10 +126,12 @@ static inline bool set_up_port(const struct view *v, uint32_t port)
         BY("route") && r->onward == 1 &&                                      \
             r->named.route->mask == 0xffffffff)                               \
     ROW("route: 11, none", BY("route") && r->onward == 11)                    \
-    ROW("route: 12, down", r->onward == 12 && r->named.route->availability == 2) \
+    ROW("route: 12, down",                                                    \
+        r->onward == 12 && r->named.route->availability == 2)                 \
     ROW("route: 12, testing",                                                 \
         r->onward == 12 && r->named.route->availability == 3)                 \
-    ROW("route: 12, out", r->onward == 12 && r->named.route->availability == 4) \
+    ROW("route: 12, out",                                                     \
+        r->onward == 12 && r->named.route->availability == 4)                 \
     ROW("route: a broadcast that is not ours",                                \
         BY("route") && r->onward == 1 && r->named.destination % 256 == 255)
 
@@ -164,7 +166,8 @@ static inline bool set_up_port(const struct view *v, uint32_t port)
     ROW("sent on, a port struck out by its MTU",                              \
         r->onward == 1 &&                                                     \
             (r->wanted & r->small & ~r->foreign & ~r->took) != 0)             \
-    ROW("15, one copy", r->onward == 15 && (r->wanted & (r->wanted - 1)) == 0) \
+    ROW("15, one copy",                                                       \
+        r->onward == 15 && (r->wanted & (r->wanted - 1)) == 0)                \
     ROW("15, two copies or more",                                             \
         r->onward == 15 && (r->wanted & (r->wanted - 1)) != 0)                \
     ROW("sent on, another port full",                                         \

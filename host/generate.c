@@ -139,7 +139,7 @@ int main(int count, char **arguments)
         [BUILDS] = {"builds", 100000},
         [ADDRESSES] = {"addresses", 200000},
         [CHECKSUMS] = {"checksums", 30000},
-        [HISTORIES] = {"histories", 4000},
+        [HISTORIES] = {"histories", 3600},
     };
     struct random random;
 

@@ -85,7 +85,8 @@ static void make_zero_due(struct datagram *datagram, struct random *random)
     rest = form_checksum(datagram->octets, datagram->header - 2);
     datagram->octets[at + at % 2] = (uint8_t)(rest >> 8);
     datagram->octets[at + 1 - at % 2] = (uint8_t)rest;
-    datagram_carry_checksum(datagram, random_one_in(random, 2) ? 0x0000 : 0xffff);
+    datagram_carry_checksum(datagram,
+                            random_one_in(random, 2) ? 0x0000 : 0xffff);
 }
 
 static void make_random(struct datagram *datagram, struct random *random)

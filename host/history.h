@@ -8,12 +8,16 @@
 #include "random.h"
 #include "world.h"
 
-/* history_settings.c: a good setting, or one that is to be refused. */
-void history_set_router(uint32_t router);
+/* history_ports.c: a good setting, or one that is to be refused. */
 void history_set_port(struct world *world, uint32_t port,
                       struct random *random);
+void history_refused_port(struct world *world, struct random *random);
 void history_set_route(struct world *world, uint32_t place,
                        struct random *random);
+void history_refused_route(struct world *world, struct random *random);
+
+/* history_settings.c: good settings. */
+void history_set_router(uint32_t router);
 void history_set_group(struct world *world, uint32_t place,
                        struct random *random);
 void history_set_path(struct world *world, uint32_t place,

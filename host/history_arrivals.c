@@ -17,9 +17,7 @@
 
 #include "datagram.h"
 #include "generate_parts.h"
-
-#define LENGTH(array) ((uint32_t)(sizeof(array) / sizeof *(array)))
-#define PICK(array) (array)[random_below(random, LENGTH(array))]
+#include "history_ways.h"
 
 /* ---- What a datagram is aimed at ----------------------------------------- */
 
@@ -236,7 +234,8 @@ void history_receive(const struct world *world, struct random *random)
     static struct datagram datagram;
     char word[64];
     uint32_t arrival = choose_arrival(world, random);
-    uint32_t slot = random_below(random, random_one_in(random, 2) ? 16 : 65536);
+    uint32_t slots = random_one_in(random, 2) ? 16 : 65536;
+    uint32_t slot = random_below(random, slots);
     uint32_t room = choose_room(random);
 
     choose_form(world, &datagram.form, random);

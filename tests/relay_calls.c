@@ -133,7 +133,7 @@ static void check_words(void)
     expect(memcmp(before, state, sizeof before) == 0, "nothing is written");
 }
 
-/* ---- Fresh, and equal settings are equal states --------------------------- */
+/* ---- Fresh, and equal settings are equal states -------------------------- */
 
 static void check_fresh(void)
 {
