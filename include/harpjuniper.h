@@ -5,7 +5,8 @@
  * behind this header is written in Rattle, and every function of it is proved
  * to give, for each input whatever, the answer that its definition states
  * (docs/PROMISES.md). Nobody has to check an input first: bad input gets a
- * number, and nothing that was lent has then changed.
+ * number, and nothing that was lent has then changed, but for the counters of a
+ * relay that received it.
  *
  * What the caller keeps, since no proof can see across the call:
  *   - a pointer is good for as many octets or words as the count that goes
@@ -14,8 +15,8 @@
  *   - two pieces lent to one call do not overlap;
  *   - one call at a time works on a state, in whatever thread;
  *   - a state is given back as the last call left it. With other words in it
- *     a call still ends in an answer, which docs/DECISIONS.md lists, but no
- *     law about histories speaks of it.
+ *     a call still ends in an answer, which docs/ lists, but no law about
+ *     histories speaks of it.
  *
  * The library allocates nothing, keeps nothing between calls, and never waits.
  *
