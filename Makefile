@@ -125,12 +125,13 @@ readme: build/readme
 	cmp build/readme.output build/readme.expected
 
 host-tests: build/calls build/relay_calls build/test_plain build/test_relay \
-	build/replay build/plain
+	build/replay build/plain build/ledger
 	build/calls
 	build/relay_calls
 	build/test_plain
 	build/test_relay
 	scripts/check-traces build/replay build/plain
+	python3 tests/test_ledger.py
 	python3 tests/test_scripts.py
 
 compare: build/generate build/plain build/replay build/coverage build/ledger

@@ -134,7 +134,7 @@ static uint32_t wanted_ports(const struct receipt *r)
     if (strcmp(r->line, "path") == 0 && r->named.path != NULL)
         return r->named.path->send & r->named.others;
     if (strcmp(r->line, "route") == 0 && r->named.route != NULL)
-        return 1u << r->named.route->port;
+        return 1u << r->named.route->port % VIEW_PORTS;
     return 0;
 }
 
@@ -173,7 +173,7 @@ static void count_receipt(const struct receipt *r)
     uint64_t *reached = tally.of_refused;
 
     REFUSED_RECEIPT_LIST(COUNT)
-    if (r->refusal == 0)
+    if (r->refusal == 0 && r->arrival < VIEW_PORTS)
         count_halves(r);
 }
 
@@ -198,7 +198,7 @@ static bool read_receipt(const struct trace_call *call,
     r.wanted = wanted_ports(&r);
     look_at_ports(&r);
     count_receipt(&r);
-    return true;
+    return r.refusal != 0 || r.arrival < VIEW_PORTS;
 }
 
 /* ---- Other calls --------------------------------------------------------- */

@@ -26,6 +26,27 @@ struct asked {
     uint32_t n[6];
 };
 
+/* The route and the group that were found; an empty one where none was, which
+ * an answer that is wrong may come to. */
+static inline const struct view_route *route_of(const struct receipt *r)
+{
+    static const struct view_route none;
+
+    return r->named.route != NULL ? r->named.route : &none;
+}
+
+static inline uint32_t route_mtu(const struct view *v, const struct receipt *r)
+{
+    return v->ports[route_of(r)->port % VIEW_PORTS].mtu;
+}
+
+static inline const struct view_group *group_of(const struct receipt *r)
+{
+    static const struct view_group none;
+
+    return r->named.group != NULL ? r->named.group : &none;
+}
+
 static inline bool set_up_port(const struct view *v, uint32_t port)
 {
     return port < VIEW_PORTS && (v->set_up >> port & 1) != 0;
@@ -101,7 +122,7 @@ static inline bool set_up_port(const struct view *v, uint32_t port)
         BY("multicast") && (r->took & (r->took - 1)) != 0)                    \
     ROW("multicast: sent on, the arrival port in the set",                    \
         BY("multicast") && r->onward == 1 &&                                  \
-            (r->named.group->send >> r->arrival & 1) != 0)                    \
+            (group_of(r)->send >> r->arrival & 1) != 0)                       \
     ROW("multicast: not asked, subscribed and no other port",                 \
         BY("multicast") && r->onward == 0)                                    \
     ROW("multicast: 11, no group",                                            \
@@ -121,17 +142,17 @@ static inline bool set_up_port(const struct view *v, uint32_t port)
     ROW("route: sent on by the arrival port",                                 \
         BY("route") && (r->took >> r->arrival & 1) != 0)                      \
     ROW("route: sent on by the default route",                                \
-        BY("route") && r->onward == 1 && r->named.route->mask == 0)           \
+        BY("route") && r->onward == 1 && route_of(r)->mask == 0)              \
     ROW("route: sent on by a route of 32 ones",                               \
         BY("route") && r->onward == 1 &&                                      \
-            r->named.route->mask == 0xffffffff)                               \
+            route_of(r)->mask == 0xffffffff)                                  \
     ROW("route: 11, none", BY("route") && r->onward == 11)                    \
     ROW("route: 12, down",                                                    \
-        r->onward == 12 && r->named.route->availability == 2)                 \
+        r->onward == 12 && route_of(r)->availability == 2)                    \
     ROW("route: 12, testing",                                                 \
-        r->onward == 12 && r->named.route->availability == 3)                 \
+        r->onward == 12 && route_of(r)->availability == 3)                    \
     ROW("route: 12, out",                                                     \
-        r->onward == 12 && r->named.route->availability == 4)                 \
+        r->onward == 12 && route_of(r)->availability == 4)                    \
     ROW("route: a broadcast that is not ours",                                \
         BY("route") && r->onward == 1 && r->named.destination % 256 == 255)
 
@@ -155,12 +176,12 @@ static inline bool set_up_port(const struct view *v, uint32_t port)
     ROW("14, route", r->onward == 14 && BY("route"))                          \
     ROW("14, one octet over the MTU",                                         \
         r->onward == 14 && BY("route") &&                                     \
-            v->ports[r->named.route->port].mtu + 1 == r->datagram.length)     \
+            route_mtu(v, r) + 1 == r->datagram.length)                        \
     ROW("14, length 8,191",                                                   \
         r->onward == 14 && r->datagram.length == 8191)                        \
     ROW("sent on, of the MTU's length",                                       \
         r->onward == 1 && BY("route") &&                                      \
-            v->ports[r->named.route->port].mtu == r->datagram.length)         \
+            route_mtu(v, r) == r->datagram.length)                            \
     ROW("sent on, length 8,191",                                              \
         r->onward == 1 && r->datagram.length == 8191)                         \
     ROW("sent on, a port struck out by its MTU",                              \
@@ -198,7 +219,7 @@ static inline bool set_up_port(const struct view *v, uint32_t port)
 
 #define ROUTE_LIST(ROW)                                                       \
     ROW("set_route: 0, over what stood there",                                \
-        s->number == 0 && v->routes[s->n[0]].filled)                          \
+        s->number == 0 && v->routes[s->n[0] % VIEW_ROUTES].filled)            \
     ROW("set_route: 21, place 64", s->number == 21 && s->n[0] == 64)          \
     ROW("set_route: 21, port 8", s->number == 21 && s->n[3] == 8)             \
     ROW("set_route: 21, port not set up",                                     \

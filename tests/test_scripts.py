@@ -391,6 +391,54 @@ class Exports(Tree):
         self.refused("< hj_take", self.GOOD, header=HEADER[:HEADER.index("int hj_take")])
 
 
+class Bench(Tree):
+    """scripts/bench with stand-ins for the emulator, nm and the program."""
+
+    CALLS = r"nothing\tnothing\ntake\tplain\ntake\tours\n"
+    STACK = r"nothing\tnothing\t100\ntake\tplain\t140\ntake\tours\t160\n"
+
+    def bench(self, log, count=CALLS, status=0):
+        """The log has the addresses of the instructions, b and e for the marks."""
+        self.copy_script("bench")
+        self.write("bench/mix.trace", "new\n")
+        self.write("build/bench", "")
+        places = {"b": "10", "e": "20"}
+        lines = [f"Trace 0: 0x1 [0/{places.get(at, at)}/0/0] x" for at in log]
+        self.write("log", "Linking\n" + "\n".join(lines) + "\n")
+        self.write("bin/qemu-x86_64", f"""#!/bin/sh
+case "$*" in
+-help) echo -one-insn-per-tb ;;
+--version) echo qemu 1 ;;
+*state) echo ours 8; echo plain 4 ;;
+*stack) printf '{self.STACK}' ;;
+*count) cat {self.root}/log >"$5"; printf '{count}'; exit {status} ;;
+esac
+""", 0o755)
+        for nm in ("nm", "x86_64-linux-gnu-nm"):
+            self.write(f"bin/{nm}", "#!/bin/sh\necho 10 T bench_begin\necho 20 T bench_end\n", 0o755)
+        for tool in ("sh", "cat", "python3", "env"):
+            os.symlink(shutil.which(tool), os.path.join(self.root, "bin", tool))
+        return self.run_script(os.path.join(self.root, "scripts/bench"), path=os.path.join(self.root, "bin"))
+
+    def test_what_lies_between_the_marks_is_counted(self):
+        status, output = self.bench("77b1e77b1234e77b123456789e")
+        self.assertEqual(status, 0, output)
+        rows = [line.split() for line in output.splitlines()]
+        self.assertIn(["take", "1", "8", "3", "2.67", "1.00", "1.00"], rows)
+        self.assertIn(["state,", "octets", "8", "4"], rows)
+        self.assertIn("stack of the deepest call, octets           60       40   (take; take)", output)
+
+    def test_a_measure_is_missing(self):
+        status, output = self.bench("b1eb1234e")
+        self.assertEqual(status, 1, output)
+        self.assertIn("3 calls, 2 measures", output)
+
+    def test_a_program_that_fails(self):
+        status, output = self.bench("b1e", count=r"nothing\tnothing\nbench: FAILED: take 1\n", status=1)
+        self.assertEqual(status, 1, output)
+        self.assertIn("bench: FAILED: take 1", output)
+
+
 class Prepare(Tree):
     """scripts/prepare on machines that lack something."""
 
