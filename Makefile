@@ -5,6 +5,7 @@
 #   make replay    build/replay, which answers a trace by the library
 #   make plain     build/plain, which answers it by the independent C program
 #   make compare   the two of them on a generated trace
+#   make bench     instructions per call and stack, of the two of them
 #   make clean     removes build/ and target/
 #
 # Everything that is made stands in build/. The archive is x86-64 code, and so is
@@ -16,19 +17,26 @@ STRICT := -Wall -Wextra -Wpedantic -Werror
 CFLAGS := -std=c99 -O2 $(STRICT)
 
 ARCHIVE := build/libharpjuniper.a
-REPLAY := $(addprefix host/,replay.c words_header.c lent.c trace.c text.c)
-GENERATE := $(addprefix host/,generate.c generate_build.c form.c settings.c text.c)
-COVERAGE := $(addprefix host/,coverage.c settings.c trace.c)
+REPLAY := $(addprefix host/,replay.c words_header.c words_relay.c \
+	lent.c lent_state.c trace.c text.c)
+GENERATE := $(addprefix host/,generate.c generate_header.c generate_build.c \
+	history.c history_ports.c history_settings.c history_arrivals.c world.c \
+	datagram.c form.c settings.c text.c)
+COVERAGE := $(addprefix host/,coverage.c coverage_relay.c view.c arriving.c \
+	answered.c settings.c trace.c)
+LEDGER := $(addprefix host/,ledger.c arriving.c answered.c trace.c)
+BENCH := $(addprefix host/,bench.c bench_ours.c bench_plain.c painted.c trace.c)
 PLAIN := $(wildcard host/plain/plain_*.c)
 HEADERS := $(wildcard include/*.h host/*.h host/plain/*.h)
 
 # `make test` goes through its parts in this order, whatever -j says.
 .NOTPARALLEL:
 .DELETE_ON_ERROR:
-.PHONY: test archive replay plain compare clean prepare format header readme \
-	host-tests promises gate
+.PHONY: test archive replay plain compare bench clean prepare format exports header \
+	readme host-tests promises gate
 
-test: prepare format archive header readme host-tests compare promises gate
+test: prepare format archive exports header readme host-tests compare promises \
+	gate
 
 archive: $(ARCHIVE)
 replay: build/replay
@@ -65,6 +73,14 @@ build/calls: tests/calls.c $(ARCHIVE) $(HEADERS) scripts/emulated | prepare
 	$(link) tests/calls.c $(ARCHIVE)
 	$(emulate)
 
+build/relay_calls: tests/relay_calls.c $(ARCHIVE) $(HEADERS) scripts/emulated | prepare
+	$(link) tests/relay_calls.c $(ARCHIVE)
+	$(emulate)
+
+build/bench: $(BENCH) $(PLAIN) $(ARCHIVE) $(HEADERS) scripts/emulated | prepare
+	$(link) $(BENCH) $(PLAIN) $(ARCHIVE)
+	$(emulate)
+
 build/readme.c: README.md scripts/readme-program | prepare
 	@mkdir -p build
 	scripts/readme-program $@ build/readme.expected
@@ -79,9 +95,9 @@ build/plain: host/plain/plain.c $(PLAIN) $(HEADERS) | prepare
 	@mkdir -p build
 	gcc $(CFLAGS) -o $@ host/plain/plain.c $(PLAIN)
 
-build/test_plain: host/plain/test_plain.c $(PLAIN) $(HEADERS) | prepare
+build/test_%: host/plain/test_%.c $(PLAIN) $(HEADERS) | prepare
 	@mkdir -p build
-	gcc $(CFLAGS) -o $@ host/plain/test_plain.c $(PLAIN)
+	gcc $(CFLAGS) -o $@ $< $(PLAIN)
 
 build/generate: $(GENERATE) $(HEADERS) | prepare
 	@mkdir -p build
@@ -91,7 +107,14 @@ build/coverage: $(COVERAGE) $(HEADERS) | prepare
 	@mkdir -p build
 	gcc $(CFLAGS) -o $@ $(COVERAGE)
 
+build/ledger: $(LEDGER) $(HEADERS) | prepare
+	@mkdir -p build
+	gcc $(CFLAGS) -o $@ $(LEDGER)
+
 # ---- Tests
+
+exports: $(ARCHIVE) | prepare
+	scripts/check-exports $(ARCHIVE)
 
 header: | prepare
 	gcc -std=c99 $(STRICT) -Iinclude -fsyntax-only tests/header_clean.c
@@ -101,14 +124,21 @@ readme: build/readme
 	build/readme > build/readme.output
 	cmp build/readme.output build/readme.expected
 
-host-tests: build/calls build/test_plain build/replay build/plain
+host-tests: build/calls build/relay_calls build/test_plain build/test_relay \
+	build/replay build/plain build/ledger
 	build/calls
+	build/relay_calls
 	build/test_plain
+	build/test_relay
 	scripts/check-traces build/replay build/plain
+	python3 tests/test_ledger.py
 	python3 tests/test_scripts.py
 
-compare: build/generate build/plain build/replay build/coverage
+compare: build/generate build/plain build/replay build/coverage build/ledger
 	scripts/compare
+
+bench: build/bench
+	@scripts/bench
 
 promises: | prepare
 	scripts/check-promises

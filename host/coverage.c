@@ -2,7 +2,8 @@
  * coverage: reads an answered trace and says how often each answer and each
  * element was reached in it.
  *
- *     coverage headers=N builds=N addresses=N checksums=N < ANSWERED
+ *     coverage headers=N builds=N addresses=N checksums=N histories=N
+ *              < ANSWERED
  *
  * It prints a table, and fails (status 1) where something was reached under 100
  * times, where fewer calls ran than stated, or where a line holds no answer or
@@ -10,24 +11,27 @@
  * would show nothing; this is what says that it did not.
  *
  * What is counted stands in the three lists of coverage_lists.h, each row a
- * name and the condition that counts a line for it.
+ * name and the condition that counts a line for it; for the relay's words, in
+ * coverage_relay.c and its list.
  */
-#define _POSIX_C_SOURCE 200809L
-
 #include <inttypes.h>
 #include <stdio.h>
-#include <stdlib.h>
 #include <string.h>
 
+#include "coverage.h"
 #include "coverage_lists.h"
 #include "settings.h"
 #include "trace.h"
 
-#define LEAST 100
-
 static bool failed;
 
-static void say_row(const char *name, uint64_t reached, uint64_t least)
+void say_failed(const char *what)
+{
+    printf("coverage: %s\n", what);
+    failed = true;
+}
+
+void say_row(const char *name, uint64_t reached, uint64_t least)
 {
     bool enough = reached >= least;
 
@@ -50,22 +54,9 @@ static void say_least(const char *name, const uint64_t *reached, size_t count)
     say_row(row, reached[least], LEAST);
 }
 
-/* The value of a word that must be a number, at most so large. */
-static uint64_t number_up_to(uint64_t most, struct trace_word word)
-{
-    uint64_t number;
-
-    if (!trace_number(word, most, &number)) {
-        fprintf(stderr, "coverage: not a number to %" PRIu64 ": %.*s\n", most,
-                (int)word.length, word.text);
-        exit(1);
-    }
-    return number;
-}
-
 static uint64_t number_of(struct trace_word word)
 {
-    return number_up_to(UINT64_MAX, word);
+    return answered_number(UINT64_MAX, word);
 }
 
 static bool is_present(struct trace_word word)
@@ -117,8 +108,6 @@ static const char *const READ_NAMES[] = {READ_LIST(NAME)};
 static const char *const REFUSED_NAMES[] = {REFUSED_LIST(NAME)};
 static const char *const BUILD_NAMES[] = {BUILD_LIST(NAME)};
 
-#define LENGTH(array) (sizeof(array) / sizeof *(array))
-
 static struct {
     uint64_t read[6];
     uint64_t build[21];
@@ -154,7 +143,7 @@ static void count_read(const struct trace_call *call,
 {
     static uint8_t octets[TRACE_MOST_OCTETS];
     struct lent lent = {octets, 0};
-    uint64_t refusal = number_up_to(5, answer->words[0]);
+    uint64_t refusal = answered_number(5, answer->words[0]);
     uint64_t *reached = tally.of_refused;
 
     memset(octets, 0, 5);
@@ -170,7 +159,7 @@ static void count_read(const struct trace_call *call,
 static void count_build(const struct trace_call *call,
                         const struct trace_call *answer)
 {
-    uint64_t refusal = number_up_to(20, answer->words[0]);
+    uint64_t refusal = answered_number(20, answer->words[0]);
     uint64_t header = answer->words[1].length / 2;
     uint64_t data = number_of(call->words[1]);
     uint64_t room = number_of(call->words[2]);
@@ -185,14 +174,14 @@ static void count_class(const struct trace_call *call,
                         const struct trace_call *answer)
 {
     (void)call;
-    tally.class[number_up_to(6, answer->words[0])]++;
+    tally.class[answered_number(6, answer->words[0])]++;
 }
 
 static void count_path(const struct trace_call *call,
                        const struct trace_call *answer)
 {
     (void)call;
-    tally.path[number_up_to(1, answer->words[0])]++;
+    tally.path[answered_number(1, answer->words[0])]++;
 }
 
 static void count_checksum(const struct trace_call *call,
@@ -219,53 +208,16 @@ static const struct {
              {"class", count_class}, {"path", count_path},
              {"checksum", count_checksum}};
 
-static bool cut_answered(const char *line, size_t length,
-                         struct trace_call *call, struct trace_call *answer)
+static bool count_line(const struct trace_call *call,
+                       const struct trace_call *answer)
 {
-    const char *end = line + length;
-    const char *rest;
-
-    if (trace_cut(line, length, call) != TRACE_CALL)
-        return false;
-    rest = call->words[call->count - 1].text +
-           call->words[call->count - 1].length;
-    if (end - rest < 3 || memcmp(rest, " = ", 3) != 0)
-        return false;
-    return trace_cut(rest + 3, (size_t)(end - rest) - 3, answer) ==
-               TRACE_CALL &&
-           !trace_is(answer->words[answer->count - 1], "!");
-}
-
-static bool count_line(const char *line, size_t length)
-{
-    struct trace_call call, answer;
-
-    if (!cut_answered(line, length, &call, &answer))
-        return false;
     for (size_t i = 0; i < LENGTH(WORDS); i++) {
-        if (trace_is(call.words[0], WORDS[i].word)) {
-            WORDS[i].count(&call, &answer);
+        if (trace_is(call->words[0], WORDS[i].word)) {
+            WORDS[i].count(call, answer);
             return true;
         }
     }
-    return false;
-}
-
-static void count_lines(void)
-{
-    char *line = NULL;
-    size_t room = 0;
-    ssize_t got;
-
-    while ((got = getline(&line, &room, stdin)) > 0) {
-        size_t length = (size_t)got - (line[got - 1] == '\n');
-
-        if (!count_line(line, length)) {
-            printf("no good answer: %.*s\n", (int)length, line);
-            failed = true;
-        }
-    }
-    free(line);
+    return count_relay_line(call, answer);
 }
 
 /* ---- The table ----------------------------------------------------------- */
@@ -279,16 +231,14 @@ static uint64_t sum_of(const uint64_t *numbers, size_t count)
     return sum;
 }
 
-static void say_list(const char *const *names, const uint64_t *reached,
-                     size_t count)
+void say_list(const char *const *names, const uint64_t *reached, size_t count)
 {
     for (size_t i = 0; i < count; i++)
         say_row(names[i], reached[i], LEAST);
 }
 
-/* The answers to a word, by their numbers; one without a name is no answer. */
-static void say_answers(const char *const *names, const uint64_t *reached,
-                        size_t count)
+void say_answers(const char *const *names, const uint64_t *reached,
+                 size_t count)
 {
     for (size_t i = 0; i < count; i++) {
         if (names[i] != NULL) {
@@ -348,31 +298,37 @@ static void say_checksums(void)
     say_row("of over 200 octets", tally.longer, LEAST);
 }
 
-enum { HEADERS, BUILDS, ADDRESSES, CHECKSUMS, SETTINGS };
+enum { HEADERS, BUILDS, ADDRESSES, CHECKSUMS, HISTORIES, SETTINGS };
 
 int main(int count, char **arguments)
 {
     struct setting stated[SETTINGS] = {[HEADERS] = {"headers", 0},
                                        [BUILDS] = {"builds", 0},
                                        [ADDRESSES] = {"addresses", 0},
-                                       [CHECKSUMS] = {"checksums", 0}};
+                                       [CHECKSUMS] = {"checksums", 0},
+                                       [HISTORIES] = {"histories", 0}};
 
     if (count != 1 + SETTINGS ||
         !settings_take(stated, SETTINGS, arguments + 1)) {
-        fputs("coverage: headers=N builds=N addresses=N checksums=N\n",
+        fputs("coverage: headers=N builds=N addresses=N checksums=N "
+              "histories=N\n",
               stderr);
         return 2;
     }
-    count_lines();
+    if (!answered_lines(count_line))
+        say_failed("some line has no good answer");
     puts("Calls:");
     say_row("read", sum_of(tally.read, 6), stated[HEADERS].value);
     say_row("build", sum_of(tally.build, 21), stated[BUILDS].value);
     say_row("class", sum_of(tally.class, 7), stated[ADDRESSES].value);
     say_row("path", sum_of(tally.path, 2), stated[ADDRESSES].value);
     say_row("checksum", tally.checksum, stated[CHECKSUMS].value);
+    say_row("the relay's, 200 a history", relay_calls(),
+            200 * stated[HISTORIES].value);
     say_headers();
     say_addresses();
     say_checksums();
+    say_relay();
     if (failed)
         puts("coverage: FAILED: something above is TOO FEW or has no answer");
     return failed ? 1 : 0;

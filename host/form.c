@@ -15,8 +15,7 @@ static const struct {
     bool has_source;
 } ADDRESS_TYPES[] = {{4, true}, {4, false}, {1, true}, {1, false}, {16, true}};
 
-/* The fewest control octets that these elements can be said in. */
-static unsigned shortest_control(const struct form *form)
+unsigned form_shortest_control(const struct form *form)
 {
     if (form->address_octets == 16 || form->has_expanded || form->intermediate)
         return 3;
@@ -49,7 +48,7 @@ void form_choose(struct form *form, struct random *random)
     form->p_field = (uint8_t)(random_below(random, 256) | (full ? 15 : 0));
     random_octets(random, form->time, 7);
     form->expanded = (uint8_t)random_below(random, 256);
-    form->control_octets = shortest_control(form);
+    form->control_octets = form_shortest_control(form);
 }
 
 unsigned form_time_octets(const struct form *form)

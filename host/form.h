@@ -40,6 +40,9 @@ struct form {
 /* One of the five address types and any of the other elements. */
 void form_choose(struct form *form, struct random *random);
 
+/* The fewest control octets that these elements can be said in. */
+unsigned form_shortest_control(const struct form *form);
+
 /* Octets of the time field; the P-field octet is not among them. */
 unsigned form_time_octets(const struct form *form);
 

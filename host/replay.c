@@ -21,9 +21,24 @@ static const struct meaning {
     size_t arguments;
     answer_word *answer;
 } MEANINGS[] = {
-    {"read", 1, answer_read},         {"build", 16, answer_build},
-    {"class", 1, answer_class},       {"path", 1, answer_path},
+    {"receive", 4, answer_receive},
+    {"take", 1, answer_take},
+    {"read", 1, answer_read},
+    {"build", 16, answer_build},
+    {"class", 1, answer_class},
+    {"path", 1, answer_path},
     {"checksum", 1, answer_checksum},
+    {"new", 0, answer_new},
+    {"set_router", 1, answer_set_router},
+    {"set_port", 4, answer_set_port},
+    {"set_route", 6, answer_set_route},
+    {"set_group", 4, answer_set_group},
+    {"set_path", 4, answer_set_path},
+    {"clear_route", 1, answer_clear_route},
+    {"clear_group", 1, answer_clear_group},
+    {"clear_path", 1, answer_clear_path},
+    {"counters", 0, answer_counters},
+    {"waiting", 1, answer_waiting},
 };
 
 static const struct meaning *meaning_of(const struct trace_call *call)
@@ -48,9 +63,12 @@ static void write_answered(const struct trace_call *call,
                            const struct text *answer)
 {
     for (size_t i = 0; i < call->count; i++) {
+        if (i > 0)
+            putchar(' ');
         fwrite(call->words[i].text, 1, call->words[i].length, stdout);
-        fputs(i + 1 < call->count ? " " : " = ", stdout);
     }
+    if (answer->used > 0)
+        fputs(" = ", stdout);
     fwrite(answer->start, 1, answer->used, stdout);
     putchar('\n');
 }
@@ -62,14 +80,14 @@ static void write_not_understood(const char *line, size_t length)
     putchar('\n');
 }
 
-/* Whether every line was understood. */
+/* Whether every line was understood. The relay is fresh at first. */
 static bool replay(void)
 {
     static struct text answer;
     char *line = NULL;
     size_t room = 0;
     ssize_t got;
-    bool understood = true;
+    bool understood = answer_new(NULL, &answer) && answer.used == 0;
 
     while ((got = getline(&line, &room, stdin)) > 0) {
         size_t length = (size_t)got - (line[got - 1] == '\n');
@@ -93,8 +111,11 @@ static const char HELP[] =
     "Reads calls in the trace form (docs/TRACE.md), one a line, makes each\n"
     "on the library and writes it with the library's answer:\n"
     "    class 0a04090f = 2\n"
-    "Words: read, build, class, path, checksum. Comments and blank lines are\n"
-    "not written. A line that is not understood is answered by `? LINE`.\n"
+    "Words: read, build, class, path, checksum; and on one relay, fresh at\n"
+    "first, new, set_router, set_port, set_route, set_group, set_path,\n"
+    "clear_route, clear_group, clear_path, receive, take, counters, waiting.\n"
+    "Comments and blank lines are not written. A line that is not understood\n"
+    "is answered by `? LINE`.\n"
     "\n"
     "Status: 0 every line was understood; 1 some line was not; 2 bad usage,\n"
     "or the input or the output failed.\n";

@@ -23,4 +23,19 @@ answer_word answer_checksum;
 answer_word answer_read;
 answer_word answer_build;
 
+/* words_relay.c: the relay. answer_new looks at no argument. */
+answer_word answer_new;
+answer_word answer_set_router;
+answer_word answer_set_port;
+answer_word answer_set_route;
+answer_word answer_set_group;
+answer_word answer_set_path;
+answer_word answer_clear_route;
+answer_word answer_clear_group;
+answer_word answer_clear_path;
+answer_word answer_receive;
+answer_word answer_take;
+answer_word answer_counters;
+answer_word answer_waiting;
+
 #endif

@@ -5,27 +5,104 @@
 #include "harpjuniper.h"
 #include "harpjuniper.h"
 
-int header_is_clean(void);
+int header_calls(void);
+int relay_calls(void);
+int setting_calls(void);
+int accessors(void);
+int numbers_are_ordered(void);
 
-int header_is_clean(void)
+int header_calls(void)
 {
     hj_reading (*read)(const uint8_t *, size_t) = hj_read;
     hj_answer (*build)(hj_fields, size_t, uint8_t *, size_t) = hj_build;
     uint32_t (*class_of)(uint32_t) = hj_class;
     uint32_t (*path)(uint32_t) = hj_path;
     uint16_t (*checksum)(const uint8_t *, size_t) = hj_checksum;
-    uint32_t (*refusal)(hj_answer) = hj_refusal;
-    uint32_t (*value)(hj_answer) = hj_value;
-    const int numbers[] = {
-        HJ_OUTPUT_ROOM,      HJ_MOST_DATA,      HJ_DONE,
-        HJ_SHORT,            HJ_BAD_VERSION,    HJ_BAD_LENGTH,
-        HJ_BAD_FORM,         HJ_BAD_CHECKSUM,   HJ_SHORT_OUTPUT,
-        HJ_FIELD_RANGE,      HJ_DATA_TOO_LONG,  HJ_INVALID,
-        HJ_UNICAST,          HJ_MULTICAST,      HJ_NET_BROADCAST,
-        HJ_DOMAIN_BROADCAST, HJ_SCPS_BROADCAST, HJ_LIMITED_BROADCAST,
-        HJ_STAMP_NONE,       HJ_STAMP_IMPLICIT, HJ_STAMP_EXPLICIT,
-        HJ_STAMP_BINARY};
 
-    return read && build && class_of && path && checksum && refusal &&
-           value && numbers[0];
+    return read && build && class_of && path && checksum;
+}
+
+int relay_calls(void)
+{
+    uint32_t (*state_words)(void) = hj_state_words;
+    uint32_t (*fresh)(uint32_t *, size_t) = hj_fresh;
+    hj_verdict (*receive)(uint32_t *, size_t, uint32_t, uint16_t,
+                          const uint8_t *, size_t, uint8_t *,
+                          size_t) = hj_receive;
+    hj_answer (*take)(uint32_t *, size_t, uint32_t) = hj_take;
+    hj_answer (*counter)(const uint32_t *, size_t, uint32_t) = hj_counter;
+    hj_answer (*waiting)(const uint32_t *, size_t, uint32_t) = hj_waiting;
+    hj_answer (*router)(const uint32_t *, size_t) = hj_get_router;
+    hj_port (*port)(const uint32_t *, size_t, uint32_t) = hj_get_port;
+    hj_route (*route)(const uint32_t *, size_t, uint32_t) = hj_get_route;
+    hj_group (*group)(const uint32_t *, size_t, uint32_t) = hj_get_group;
+    hj_path_place (*path)(const uint32_t *, size_t, uint32_t) = hj_get_path;
+
+    return state_words && fresh && receive && take && counter && waiting &&
+           router && port && route && group && path;
+}
+
+int setting_calls(void)
+{
+    typedef uint32_t one(uint32_t *, size_t, uint32_t);
+    typedef uint32_t four(uint32_t *, size_t, uint32_t, uint32_t, uint32_t,
+                          uint32_t);
+    typedef uint32_t six(uint32_t *, size_t, uint32_t, uint32_t, uint32_t,
+                         uint32_t, uint32_t, uint32_t);
+    one *const ones[] = {hj_set_router, hj_clear_route, hj_clear_group,
+                         hj_clear_path};
+    four *const fours[] = {hj_set_port, hj_set_group, hj_set_path};
+    six *route = hj_set_route;
+
+    return ones[0] && fours[0] && route;
+}
+
+int accessors(void)
+{
+    uint32_t (*const of_answer[])(hj_answer) = {hj_refusal, hj_value,
+                                                hj_precedence};
+    uint16_t (*slot)(hj_answer) = hj_slot;
+    uint32_t (*const of_verdict[])(hj_verdict) = {
+        hj_ended_by, hj_local, hj_onward, hj_took, hj_dropped,
+        hj_header_octets};
+
+    return of_answer[0] && slot && of_verdict[0];
+}
+
+int numbers_are_ordered(void)
+{
+    const int limits[] = {HJ_STATE_WORDS, HJ_OUTPUT_ROOM, HJ_MOST_DATA,
+                          HJ_MOST_LENGTH, HJ_PORTS,       HJ_ROUTES,
+                          HJ_GROUPS,      HJ_PATHS,       HJ_QUEUE};
+    const int refusals[] = {
+        HJ_DONE,          HJ_SHORT,         HJ_BAD_VERSION,
+        HJ_BAD_LENGTH,    HJ_BAD_FORM,      HJ_BAD_CHECKSUM,
+        HJ_BAD_ADDRESS,   HJ_NO_DOMAIN,     HJ_NOT_CARRIED,
+        HJ_NOT_FOR_US,    HJ_HOPS_USED_UP,  HJ_NO_ROUTE,
+        HJ_NOT_UP,        HJ_LEAVES_DOMAIN, HJ_TOO_BIG,
+        HJ_QUEUES_FULL,   HJ_NO_PORT,       HJ_SHORT_OUTPUT,
+        HJ_NOTHING_WAITING, HJ_FIELD_RANGE, HJ_DATA_TOO_LONG,
+        HJ_BAD_NUMBER,    HJ_BAD_MASK,      HJ_SAME_ENTRY,
+        HJ_BAD_CODE,      HJ_WRONG_CLASS,   HJ_UNKNOWN_TP_ID,
+        HJ_ENTRIES_WAIT};
+    const int classes[] = {HJ_INVALID,        HJ_UNICAST,
+                           HJ_MULTICAST,      HJ_NET_BROADCAST,
+                           HJ_DOMAIN_BROADCAST, HJ_SCPS_BROADCAST,
+                           HJ_LIMITED_BROADCAST};
+    const int codes[] = {HJ_STAMP_NONE,   HJ_STAMP_IMPLICIT,
+                         HJ_STAMP_EXPLICIT, HJ_STAMP_BINARY,
+                         HJ_UP,           HJ_DOWN,
+                         HJ_TESTING,      HJ_OUT,
+                         HJ_CAPABLE_NONE, HJ_CAPABLE_CHECKSUM,
+                         HJ_CAPABLE_HOP_COUNT, HJ_CAPABLE_BOTH,
+                         HJ_LOCAL_NO,     HJ_DELIVERED,
+                         HJ_NOT_ASKED,    HJ_SENT_ON};
+    const int counters[HJ_COUNTERS] = {
+        HJ_IN_RECEIVES,       HJ_IN_BAD_LENGTH,  HJ_IN_BAD_VERSION,
+        HJ_IN_BAD_ADDRESS,    HJ_IN_BAD_CHECKSUM, HJ_UNSUPPORTED,
+        HJ_IN_ADDR_ERRORS,    HJ_IN_UNKNOWN_PROTOS, HJ_IN_DELIVERS,
+        HJ_FORW_HOP_DISCARD,  HJ_FORW_DATAGRAMS, HJ_OUT_NO_ROUTES,
+        HJ_OUT_DISCARDS,      HJ_LEFT_DOMAIN,    HJ_TOO_BIG_COUNT};
+
+    return limits[0] + refusals[0] + classes[0] + codes[0] + counters[14];
 }

@@ -300,11 +300,12 @@ class Gate(Tree):
 
 
 class Compare(Tree):
-    """scripts/compare with stand-ins for the four programs."""
+    """scripts/compare with stand-ins for the five programs."""
 
-    def compare(self, replay="cat", coverage="cat >/dev/null"):
+    def compare(self, replay="cat", coverage="cat >/dev/null", ledger="cat >/dev/null"):
         self.copy_script("compare")
-        programs = {"generate": "echo a; echo b", "plain": "cat", "replay": replay, "coverage": coverage}
+        programs = {"generate": "echo a; echo b", "plain": "cat", "replay": replay}
+        programs |= {"coverage": coverage, "ledger": ledger}
         for name, body in programs.items():
             self.write(f"build/{name}", f"#!/bin/sh\n{body}\n", 0o755)
         return self.run_script(os.path.join(self.root, "scripts/compare"))
@@ -328,8 +329,114 @@ class Compare(Tree):
     def test_a_program_that_fails(self):
         self.assertNotEqual(self.compare(replay="cat; exit 1")[0], 0)
 
+    def test_books_that_do_not_balance(self):
+        self.assertNotEqual(self.compare(ledger="cat >/dev/null; exit 1")[0], 0)
+
     def test_something_not_reached(self):
         self.assertNotEqual(self.compare(coverage="cat >/dev/null; exit 1")[0], 0)
+
+
+HEADER = """/* hj_old(int); was here. */
+static inline int hj_part(int answer)
+{
+    return answer;
+}
+
+/*
+ *     hj_class(1);
+ */
+int hj_class(int address);
+int hj_take(int port,
+            int more);
+"""
+
+
+class Exports(Tree):
+    """scripts/check-exports with stand-ins for nm."""
+
+    def check(self, symbols, names="hj_class\nhj_take\n", header=HEADER):
+        self.copy_script("check-exports")
+        self.write("exports.txt", names)
+        self.write("include/harpjuniper.h", header)
+        shown = "".join(f"echo '{symbol}'\n" for symbol in symbols)
+        for nm in ("nm", "x86_64-linux-gnu-nm"):
+            self.write(f"bin/{nm}", f"#!/bin/sh\n{shown}", 0o755)
+        path = os.path.join(self.root, "bin") + os.pathsep + os.environ["PATH"]
+        return self.run_script(os.path.join(self.root, "scripts/check-exports"), path=path)
+
+    GOOD = ("", "a.o:", "0000 T hj_class", "0010 T hj_take", "0020 T rt_other")
+
+    def refused(self, says, *words, **more):
+        status, output = self.check(*words, **more)
+        self.assertEqual(status, 1, output)
+        self.assertIn(says, output)
+
+    def test_the_list(self):
+        self.assertEqual(self.check(self.GOOD), (0, "check-exports: 2 functions\n"))
+
+    def test_a_function_too_many(self):
+        self.refused("> hj_put", self.GOOD + ("0030 T hj_put",))
+
+    def test_a_function_too_few(self):
+        self.refused("< hj_take", self.GOOD[:3])
+
+    def test_something_that_is_no_code(self):
+        self.refused("D hj_table", self.GOOD + ("0030 D hj_table",))
+
+    def test_a_list_that_is_not_sorted(self):
+        self.refused("not sorted", self.GOOD, names="hj_take\nhj_class\n")
+
+    def test_another_header(self):
+        self.refused("> hj_put", self.GOOD, header=HEADER + "int hj_put(void);\n")
+        self.refused("< hj_take", self.GOOD, header=HEADER[:HEADER.index("int hj_take")])
+
+
+class Bench(Tree):
+    """scripts/bench with stand-ins for the emulator, nm and the program."""
+
+    CALLS = r"nothing\tnothing\ntake\tplain\ntake\tours\n"
+    STACK = r"nothing\tnothing\t100\ntake\tplain\t140\ntake\tours\t160\n"
+
+    def bench(self, log, count=CALLS, status=0):
+        """The log has the addresses of the instructions, b and e for the marks."""
+        self.copy_script("bench")
+        self.write("bench/mix.trace", "new\n")
+        self.write("build/bench", "")
+        places = {"b": "10", "e": "20"}
+        lines = [f"Trace 0: 0x1 [0/{places.get(at, at)}/0/0] x" for at in log]
+        self.write("log", "Linking\n" + "\n".join(lines) + "\n")
+        self.write("bin/qemu-x86_64", f"""#!/bin/sh
+case "$*" in
+-help) echo -one-insn-per-tb ;;
+--version) echo qemu 1 ;;
+*state) echo ours 8; echo plain 4 ;;
+*stack) printf '{self.STACK}' ;;
+*count) cat {self.root}/log >"$5"; printf '{count}'; exit {status} ;;
+esac
+""", 0o755)
+        for nm in ("nm", "x86_64-linux-gnu-nm"):
+            self.write(f"bin/{nm}", "#!/bin/sh\necho 10 T bench_begin\necho 20 T bench_end\n", 0o755)
+        for tool in ("sh", "cat", "python3", "env"):
+            os.symlink(shutil.which(tool), os.path.join(self.root, "bin", tool))
+        return self.run_script(os.path.join(self.root, "scripts/bench"), path=os.path.join(self.root, "bin"))
+
+    def test_what_lies_between_the_marks_is_counted(self):
+        status, output = self.bench("77b1e77b1234e77b123456789e")
+        self.assertEqual(status, 0, output)
+        rows = [line.split() for line in output.splitlines()]
+        self.assertIn(["take", "1", "8", "3", "2.67", "1.00", "1.00"], rows)
+        self.assertIn(["state,", "octets", "8", "4"], rows)
+        self.assertIn("stack of the deepest call, octets           60       40   (take; take)", output)
+
+    def test_a_measure_is_missing(self):
+        status, output = self.bench("b1eb1234e")
+        self.assertEqual(status, 1, output)
+        self.assertIn("3 calls, 2 measures", output)
+
+    def test_a_program_that_fails(self):
+        status, output = self.bench("b1e", count=r"nothing\tnothing\nbench: FAILED: take 1\n", status=1)
+        self.assertEqual(status, 1, output)
+        self.assertIn("bench: FAILED: take 1", output)
 
 
 class Prepare(Tree):

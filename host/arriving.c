@@ -1,0 +1,64 @@
+/*
+ * arriving.c: reading the elements of a good header (003, 3.2.2 and 3.2.3) in
+ * their order: destination, source, basic QOS, hop count.
+ */
+#include "arriving.h"
+
+/* Where the next element stands. An octet that is not there counts as 0. */
+struct place {
+    const uint8_t *octets;
+    size_t count;
+    size_t at;
+};
+
+static uint32_t take(struct place *place, unsigned count)
+{
+    uint32_t number = 0;
+
+    for (; count > 0; count--, place->at++)
+        number = number << 8 |
+                 (place->at < place->count ? place->octets[place->at] : 0);
+    return number;
+}
+
+static void take_elements(struct arriving *arriving, struct place *place,
+                          bool has_qos)
+{
+    unsigned octets = arriving->extended ? 4 : 1;
+    uint32_t qos;
+
+    if (arriving->ipv6)
+        octets = 16;
+    arriving->destination = take(place, octets);
+    if (arriving->has_source)
+        arriving->source = take(place, octets);
+    if (has_qos) {
+        qos = take(place, 1);
+        arriving->precedence = qos >> 4;
+        arriving->routing = qos >> 2 & 3;
+    }
+    if (arriving->has_hop_count)
+        arriving->hop_count = take(place, 1);
+}
+
+struct arriving arriving_read(const uint8_t *octets, size_t count)
+{
+    struct place place = {octets, count, 0};
+    struct arriving arriving = {0};
+    uint32_t control[3] = {0, 0, 0};
+
+    arriving.length = take(&place, 2) & 0x1fff;
+    control[0] = take(&place, 1);
+    if (control[0] & 0x08)
+        control[1] = take(&place, 1);
+    if (control[1] & 0x80)
+        control[2] = take(&place, 1);
+    arriving.tp_id = control[0] >> 4;
+    arriving.has_source = (control[1] & 0x40) != 0;
+    arriving.has_hop_count = (control[1] & 0x20) != 0;
+    arriving.extended = (control[1] & 0x01) != 0;
+    arriving.ipv6 = (control[2] & 0x40) != 0;
+    arriving.intermediate = (control[2] & 0x10) != 0;
+    take_elements(&arriving, &place, (control[1] & 0x02) != 0);
+    return arriving;
+}

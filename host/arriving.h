@@ -1,0 +1,29 @@
+/*
+ * arriving.h: what a header says, as far as the rules for a received datagram
+ * ask. It is for headers that were found good, and reads no octet beyond them.
+ */
+#ifndef ARRIVING_H
+#define ARRIVING_H
+
+#include <stdbool.h>
+#include <stddef.h>
+#include <stdint.h>
+
+struct arriving {
+    uint32_t length;
+    unsigned tp_id;
+    bool extended; /* addresses of four octets */
+    bool ipv6;     /* of sixteen, their last four kept; else of one */
+    bool has_source;
+    bool intermediate;
+    bool has_hop_count;
+    uint32_t destination; /* a path where there is no source */
+    uint32_t source;
+    uint32_t precedence; /* 0 where absent, so for routing */
+    uint32_t routing;
+    uint32_t hop_count;
+};
+
+struct arriving arriving_read(const uint8_t *octets, size_t count);
+
+#endif

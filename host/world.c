@@ -1,0 +1,80 @@
+/* world.c: drawing addresses, ports and masks. */
+#include "world.h"
+
+#define LENGTH(array) ((uint32_t)(sizeof(array) / sizeof *(array)))
+
+static const uint32_t DOMAIN[] = {0x0a040900, 0x0a040800, 0x0a070100};
+static const uint32_t NETWORK[] = {0xac100400, 0xac100500, 0xc0000200,
+                                   0x2c010200};
+
+static uint32_t domain(const struct world *world, struct random *random)
+{
+    return world->nets == ONE_DOMAIN ? DOMAIN[0]
+                                     : DOMAIN[random_below(random, 3)];
+}
+
+static bool in_net_10(const struct world *world, struct random *random)
+{
+    if (world->nets == ALL_NETS)
+        return random_one_in(random, 2);
+    return world->nets != INTERNET;
+}
+
+uint32_t world_unicast(const struct world *world, struct random *random)
+{
+    /* 3, 7 and 15 are broadcasts of small subnets, and addresses elsewhere. */
+    static const uint8_t LAST[] = {1, 2, 3, 7, 13, 14, 15, 15, 15, 20};
+
+    if (in_net_10(world, random))
+        return domain(world, random) | 2 * random_below(random, 10);
+    return NETWORK[random_below(random, LENGTH(NETWORK))] |
+           LAST[random_below(random, LENGTH(LAST))];
+}
+
+uint32_t world_multicast(const struct world *world, struct random *random)
+{
+    if (in_net_10(world, random))
+        return domain(world, random) | (2 * random_below(random, 10) + 1);
+    return 0xe0000000u + (random_below(random, 16) << 24) +
+           random_below(random, 2);
+}
+
+uint32_t world_path(struct random *random)
+{
+    static const uint8_t LAST[] = {0, 1, 2, 14, 15, 253, 255};
+
+    return DOMAIN[random_below(random, 3)] |
+           LAST[random_below(random, LENGTH(LAST))];
+}
+
+uint32_t world_invalid(struct random *random)
+{
+    static const uint32_t INVALID[] = {0x0a0409fe, 0x00000000, 0x7f000001,
+                                       0xf0000001, 0xfffffffe, 0x0afffffe};
+
+    return INVALID[random_below(random, LENGTH(INVALID))];
+}
+
+uint32_t world_port(const struct world *world, struct random *random)
+{
+    uint32_t port = random_below(random, WORLD_PORTS);
+
+    for (uint32_t tries = 0; tries < WORLD_PORTS; tries++) {
+        if (world_has(world->set_up, port))
+            return port;
+        port = (port + 1) % WORLD_PORTS;
+    }
+    return 0;
+}
+
+uint32_t world_mask(uint32_t ones)
+{
+    return ones == 0 ? 0 : 0xffffffffu << (32 - ones);
+}
+
+uint32_t world_host_bits(uint32_t address)
+{
+    if (address >> 24 < 128)
+        return 0xffffff;
+    return address >> 24 < 192 ? 0xffff : 0xff;
+}
