@@ -9,6 +9,10 @@ use Rattle.checks.specs.declared.Check.{Check}
 use Rattle.checks.specs.declared.Check.the-variants.{Passed, Failed}
 use Rattle.checks.proofs.Laws.{passed-false, failed-true, zero-none, none-zero, number-first, first-number}
 
+-- where one of these tests gives the number of the rest, it gives that of all
+abbrev pub Onward : Checks → Checks → Type 0
+Onward rest all = (r : ℕ) → r ≡ firstOf rest → r ≡ firstOf all
+
 -- ---- one check
 module _ (t : Bool) (n : ℕ) (cs : Checks) where
   pub held : t ≡ true → n ≡ firstOf ((t, n) ∷ cs)
@@ -22,7 +26,7 @@ module _ (t : Bool) (n : ℕ) (cs : Checks) where
   pub stopped : (answer : Check) → answer ≡ checkOf t → answer ≡ Failed → n ≡ firstOf ((t, n) ∷ cs)
   stopped answer is failed = held (failed-true t (sym is ∙ failed))
 
-  pub past : (answer : Check) → answer ≡ checkOf t → answer ≡ Passed → (r : ℕ) → r ≡ firstOf cs → r ≡ firstOf ((t, n) ∷ cs)
+  pub past : (answer : Check) → answer ≡ checkOf t → answer ≡ Passed → Onward cs ((t, n) ∷ cs)
   past answer is passed r rest = not-held r (passed-false t (sym is ∙ passed)) rest
 
 pub none : 0 ≡ firstOf []
