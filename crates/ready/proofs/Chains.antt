@@ -2,8 +2,11 @@
 use Prim.Native.Nat.{ℕ}
 use mathlib.Core.Path.{_≡_, refl, sym, _∙_}
 use mathlib.Core.Logic.{_↔_, _≢_}
-use mathlib.Core.Bool.{Bool, true, false}
+use mathlib.Core.Bool.{Bool, true, false, not, _&&_}
 use mathlib.Core.List.{List, [], _∷_, _++_}
+use lib.Dec.{eqb}
+use borrow.Author.Tests.{eqb-false}
+use Rattle.checks.proofs.Bools.{true-false}
 use Rattle.checks.specs.Order.{checkOf, Checks, firstOf, noneHolds, firstHolds, Numbered}
 use Rattle.checks.specs.declared.Check.{Check}
 use Rattle.checks.specs.declared.Check.the-variants.{Passed, Failed}
@@ -58,12 +61,27 @@ first-decides [] ys k refused e = absurd (refused (sym e))
 first-decides (x ∷ xs) ys k refused e = before (x .0) (x .1) k xs ys (first-decides xs ys k refused) e
 
 -- ---- the whole list
+-- no number of the list is 0, as a test that computes where the numbers are written out
+abbrev pub areNumbers : Checks → Bool
+areNumbers [] = true
+areNumbers (c ∷ cs) = not (eqb (c .1) 0) && areNumbers cs
+
+apart : (t u : Bool) → (not t && u) ≡ true → (t ≡ false) × (u ≡ true)
+apart true u e = true-false (sym e)
+apart false u e = (refl, e)
+
+pub numbered : (cs : Checks) → areNumbers cs ≡ true → Numbered cs
+numbered [] e = tt
+numbered (c ∷ cs) e =
+    let p = apart (eqb (c .1) 0) (areNumbers cs) e in
+    (eqb-false (c .1) 0 (p .0), numbered cs (p .1))
+
 -- 0 exactly where no condition holds, and a number exactly where its condition holds and none before it
 abbrev pub Decided : Checks → Type 0
 Decided cs = ((firstOf cs ≡ 0) ↔ noneHolds cs) × ((n : ℕ) → n ≢ 0 → (firstOf cs ≡ n) ↔ firstHolds cs n)
 
-pub decided : (cs : Checks) → Numbered cs → Decided cs
+pub decided : (cs : Checks) → areNumbers cs ≡ true → Decided cs
 decided cs numbers = (
-  (zero-none cs numbers, none-zero cs),
+  (zero-none cs (numbered cs numbers), none-zero cs),
   λ n refused. (number-first cs n refused, first-number cs n),
 )
