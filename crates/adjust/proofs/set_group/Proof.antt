@@ -1,42 +1,33 @@
+-- `adjust::set_group` meets its contract. Assumes nothing.
 use borrow.Author.Needs.{needs}
+use mathlib.Core.Path.{refl, sym, _∙_}
+use Rattle.refusals.proofs.Places.{place-there}
+use Rattle.adjust.proofs.Settled.{refused, taken}
 use Rattle.adjust.proofs.set_group.Statement.{statement}
 use Rattle.adjust.proofs.set_group.Tie as tie
-use Rattle.adjust.proofs.set_group.Reads as reads
-use Rattle.adjust.proofs.set_group.Lts as lts
-use Rattle.places.proofs.put_group.Reads as put-group-reads
-use Rattle.refusals.proofs.group_refusal.Reads as group-refusal-reads
 
--- src/lib.rt:108:9
 group-refusal-requires : tie.Need-group-refusal-requires
 group-refusal-requires c κs = search needs
 
--- src/lib.rt:110:9
 same-length : tie.Need-same-length
 same-length c = search needs
 
--- src/lib.rt:110:9
 returns : tie.Need-returns
-returns c = search needs
+returns c = refused _ _ _ _ (c .before .group-refusal .ensures) (c .if1 .taken)
 
--- src/lib.rt:118:5
 put-group-requires : tie.Need-put-group-requires
-put-group-requires c κs = search needs
+put-group-requires c κs =
+    let test = c .before in
+    (search needs, place-there _ 16 _ refl (sym (test .before .group-refusal .ensures) ∙ test .if1 .left))
 
--- src/lib.rt:103:1
 same-length-2 : tie.Need-same-length-2
 same-length-2 c = search needs
 
--- src/lib.rt:103:1
 returns-2 : tie.Need-returns-2
-returns-2 c = search needs
+returns-2 c =
+    let put = c .before .before in
+    let test = put .before .before in
+    taken _ _ _ _ (test .before .group-refusal .ensures) _ (test .if1 .left) (put .put-group .ensures)
 
 pub set-group-spec : {M : Type 1} → statement M
-set-group-spec =
-    tie.close
-    (tie.spec
-    group-refusal-requires
-    same-length
-    returns
-    put-group-requires
-    same-length-2
-    returns-2)
+set-group-spec = tie.close (tie.spec group-refusal-requires same-length returns put-group-requires same-length-2 returns-2)

@@ -1,36 +1,33 @@
+-- `adjust::set_path` meets its contract. Assumes nothing.
 use borrow.Author.Needs.{needs}
+use mathlib.Core.Path.{refl, sym, _∙_}
+use Rattle.refusals.proofs.Places.{place-there}
+use Rattle.adjust.proofs.Settled.{refused, taken}
 use Rattle.adjust.proofs.set_path.Statement.{statement}
 use Rattle.adjust.proofs.set_path.Tie as tie
-use Rattle.adjust.proofs.set_path.Reads as reads
-use Rattle.adjust.proofs.set_path.Lts as lts
-use Rattle.places.proofs.put_path.Reads as put-path-reads
-use Rattle.refusals.proofs.path_refusal.Reads as path-refusal-reads
 
--- src/lib.rt:128:9
 path-refusal-requires : tie.Need-path-refusal-requires
 path-refusal-requires c κs = search needs
 
--- src/lib.rt:130:9
 same-length : tie.Need-same-length
 same-length c = search needs
 
--- src/lib.rt:130:9
 returns : tie.Need-returns
-returns c = search needs
+returns c = refused _ _ _ _ (c .before .path-refusal .ensures) (c .if1 .taken)
 
--- src/lib.rt:138:5
 put-path-requires : tie.Need-put-path-requires
-put-path-requires c κs = search needs
+put-path-requires c κs =
+    let test = c .before in
+    (search needs, place-there _ 16 _ refl (sym (test .before .path-refusal .ensures) ∙ test .if1 .left))
 
--- src/lib.rt:123:1
 same-length-2 : tie.Need-same-length-2
 same-length-2 c = search needs
 
--- src/lib.rt:123:1
 returns-2 : tie.Need-returns-2
-returns-2 c = search needs
+returns-2 c =
+    let put = c .before .before in
+    let test = put .before .before in
+    taken _ _ _ _ (test .before .path-refusal .ensures) _ (test .if1 .left) (put .put-path .ensures)
 
 pub set-path-spec : {M : Type 1} → statement M
-set-path-spec =
-    tie.close
-    (tie.spec path-refusal-requires same-length returns put-path-requires same-length-2 returns-2)
+set-path-spec = tie.close (tie.spec path-refusal-requires same-length returns put-path-requires same-length-2 returns-2)
