@@ -1,4 +1,4 @@
-// The settings calls: router or host, a port, a route, a group, a path; and the emptying of places.
+// The settings calls: router or host, a port, a route, and the emptying of a route place. Groups and paths stand in `adjust_places`.
 //
 // Each call asks first what refuses it (crate `refusals`), and writes one place of the state only where nothing does: a refused call
 // answers its number and changes nothing, a taken one answers 0 and its record stands in the place. A filled record has 1 as its flag,
@@ -6,26 +6,18 @@
 // words are a state: a place that is none is refused by 21, and emptying an empty place is taken.
 use address::Address;
 use address::Mask;
-use address::PathAddress;
 use checks::Check;
-use records::Group;
-use records::PathPlace;
 use records::Port;
 use routes::Route;
 ghost use mathlib.Core.Path.{_≡_};
 ghost use lib.ListN.{length};
 ghost use Rattle.checks.specs.Order.{firstOf};
 ghost use Rattle.state.specs.Layout.{stateWords, decode};
-ghost use Rattle.refusals.specs.Lists.{portChecks, routeChecks, groupChecks, pathChecks, routerChecks, clearChecks};
-ghost use Rattle.adjust.specs.Settled.{newRoute};
-ghost use Rattle.adjust.specs.Settled.{settledRouter, settledPort, settledRoute, settledGroup, settledPath, clearedRoute, clearedGroup, clearedPath};
+ghost use Rattle.refusals.specs.Lists.{portChecks, routeChecks, routerChecks, clearChecks};
+ghost use Rattle.adjust.specs.Settled.{newRoute, settledRouter, settledPort, settledRoute, clearedRoute};
 
 // How many places there are.
 const ROUTES: u32 = 64;
-
-const GROUPS: u32 = 16;
-
-const PATHS: u32 = 16;
 
 // 1 makes the node a router, 0 a host.
 pub fn set_router(state: &mut [u32], router: u32) -> u32
@@ -99,46 +91,6 @@ pub fn set_route(
     fill_route(state, place, x)
 }
 
-// Fills a group place.
-pub fn set_group(state: &mut [u32], place: u32, address: Address, send: u32, subscribed: u32) -> u32
-    requires { ⌜ length (now state) ≡ stateWords ⌝ }
-    ensures answer { λ r. ⌜ r ≡ firstOf (groupChecks (decode (now (state .entry))) place address send subscribed) ⌝ }
-    ensures left { λ _. ⌜ decode (now (state .exit)) ≡ settledGroup (decode (now (state .entry))) place address send subscribed ⌝ }
-{
-    let refusal = refusals::group_refusal(state, place, address, send, subscribed);
-    if refusal != 0 {
-        return refusal;
-    }
-    let x = Group {
-        filled: 1,
-        address,
-        send,
-        subscribed,
-    };
-    places::put_group(state, place as usize, x);
-    0
-}
-
-// Fills a path place.
-pub fn set_path(state: &mut [u32], place: u32, path: PathAddress, send: u32, here: u32) -> u32
-    requires { ⌜ length (now state) ≡ stateWords ⌝ }
-    ensures answer { λ r. ⌜ r ≡ firstOf (pathChecks (decode (now (state .entry))) place path send here) ⌝ }
-    ensures left { λ _. ⌜ decode (now (state .exit)) ≡ settledPath (decode (now (state .entry))) place path send here ⌝ }
-{
-    let refusal = refusals::path_refusal(state, place, path, send, here);
-    if refusal != 0 {
-        return refusal;
-    }
-    let x = PathPlace {
-        filled: 1,
-        path,
-        send,
-        here,
-    };
-    places::put_path(state, place as usize, x);
-    0
-}
-
 // Empties a route place.
 pub fn clear_route(state: &mut [u32], place: u32) -> u32
     requires { ⌜ length (now state) ≡ stateWords ⌝ }
@@ -157,43 +109,5 @@ pub fn clear_route(state: &mut [u32], place: u32) -> u32
         capabilities: 0,
     };
     table::put_route(state, place as usize, x);
-    0
-}
-
-// Empties a group place.
-pub fn clear_group(state: &mut [u32], place: u32) -> u32
-    requires { ⌜ length (now state) ≡ stateWords ⌝ }
-    ensures answer { λ r. ⌜ r ≡ firstOf (clearChecks place 16) ⌝ }
-    ensures left { λ _. ⌜ decode (now (state .exit)) ≡ clearedGroup (decode (now (state .entry))) place ⌝ }
-{
-    let Check::Passed = settings::check_place(place, GROUPS) else {
-        return 21;
-    };
-    let x = Group {
-        filled: 0,
-        address: Address(0),
-        send: 0,
-        subscribed: 0,
-    };
-    places::put_group(state, place as usize, x);
-    0
-}
-
-// Empties a path place.
-pub fn clear_path(state: &mut [u32], place: u32) -> u32
-    requires { ⌜ length (now state) ≡ stateWords ⌝ }
-    ensures answer { λ r. ⌜ r ≡ firstOf (clearChecks place 16) ⌝ }
-    ensures left { λ _. ⌜ decode (now (state .exit)) ≡ clearedPath (decode (now (state .entry))) place ⌝ }
-{
-    let Check::Passed = settings::check_place(place, PATHS) else {
-        return 21;
-    };
-    let x = PathPlace {
-        filled: 0,
-        path: PathAddress(0),
-        send: 0,
-        here: 0,
-    };
-    places::put_path(state, place as usize, x);
     0
 }

@@ -1,7 +1,7 @@
 -- `refusals::path_refusal` meets its contract: past each check the rest of the list decides. Assumes nothing.
 use borrow.Author.Needs.{needs}
 use Prim.Native.Nat.{ℕ}
-use mathlib.Core.Path.{_≡_, sym, ap, _∙_}
+use mathlib.Core.Path.{_≡_, ap, _∙_}
 use lib.ListN.{drop}
 use Rattle.checks.specs.Order.{checkOf, Checks}
 use Rattle.settings.specs.Sets.{setRefused}
@@ -32,24 +32,39 @@ at-flag c = at-class (c .before .before .before)
 abbrev at-elsewhere : tie.After-enum-told9 → tie.Start
 at-elsewhere c = at-flag (c .before .before .before)
 
+abbrev at-ready : tie.After-ready-ports → tie.Start
+at-ready c = at-place (c .before)
+
 -- the set is tested against the ports that are set up
-send : (c : tie.After-check-set) → c .check-set .result ≡ checkOf (setRefused (at-place (c .before .before) .args .send) (readySet (decode (at-place (c .before .before) .args .state .now))))
-send c = c .check-set .ensures ∙ ap (λ (s : ℕ). checkOf (setRefused (at-place (c .before .before) .args .send) s)) (c .before .ready-ports .ensures)
+send : (c : tie.After-check-set)
+    → c .check-set .result
+    ≡ checkOf (setRefused (at-ready (c .before) .args .send) (readySet (decode (at-ready (c .before) .args .state .now))))
+send c =
+    c .check-set .ensures
+    ∙ ap (λ (s : ℕ). checkOf (setRefused (at-ready (c .before) .args .send) s)) (c .before .ready-ports .ensures)
 
 past-place : (c : tie.After-enum-told) → Onward (drop 1 (tests (at-place c))) (tests (at-place c))
 past-place c = past _ _ _ _ (c .before .before .check-place .ensures) (c .enum-told .given .1)
 
 past-send : (c : tie.After-enum-told3) → Onward (drop 2 (tests (at-send c))) (tests (at-send c))
-past-send c r e = past-place (c .before .before .before .before) r (past _ _ _ _ (send (c .before .before)) (c .enum-told3 .given .1) r e)
+past-send c r e =
+    past-place (c .before .before .before .before) r
+    (past _ _ _ _ (send (c .before .before)) (c .enum-told3 .given .1) r e)
 
 past-class : (c : tie.After-enum-told5) → Onward (drop 3 (tests (at-class c))) (tests (at-class c))
-past-class c r e = past-send (c .before .before .before) r (past _ _ _ _ (c .before .before .check-path-class .ensures) (c .enum-told5 .given .1) r e)
+past-class c r e =
+    past-send (c .before .before .before) r
+    (past _ _ _ _ (c .before .before .check-path-class .ensures) (c .enum-told5 .given .1) r e)
 
 past-flag : (c : tie.After-enum-told7) → Onward (drop 4 (tests (at-flag c))) (tests (at-flag c))
-past-flag c r e = past-class (c .before .before .before) r (past _ _ _ _ (c .before .before .check-flag .ensures) (c .enum-told7 .given .1) r e)
+past-flag c r e =
+    past-class (c .before .before .before) r
+    (past _ _ _ _ (c .before .before .check-flag .ensures) (c .enum-told7 .given .1) r e)
 
 past-elsewhere : (c : tie.After-enum-told9) → Onward (drop 5 (tests (at-elsewhere c))) (tests (at-elsewhere c))
-past-elsewhere c r e = past-flag (c .before .before .before) r (past _ _ _ _ (c .before .before .check-other-paths .ensures) (c .enum-told9 .given .1) r e)
+past-elsewhere c r e =
+    past-flag (c .before .before .before) r
+    (past _ _ _ _ (c .before .before .check-other-paths .ensures) (c .enum-told9 .given .1) r e)
 
 -- ---- the needs
 
@@ -78,7 +93,9 @@ enum-told-4 : tie.Need-enum-told-4
 enum-told-4 c = search needs
 
 returns-2 : tie.Need-returns-2
-returns-2 c = past-place (c .before .before .before .before) _ (stopped _ _ _ _ (send (c .before .before)) (c .enum-told4 .given .1))
+returns-2 c =
+    past-place (c .before .before .before .before) _
+    (stopped _ _ _ _ (send (c .before .before)) (c .enum-told4 .given .1))
 
 check-path-class-requires : tie.Need-check-path-class-requires
 check-path-class-requires c κs = search needs
@@ -90,7 +107,9 @@ enum-told-6 : tie.Need-enum-told-6
 enum-told-6 c = search needs
 
 returns-3 : tie.Need-returns-3
-returns-3 c = past-send (c .before .before .before) _ (stopped _ _ _ _ (c .before .before .check-path-class .ensures) (c .enum-told6 .given .1))
+returns-3 c =
+    past-send (c .before .before .before) _
+    (stopped _ _ _ _ (c .before .before .check-path-class .ensures) (c .enum-told6 .given .1))
 
 check-flag-requires : tie.Need-check-flag-requires
 check-flag-requires c κs = search needs
@@ -102,7 +121,9 @@ enum-told-8 : tie.Need-enum-told-8
 enum-told-8 c = search needs
 
 returns-4 : tie.Need-returns-4
-returns-4 c = past-class (c .before .before .before) _ (stopped _ _ _ _ (c .before .before .check-flag .ensures) (c .enum-told8 .given .1))
+returns-4 c =
+    past-class (c .before .before .before) _
+    (stopped _ _ _ _ (c .before .before .check-flag .ensures) (c .enum-told8 .given .1))
 
 check-other-paths-requires : tie.Need-check-other-paths-requires
 check-other-paths-requires c κs = search needs
@@ -114,7 +135,9 @@ enum-told-10 : tie.Need-enum-told-10
 enum-told-10 c = search needs
 
 returns-5 : tie.Need-returns-5
-returns-5 c = past-flag (c .before .before .before) _ (stopped _ _ _ _ (c .before .before .check-other-paths .ensures) (c .enum-told10 .given .1))
+returns-5 c =
+    past-flag (c .before .before .before) _
+    (stopped _ _ _ _ (c .before .before .check-other-paths .ensures) (c .enum-told10 .given .1))
 
 returns-6 : tie.Need-returns-6
 returns-6 c = past-elsewhere c _ none

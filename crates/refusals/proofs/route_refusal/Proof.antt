@@ -30,11 +30,15 @@ past-place c = past _ _ _ _ (c .before .before .check-place .ensures) (c .enum-t
 -- the record is tested against the ports that are set up
 tested : (c : tie.After-record-refusal)
     → c .record-refusal .result ≡ firstOf (recordChecks (readySet (decode (at-record c .args .state .now))) (at-record c .args .x))
-tested c = c .record-refusal .ensures ∙ ap (λ (s : ℕ). firstOf (recordChecks s (at-record c .args .x))) (c .before .ready-ports .ensures)
+tested c =
+    c .record-refusal .ensures
+    ∙ ap (λ (s : ℕ). firstOf (recordChecks s (at-record c .args .x))) (c .before .ready-ports .ensures)
 
 past-tested : (c : tie.Else1) → Onward (drop 4 (tests (at-record (c .before)))) (tests (at-record (c .before)))
 past-tested c r e =
-    past-place (c .before .before .before) r (past-record (readySet (decode (at-record (c .before) .args .state .now))) (at-record (c .before) .args .x) _ _ (tested (c .before)) (c .if1 .left) r e)
+    let s = at-record (c .before) in
+    past-place (c .before .before .before) r
+    (past-record (readySet (decode (s .args .state .now))) (s .args .x) _ _ (tested (c .before)) (c .if1 .left) r e)
 
 -- ---- the needs
 
@@ -58,7 +62,9 @@ record-refusal-requires c κs = search needs
 
 returns-2 : tie.Need-returns-2
 returns-2 c =
-    past-place (c .before .before .before) _ (record-stops (readySet (decode (at-record (c .before) .args .state .now))) (at-record (c .before) .args .x) _ _ (tested (c .before)) (c .if1 .taken))
+    let s = at-record (c .before) in
+    past-place (c .before .before .before) _
+    (record-stops (readySet (decode (s .args .state .now))) (s .args .x) _ _ (tested (c .before)) (c .if1 .taken))
 
 check-other-routes-requires : tie.Need-check-other-routes-requires
 check-other-routes-requires c κs = search needs
@@ -70,10 +76,14 @@ enum-told-4 : tie.Need-enum-told-4
 enum-told-4 c = search needs
 
 returns-3 : tie.Need-returns-3
-returns-3 c = past-tested (c .before .before .before) _ (stopped _ _ _ _ (c .before .before .check-other-routes .ensures) (c .enum-told4 .given .1))
+returns-3 c =
+    past-tested (c .before .before .before) _
+    (stopped _ _ _ _ (c .before .before .check-other-routes .ensures) (c .enum-told4 .given .1))
 
 returns-4 : tie.Need-returns-4
-returns-4 c = past-tested (c .before .before .before) _ (past _ _ _ _ (c .before .before .check-other-routes .ensures) (c .enum-told3 .given .1) _ none)
+returns-4 c =
+    past-tested (c .before .before .before) _
+    (past _ _ _ _ (c .before .before .check-other-routes .ensures) (c .enum-told3 .given .1) _ none)
 
 pub route-refusal-spec : {M : Type 1} → statement M
 route-refusal-spec =

@@ -1,10 +1,10 @@
--- `adjust::set_path` meets its contract. Assumes nothing.
+-- `adjust_places::set_path` meets its contract. Assumes nothing.
 use borrow.Author.Needs.{needs}
-use mathlib.Core.Path.{refl, sym, _∙_}
+use mathlib.Core.Path.{refl}
 use Rattle.refusals.proofs.Places.{place-there}
 use Rattle.adjust.proofs.Settled.{refused, taken}
-use Rattle.adjust.proofs.set_path.Statement.{statement}
-use Rattle.adjust.proofs.set_path.Tie as tie
+use Rattle.adjust_places.proofs.set_path.Statement.{statement}
+use Rattle.adjust_places.proofs.set_path.Tie as tie
 
 path-refusal-requires : tie.Need-path-refusal-requires
 path-refusal-requires c κs = search needs
@@ -18,7 +18,7 @@ returns c = refused _ _ _ _ (c .before .path-refusal .ensures) (c .if1 .taken)
 put-path-requires : tie.Need-put-path-requires
 put-path-requires c κs =
     let test = c .before in
-    (search needs, place-there _ 16 _ refl (sym (test .before .path-refusal .ensures) ∙ test .if1 .left))
+    (search needs, place-there _ 16 _ _ refl (test .before .path-refusal .ensures) (test .if1 .left))
 
 same-length-2 : tie.Need-same-length-2
 same-length-2 c = search needs

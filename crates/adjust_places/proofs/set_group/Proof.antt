@@ -1,10 +1,10 @@
--- `adjust::set_group` meets its contract. Assumes nothing.
+-- `adjust_places::set_group` meets its contract. Assumes nothing.
 use borrow.Author.Needs.{needs}
-use mathlib.Core.Path.{refl, sym, _∙_}
+use mathlib.Core.Path.{refl}
 use Rattle.refusals.proofs.Places.{place-there}
 use Rattle.adjust.proofs.Settled.{refused, taken}
-use Rattle.adjust.proofs.set_group.Statement.{statement}
-use Rattle.adjust.proofs.set_group.Tie as tie
+use Rattle.adjust_places.proofs.set_group.Statement.{statement}
+use Rattle.adjust_places.proofs.set_group.Tie as tie
 
 group-refusal-requires : tie.Need-group-refusal-requires
 group-refusal-requires c κs = search needs
@@ -18,7 +18,7 @@ returns c = refused _ _ _ _ (c .before .group-refusal .ensures) (c .if1 .taken)
 put-group-requires : tie.Need-put-group-requires
 put-group-requires c κs =
     let test = c .before in
-    (search needs, place-there _ 16 _ refl (sym (test .before .group-refusal .ensures) ∙ test .if1 .left))
+    (search needs, place-there _ 16 _ _ refl (test .before .group-refusal .ensures) (test .if1 .left))
 
 same-length-2 : tie.Need-same-length-2
 same-length-2 c = search needs
