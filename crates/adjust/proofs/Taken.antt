@@ -24,7 +24,8 @@ use Rattle.state.proofs.Places.{port-back, route-back, group-back, path-back, p
 use Rattle.refusals.specs.Lists.{portChecks, routeChecks, groupChecks, pathChecks, routerChecks, clearChecks}
 use Rattle.refusals.proofs.Places.{place-there}
 use Rattle.adjust.specs.Settled.{settled, newPort, newGroup, newPath}
-use Rattle.adjust.specs.Settled.{settledRouter, settledPort, settledRoute, settledGroup, settledPath, clearedRoute, clearedGroup, clearedPath}
+use Rattle.adjust.specs.Settled.{settledRouter, settledPort, settledRoute, settledGroup, settledPath}
+use Rattle.adjust.specs.Settled.{clearedRoute, clearedGroup, clearedPath}
 
 -- ---- any call
 module _ (refusal : ℕ) (new old : Relay) where
@@ -55,7 +56,8 @@ module _ (r : Relay) (sized : Sized r) (i : ℕ) where
 
   pub route-taken : (x : Route) → firstOf (routeChecks r i x) ≡ 0 → routeIn (settledRoute r i x) i ≡ x
   route-taken x none =
-      ap (λ (y : Relay). routeIn y i) (taken-new _ (withRoute r i x) r none) ∙ route-back r sized i x (place-there i 64 _ _ refl refl none)
+      ap (λ (y : Relay). routeIn y i) (taken-new _ (withRoute r i x) r none)
+      ∙ route-back r sized i x (place-there i 64 _ _ refl refl none)
 
   pub group-taken : (address : Address) (send subscribed : ℕ) → firstOf (groupChecks r i address send subscribed) ≡ 0
       → groupIn (settledGroup r i address send subscribed) i ≡ newGroup address send subscribed

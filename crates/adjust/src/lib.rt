@@ -78,7 +78,10 @@ pub fn set_route(
 ) -> u32
     requires { ⌜ length (now state) ≡ stateWords ⌝ }
     ensures answer { λ r. ⌜ r ≡ firstOf (routeChecks (decode (now (state .entry))) place (newRoute prefix mask port availability capabilities)) ⌝ }
-    ensures left { λ _. ⌜ decode (now (state .exit)) ≡ settledRoute (decode (now (state .entry))) place (newRoute prefix mask port availability capabilities) ⌝ }
+    ensures left { λ _. ⌜
+        decode (now (state .exit))
+        ≡ settledRoute (decode (now (state .entry))) place (newRoute prefix mask port availability capabilities)
+        ⌝ }
 {
     let x = Route {
         filled: 1,

@@ -9,7 +9,8 @@ use Rattle.address.specs.declared.Address.{Address}
 use Rattle.address.specs.declared.Mask.{Mask}
 use Rattle.address.specs.declared.PathAddress.{PathAddress}
 use Rattle.routes.specs.declared.Route.{Route}
-use Rattle.settings.specs.Refusals.{portClassRefused, groupClassRefused, pathClassRefused, portMaskRefused, mtuRefused, flagRefused, placeRefused}
+use Rattle.settings.specs.Refusals.{portClassRefused, groupClassRefused, pathClassRefused, portMaskRefused}
+use Rattle.settings.specs.Refusals.{mtuRefused, flagRefused, placeRefused}
 use Rattle.settings.specs.Sets.{setRefused}
 use Rattle.state.specs.Relay.{Relay, queueIn}
 use Rattle.ready.specs.Ready.{readySet}

@@ -1,14 +1,11 @@
 -- `refusals::group_refusal` meets its contract: past each check the rest of the list decides. Assumes nothing.
 use borrow.Author.Needs.{needs}
-use Prim.Native.Nat.{ℕ}
-use mathlib.Core.Path.{_≡_, ap, _∙_}
 use lib.ListN.{drop}
-use Rattle.checks.specs.Order.{checkOf, Checks}
-use Rattle.settings.specs.Sets.{setRefused}
-use Rattle.ready.specs.Ready.{readySet}
+use Rattle.checks.specs.Order.{Checks}
 use Rattle.state.specs.Layout.{decode}
 use Rattle.ready.proofs.Chains.{Onward, stopped, past, none}
 use Rattle.refusals.specs.Lists.{groupChecks}
+use Rattle.refusals.proofs.Ready.{against}
 use Rattle.refusals.proofs.group_refusal.Statement.{statement}
 use Rattle.refusals.proofs.group_refusal.Tie as tie
 
@@ -32,39 +29,22 @@ at-class c = at-subscribed (c .before .before .before)
 abbrev at-elsewhere : tie.After-enum-told9 → tie.Start
 at-elsewhere c = at-class (c .before .before .before)
 
-abbrev at-ready : tie.After-ready-ports → tie.Start
-at-ready c = at-place (c .before)
-
--- the sets are tested against the ports that are set up
-send : (c : tie.After-check-set)
-    → c .check-set .result
-    ≡ checkOf (setRefused (at-ready (c .before) .args .send) (readySet (decode (at-ready (c .before) .args .state .now))))
-send c =
-    c .check-set .ensures
-    ∙ ap (λ (s : ℕ). checkOf (setRefused (at-ready (c .before) .args .send) s)) (c .before .ready-ports .ensures)
-
-abbrev ready-for : tie.After-check-set2 → tie.After-ready-ports
-ready-for c = c .before .before .before .before
-
-subscribed : (c : tie.After-check-set2)
-    → c .check-set2 .result
-    ≡ checkOf (setRefused (at-ready (ready-for c) .args .subscribed) (readySet (decode (at-ready (ready-for c) .args .state .now))))
-subscribed c =
-    c .check-set2 .ensures
-    ∙ ap (λ (s : ℕ). checkOf (setRefused (at-ready (ready-for c) .args .subscribed) s)) (ready-for c .ready-ports .ensures)
-
 past-place : (c : tie.After-enum-told) → Onward (drop 1 (tests (at-place c))) (tests (at-place c))
 past-place c = past _ _ _ _ (c .before .before .check-place .ensures) (c .enum-told .given .1)
 
 past-send : (c : tie.After-enum-told3) → Onward (drop 2 (tests (at-send c))) (tests (at-send c))
 past-send c r e =
     past-place (c .before .before .before .before) r
-    (past _ _ _ _ (send (c .before .before)) (c .enum-told3 .given .1) r e)
+    (past _ _ _ _
+    (against _ _ _ _ (c .before .before .before .ready-ports .ensures) (c .before .before .check-set .ensures))
+    (c .enum-told3 .given .1) r e)
 
 past-subscribed : (c : tie.After-enum-told5) → Onward (drop 3 (tests (at-subscribed c))) (tests (at-subscribed c))
 past-subscribed c r e =
     past-send (c .before .before .before) r
-    (past _ _ _ _ (subscribed (c .before .before)) (c .enum-told5 .given .1) r e)
+    (past _ _ _ _
+    (against _ _ _ _ (c .before .before .before .before .before .before .ready-ports .ensures) (c .before .before .check-set2 .ensures))
+    (c .enum-told5 .given .1) r e)
 
 past-class : (c : tie.After-enum-told7) → Onward (drop 4 (tests (at-class c))) (tests (at-class c))
 past-class c r e =
@@ -105,7 +85,9 @@ enum-told-4 c = search needs
 returns-2 : tie.Need-returns-2
 returns-2 c =
     past-place (c .before .before .before .before) _
-    (stopped _ _ _ _ (send (c .before .before)) (c .enum-told4 .given .1))
+    (stopped _ _ _ _
+    (against _ _ _ _ (c .before .before .before .ready-ports .ensures) (c .before .before .check-set .ensures))
+    (c .enum-told4 .given .1))
 
 check-set-requires-2 : tie.Need-check-set-requires-2
 check-set-requires-2 c κs = search needs
@@ -119,7 +101,9 @@ enum-told-6 c = search needs
 returns-3 : tie.Need-returns-3
 returns-3 c =
     past-send (c .before .before .before) _
-    (stopped _ _ _ _ (subscribed (c .before .before)) (c .enum-told6 .given .1))
+    (stopped _ _ _ _
+    (against _ _ _ _ (c .before .before .before .before .before .before .ready-ports .ensures) (c .before .before .check-set2 .ensures))
+    (c .enum-told6 .given .1))
 
 check-group-class-requires : tie.Need-check-group-class-requires
 check-group-class-requires c κs = search needs

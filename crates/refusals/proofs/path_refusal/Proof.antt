@@ -1,14 +1,11 @@
 -- `refusals::path_refusal` meets its contract: past each check the rest of the list decides. Assumes nothing.
 use borrow.Author.Needs.{needs}
-use Prim.Native.Nat.{ℕ}
-use mathlib.Core.Path.{_≡_, ap, _∙_}
 use lib.ListN.{drop}
-use Rattle.checks.specs.Order.{checkOf, Checks}
-use Rattle.settings.specs.Sets.{setRefused}
-use Rattle.ready.specs.Ready.{readySet}
+use Rattle.checks.specs.Order.{Checks}
 use Rattle.state.specs.Layout.{decode}
 use Rattle.ready.proofs.Chains.{Onward, stopped, past, none}
 use Rattle.refusals.specs.Lists.{pathChecks}
+use Rattle.refusals.proofs.Ready.{against}
 use Rattle.refusals.proofs.path_refusal.Statement.{statement}
 use Rattle.refusals.proofs.path_refusal.Tie as tie
 
@@ -32,24 +29,15 @@ at-flag c = at-class (c .before .before .before)
 abbrev at-elsewhere : tie.After-enum-told9 → tie.Start
 at-elsewhere c = at-flag (c .before .before .before)
 
-abbrev at-ready : tie.After-ready-ports → tie.Start
-at-ready c = at-place (c .before)
-
--- the set is tested against the ports that are set up
-send : (c : tie.After-check-set)
-    → c .check-set .result
-    ≡ checkOf (setRefused (at-ready (c .before) .args .send) (readySet (decode (at-ready (c .before) .args .state .now))))
-send c =
-    c .check-set .ensures
-    ∙ ap (λ (s : ℕ). checkOf (setRefused (at-ready (c .before) .args .send) s)) (c .before .ready-ports .ensures)
-
 past-place : (c : tie.After-enum-told) → Onward (drop 1 (tests (at-place c))) (tests (at-place c))
 past-place c = past _ _ _ _ (c .before .before .check-place .ensures) (c .enum-told .given .1)
 
 past-send : (c : tie.After-enum-told3) → Onward (drop 2 (tests (at-send c))) (tests (at-send c))
 past-send c r e =
     past-place (c .before .before .before .before) r
-    (past _ _ _ _ (send (c .before .before)) (c .enum-told3 .given .1) r e)
+    (past _ _ _ _
+    (against _ _ _ _ (c .before .before .before .ready-ports .ensures) (c .before .before .check-set .ensures))
+    (c .enum-told3 .given .1) r e)
 
 past-class : (c : tie.After-enum-told5) → Onward (drop 3 (tests (at-class c))) (tests (at-class c))
 past-class c r e =
@@ -95,7 +83,9 @@ enum-told-4 c = search needs
 returns-2 : tie.Need-returns-2
 returns-2 c =
     past-place (c .before .before .before .before) _
-    (stopped _ _ _ _ (send (c .before .before)) (c .enum-told4 .given .1))
+    (stopped _ _ _ _
+    (against _ _ _ _ (c .before .before .before .ready-ports .ensures) (c .before .before .check-set .ensures))
+    (c .enum-told4 .given .1))
 
 check-path-class-requires : tie.Need-check-path-class-requires
 check-path-class-requires c κs = search needs
