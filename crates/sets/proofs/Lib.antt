@@ -1,2 +1,3 @@
 -- The laws that loops over ports and places are proved by.
 pub mod Loops
+pub mod Anywhere

@@ -1,0 +1,33 @@
+-- `adjust::set_port` meets its contract. Assumes nothing.
+use borrow.Author.Needs.{needs}
+use mathlib.Core.Path.{refl}
+use Rattle.refusals.proofs.Places.{place-there}
+use Rattle.adjust.proofs.Settled.{refused, taken}
+use Rattle.adjust.proofs.set_port.Statement.{statement}
+use Rattle.adjust.proofs.set_port.Tie as tie
+
+port-refusal-requires : tie.Need-port-refusal-requires
+port-refusal-requires c κs = search needs
+
+same-length : tie.Need-same-length
+same-length c = search needs
+
+returns : tie.Need-returns
+returns c = refused _ _ _ _ (c .before .port-refusal .ensures) (c .if1 .taken)
+
+put-port-requires : tie.Need-put-port-requires
+put-port-requires c κs =
+    let test = c .before in
+    (search needs, place-there _ 8 _ _ refl (test .before .port-refusal .ensures) (test .if1 .left))
+
+same-length-2 : tie.Need-same-length-2
+same-length-2 c = search needs
+
+returns-2 : tie.Need-returns-2
+returns-2 c =
+    let put = c .before .before in
+    let test = put .before .before in
+    taken _ _ _ _ (test .before .port-refusal .ensures) _ (test .if1 .left) (put .put-port .ensures)
+
+pub set-port-spec : {M : Type 1} → statement M
+set-port-spec = tie.close (tie.spec port-refusal-requires same-length returns put-port-requires same-length-2 returns-2)

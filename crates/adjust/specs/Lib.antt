@@ -1,0 +1,2 @@
+-- What the contracts cite: the state that a setting leaves.
+pub mod Settled

@@ -1,0 +1,2 @@
+-- What the contracts cite: whether another place holds the same entry.
+pub mod Elsewhere

@@ -1,0 +1,3 @@
+-- What the contracts cite: the ports that are set up, and what a route's record is refused by.
+pub mod Ready
+pub mod Record

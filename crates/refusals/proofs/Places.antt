@@ -1,0 +1,14 @@
+-- A setting that nothing refuses names a place that is there. Assumes nothing.
+use Prim.Native.Nat.{ℕ, _<_}
+use mathlib.Core.Path.{_≡_, sym, _∙_}
+use mathlib.Core.Bool.{true}
+use mathlib.Core.List.{_∷_}
+use Rattle.checks.specs.Order.{Checks, firstOf}
+use Rattle.settings.specs.Refusals.{placeRefused}
+use Rattle.settings.proofs.Values.{place-taken}
+use Rattle.ready.proofs.Chains.{areNumbers, decided}
+
+pub place-there : (place places : ℕ) (more : Checks) (answer : ℕ) → areNumbers more ≡ true
+    → answer ≡ firstOf ((placeRefused place places, 21) ∷ more) → answer ≡ 0 → place < places
+place-there place places more answer numbers is zero =
+    place-taken place places .0 (decided ((placeRefused place places, 21) ∷ more) numbers .0 .0 (sym is ∙ zero) .0)

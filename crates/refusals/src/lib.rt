@@ -1,0 +1,126 @@
+// The number that a setting is refused by.
+//
+// Page 01 tests a setting in the order 21, 25, 22, 24, 23, 35, and the first test that refuses gives the number; 0 means that none
+// does. Here the tests of values (crate `settings`), of ports that are set up (`ready`) and of same entries (`elsewhere`) stand in that
+// order, one function for each kind of setting. Nothing is written: a call asks here first and writes only where the answer is 0, so
+// that a refused setting changes nothing. Each function is total: a number out of range is refused by the first test, before it is
+// used as a place.
+use address::Address;
+use address::Mask;
+use address::PathAddress;
+use checks::Check;
+use routes::Route;
+ghost use mathlib.Core.Path.{_≡_};
+ghost use Prim.Native.Nat.{_<_};
+ghost use lib.ListN.{length};
+ghost use Rattle.checks.specs.Order.{checkOf, firstOf};
+ghost use Rattle.state.specs.Layout.{stateWords, decode};
+ghost use Rattle.refusals.specs.Lists.{entriesWait, portChecks, routeChecks, groupChecks, pathChecks};
+
+// How many ports and places there are.
+const PORTS: u32 = 8;
+
+const ROUTES: u32 = 64;
+
+const GROUPS: u32 = 16;
+
+const PATHS: u32 = 16;
+
+// Refusal 35 of a port: nothing waits on it.
+fn check_idle(state: &[u32], p: usize) -> Check
+    requires { ⌜ (length (now state) ≡ stateWords) × (p < 8) ⌝ }
+    ensures { λ r. ⌜ r ≡ checkOf (entriesWait (decode (now (state .entry))) p) ⌝ }
+{
+    if waiting::queue_of(state, p).count == 0 {
+        return Check::Passed;
+    }
+    Check::Failed
+}
+
+// Why this port may not be set up so, or 0.
+pub fn port_refusal(state: &[u32], port: u32, address: Address, mask: Mask, mtu: u32) -> u32
+    requires { ⌜ length (now state) ≡ stateWords ⌝ }
+    ensures { λ r. ⌜ r ≡ firstOf (portChecks (decode (now (state .entry))) port address mask mtu) ⌝ }
+{
+    let Check::Passed = settings::check_place(port, PORTS) else {
+        return 21;
+    };
+    let Check::Passed = settings::check_port_class(address) else {
+        return 25;
+    };
+    let Check::Passed = settings::check_port_mask(address, mask) else {
+        return 22;
+    };
+    let Check::Passed = settings::check_mtu(mtu) else {
+        return 24;
+    };
+    let Check::Passed = check_idle(state, port as usize) else {
+        return 35;
+    };
+    0
+}
+
+// Why this route may not stand in that place, or 0. The record's own number is one of 21, 22 and 24.
+pub fn route_refusal(state: &[u32], place: u32, x: Route) -> u32
+    requires { ⌜ length (now state) ≡ stateWords ⌝ }
+    ensures { λ r. ⌜ r ≡ firstOf (routeChecks (decode (now (state .entry))) place x) ⌝ }
+{
+    let Check::Passed = settings::check_place(place, ROUTES) else {
+        return 21;
+    };
+    let refused = ready::record_refusal(x, ready::ready_ports(state));
+    if refused != 0 {
+        return refused;
+    }
+    let Check::Passed = elsewhere::check_other_routes(state, place as usize, x) else {
+        return 23;
+    };
+    0
+}
+
+// Why this group may not stand in that place, or 0.
+pub fn group_refusal(state: &[u32], place: u32, address: Address, send: u32, subscribed: u32) -> u32
+    requires { ⌜ length (now state) ≡ stateWords ⌝ }
+    ensures { λ r. ⌜ r ≡ firstOf (groupChecks (decode (now (state .entry))) place address send subscribed) ⌝ }
+{
+    let Check::Passed = settings::check_place(place, GROUPS) else {
+        return 21;
+    };
+    let ready = ready::ready_ports(state);
+    let Check::Passed = settings::check_set(send, ready) else {
+        return 21;
+    };
+    let Check::Passed = settings::check_set(subscribed, ready) else {
+        return 21;
+    };
+    let Check::Passed = settings::check_group_class(address) else {
+        return 25;
+    };
+    let Check::Passed = elsewhere::check_other_groups(state, place as usize, address) else {
+        return 23;
+    };
+    0
+}
+
+// Why this path may not stand in that place, or 0.
+pub fn path_refusal(state: &[u32], place: u32, path: PathAddress, send: u32, here: u32) -> u32
+    requires { ⌜ length (now state) ≡ stateWords ⌝ }
+    ensures { λ r. ⌜ r ≡ firstOf (pathChecks (decode (now (state .entry))) place path send here) ⌝ }
+{
+    let Check::Passed = settings::check_place(place, PATHS) else {
+        return 21;
+    };
+    let Check::Passed = settings::check_set(send, ready::ready_ports(state)) else {
+        return 21;
+    };
+    let Check::Passed = settings::check_path_class(path) else {
+        return 25;
+    };
+    let Check::Passed = settings::check_flag(here) else {
+        return 24;
+    };
+    let Check::Passed = elsewhere::check_other_paths(state, place as usize, path) else {
+        return 23;
+    };
+    0
+}
