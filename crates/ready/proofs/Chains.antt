@@ -12,7 +12,7 @@ use Rattle.checks.specs.declared.Check.{Check}
 use Rattle.checks.specs.declared.Check.the-variants.{Passed, Failed}
 use Rattle.checks.proofs.Laws.{passed-false, failed-true, zero-none, none-zero, number-first, first-number}
 
--- where one of these tests gives the number of the rest, it gives that of all
+-- past the checks before them, what the rest of the list gives is what the whole list gives
 abbrev pub Onward : Checks → Checks → Type 0
 Onward rest all = (r : ℕ) → r ≡ firstOf rest → r ≡ firstOf all
 
