@@ -1,0 +1,2 @@
+-- The parts of an answer put together.
+pub mod Joined

@@ -1,0 +1,56 @@
+-- `answers::parts` meets its contract. Assumes nothing.
+use native.Mathlib.Omega.{arith}
+use Rattle.answers.specs.Answers.{partsOf}
+use borrow.Author.Needs.{needs}
+use Rattle.answers.proofs.parts.Statement.{statement}
+use Rattle.answers.proofs.parts.Tie as tie
+
+mul-halves : tie.Need-mul-halves
+mul-halves c = search needs
+
+add-halves : tie.Need-add-halves
+add-halves c = search needs
+
+mul-halves-2 : tie.Need-mul-halves-2
+mul-halves-2 c = search needs
+
+add-halves-2 : tie.Need-add-halves-2
+add-halves-2 c = search needs
+
+mul-ports : tie.Need-mul-ports
+mul-ports c = search needs
+
+mul-ports-2 : tie.Need-mul-ports-2
+mul-ports-2 c = search needs
+
+add-ports : tie.Need-add-ports
+add-ports c = search needs
+
+add-result : tie.Need-add-result
+add-result c = search needs
+
+mul-result : tie.Need-mul-result
+mul-result c = search needs
+
+add-result-2 : tie.Need-add-result-2
+add-result-2 c = search needs
+
+returns : tie.Need-returns
+unfolding partsOf
+returns c = omega arith
+
+pub parts-spec : {M : Type 1} → statement M
+parts-spec =
+    tie.close
+    (tie.spec
+    mul-halves
+    add-halves
+    mul-halves-2
+    add-halves-2
+    mul-ports
+    mul-ports-2
+    add-ports
+    add-result
+    mul-result
+    add-result-2
+    returns)

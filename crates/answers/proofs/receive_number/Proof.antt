@@ -1,0 +1,46 @@
+-- `answers::receive_number` meets its contract. Assumes nothing.
+use Rattle.answers.proofs.Joined.{received}
+use borrow.Author.Needs.{needs}
+use Rattle.answers.proofs.receive_number.Statement.{statement}
+use Rattle.answers.proofs.receive_number.Tie as tie
+
+sent-size-requires : tie.Need-sent-size-requires
+sent-size-requires c κs = search needs
+
+part-requires : tie.Need-part-requires
+part-requires c κs = search needs
+
+part-requires-2 : tie.Need-part-requires-2
+part-requires-2 c κs = search needs
+
+part-requires-3 : tie.Need-part-requires-3
+part-requires-3 c κs = search needs
+
+part-requires-4 : tie.Need-part-requires-4
+part-requires-4 c κs = search needs
+
+part-requires-5 : tie.Need-part-requires-5
+part-requires-5 c κs = search needs
+
+part-requires-6 : tie.Need-part-requires-6
+part-requires-6 c κs = search needs
+
+parts-requires : tie.Need-parts-requires
+parts-requires c κs = search needs
+
+returns : tie.Need-returns
+returns c = received (c .before .before .before .before .before .before .before .before .before .args .e) (c .before .before .before .before .before .before .before .sent-size .ensures) (c .before .before .before .before .before .before .part .ensures) (c .before .before .before .before .before .part2 .ensures) (c .before .before .before .before .part3 .ensures) (c .before .before .before .part4 .ensures) (c .before .before .part5 .ensures) (c .before .part6 .ensures) (c .parts .ensures)
+
+pub receive-number-spec : {M : Type 1} → statement M
+receive-number-spec =
+    tie.close
+    (tie.spec
+    sent-size-requires
+    part-requires
+    part-requires-2
+    part-requires-3
+    part-requires-4
+    part-requires-5
+    part-requires-6
+    parts-requires
+    returns)

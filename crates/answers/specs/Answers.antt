@@ -1,0 +1,40 @@
+-- The numbers that C is told (include/harpjuniper.h): page 01, "the answer gives the local half .. and the onward half"; each case of an answer
+-- has its number here. Assumes nothing.
+use Prim.Native.Nat.{ℕ, _+_, _*_, _%_, _^_}
+use lib.Dec.{eqb}
+use Rattle.checks.specs.Order.{pick}
+use Rattle.queue.specs.declared.Entry.{Entry}
+use Rattle.judge.specs.declared.Ending.{Ending}
+use Rattle.relay.specs.declared.Taking.{Taking}
+use Rattle.relay.specs.declared.Taking.the-variants.{Handed, Refused}
+
+-- ---- receiving: eight bits a part, the refusal lowest
+unfoldable pub partsOf : ℕ → ℕ → ℕ → ℕ → ℕ → ℕ → ℕ
+partsOf refusal local onward took dropped size =
+    refusal + local * 2 ^ 8 + onward * 2 ^ 16 + (took * 2 ^ 24 + dropped * 2 ^ 32) + size * 2 ^ 40
+
+-- the octets of the header sent on, 0 where no port took an entry
+abbrev pub sentSize : ℕ → ℕ → ℕ
+sentSize took size = pick (eqb took 0) 0 (size % 256)
+
+unfoldable pub receiveNumber : Ending → ℕ
+receiveNumber e =
+    partsOf
+    (e .refusal % 256)
+    (e .ruling .local % 256)
+    (e .ruling .onward % 256)
+    (e .ruling .took % 256)
+    (e .ruling .dropped % 256)
+    (sentSize (e .ruling .took) (e .size) % 256)
+
+-- ---- a refusal above 32 bits of value
+abbrev pub refusalNumber : ℕ → ℕ
+refusalNumber n = n * 2 ^ 32
+
+-- ---- taking: the precedence above the slot
+abbrev pub entryNumber : Entry → ℕ
+entryNumber e = e .precedence * 2 ^ 16 + e .slot .0
+
+abbrev pub takingNumber : Taking → ℕ
+takingNumber (Handed e) = entryNumber e
+takingNumber (Refused n) = refusalNumber n

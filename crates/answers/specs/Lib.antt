@@ -1,0 +1,2 @@
+-- What the contracts cite: the numbers that C is told.
+pub mod Answers

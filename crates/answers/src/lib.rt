@@ -1,0 +1,71 @@
+// What C is told of a call on datagrams, as one number.
+//
+// Receiving answers eight bits for each part, from the lowest on: the refusal, the local half, the onward half, the ports that took an entry,
+// those that dropped it, and the octets of the header sent on. Taking answers the refusal above 32 bits of entry: the precedence above the
+// slot. The awkward case is a part over 255, which no ending has: each is taken modulo 256 all the same, so that no part can reach into the
+// next.
+use judge::Ending;
+use relay::Taking;
+ghost use mathlib.Core.Path.{_≡_};
+ghost use Prim.Native.Nat.{_%_, _<_};
+ghost use Rattle.answers.specs.Answers.{sentSize, partsOf, receiveNumber, refusalNumber, entryNumber, takingNumber};
+
+// One part of an answer.
+fn part(x: u32) -> u64
+    ensures { λ r. ⌜ r ≡ x % 256 ⌝ }
+{
+    (x % 256) as u64
+}
+
+// The octets of the header sent on, 0 where it was not.
+fn sent_size(took: u32, size: usize) -> u32
+    ensures { λ r. ⌜ r ≡ sentSize took size ⌝ }
+{
+    if took == 0 {
+        return 0;
+    }
+    (size % 256) as u32
+}
+
+// Six parts in one number.
+fn parts(refusal: u64, local: u64, onward: u64, took: u64, dropped: u64, size: u64) -> u64
+    requires { ⌜ (refusal < 256) × ((local < 256) × ((onward < 256) × ((took < 256) × ((dropped < 256) × (size < 256))))) ⌝ }
+    ensures { λ r. ⌜ r ≡ partsOf refusal local onward took dropped size ⌝ }
+{
+    let halves = refusal + local * 0x100 + onward * 0x1_0000;
+    let ports = took * 0x100_0000 + dropped * 0x1_0000_0000;
+    halves + ports + size * 0x100_0000_0000
+}
+
+// What receiving answers.
+pub fn receive_number(e: Ending) -> u64
+    ensures { λ r. ⌜ r ≡ receiveNumber e ⌝ }
+{
+    let x = e.ruling;
+    let size = sent_size(x.took, e.size);
+    parts(
+        part(e.refusal),
+        part(x.local),
+        part(x.onward),
+        part(x.took),
+        part(x.dropped),
+        part(size),
+    )
+}
+
+// A refusal above a value that is none.
+pub fn refusal_number(number: u32) -> u64
+    ensures { λ r. ⌜ r ≡ refusalNumber number ⌝ }
+{
+    number as u64 * 0x1_0000_0000
+}
+
+// What taking answers.
+pub fn taking_number(t: Taking) -> u64
+    ensures { λ r. ⌜ r ≡ takingNumber t ⌝ }
+{
+    match t {
+        Taking::Handed(e) => e.precedence as u64 * 0x1_0000 + e.slot.0 as u64,
+        Taking::Refused(number) => refusal_number(number),
+    }
+}
