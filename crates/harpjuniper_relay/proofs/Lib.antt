@@ -1,0 +1,2 @@
+-- What the calls on datagrams hand together.
+pub mod Calls

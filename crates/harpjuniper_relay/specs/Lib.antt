@@ -1,0 +1,2 @@
+-- What the contracts of the calls on datagrams cite.
+pub mod Face

@@ -1,0 +1,102 @@
+// What C calls on datagrams: receiving, taking, counters, and how many wait.
+//
+// Each function tests the number of words lent and then calls the relay. None requires anything: whatever words, octets, port or room come,
+// the answer is the one that the definitions state, and where the words are not as many as the state has no port stands in them: receiving
+// and taking answer 16, reading answers 21, and nothing is written. The library's archive is put together of the four crates whose
+// names begin with `harpjuniper`; the C header (include/harpjuniper.h) has a doc block for each call.
+use address::Slot;
+ghost use mathlib.Core.Path.{_≡_};
+ghost use lib.ListN.{length};
+ghost use Rattle.state.specs.Relay.{Relay};
+ghost use Rattle.state.specs.Layout.{stateWords};
+ghost use Rattle.relay.specs.Calls.{takenState};
+ghost use Rattle.answers.specs.Answers.{refusalNumber};
+ghost use Rattle.lent.specs.View.{lent, told, changed};
+ghost use Rattle.harpjuniper_relay.specs.Face.{
+  receiveAnswer,
+  receiveState,
+  receiveOutput,
+  takeAnswer,
+  counterAnswer,
+  waitingAnswer,
+};
+
+// How many words the state has.
+#[no_mangle]
+pub extern "C" fn hj_state_words() -> u32
+    ensures { λ r. ⌜ r ≡ stateWords ⌝ }
+{
+    store::STATE_WORDS as u32
+}
+
+// The verdict on the octets that came in by a port, carried out.
+#[no_mangle]
+pub extern "C" fn hj_receive(
+    state: &mut [u32],
+    port: u32,
+    slot: u16,
+    octets: &[u8],
+    output: &mut [u8],
+) -> u64
+    ensures { λ r. ⌜
+        r ≡ told (λ (x : Relay). receiveAnswer x port (now (octets .entry)) (length (now (output .entry)))) 16 (now (state .entry))
+        ⌝ }
+    ensures { λ _. ⌜
+        lent (now (state .exit))
+        ≡ changed
+        (λ (x : Relay). receiveState x port slot (now (octets .entry)) (length (now (output .entry))))
+        (now (state .entry))
+        ⌝ }
+    ensures { λ _. ⌜
+        now (output .exit)
+        ≡ told
+        (λ (x : Relay). receiveOutput x port (now (octets .entry)) (now (output .entry)))
+        (now (output .entry))
+        (now (state .entry))
+        ⌝ }
+{
+    if state.len() != store::STATE_WORDS {
+        return 16;
+    }
+    answers::receive_number(relay::receive(state, port, Slot(slot), octets, output))
+}
+
+// The first entry that waits on a port, removed.
+#[no_mangle]
+pub extern "C" fn hj_take(state: &mut [u32], port: u32) -> u64
+    ensures { λ r. ⌜ r ≡ told (λ (x : Relay). takeAnswer x port) (refusalNumber 16) (now (state .entry)) ⌝ }
+    ensures { λ _. ⌜ lent (now (state .exit)) ≡ changed (λ (x : Relay). takenState x port) (now (state .entry)) ⌝ }
+{
+    if state.len() != store::STATE_WORDS {
+        return answers::refusal_number(16);
+    }
+    answers::taking_number(relay::take(state, port))
+}
+
+// A counter.
+#[no_mangle]
+pub extern "C" fn hj_counter(state: &[u32], counter: u32) -> u64
+    ensures { λ r. ⌜ r ≡ told (λ (x : Relay). counterAnswer x counter) (refusalNumber 21) (now (state .entry)) ⌝ }
+{
+    if state.len() != store::STATE_WORDS {
+        return answers::refusal_number(21);
+    }
+    if 15 <= counter {
+        return answers::refusal_number(21);
+    }
+    store::counter_of(state, counter as usize) as u64
+}
+
+// How many entries wait on a port.
+#[no_mangle]
+pub extern "C" fn hj_waiting(state: &[u32], port: u32) -> u64
+    ensures { λ r. ⌜ r ≡ told (λ (x : Relay). waitingAnswer x port) (refusalNumber 21) (now (state .entry)) ⌝ }
+{
+    if state.len() != store::STATE_WORDS {
+        return answers::refusal_number(21);
+    }
+    if 8 <= port {
+        return answers::refusal_number(21);
+    }
+    waiting::count_of(state, port as usize) as u64
+}
