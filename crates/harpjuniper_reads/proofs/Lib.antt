@@ -1,0 +1,2 @@
+-- What reading back hands together.
+pub mod Read

@@ -1,0 +1,2 @@
+-- What the contracts of reading back cite.
+pub mod Back
