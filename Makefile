@@ -48,12 +48,27 @@ prepare:
 format: | prepare
 	rt fmt --check
 
+# ---- The archive
+
+# The crates that export to C. `rt staticlib` makes an archive of one crate's exports,
+# an object that shows no other name; ours is made of their objects.
+EXPORTING := harpjuniper harpjuniper_settings harpjuniper_reads harpjuniper_relay
+OBJECTS := $(EXPORTING:%=build/objects/%.o)
+
+ifeq ($(MACHINE),x86_64)
+archiver = ar
+else
+archiver = x86_64-linux-gnu-ar
+endif
+
 # The folders are named too, since a file that is gone changes its folder only.
-# `rt ci` removes target/, so the archive is copied out of it.
+# `rt ci` removes target/, so the objects are taken out of it.
 $(ARCHIVE): crates.txt $(shell find crates 2>/dev/null) | prepare
-	rt staticlib harpjuniper
-	@mkdir -p build
-	cp target/staticlib/libharpjuniper.a $@
+	@mkdir -p build/objects
+	rm -f $@ $(OBJECTS)
+	for crate in $(EXPORTING); do rt staticlib $$crate && \
+	    ar x --output build/objects target/staticlib/lib$$crate.a || exit 1; done
+	$(archiver) rcs $@ $(OBJECTS)
 
 # ---- Programs for the archive's machine
 
