@@ -1,0 +1,4 @@
+-- Histories, what calls leave, and what the rules give over a history.
+pub mod Calls
+pub mod Board
+pub mod Tally
