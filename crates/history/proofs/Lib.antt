@@ -1,2 +1,3 @@
--- The demands over histories. To be read: Counters; Boards serves it.
+-- The demands over histories. To be read: Counters. Boards serves it: no rule reads a counter.
 pub mod Boards
+pub mod Counters
