@@ -1,3 +1,4 @@
 -- The demands over histories. To be read: Counters. Boards serves it: no rule reads a counter.
 pub mod Boards
 pub mod Counters
+pub mod Bits

@@ -2,3 +2,4 @@
 pub mod Calls
 pub mod Board
 pub mod Tally
+pub mod Ledger
