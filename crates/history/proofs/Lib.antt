@@ -2,3 +2,4 @@
 pub mod Boards
 pub mod Counters
 pub mod Bits
+pub mod Fair

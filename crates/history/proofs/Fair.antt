@@ -1,0 +1,155 @@
+-- What a ruling grants to a port it takes or drops, and a port that takes has room: fullness is as it was before the call (page 01, end of
+-- "Onward half"). Assumes nothing.
+use native.Mathlib.Omega.{arith}
+use native.Mathlib.Nat.{div-eq-of-lt}
+use Prim.Native.Nat.{ℕ, _+_, _%_, _<_}
+use lib.Pow.{pow-pos}
+use mathlib.Core.Path.{_≡_, refl, sym, ap, _∙_}
+use mathlib.Core.Bool.{Bool, true, false, not, _&&_}
+use mathlib.Core.List.{List}
+use lib.Bits.{bitAnd}
+use lib.Dec.{eqb, ltb}
+use Rattle.checks.specs.Order.{pick, firstOf}
+use Rattle.checks.proofs.Bools.{true-false, and-true}
+use Rattle.sets.specs.Sets.{inSet}
+use Rattle.address.specs.Class.{classOf}
+use Rattle.header.specs.Read.{readOf}
+use Rattle.header.specs.declared.Header.{Header}
+use Rattle.header.specs.declared.Read.{Read}
+use Rattle.header.specs.declared.Read.the-variants as read
+use Rattle.networks.specs.Networks.{domainOf}
+use Rattle.meaning.specs.Names.{aimOf}
+use Rattle.meaning.specs.declared.Aim.{Aim}
+use Rattle.meaning.specs.declared.Aim.the-variants.{Node, Line as PathLine}
+use Rattle.state.specs.Relay.{Relay, portIn, queueIn}
+use Rattle.survey.specs.Survey.{isSetUp, isWide, isFull, surveyBelow, surveyOf}
+use Rattle.survey.specs.declared.Sought.{Sought}
+use Rattle.lookup.specs.Lookup.{pathPlace}
+use Rattle.verdict.specs.Rule.{targetOf, localOf, exceptBy, lineOf, afterHops, afterDomain, afterSize, grantedOf, copiesOf, rulingOf}
+use Rattle.verdict.specs.declared.Target.{Target}
+use Rattle.verdict.specs.declared.Target.the-variants as target
+use Rattle.verdict.specs.declared.Place.{Place}
+use Rattle.verdict.specs.declared.Way.{Way}
+use Rattle.verdict.specs.declared.Way.the-variants.{Lost}
+use Rattle.verdict.specs.declared.Case.{Case}
+use Rattle.verdict.specs.declared.Line.{Line}
+use Rattle.verdict.specs.declared.Line.the-variants.{Unasked, Refused, Wanted}
+use Rattle.verdict.specs.declared.Survey.{Survey}
+use Rattle.verdict.specs.declared.Ruling.{Ruling}
+use Rattle.rule.specs.Ruling.{placeFor, wayFor, caseOf, soughtOf, ruledBy, ruleTarget, ruleAim, ruleOf}
+use Rattle.rule.specs.declared.Arrival.{Arrival}
+use Rattle.judge.specs.Ending.{noRuling, refusedBy, callChecks, arrivalChecks, headerEnding, octetsEnding, arrivalAt, endingOf}
+use Rattle.judge.specs.declared.Ending.{Ending}
+use Rattle.history.specs.Ledger.{one}
+use Rattle.history.proofs.Bits.{in-and, in-except, in-gathered}
+
+module _ (r : Relay) (p : ℕ) (inside : p < 8) where
+  pub record Fair (x : Ruling) : Type 0 where
+    pub split : one (inSet p (x .granted)) ≡ one (inSet p (x .took)) + one (inSet p (x .dropped))
+    pub room : inSet p (x .took) ≡ true → ltb (queueIn r p .count) 32 ≡ true
+
+  none-in : inSet p 0 ≡ false
+  none-in = ap (λ (n : ℕ). eqb (n % 2) 1) (div-eq-of-lt (pow-pos p))
+
+  fair-none : (local onward : ℕ) → Fair (record { local = local; onward = onward; granted = 0; took = 0; dropped = 0 })
+  fair-none local onward = record { split = simp (none-in); room = λ h. true-false (sym h ∙ none-in) }
+
+  -- ---- copies
+  split-case : (g f : Bool) → one g ≡ one (g && not f) + one (g && f)
+  split-case true true = refl
+  split-case true false = refl
+  split-case false f = refl
+
+  -- a port that is set up and not full has room
+  room-case : (ready under : Bool) → ready ≡ true → (ready && not under) ≡ false → under ≡ true
+  room-case true true h e = refl
+  room-case true false h e = true-false e
+  room-case false under h e = true-false (sym h)
+
+  not-true : (t : Bool) → not t ≡ true → t ≡ false
+  not-true true h = true-false (sym h)
+  not-true false h = refl
+
+  module _ (q : Sought) where
+    wide-ready : inSet p (surveyOf r q .wide) ≡ true → isSetUp (portIn r p) ≡ true
+    unfolding surveyBelow
+    wide-ready h = and-true (isSetUp (portIn r p)) (isWide (portIn r p) q) (sym (in-gathered (λ (i : ℕ). isSetUp (portIn r i) && isWide (portIn r i) q) p 8 inside) ∙ h) .0
+
+    full-is : inSet p (surveyOf r q .full) ≡ (isSetUp (portIn r p) && isFull (queueIn r p .count))
+    unfolding surveyBelow
+    full-is = in-gathered (λ (i : ℕ). isSetUp (portIn r i) && isFull (queueIn r i .count)) p 8 inside
+
+    fair-copies : (local g : ℕ) → (inSet p g ≡ true → inSet p (surveyOf r q .wide) ≡ true) → Fair (copiesOf local g (surveyOf r q .full))
+    unfolding copiesOf
+    fair-copies local g wide =
+        let full = surveyOf r q .full in
+        record {
+          split = rw (in-except p g full, in-and p g full) (split-case (inSet p g) (inSet p full));
+          room = λ h.
+            let k = and-true (inSet p g) (not (inSet p full)) (sym (in-except p g full) ∙ h) in
+            room-case (isSetUp (portIn r p)) (ltb (queueIn r p .count) 32) (wide-ready (wide (k .0))) (sym full-is ∙ not-true (inSet p full) (k .1));
+        }
+
+    -- ---- what is granted has an MTU that holds the datagram
+    wanted-is : (a b : ℕ) → Wanted a ≡ Wanted b → a ≡ b
+    wanted-is a b h = cc
+
+    size-case : (t : Bool) (set wide g : ℕ) → pick t (Refused 14) (Wanted (bitAnd set wide)) ≡ Wanted g → g ≡ bitAnd set wide
+    size-case true set wide g h = true-false cc
+    size-case false set wide g h = sym (wanted-is _ _ h)
+
+    size-wide : (x : Line) (wide g : ℕ) → afterSize x wide ≡ Wanted g → inSet p g ≡ true → inSet p wide ≡ true
+    size-wide Unasked wide g h k = true-false cc
+    size-wide (Refused n) wide g h k = true-false cc
+    size-wide (Wanted set) wide g h k =
+        let is = size-case (eqb (bitAnd set wide) 0) set wide g h in
+        and-true (inSet p set) (inSet p wide) (sym (in-and p set wide) ∙ ap (inSet p) (sym is) ∙ k) .1
+
+    fair-line : (local : ℕ) (l : Line) → ((g : ℕ) → l ≡ Wanted g → inSet p g ≡ true → inSet p (surveyOf r q .wide) ≡ true)
+        → Fair (rulingOf local l (surveyOf r q .full))
+    unfolding rulingOf
+    fair-line local Unasked wide = fair-none local 0
+    fair-line local (Refused n) wide = fair-none local n
+    fair-line local (Wanted g) wide = fair-copies local g (wide g refl)
+
+    fair-ruled : (t : Target) (x : Place) (w : Way) (c : Case) → Fair (ruledBy t x w c (surveyOf r q))
+    unfolding ruledBy grantedOf
+    fair-ruled t x w c =
+        let s = surveyOf r q in
+        fair-line (localOf t x c) (grantedOf (lineOf t x w c (s .ready) (localOf t x c)) c s)
+        (λ g h k. size-wide (afterDomain (afterHops (lineOf t x w c (s .ready) (localOf t x c)) (c .spent)) (c .basic) (s .near)) (s .wide) g h k)
+
+    fair-aim : (x : Aim) (c : Case) → Fair (ruleAim r x c (surveyOf r q))
+    unfolding ruleTarget
+    fair-aim (Node a) c =
+        let t = targetOf (classOf (a .0)) (surveyOf r q) in
+        fair-ruled t (placeFor r t a (c .arrival)) (wayFor r t a) c
+    fair-aim (PathLine x) c = fair-ruled target.Path (pathPlace r x) Lost c
+
+  fair-rule : (at : Arrival) (x : Aim) (h : Header) → Fair (ruleOf r at x h)
+  unfolding ruleOf
+  fair-rule at x h = fair-aim (soughtOf x (domainOf (at .address)) (h .length)) x (caseOf (r .router) (at .set) (h .fields))
+
+  -- ---- the whole call
+  fair-refused : (n : ℕ) → Fair (refusedBy n .ruling)
+  fair-refused n = fair-none 0 0
+
+  fair-or : (t : Bool) (n : ℕ) (e : Ending) → Fair (e .ruling) → Fair (pick t e (refusedBy n) .ruling)
+  fair-or true n e f = f
+  fair-or false n e f = fair-refused n
+
+  fair-header : (at : Arrival) (h : Header) → Fair (headerEnding r at h .ruling)
+  unfolding headerEnding
+  fair-header at h =
+      let n = firstOf (arrivalChecks (at .address) (h .fields)) in
+      fair-or (eqb n 0) n _ (fair-rule at (aimOf (at .address .0) (h .fields .addresses)) h)
+
+  fair-octets : (at : Arrival) (x : Read) → Fair (octetsEnding r at x .ruling)
+  fair-octets at (read.Good h) = fair-header at h
+  fair-octets at (read.Refused n) = fair-refused n
+
+  pub fair : (port : ℕ) (octets : List ℕ) (size : ℕ) → Fair (endingOf r port octets size .ruling)
+  unfolding endingOf
+  fair port octets size =
+      let n = firstOf (callChecks r port size) in
+      fair-or (eqb n 0) n (octetsEnding r (arrivalAt r port) (readOf octets)) (fair-octets (arrivalAt r port) (readOf octets))
