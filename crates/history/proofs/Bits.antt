@@ -103,7 +103,7 @@ in-gathered test p (suc m) h =
     ⊎-elim
     (λ e. rw e (top-case (test m) m (portSet test m) (portSet-below test m)))
     (λ l.
-      ap (λ (n : ℕ). inSet p (portSet test m + pick (test m) (2 ^ n) 0)) (let e : m ≡ suc (m - suc p) + p = omega arith in e)
-      ∙ lower-case (test m) p (m - suc p) (portSet test m)
-      ∙ in-gathered test p m l)
+    ap (λ (n : ℕ). inSet p (portSet test m + pick (test m) (2 ^ n) 0)) (let e : m ≡ suc (m - suc p) + p = omega arith in e)
+    ∙ lower-case (test m) p (m - suc p) (portSet test m)
+    ∙ in-gathered test p m l)
     (eq-or-lt-of-le (le-of-suc-le-suc h))

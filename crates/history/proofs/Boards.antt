@@ -45,7 +45,7 @@ use Rattle.judge.specs.Ending.{orElse, notSetUp, callChecks, arrivalChecks, hea
 use Rattle.judge.specs.declared.Ending.{Ending}
 use Rattle.tally.specs.Tally.{Row, movesOf, countedAt, countedAll}
 use Rattle.outgo.specs.Outgo.{entered, enteredIf, enteredAll}
-use Rattle.relay.specs.Calls.{entryOf, receivedState, without, takenState}
+use Rattle.relay.specs.Calls.{entryOf, receivedState, without, takeOutcome, takenState}
 use Rattle.records.specs.Fresh.{freshGroup, freshPath}
 use Rattle.routes.specs.Routes.{emptyRoute}
 use Rattle.routes.specs.declared.Route.{Route}
@@ -251,3 +251,7 @@ done-board r (receives port slot octets output) =
     received-board r slot (endingOf r port octets (length output))
     ∙ ap (λ (e : Ending). boardOf (receivedState (bare r) slot e)) (sym (ending-bare r port octets (length output)))
 done-board r (takes port) = taken-board r port
+
+pub outcome-bare : (r : Relay) (port : ℕ) → takeOutcome (bare r) port ≡ takeOutcome r port
+unfolding takeOutcome notSetUp
+outcome-bare r port = refl

@@ -86,8 +86,8 @@ module _ (r : Relay) (p : ℕ) (inside : p < 8) where
         record {
           split = rw (in-except p g full, in-and p g full) (split-case (inSet p g) (inSet p full));
           room = λ h.
-            let k = and-true (inSet p g) (not (inSet p full)) (sym (in-except p g full) ∙ h) in
-            room-case (isSetUp (portIn r p)) (ltb (queueIn r p .count) 32) (wide-ready (wide (k .0))) (sym full-is ∙ not-true (inSet p full) (k .1));
+              let k = and-true (inSet p g) (not (inSet p full)) (sym (in-except p g full) ∙ h) in
+              room-case (isSetUp (portIn r p)) (ltb (queueIn r p .count) 32) (wide-ready (wide (k .0))) (sym full-is ∙ not-true (inSet p full) (k .1));
         }
 
     -- ---- what is granted has an MTU that holds the datagram

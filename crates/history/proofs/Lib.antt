@@ -3,3 +3,5 @@ pub mod Boards
 pub mod Counters
 pub mod Bits
 pub mod Fair
+pub mod Queues
+pub mod Ledger
