@@ -5,3 +5,4 @@ pub mod Bits
 pub mod Fair
 pub mod Queues
 pub mod Ledger
+pub mod Refusals

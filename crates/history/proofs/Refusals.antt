@@ -1,0 +1,111 @@
+-- Demand 1: a refused call leaves settings, queues and lent octets as they were, and 16 and 17 move no counter. Assumes nothing.
+use native.Mathlib.Omega.{arith}
+use Prim.Native.Nat.{ℕ, zero, suc, _<_}
+use mathlib.Core.Path.{_≡_, refl, sym, ap, _∙_}
+use mathlib.Core.Bool.{Bool, true, false}
+use mathlib.Core.List.{List, []}
+use lib.ListN.{length}
+use lib.Bits.{bitAnd, and-zero-l}
+use lib.Dec.{eqb}
+use borrow.Author.Tests.{eq-eqb, ne-eqb}
+use Rattle.checks.specs.Order.{pick, firstOf}
+use Rattle.checks.proofs.Bools.{true-false}
+use Rattle.sets.specs.Sets.{onlyPort}
+use Rattle.address.specs.declared.Slot.{Slot}
+use Rattle.header.specs.Read.{readOf}
+use Rattle.header.specs.declared.Header.{Header}
+use Rattle.header.specs.declared.Read.{Read}
+use Rattle.header.specs.declared.Read.the-variants as read
+use Rattle.queue.specs.Queue.{takeOf}
+use Rattle.queue.specs.declared.Entry.{Entry}
+use Rattle.queue.specs.declared.Head.{Head}
+use Rattle.queue.specs.declared.Head.the-variants.{First, Nothing}
+use Rattle.queue.specs.declared.Queue.{Queue}
+use Rattle.state.specs.Relay.{Relay, queueIn}
+use Rattle.rule.specs.declared.Arrival.{Arrival}
+use Rattle.judge.specs.Ending.{noRuling, refusedBy, ruled, notSetUp, callChecks, arrivalChecks, headerEnding, octetsEnding, arrivalAt, endingOf}
+use Rattle.judge.specs.declared.Ending.{Ending}
+use Rattle.tally.specs.Tally.{movesOf, countedAll, counterFor}
+use Rattle.outgo.specs.Outgo.{entered, enteredIf, enteredAll, outputOf}
+use Rattle.relay.specs.Calls.{entryOf, receivedState, handed, without, takeOutcome, takenState}
+use Rattle.relay.specs.declared.Taking.{Taking}
+use Rattle.relay.specs.declared.Taking.the-variants.{Handed, Refused}
+use Rattle.history.specs.Board.{boardOf}
+use Rattle.history.specs.Tally.{given}
+use Rattle.history.proofs.Boards.{counted-board}
+
+-- ---- a refusal has no ruling
+abbrev Bare : Ending → Type 0
+Bare e = (e .refusal ≡ 0 → ⊥) → e .ruling ≡ noRuling
+
+bare-or : (t : Bool) (n : ℕ) (e : Ending) → Bare e → Bare (pick t e (refusedBy n))
+bare-or true n e b = b
+bare-or false n e b = λ h. refl
+
+bare-ruled : (e : Ending) → e .refusal ≡ 0 → Bare e
+bare-ruled e z h = absurd (h z)
+
+bare-octets : (r : Relay) (at : Arrival) (x : Read) → Bare (octetsEnding r at x)
+unfolding headerEnding
+bare-octets r at (read.Good h) =
+    let n = firstOf (arrivalChecks (at .address) (h .fields)) in
+    bare-or (eqb n 0) n (ruled r at h) (bare-ruled (ruled r at h) refl)
+bare-octets r at (read.Refused n) = λ h. refl
+
+pub refused-grants-nothing : (r : Relay) (port : ℕ) (octets : List ℕ) (room : ℕ)
+    → (endingOf r port octets room .refusal ≡ 0 → ⊥) → endingOf r port octets room .ruling ≡ noRuling
+unfolding endingOf
+refused-grants-nothing r port octets room =
+    let n = firstOf (callChecks r port room) in
+    bare-or (eqb n 0) n (octetsEnding r (arrivalAt r port) (readOf octets)) (bare-octets r (arrivalAt r port) (readOf octets))
+
+-- ---- where no port takes, no queue and no octet of the output changes
+nobody-case : (t : Bool) (r s : Relay) → t ≡ true → pick t r s ≡ r
+nobody-case true r s h = refl
+nobody-case false r s h = true-false (sym h)
+
+nobody-enters : (e : Entry) (n : ℕ) (r : Relay) → enteredAll r 0 e n ≡ r
+unfolding enteredAll enteredIf
+nobody-enters e zero r = refl
+nobody-enters e (suc p) r =
+    let s = enteredAll r 0 e p in
+    nobody-case (eqb (bitAnd 0 (onlyPort p)) 0) s (entered s p e) (eq-eqb (bitAnd 0 (onlyPort p)) 0 (and-zero-l (onlyPort p)))
+    ∙ nobody-enters e p r
+
+pub nobody-took : (r : Relay) (slot : Slot) (e : Ending) → e .ruling .took ≡ 0 → boardOf (receivedState r slot e) ≡ boardOf r
+unfolding receivedState
+nobody-took r slot e h =
+    ap (λ (took : ℕ). boardOf (enteredAll (countedAll r (movesOf e)) took (entryOf slot e) 8)) h
+    ∙ ap boardOf (nobody-enters (entryOf slot e) 8 (countedAll r (movesOf e)))
+    ∙ counted-board (movesOf e) r
+
+pub output-as-lent : (e : Ending) (octets lent : List ℕ) → e .ruling .took ≡ 0 → outputOf (e .ruling .took) octets lent ≡ lent
+unfolding outputOf
+output-as-lent e octets lent h = rw h refl
+
+-- A refused datagram leaves settings and queues, and every octet of the output.
+pub refused-leaves :
+    (r : Relay) (port : ℕ) (slot : Slot) (octets output : List ℕ)
+    → (endingOf r port octets (length output) .refusal ≡ 0 → ⊥)
+    → (boardOf (receivedState r slot (endingOf r port octets (length output))) ≡ boardOf r)
+    × (outputOf (endingOf r port octets (length output) .ruling .took) octets output ≡ output)
+refused-leaves r port slot octets output h =
+    let e = endingOf r port octets (length output) in
+    let z : e .ruling .took ≡ 0 = ap (λ x. x .took) (refused-grants-nothing r port octets (length output) h) in
+    (nobody-took r slot e z, output-as-lent e octets output z)
+
+-- 16 and 17 move no counter.
+pub counts-nothing : (i : ℕ) → i < 15 → (given (refusedBy 16) i ≡ 0) × (given (refusedBy 17) i ≡ 0)
+unfolding counterFor
+counts-nothing i h = let none = ne-eqb 15 i (λ e. omega arith) in (simp (none), simp (none))
+
+-- A refused take leaves the whole relay.
+take-case : (t : Bool) (r : Relay) (port : ℕ) (q : Queue) (h : Head) (n : ℕ)
+    → pick t (Refused 16) (handed h) ≡ Refused n → pick t r (without r port q h) ≡ r
+take-case true r port q h n e = refl
+take-case false r port q (First x) n e = true-false cc
+take-case false r port q Nothing n e = refl
+
+pub refused-take-leaves : (r : Relay) (port n : ℕ) → takeOutcome r port ≡ Refused n → takenState r port ≡ r
+unfolding takeOutcome takenState
+refused-take-leaves r port n e = take-case (notSetUp r port) r port (takeOf (queueIn r port) .queue) (takeOf (queueIn r port) .head) n e
