@@ -6,3 +6,4 @@ pub mod Fair
 pub mod Queues
 pub mod Ledger
 pub mod Refusals
+pub mod Meaning
