@@ -39,7 +39,7 @@ use Rattle.history.proofs.Fair.{Fair, fair}
 use Rattle.history.proofs.Queues.{Eight, eight-entered, putIf, entered-queue, put-count, take-count}
 
 -- the queues of a relay
-abbrev queues-of : Relay → List Queue
+abbrev pub queues-of : Relay → List Queue
 queues-of r = r .mission .queues
 
 -- ---- what leaves the queues
@@ -47,10 +47,10 @@ settled-case : (t : Bool) (r s : Relay) → queues-of s ≡ queues-of r → queu
 settled-case true r s e = e
 settled-case false r s e = refl
 
-settled-queues : (n : ℕ) (r s : Relay) → queues-of s ≡ queues-of r → queues-of (settled n s r) ≡ queues-of r
+pub settled-queues : (n : ℕ) (r s : Relay) → queues-of s ≡ queues-of r → queues-of (settled n s r) ≡ queues-of r
 settled-queues n r s e = settled-case (eqb n 0) r s e
 
-counted-queues : (r : Relay) (e : Ending) → queues-of (countedAll r (movesOf e)) ≡ queues-of r
+pub counted-queues : (r : Relay) (e : Ending) → queues-of (countedAll r (movesOf e)) ≡ queues-of r
 counted-queues r e = ap (λ (b : Board). b .queues) (counted-board (movesOf e) r)
 
 without-eight : (r : Relay) (port : ℕ) (q : Queue) (h : Head) → Eight r → Eight (without r port q h)
@@ -64,7 +64,7 @@ taken-eight false r port q h l = without-eight r port q h l
 module _ (p : ℕ) (inside : p < 8) where
   -- ---- one call closes
   -- what waits and what is granted is what is handed out, what waits then, and what is dropped
-  abbrev Closes : Relay → Call → Type 0
+  abbrev pub Closes : Relay → Call → Type 0
   Closes r c =
       (queueIn r p .count + byRuling (granted p) (boardOf r) c
       ≡ handedOut p (boardOf r) c + (queueIn (done r c) p .count + byRuling (dropped p) (boardOf r) c))
@@ -130,7 +130,7 @@ module _ (p : ℕ) (inside : p < 8) where
   taken-all-eight r port l = taken-eight (notSetUp r port) r port (takeOf (queueIn r port) .queue) (takeOf (queueIn r port) .head) l
 
   -- ---- each call, and then all
-  one-call : (r : Relay) (c : Call) → Eight r → Closes r c
+  pub one-call : (r : Relay) (c : Call) → Eight r → Closes r c
   one-call r (setRouter x) l = kept r (done r (setRouter x)) l (settled-queues (firstOf (routerChecks x)) r (withRouter r x) refl)
   one-call r (setPort q address mask mtu) l =
       kept r (done r (setPort q address mask mtu)) l (settled-queues (firstOf (portChecks r q address mask mtu)) r (withPort r q (newPort address mask mtu)) refl)
@@ -170,7 +170,7 @@ module _ (p : ℕ) (inside : p < 8) where
       let d = ap (λ (x : Board). sumOver (byRuling (dropped p)) x cs) b in
       omega (arith, step .0, rest, g, h, d)
 
-  fresh-eight : Eight freshRelay
+  pub fresh-eight : Eight freshRelay
   unfolding freshRelay
   fresh-eight = refl
 

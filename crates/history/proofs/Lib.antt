@@ -7,3 +7,4 @@ pub mod Queues
 pub mod Ledger
 pub mod Refusals
 pub mod Meaning
+pub mod Oldest

@@ -3,3 +3,4 @@ pub mod Calls
 pub mod Board
 pub mod Tally
 pub mod Ledger
+pub mod Deeds
