@@ -8,3 +8,4 @@ pub mod Ledger
 pub mod Refusals
 pub mod Meaning
 pub mod Oldest
+pub mod Named
