@@ -9,3 +9,4 @@ pub mod Refusals
 pub mod Meaning
 pub mod Oldest
 pub mod Named
+pub mod Listed
