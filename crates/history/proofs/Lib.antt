@@ -1,4 +1,8 @@
--- The demands over histories. To be read: Counters. Boards serves it: no rule reads a counter.
+-- The demands over histories. To be read, each by itself with the definitions it cites:
+-- Refusals and Listed (demand 1: what a refused call leaves; the numbers an answer can be);
+-- Meaning (demand 2: what addresses name on every copy granted; no one-octet address leaves its domain);
+-- Counters, Named, Ledger, Oldest (demand 3: every counter, the four that the customer names, the ledger of a port, the order of taking);
+-- Marked (page 01's marked cases, one table). The others serve these: Boards, that no rule reads a counter; Bits, Fair and Queues.
 pub mod Boards
 pub mod Counters
 pub mod Bits
@@ -10,3 +14,4 @@ pub mod Meaning
 pub mod Oldest
 pub mod Named
 pub mod Listed
+pub mod Marked

@@ -1,2 +1,3 @@
--- The laws of the view. To be read: Same. Calls serves the proofs of the calls from C.
+-- The laws of the view. To be read: Same, two results that a promise allows are equal. Calls serves the proofs of the calls from C.
 pub mod Calls
+pub mod Same
