@@ -15,8 +15,8 @@
  *   - two pieces lent to one call do not overlap;
  *   - one call at a time works on a state, in whatever thread;
  *   - a state is given back as the last call left it. With other words in it
- *     a call still ends in an answer, which docs/ lists, but no law about
- *     histories speaks of it.
+ *     a call still ends in an answer, which docs/STATES.md lists; what is said
+ *     below of the range of an answer is said of the states that calls leave.
  *
  * The library allocates nothing, keeps nothing between calls, and never waits.
  *
@@ -150,7 +150,7 @@ extern "C" {
 
 /*
  * An answer that is a refusal or a value: the refusal number above, the value
- * in the lower 32 bits. One of the two is 0.
+ * in the lower 32 bits. With a refusal the value is 0.
  */
 typedef uint64_t hj_answer;
 
@@ -205,8 +205,8 @@ typedef struct hj_reading {
 } hj_reading;
 
 /*
- * The answer of hj_receive, eight bits for each part. With a refusal all other
- * parts are 0.
+ * The answer of hj_receive, eight bits for each part; the sixteen bits above
+ * them are 0. With a refusal all other parts are 0.
  */
 typedef uint64_t hj_verdict;
 
@@ -316,8 +316,8 @@ typedef struct hj_path_place {
  *                        own length;
  *   HJ_BAD_CHECKSUM (5)  the checksum is present and wrong.
  * The first that holds, in the order 1, 2, 1, 4, 3, 5, is given.
- * The octets are not changed. Octets beyond the length field are not looked
- * at, but for those of the control field.
+ * The octets are not changed. The answer does not depend on octets beyond the
+ * length field, but for those of the control field.
  */
 hj_reading hj_read(const uint8_t *octets, size_t count);
 
@@ -395,15 +395,16 @@ uint32_t hj_fresh(uint32_t *state, size_t words);
 /*
  * Makes the node a router (1) or a host (0). The queues stay.
  *
- * Returns
- *   HJ_DONE (0)         done;
+ * Returns the first of these that holds, in this order:
  *   HJ_BAD_NUMBER (21)  words is not HJ_STATE_WORDS;
- *   HJ_BAD_CODE (24)    router is neither 0 nor 1.
+ *   HJ_BAD_CODE (24)    router is neither 0 nor 1;
+ *   HJ_DONE (0)         done.
  */
 uint32_t hj_set_router(uint32_t *state, size_t words, uint32_t router);
 
 /*
- * Sets up a port, or writes it anew. A port is never emptied.
+ * Sets up a port, or writes it anew: its address, mask and MTU, and nothing
+ * else. A port is never emptied.
  *
  * Returns the first of these that holds, in this order:
  *   HJ_BAD_NUMBER (21)   words is not HJ_STATE_WORDS, or port is over 7;
@@ -429,7 +430,8 @@ uint32_t hj_set_port(uint32_t *state, size_t words, uint32_t port,
  *                       a one outside it;
  *   HJ_BAD_CODE (24)    availability is not 1 to 4, or capabilities is not 0,
  *                       1, 2 or 4;
- *   HJ_SAME_ENTRY (23)  another place has the same prefix and mask;
+ *   HJ_SAME_ENTRY (23)  another place, not empty, has the same prefix and
+ *                       mask;
  *   HJ_DONE (0)         done.
  */
 uint32_t hj_set_route(uint32_t *state, size_t words, uint32_t place,
@@ -464,7 +466,8 @@ uint32_t hj_set_path(uint32_t *state, size_t words, uint32_t place,
                      uint32_t path, uint32_t send, uint32_t here);
 
 /*
- * Each of these empties a place; an empty one too.
+ * Each of these empties a place; an empty one too. The place is then as in a
+ * fresh relay.
  *
  * Returns
  *   HJ_DONE (0)         done;
@@ -509,14 +512,19 @@ uint32_t hj_clear_path(uint32_t *state, size_t words, uint32_t place);
  *                          one, and hj_dropped those that dropped their copy;
  *   HJ_NOT_FOR_US (9)      the node is a host, and it is not for it;
  *   HJ_HOPS_USED_UP (10)   ports are wanted, and the hop count is 0 or 1;
- *   HJ_NO_ROUTE (11)       no route, group or path for it, or no port in the
- *                          set but the arrival port;
+ *   HJ_NO_ROUTE (11)       no route, group or path for it; or no port in the
+ *                          set of the group or path but the arrival port, and
+ *                          HJ_NOT_ASKED does not hold (below);
  *   HJ_NOT_UP (12)         the longest matching route is not up;
  *   HJ_LEAVES_DOMAIN (13)  one-octet addresses, and every port wanted is in
  *                          another domain;
  *   HJ_TOO_BIG (14)        the MTU of every port left is under the length;
  *   HJ_QUEUES_FULL (15)    every port left dropped its copy: hj_dropped.
- * Both HJ_LOCAL_NO and HJ_NOT_ASKED together are never given.
+ * HJ_NOT_ASKED is given for a port's own address and the limited broadcast; on
+ * a host, where hj_local is not HJ_LOCAL_NO; for a broadcast of a port's
+ * network, or a group subscribed on the arrival port, where no other port is
+ * set up; and for a path that is delivered here and has no port in its set but
+ * the arrival port. Both HJ_LOCAL_NO and HJ_NOT_ASKED together are never given.
  *
  * With HJ_SENT_ON the output begins with the header sent on, hj_header_octets
  * octets (4 to 50): the arriving one, hop count less one and checksum redone,
@@ -558,7 +566,8 @@ hj_answer hj_counter(const uint32_t *state, size_t words, uint32_t counter);
 hj_answer hj_waiting(const uint32_t *state, size_t words, uint32_t port);
 
 /*
- * Whether the node is a router.
+ * Whether the node is a router. This call and those below read what the
+ * settings left; none of them changes a word.
  *
  * Returns an answer: hj_value is 1 for a router, 0 for a host, or hj_refusal
  * is
