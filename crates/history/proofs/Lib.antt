@@ -15,3 +15,4 @@ pub mod Oldest
 pub mod Named
 pub mod Listed
 pub mod Marked
+pub mod Reach

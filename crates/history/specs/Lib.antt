@@ -4,3 +4,4 @@ pub mod Board
 pub mod Tally
 pub mod Ledger
 pub mod Deeds
+pub mod Reach
