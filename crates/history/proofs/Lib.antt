@@ -16,3 +16,4 @@ pub mod Named
 pub mod Listed
 pub mod Marked
 pub mod Reach
+pub mod Keys

@@ -168,7 +168,7 @@ module _ (r s : Relay) (k : Kept r)
       }
 
 -- ---- settings
-numbered-five : (a b c d e : Bool) (l m n o q : ℕ) → (l ≡ 0 → ⊥) → (m ≡ 0 → ⊥) → (n ≡ 0 → ⊥) → (o ≡ 0 → ⊥) → (q ≡ 0 → ⊥)
+pub numbered-five : (a b c d e : Bool) (l m n o q : ℕ) → (l ≡ 0 → ⊥) → (m ≡ 0 → ⊥) → (n ≡ 0 → ⊥) → (o ≡ 0 → ⊥) → (q ≡ 0 → ⊥)
     → firstOf ((a, l) ∷ (b, m) ∷ (c, n) ∷ (d, o) ∷ (e, q) ∷ []) ≡ 0
     → (a ≡ false) × ((b ≡ false) × ((c ≡ false) × ((d ≡ false) × (e ≡ false))))
 numbered-five a b c d e l m n o q zl zm zn zo zq h =
@@ -306,7 +306,7 @@ module _ (r : Relay) (k : Kept r) where
   settled-kept n s f = settled-case (eqb n 0) n s refl f
 
 -- ---- datagrams leave the settings
-abbrev settingsOf : Relay → List Port × (List Group × (List PathPlace × List Route))
+abbrev pub settingsOf : Relay → List Port × (List Group × (List PathPlace × List Route))
 settingsOf r = (r .ports, (r .mission .groups, (r .mission .paths, r .routes)))
 
 by-settings : (r s : Relay) → Kept r → settingsOf s ≡ settingsOf r → Kept s
@@ -346,7 +346,7 @@ unfolding takenState
 taken-settings r port = taken-case (notSetUp r port) r port (takeOf (queueIn r port) .queue) (takeOf (queueIn r port) .head)
 
 -- ---- each call, and then all
-one-kept : (r : Relay) (c : Call) → Kept r → Kept (done r c)
+pub one-kept : (r : Relay) (c : Call) → Kept r → Kept (done r c)
 one-kept r (setRouter x) k = settled-kept r k (firstOf (routerChecks x)) (withRouter r x) (λ z. same-kept r (withRouter r x) k refl refl refl refl)
 one-kept r (setPort p a m u) k = settled-kept r k (firstOf (portChecks r p a m u)) (withPort r p (newPort a m u)) (port-kept r k p a m u)
 one-kept r (setRoute i prefix mask port availability capabilities) k =
@@ -372,7 +372,7 @@ all-kept : (cs : List Call) (r : Relay) → Kept r → Kept (run r cs)
 all-kept [] r k = k
 all-kept (c ∷ cs) r k = all-kept cs (done r c) (one-kept r c k)
 
-fresh-kept : Kept freshRelay
+pub fresh-kept : Kept freshRelay
 unfolding freshRelay
 fresh-kept =
     record {

@@ -2,10 +2,15 @@
 -- tests that took it, those of the ports that are set up now included. Assumes nothing.
 use Prim.Native.Nat.{ℕ, _<_}
 use mathlib.Core.Path.{_≡_}
-use mathlib.Core.Bool.{Bool, true, false, not}
+use mathlib.Core.Bool.{Bool, true, false, not, _&&_}
+use mathlib.Core.List.{List}
+use lib.ListN.{getD}
 use lib.Dec.{eqb}
 use Rattle.checks.specs.Order.{firstOf}
-use Rattle.routes.specs.Routes.{isFilled}
+use Rattle.records.specs.Fresh.{freshGroup, freshPath}
+use Rattle.records.specs.declared.Group.{Group}
+use Rattle.records.specs.declared.PathPlace.{PathPlace}
+use Rattle.routes.specs.Routes.{isFilled, sameEntry, emptyRoute}
 use Rattle.settings.specs.Refusals.{portClassRefused, portMaskRefused, mtuRefused, groupClassRefused, pathClassRefused}
 use Rattle.settings.specs.Sets.{setRefused}
 use Rattle.state.specs.Relay.{Relay, portIn, routeIn, groupIn, pathIn}
@@ -26,3 +31,19 @@ pub record Reached (r : Relay) : Type 0 where
   -- a filled path's address is valid, and its set names only ports that are set up
   pub paths : (i : ℕ) → i < 16 → not (eqb (pathIn r i .filled) 0) ≡ true
       → (pathClassRefused (pathIn r i .path) ≡ false) × (setRefused (pathIn r i .send) (readySet r) ≡ false)
+
+-- ---- no two places hold the same entry
+abbrev pub sameGroup : Group → Group → Bool
+sameGroup x y = not (eqb (x .filled) 0) && (not (eqb (y .filled) 0) && eqb (x .address .0) (y .address .0))
+
+abbrev pub samePath : PathPlace → PathPlace → Bool
+samePath x y = not (eqb (x .filled) 0) && (not (eqb (y .filled) 0) && eqb (x .path .0) (y .path .0))
+
+-- of n places, no two that differ hold the same
+abbrev pub Unique : {A : Type 0} → (A → A → Bool) → A → ℕ → List A → Type 0
+Unique same d n l = (i j : ℕ) → i < n → j < n → (i ≡ j → ⊥) → same (getD l i d) (getD l j d) ≡ false
+
+pub record KeysUnique (r : Relay) : Type 0 where
+  pub routes : Unique sameEntry emptyRoute 64 (r .routes)
+  pub groups : Unique sameGroup freshGroup 16 (r .mission .groups)
+  pub paths : Unique samePath freshPath 16 (r .mission .paths)

@@ -1,0 +1,207 @@
+-- In every state that a history reaches no two places hold the same entry: the same prefix and mask, group or path. The theorem is `keys-unique`, at
+-- the end. Assumes nothing.
+use native.Mathlib.Omega.{arith}
+use Prim.Native.Nat.{ℕ, _<_}
+use mathlib.Core.Path.{_≡_, refl, sym, ap, _∙_}
+use mathlib.Core.Bool.{Bool, true, false, not, _&&_}
+use mathlib.Core.List.{List, [], _∷_}
+use lib.Dec.{eqb, ltb}
+use lib.ListN.{length, getD, set, getD-replicate}
+use lib.Seq.{getD-set-same, getD-set-other}
+use borrow.Author.Tests.{eqb-true, eqb-false, eq-eqb, ne-eqb}
+use Rattle.checks.specs.Order.{pick, firstOf}
+use Rattle.checks.proofs.Bools.{true-false, refuted}
+use Rattle.sets.specs.Sets.{anyBelow}
+use Rattle.sets.proofs.Anywhere.{any-found}
+use Rattle.address.specs.declared.Address.{Address}
+use Rattle.address.specs.declared.PathAddress.{PathAddress}
+use Rattle.records.specs.Fresh.{freshGroup, freshPath}
+use Rattle.records.specs.declared.Group.{Group}
+use Rattle.records.specs.declared.PathPlace.{PathPlace}
+use Rattle.routes.specs.Routes.{isFilled, sameEntry, emptyRoute}
+use Rattle.routes.specs.declared.Route.{Route}
+use Rattle.state.specs.Relay.{Relay, freshRelay, routeIn, groupIn, pathIn, withRouter, withPort, withRoute, withGroup, withPath}
+use Rattle.elsewhere.specs.Elsewhere.{otherRoute, otherGroup, otherPath, routeElsewhere, groupElsewhere, pathElsewhere}
+use Rattle.refusals.specs.Lists.{portChecks, routeChecks, groupChecks, pathChecks, routerChecks, clearChecks}
+use Rattle.adjust.specs.Settled.{settled, newPort, newRoute, newGroup, newPath}
+use Rattle.judge.specs.Ending.{endingOf}
+use Rattle.history.specs.Calls.{Call, setRouter, setPort, setRoute, setGroup, setPath, clearRoute, clearGroup, clearPath, receives, takes, done, run, after}
+use Rattle.history.specs.Reach.{sameGroup, samePath, Unique, KeysUnique}
+use Rattle.history.proofs.Reach.{Kept, settingsOf, numbered-five, received-settings, taken-settings, one-kept, fresh-kept}
+
+-- ---- the same either way round
+eqb-case : (a b : ℕ) (t : Bool) → eqb a b ≡ t → eqb b a ≡ t
+eqb-case a b true e = eq-eqb b a (sym (eqb-true a b e))
+eqb-case a b false e = ne-eqb b a (λ z. eqb-false a b e (sym z))
+
+eqb-sym : (a b : ℕ) → eqb b a ≡ eqb a b
+eqb-sym a b = eqb-case a b (eqb a b) refl
+
+swap : (f g : Bool) {s t : Bool} → s ≡ t → (f && (g && s)) ≡ (g && (f && t))
+swap true true e = e
+swap true false e = refl
+swap false true e = refl
+swap false false e = refl
+
+route-sym : (x y : Route) → sameEntry y x ≡ sameEntry x y
+unfolding sameEntry
+route-sym x y =
+    swap (isFilled y) (isFilled x)
+    (rw (eqb-sym (x .prefix .0) (y .prefix .0), eqb-sym (x .mask .0) (y .mask .0)))
+
+group-sym : (x y : Group) → sameGroup y x ≡ sameGroup x y
+group-sym x y = swap (not (eqb (y .filled) 0)) (not (eqb (x .filled) 0)) (eqb-sym (x .address .0) (y .address .0))
+
+path-sym : (x y : PathPlace) → samePath y x ≡ samePath x y
+path-sym x y = swap (not (eqb (y .filled) 0)) (not (eqb (x .filled) 0)) (eqb-sym (x .path .0) (y .path .0))
+
+-- ---- a place written with what no other place holds
+module _ {A : Type 0} (same : A → A → Bool) (symmetric : (x y : A) → same y x ≡ same x y) (d : A) (n : ℕ) where
+  module _ (l : List A) (p : ℕ) (x : A) (long : length l ≡ n) (old : Unique same d n l)
+      (new : (j : ℕ) → j < n → (j ≡ p → ⊥) → same (getD l j d) x ≡ false) where
+    there : (j : ℕ) → j < n → j ≡ p → getD (set l p x) j d ≡ x
+    there j h e = ap (λ (k : ℕ). getD (set l p x) k d) e ∙ getD-set-same l p x d (rw (long, sym e) h)
+
+    apart : (j : ℕ) → (j ≡ p → ⊥) → getD (set l p x) j d ≡ getD l j d
+    apart j e = getD-set-other l p j x d e
+
+    pair-case : (i j : ℕ) → i < n → j < n → (i ≡ j → ⊥) → (t u : Bool) → eqb i p ≡ t → eqb j p ≡ u
+        → same (getD (set l p x) i d) (getD (set l p x) j d) ≡ false
+    pair-case i j hi hj ne true true e f = absurd (ne (eqb-true i p e ∙ sym (eqb-true j p f)))
+    pair-case i j hi hj ne true false e f =
+        rw (there i hi (eqb-true i p e), apart j (eqb-false j p f)) (symmetric (getD l j d) x ∙ new j hj (eqb-false j p f))
+    pair-case i j hi hj ne false true e f = rw (apart i (eqb-false i p e), there j hj (eqb-true j p f)) (new i hi (eqb-false i p e))
+    pair-case i j hi hj ne false false e f = rw (apart i (eqb-false i p e), apart j (eqb-false j p f)) (old i j hi hj ne)
+
+    unique-written : Unique same d n (set l p x)
+    unique-written i j hi hj ne = pair-case i j hi hj ne (eqb i p) (eqb j p) refl refl
+
+-- ---- what 23 shows
+none-of : (test : ℕ → Bool) (n : ℕ) → anyBelow test n ≡ false → (j : ℕ) → j < n → test j ≡ false
+none-of test n h j l = refuted (test j) (λ t. true-false (sym (any-found test j n l t) ∙ h))
+
+not-here : (t u : Bool) → t ≡ false → (not t && u) ≡ false → u ≡ false
+not-here true u h e = true-false h
+not-here false u h e = e
+
+both-and : (f g s : Bool) → (f && s) ≡ false → (f && (g && s)) ≡ false
+both-and true true s h = h
+both-and true false s h = refl
+both-and false g s h = refl
+
+module _ (r : Relay) where
+  route-new : (i : ℕ) (x : Route) → firstOf (routeChecks r i x) ≡ 0 → (j : ℕ) → j < 64 → (j ≡ i → ⊥) → sameEntry (routeIn r j) x ≡ false
+  unfolding routeElsewhere
+  route-new i x taken j h ne =
+      let none =
+      numbered-five _ _ _ _ _ 21 21 22 24 23 (λ z. omega arith) (λ z. omega arith) (λ z. omega arith) (λ z. omega arith) (λ z. omega arith) taken in
+      not-here (eqb j i) (sameEntry (routeIn r j) x) (ne-eqb j i ne) (none-of (otherRoute r i x) 64 (none .1 .1 .1 .1) j h)
+
+  group-new : (i : ℕ) (a : Address) (send subscribed : ℕ) → firstOf (groupChecks r i a send subscribed) ≡ 0
+      → (j : ℕ) → j < 16 → (j ≡ i → ⊥) → sameGroup (groupIn r j) (newGroup a send subscribed) ≡ false
+  unfolding groupElsewhere
+  group-new i a send subscribed taken j h ne =
+      let none =
+      numbered-five _ _ _ _ _ 21 21 21 25 23 (λ z. omega arith) (λ z. omega arith) (λ z. omega arith) (λ z. omega arith) (λ z. omega arith) taken in
+      not-here (eqb j i) (sameGroup (groupIn r j) (newGroup a send subscribed)) (ne-eqb j i ne) (none-of (otherGroup r i a) 16 (none .1 .1 .1 .1) j h)
+
+  path-new : (i : ℕ) (p : PathAddress) (send here : ℕ) → firstOf (pathChecks r i p send here) ≡ 0
+      → (j : ℕ) → j < 16 → (j ≡ i → ⊥) → samePath (pathIn r j) (newPath p send here) ≡ false
+  unfolding pathElsewhere
+  path-new i p send here taken j h ne =
+      let none =
+      numbered-five _ _ _ _ _ 21 21 25 24 23 (λ z. omega arith) (λ z. omega arith) (λ z. omega arith) (λ z. omega arith) (λ z. omega arith) taken in
+      not-here (eqb j i) (samePath (pathIn r j) (newPath p send here)) (ne-eqb j i ne) (none-of (otherPath r i p) 16 (none .1 .1 .1 .1) j h)
+
+-- an empty place holds nothing
+empty-second : (f s : Bool) → (f && (false && s)) ≡ false
+empty-second true s = refl
+empty-second false s = refl
+
+no-route : (x : Route) → sameEntry x emptyRoute ≡ false
+unfolding sameEntry
+no-route x = empty-second (isFilled x) (eqb (x .prefix .0) 0 && eqb (x .mask .0) 0)
+
+-- ---- each call, and then all
+settled-keys : (t : Bool) (n : ℕ) (r s : Relay) → eqb n 0 ≡ t → KeysUnique r → (n ≡ 0 → KeysUnique s) → KeysUnique (pick t s r)
+settled-keys true n r s e u f = f (eqb-true n 0 e)
+settled-keys false n r s e u f = u
+
+by-settings : (r s : Relay) → KeysUnique r → settingsOf s ≡ settingsOf r → KeysUnique s
+by-settings r s u e =
+    record {
+      routes = rw (ap (λ x. x .1 .1 .1) e) (u .routes);
+      groups = rw (ap (λ x. x .1 .0) e) (u .groups);
+      paths = rw (ap (λ x. x .1 .1 .0) e) (u .paths);
+    }
+
+module _ (r : Relay) (k : Kept r) (u : KeysUnique r) where
+  route-keys : (i : ℕ) (x : Route) → ((j : ℕ) → j < 64 → (j ≡ i → ⊥) → sameEntry (routeIn r j) x ≡ false) → KeysUnique (withRoute r i x)
+  route-keys i x new =
+      record {
+        routes = unique-written sameEntry route-sym emptyRoute 64 (r .routes) i x (k .routes) (u .routes) new;
+        groups = u .groups;
+        paths = u .paths;
+      }
+
+  group-keys : (i : ℕ) (x : Group) → ((j : ℕ) → j < 16 → (j ≡ i → ⊥) → sameGroup (groupIn r j) x ≡ false) → KeysUnique (withGroup r i x)
+  group-keys i x new =
+      record {
+        routes = u .routes;
+        groups = unique-written sameGroup group-sym freshGroup 16 (r .mission .groups) i x (k .groups) (u .groups) new;
+        paths = u .paths;
+      }
+
+  path-keys : (i : ℕ) (x : PathPlace) → ((j : ℕ) → j < 16 → (j ≡ i → ⊥) → samePath (pathIn r j) x ≡ false) → KeysUnique (withPath r i x)
+  path-keys i x new =
+      record {
+        routes = u .routes;
+        groups = u .groups;
+        paths = unique-written samePath path-sym freshPath 16 (r .mission .paths) i x (k .paths) (u .paths) new;
+      }
+
+  settled-one : (n : ℕ) (s : Relay) → (n ≡ 0 → KeysUnique s) → KeysUnique (settled n s r)
+  settled-one n s f = settled-keys (eqb n 0) n r s refl u f
+
+  one-unique : (c : Call) → KeysUnique (done r c)
+  one-unique (setRouter x) = settled-one (firstOf (routerChecks x)) (withRouter r x) (λ z. by-settings r (withRouter r x) u refl)
+  one-unique (setPort p a m v) =
+      let s = withPort r p (newPort a m v) in
+      settled-one (firstOf (portChecks r p a m v)) s (λ z. record { routes = u .routes; groups = u .groups; paths = u .paths })
+  one-unique (setRoute i prefix mask port availability capabilities) =
+      let x = newRoute prefix mask port availability capabilities in
+      settled-one (firstOf (routeChecks r i x)) (withRoute r i x) (λ z. route-keys i x (route-new r i x z))
+  one-unique (setGroup i a send subscribed) =
+      let x = newGroup a send subscribed in
+      settled-one (firstOf (groupChecks r i a send subscribed)) (withGroup r i x) (λ z. group-keys i x (group-new r i a send subscribed z))
+  one-unique (setPath i p send here) =
+      let x = newPath p send here in
+      settled-one (firstOf (pathChecks r i p send here)) (withPath r i x) (λ z. path-keys i x (path-new r i p send here z))
+  one-unique (clearRoute i) =
+      settled-one (firstOf (clearChecks i 64)) (withRoute r i emptyRoute) (λ z. route-keys i emptyRoute (λ j h ne. no-route (routeIn r j)))
+  one-unique (clearGroup i) =
+      settled-one (firstOf (clearChecks i 16)) (withGroup r i freshGroup)
+      (λ z. group-keys i freshGroup (λ j h ne. empty-second (not (eqb (groupIn r j .filled) 0)) (eqb (groupIn r j .address .0) 0)))
+  one-unique (clearPath i) =
+      settled-one (firstOf (clearChecks i 16)) (withPath r i freshPath)
+      (λ z. path-keys i freshPath (λ j h ne. empty-second (not (eqb (pathIn r j .filled) 0)) (eqb (pathIn r j .path .0) 0)))
+  one-unique (receives port slot octets output) =
+      by-settings r (done r (receives port slot octets output)) u (received-settings r slot (endingOf r port octets (length output)))
+  one-unique (takes port) = by-settings r (done r (takes port)) u (taken-settings r port)
+
+all-unique : (cs : List Call) (r : Relay) → Kept r → KeysUnique r → KeysUnique (run r cs)
+all-unique [] r k u = u
+all-unique (c ∷ cs) r k u = all-unique cs (done r c) (one-kept r c k) (one-unique r k u c)
+
+fresh-unique : KeysUnique freshRelay
+unfolding freshRelay sameEntry
+fresh-unique =
+    record {
+      routes = λ i j hi hj ne. rw (getD-replicate {A = Route} 64 i emptyRoute emptyRoute hi) refl;
+      groups = λ i j hi hj ne. rw (getD-replicate {A = Group} 16 i freshGroup freshGroup hi) refl;
+      paths = λ i j hi hj ne. rw (getD-replicate {A = PathPlace} 16 i freshPath freshPath hi) refl;
+    }
+
+-- After any history no two places hold the same entry.
+pub keys-unique : (cs : List Call) → KeysUnique (after cs)
+keys-unique cs = all-unique cs freshRelay fresh-kept fresh-unique
