@@ -1,11 +1,13 @@
 -- Demand 1: every call's answer is one of the numbers that page 01 lists for it. Each list is written out; that an answer stands in its list is one
 -- computed test. Assumes nothing.
+use native.Mathlib.Omega.{arith}
 use Prim.Native.Nat.{ℕ}
 use mathlib.Core.Path.{_≡_, refl, sym, ap, _∙_}
 use mathlib.Core.Bool.{Bool, true, false, not, _&&_, _||_}
 use mathlib.Core.List.{List, [], _∷_}
 use lib.Bits.{bitAnd}
 use lib.Dec.{eqb}
+use borrow.Author.Tests.{eqb-false}
 use Rattle.checks.specs.Order.{pick, Checks, firstOf}
 use Rattle.checks.proofs.Bools.{true-false, and-true}
 use Rattle.address.specs.Class.{classOf}
@@ -32,7 +34,16 @@ use Rattle.verdict.specs.declared.Case.{Case}
 use Rattle.verdict.specs.declared.Line.{Line}
 use Rattle.verdict.specs.declared.Line.the-variants.{Unasked, Refused, Wanted}
 use Rattle.verdict.specs.declared.Survey.{Survey}
-use Rattle.rule.specs.Ruling.{ruledBy}
+use Rattle.verdict.specs.declared.Ruling.{Ruling}
+use Rattle.verdict.proofs.Promises.{no-is-asked}
+use Rattle.networks.specs.Networks.{domainOf}
+use Rattle.meaning.specs.Names.{aimOf}
+use Rattle.meaning.specs.declared.Aim.{Aim}
+use Rattle.meaning.specs.declared.Aim.the-variants.{Node, Line as PathLine}
+use Rattle.survey.specs.Survey.{surveyOf}
+use Rattle.lookup.specs.Lookup.{pathPlace}
+use Rattle.header.proofs.Refusals.{never-zero}
+use Rattle.rule.specs.Ruling.{placeFor, wayFor, caseOf, soughtOf, ruledBy, ruleTarget, ruleAim, ruleOf}
 use Rattle.rule.specs.declared.Arrival.{Arrival}
 use Rattle.judge.specs.Ending.{refusedBy, ruled, notSetUp, callChecks, arrivalChecks, headerEnding, octetsEnding, arrivalAt, endingOf}
 use Rattle.judge.specs.declared.Ending.{Ending}
@@ -53,8 +64,13 @@ endNumbers = 0 ∷ 1 ∷ 2 ∷ 3 ∷ 4 ∷ 5 ∷ 6 ∷ 7 ∷ 8 ∷ 16 ∷ 17 ∷
 abbrev pub localNumbers : List ℕ
 localNumbers = 0 ∷ 1 ∷ 26 ∷ []
 
+-- of a line that is refused, before any queue is looked at
+abbrev pub lineNumbers : List ℕ
+lineNumbers = 9 ∷ 10 ∷ 11 ∷ 12 ∷ 13 ∷ 14 ∷ []
+
+-- not asked, sent on, every queue full, or a line's number
 abbrev pub onwardNumbers : List ℕ
-onwardNumbers = 0 ∷ 1 ∷ 9 ∷ 10 ∷ 11 ∷ 12 ∷ 13 ∷ 14 ∷ 15 ∷ []
+onwardNumbers = 0 ∷ 1 ∷ 15 ∷ lineNumbers
 
 abbrev pub settingNumbers : List ℕ
 settingNumbers = 0 ∷ 21 ∷ 25 ∷ 22 ∷ 24 ∷ 23 ∷ 35 ∷ []
@@ -126,7 +142,7 @@ local-listed t p c =
 -- ---- the onward half
 abbrev good : Line → Bool
 good Unasked = true
-good (Refused n) = listed onwardNumbers n
+good (Refused n) = listed lineNumbers n
 good (Wanted set) = true
 
 pick-good : (t : Bool) (a b : Line) → good a ≡ true → good b ≡ true → good (pick t a b) ≡ true
@@ -191,11 +207,23 @@ granted-good l c s h =
     let domain = afterDomain hops (c .basic) (s .near) in
     size-good domain (s .wide) (domain-good hops (c .basic) (s .near) (hops-good l (c .spent) h))
 
+last-of-three : (a b c d : Bool) → d ≡ true → (a || (b || (c || d))) ≡ true
+last-of-three true b c d h = refl
+last-of-three false true c d h = refl
+last-of-three false false true d h = refl
+last-of-three false false false d h = h
+
 ruling-listed : (local : ℕ) (l : Line) (full : ℕ) → good l ≡ true → listed onwardNumbers (rulingOf local l full .onward) ≡ true
 unfolding rulingOf copiesOf
 ruling-listed local Unasked full h = refl
-ruling-listed local (Refused n) full h = h
+ruling-listed local (Refused n) full h = last-of-three (eqb n 0) (eqb n 1) (eqb n 15) (listed lineNumbers n) h
 ruling-listed local (Wanted set) full h = pick-listed onwardNumbers (eqb (exceptBy set full) 0) 15 1 refl refl
+
+ruling-local : (local : ℕ) (l : Line) (full : ℕ) → rulingOf local l full .local ≡ local
+unfolding rulingOf copiesOf
+ruling-local local Unasked full = refl
+ruling-local local (Refused n) full = refl
+ruling-local local (Wanted set) full = refl
 
 pub onward-listed : (t : Target) (p : Place) (w : Way) (c : Case) (s : Survey) → listed onwardNumbers (ruledBy t p w c s .onward) ≡ true
 unfolding ruledBy
@@ -203,3 +231,124 @@ onward-listed t p w c s =
     let local = localOf t p c in
     let line = lineOf t p w c (s .ready) local in
     ruling-listed local (grantedOf line c s) (s .full) (granted-good line c s (line-good t p w c (s .ready) local))
+
+-- ---- "no" with "not asked" never occurs
+zero-line : (n : ℕ) → listed lineNumbers n ≡ true → n ≡ 0 → ⊥
+zero-line n h z = true-false (sym h ∙ ap (listed lineNumbers) z)
+
+sent-case : (t : Bool) → _≡_ {A = ℕ} (pick t 15 1) 0 → ⊥
+sent-case true h = omega arith
+sent-case false h = omega arith
+
+unasked-ruling : (local : ℕ) (l : Line) (full : ℕ) → good l ≡ true → rulingOf local l full .onward ≡ 0 → l ≡ Unasked
+unfolding rulingOf copiesOf
+unasked-ruling local Unasked full h z = refl
+unasked-ruling local (Refused n) full h z = absurd (zero-line n h z)
+unasked-ruling local (Wanted set) full h z = absurd (sent-case (eqb (exceptBy set full) 0) z)
+
+-- what strikes ports out makes no line unasked
+struck : (t : Bool) (set n : ℕ) → pick t (Refused n) (Wanted set) ≡ Unasked → ⊥
+struck true set n h = true-false cc
+struck false set n h = true-false cc
+
+hops-asked : (l : Line) (spent : ℕ) → afterHops l spent ≡ Unasked → l ≡ Unasked
+hops-asked Unasked spent h = refl
+hops-asked (Refused n) spent h = true-false cc
+hops-asked (Wanted set) spent h = absurd (struck-case (eqb spent 0) set h)
+  where
+    struck-case : (t : Bool) (set : ℕ) → pick t (Wanted set) (Refused 10) ≡ Unasked → ⊥
+    struck-case true set h = true-false cc
+    struck-case false set h = true-false cc
+
+domain-asked : (l : Line) (basic near : ℕ) → afterDomain l basic near ≡ Unasked → l ≡ Unasked
+domain-asked Unasked basic near h = refl
+domain-asked (Refused n) basic near h = true-false cc
+domain-asked (Wanted set) basic near h = absurd (domain-case (eqb basic 0) set near h)
+  where
+    domain-case : (t : Bool) (set near : ℕ) → pick t (Wanted set) (pick (eqb (bitAnd set near) 0) (Refused 13) (Wanted (bitAnd set near))) ≡ Unasked → ⊥
+    domain-case true set near h = true-false cc
+    domain-case false set near h = struck (eqb (bitAnd set near) 0) (bitAnd set near) 13 h
+
+size-asked : (l : Line) (wide : ℕ) → afterSize l wide ≡ Unasked → l ≡ Unasked
+size-asked Unasked wide h = refl
+size-asked (Refused n) wide h = true-false cc
+size-asked (Wanted set) wide h = absurd (struck (eqb (bitAnd set wide) 0) (bitAnd set wide) 14 h)
+
+granted-asked : (l : Line) (c : Case) (s : Survey) → grantedOf l c s ≡ Unasked → l ≡ Unasked
+unfolding grantedOf
+granted-asked l c s h =
+    let hops = afterHops l (c .spent) in
+    let domain = afterDomain hops (c .basic) (s .near) in
+    hops-asked l (c .spent) (domain-asked hops (c .basic) (s .near) (size-asked domain (s .wide) h))
+
+-- ---- what holds of every ruling holds of every ending
+
+-- the numbers of both halves are listed, and they are not both 0
+pub record Told (x : Ruling) : Type 0 where
+  pub local : listed localNumbers (x .local) ≡ true
+  pub onward : listed onwardNumbers (x .onward) ≡ true
+
+asked-ruled : (t : Target) (p : Place) (w : Way) (c : Case) (s : Survey) → ruledBy t p w c s .local ≡ 0 → ruledBy t p w c s .onward ≡ 0 → ⊥
+unfolding ruledBy
+asked-ruled t p w c s z o =
+    let local = localOf t p c in
+    let line = lineOf t p w c (s .ready) local in
+    let granted = grantedOf line c s in
+    no-is-asked t p w c (s .ready) (sym (ruling-local local granted (s .full)) ∙ z)
+    (granted-asked line c s
+    (unasked-ruling local granted (s .full) (granted-good line c s (line-good t p w c (s .ready) local)) o))
+
+told-ruled : (t : Target) (p : Place) (w : Way) (c : Case) (s : Survey) → Told (ruledBy t p w c s)
+unfolding ruledBy
+told-ruled t p w c s =
+    let local = localOf t p c in
+    record {
+      local = ap (listed localNumbers) (ruling-local local (grantedOf (lineOf t p w c (s .ready) local) c s) (s .full)) ∙ local-listed t p c;
+      onward = onward-listed t p w c s;
+    }
+
+-- a law of every ruling, and of none, is one of every ending
+module _ (P : Ruling → Type 0) (every : (t : Target) (p : Place) (w : Way) (c : Case) (s : Survey) → P (ruledBy t p w c s)) where
+  every-aim : (r : Relay) (x : Aim) (c : Case) (s : Survey) → P (ruleAim r x c s)
+  unfolding ruleTarget
+  every-aim r (Node a) c s =
+      let t = targetOf (classOf (a .0)) s in
+      every t (placeFor r t a (c .arrival)) (wayFor r t a) c s
+  every-aim r (PathLine x) c s = every target.Path (pathPlace r x) Lost c s
+
+  every-rule : (r : Relay) (at : Arrival) (x : Aim) (h : Header) → P (ruleOf r at x h)
+  unfolding ruleOf
+  every-rule r at x h = every-aim r x (caseOf (r .router) (at .set) (h .fields)) (surveyOf r (soughtOf x (domainOf (at .address)) (h .length)))
+
+  ended-or : (t : Bool) (n : ℕ) (e : Ending) → eqb n 0 ≡ t → (e .refusal ≡ 0 → P (e .ruling)) → pick t e (refusedBy n) .refusal ≡ 0 → P (pick t e (refusedBy n) .ruling)
+  ended-or true n e z f h = f h
+  ended-or false n e z f h = absurd (eqb-false n 0 z h)
+
+  ended-read : (r : Relay) (at : Arrival) (s : List ℕ) (x : Read) → readOf s ≡ x → octetsEnding r at x .refusal ≡ 0 → P (octetsEnding r at x .ruling)
+  unfolding headerEnding
+  ended-read r at s (read.Good h) e z =
+      let n = firstOf (arrivalChecks (at .address) (h .fields)) in
+      ended-or (eqb n 0) n (ruled r at h) refl (λ k. every-rule r at (aimOf (at .address .0) (h .fields .addresses)) h) z
+  ended-read r at s (read.Refused n) e z = absurd (never-zero s (e ∙ ap read.Refused z))
+
+  -- of every call that no refusal ended
+  pub of-every-ending : (r : Relay) (port : ℕ) (octets : List ℕ) (room : ℕ)
+      → endingOf r port octets room .refusal ≡ 0 → P (endingOf r port octets room .ruling)
+  unfolding endingOf
+  of-every-ending r port octets room z =
+      let n = firstOf (callChecks r port room) in
+      ended-or (eqb n 0) n (octetsEnding r (arrivalAt r port) (readOf octets)) refl
+      (ended-read r (arrivalAt r port) octets (readOf octets) refl) z
+
+-- Where no refusal ended the call, the local half is no, delivered or 26, and the onward half not asked, sent on or one of 9 to 15.
+pub halves-listed : (r : Relay) (port : ℕ) (octets : List ℕ) (room : ℕ)
+    → endingOf r port octets room .refusal ≡ 0 → Told (endingOf r port octets room .ruling)
+halves-listed = of-every-ending Told told-ruled
+
+-- "No" with "not asked" never occurs.
+pub never-unsaid : (r : Relay) (port : ℕ) (octets : List ℕ) (room : ℕ)
+    → endingOf r port octets room .refusal ≡ 0
+    → endingOf r port octets room .ruling .local ≡ 0
+    → endingOf r port octets room .ruling .onward ≡ 0
+    → ⊥
+never-unsaid = of-every-ending (λ (x : Ruling). x .local ≡ 0 → x .onward ≡ 0 → ⊥) asked-ruled
