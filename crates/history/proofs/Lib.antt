@@ -17,3 +17,4 @@ pub mod Listed
 pub mod Marked
 pub mod Reach
 pub mod Keys
+pub mod Search

@@ -389,6 +389,9 @@ fresh-kept =
           };
     }
 
+pub kept-after : (cs : List Call) → Kept (after cs)
+kept-after cs = all-kept cs freshRelay fresh-kept
+
 -- After any history the settings are good: each record stands by the tests that took it.
 pub reached : (cs : List Call) → Reached (after cs)
-reached cs = all-kept cs freshRelay fresh-kept .good
+reached cs = kept-after cs .good

@@ -1,0 +1,90 @@
+-- Demand 2, the route taken, in every state that a history reaches: it matches, no matching entry has more mask ones, none other has as many, and "no
+-- route" is said exactly where none matches. Assumes nothing.
+use native.Mathlib.Omega.{arith}
+use native.Mathlib.Nat.{lt-of-not-le}
+use Prim.Native.Nat.{ℕ, zero, suc, _≤_, _<_}
+use native.Mathlib.Decide.{decLe}
+use mathlib.Core.Logic.{_↔_, by-cases}
+use mathlib.Core.Path.{_≡_, refl, sym, ap, _∙_}
+use mathlib.Core.Bool.{Bool, true, false, _&&_}
+use mathlib.Core.List.{List, [], _∷_}
+use lib.Dec.{eqb}
+use lib.ListN.{length, getD}
+use borrow.Author.Tests.{eqb-true, eqb-false}
+use Rattle.checks.proofs.Bools.{true-false, and-true}
+use Rattle.checks.proofs.Laws.{zero-none}
+use Rattle.address.specs.Mask.{onesOf}
+use Rattle.address.specs.declared.Address.{Address}
+use Rattle.routes.specs.Routes.{emptyRoute, routeAt, isFilled, candidate, sameEntry}
+use Rattle.routes.specs.Refusals.{prefixRefused}
+use Rattle.routes.specs.Search.{searchOf}
+use Rattle.routes.specs.declared.Route.{Route}
+use Rattle.routes.specs.declared.Found.{Found}
+use Rattle.routes.specs.declared.Found.the-variants.{At, No}
+use Rattle.routes.proofs.Longest.{Contiguous, Distinct, maskAt, CandidateAt, taken-contiguous, search-most-ones, search-only}
+use Rattle.state.specs.Relay.{Relay}
+use Rattle.ready.specs.Ready.{readySet}
+use Rattle.ready.specs.Record.{recordChecks}
+use Rattle.history.specs.Calls.{Call, after}
+use Rattle.history.proofs.Reach.{Kept, kept-after}
+use Rattle.history.proofs.Keys.{keys-unique}
+
+-- beyond a list there is nothing
+past-end : {A : Type 0} (l : List A) (q : ℕ) (d : A) → length l ≤ q → getD l q d ≡ d
+past-end [] q d h = refl
+past-end (x ∷ xs) zero d h = absurd (omega arith)
+past-end (x ∷ xs) (suc q) d h = past-end xs q d (omega arith)
+
+within : (P : ℕ → Type 0) (n : ℕ) → ((q : ℕ) → q < n → P q) → ((q : ℕ) → n ≤ q → P q) → (q : ℕ) → P q
+within P n below over q = by-cases (decLe n q) (λ h. over q h) (λ h. below q (lt-of-not-le h))
+
+module _ (cs : List Call) where
+  beyond : (q : ℕ) → 64 ≤ q → routeAt (after cs .routes) q ≡ emptyRoute
+  beyond q h = past-end (after cs .routes) q emptyRoute (rw (kept-after cs .routes) h)
+
+  good-prefix : (q : ℕ) → isFilled (routeAt (after cs .routes) q) ≡ true
+      → prefixRefused (routeAt (after cs .routes) q .prefix) (routeAt (after cs .routes) q .mask) ≡ false
+  good-prefix =
+      within
+      (λ q.
+      isFilled (routeAt (after cs .routes) q) ≡ true
+      → prefixRefused (routeAt (after cs .routes) q .prefix) (routeAt (after cs .routes) q .mask) ≡ false)
+      64
+      (λ q l h.
+      zero-none (recordChecks (readySet (after cs)) (routeAt (after cs .routes) q)) ((λ z. omega arith), ((λ z. omega arith), ((λ z. omega arith), tt)))
+      (kept-after cs .good .routes q l h)
+      .1 .0)
+      (λ q g h. true-false (sym h ∙ ap isFilled (beyond q g)))
+
+  pub masks-contiguous : Contiguous (after cs .routes)
+  masks-contiguous = taken-contiguous (after cs .routes) good-prefix
+
+  -- two places that hold the same entry are filled, and so within the list
+  filled-both : (x y : Route) → sameEntry x y ≡ true → (isFilled x ≡ true) × (isFilled y ≡ true)
+  unfolding sameEntry
+  filled-both x y h =
+      let k = and-true (isFilled x) (isFilled y && (eqb (x .prefix .0) (y .prefix .0) && eqb (x .mask .0) (y .mask .0))) h in
+      (k .0, and-true (isFilled y) (eqb (x .prefix .0) (y .prefix .0) && eqb (x .mask .0) (y .mask .0)) (k .1) .0)
+
+  filled-inside : (q : ℕ) → isFilled (routeAt (after cs .routes) q) ≡ true → q < 64
+  filled-inside =
+      within (λ q. isFilled (routeAt (after cs .routes) q) ≡ true → q < 64) 64 (λ q l h. l) (λ q g h. true-false (sym h ∙ ap isFilled (beyond q g)))
+
+  same-place : (p q : ℕ) → sameEntry (routeAt (after cs .routes) p) (routeAt (after cs .routes) q) ≡ true → (t : Bool) → eqb p q ≡ t → p ≡ q
+  same-place p q h true e = eqb-true p q e
+  same-place p q h false e =
+      let f = filled-both (routeAt (after cs .routes) p) (routeAt (after cs .routes) q) h in
+      true-false (sym h ∙ keys-unique cs .routes p q (filled-inside p (f .0)) (filled-inside q (f .1)) (eqb-false p q e))
+
+  pub routes-distinct : Distinct (after cs .routes)
+  routes-distinct p q h = same-place p q h (eqb p q) refl
+
+  -- No entry that matches has more mask ones than the route taken.
+  pub taken-has-most-ones : (a : Address) {p n : ℕ} {r : Route} → searchOf a (after cs .routes) ≡ At p n r
+      → (q : ℕ) → CandidateAt a (after cs .routes) q → onesOf (maskAt (after cs .routes) q) ≤ n
+  taken-has-most-ones a e = search-most-ones a (after cs .routes) masks-contiguous e
+
+  -- And none other has as many: the answer is unique.
+  pub taken-is-the-only : (a : Address) {p n : ℕ} {r : Route} → searchOf a (after cs .routes) ≡ At p n r
+      → (q : ℕ) → CandidateAt a (after cs .routes) q → onesOf (maskAt (after cs .routes) q) ≡ n → q ≡ p
+  taken-is-the-only a e = search-only a (after cs .routes) masks-contiguous routes-distinct e
