@@ -135,6 +135,7 @@ ghost use lib.ListN.{length};
 pub fn half(x: [u8; 2]) -> u8
     requires within { ⌜ x < 9 ⌝ }
     ensures { λ r. ⌜ r ≡ halfOf x ⌝ }
+    ensures { λ r. ⌜ record { 0 = r } ≡ halves (record { 0 = x }) ⌝ }
 {
     let brace = b'}';
     if brace == 1 { x / 2 } else { 0 }
@@ -225,6 +226,14 @@ class MustFail(Tree):
 
     def test_a_change_of_the_promise(self):
         self.edit("third", FAILS, old="halfOf x", new="halfOf 2")
+        self.refused("stands in the body of no function")
+
+    def test_a_change_of_a_record_in_the_promise(self):
+        self.edit("third", FAILS, old="record { 0 = r }", new="record { 0 = 0 }")
+        self.refused("stands in the body of no function")
+
+    def test_a_change_within_a_record_in_the_promise(self):
+        self.edit("third", FAILS, old="0 = r", new="0 = 0")
         self.refused("stands in the body of no function")
 
     def test_a_change_of_a_definition(self):
