@@ -136,10 +136,10 @@ module _ (i : ℕ) (inside : i < 15) where
       )
 
   -- each call gives counter i what the rules say
-  abbrev Step : Relay → Call → Type 0
+  abbrev pub Step : Relay → Call → Type 0
   Step r c = (counterIn (done r c) i ≡ (counterIn r i + givenBy (boardOf r) c i) % 2 ^ 32) × Fit i inside (done r c)
 
-  one-call : (r : Relay) (c : Call) → Fit i inside r → Step r c
+  pub one-call : (r : Relay) (c : Call) → Fit i inside r → Step r c
   one-call r (setRouter x) f = kept r _ f (settled-counters (firstOf (routerChecks x)) r (withRouter r x) refl)
   one-call r (setPort p address mask mtu) f = kept r _ f (settled-counters (firstOf (portChecks r p address mask mtu)) r (withPort r p (newPort address mask mtu)) refl)
   one-call r (setRoute place prefix mask port availability capabilities) f =

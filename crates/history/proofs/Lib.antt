@@ -20,3 +20,4 @@ pub mod Reach
 pub mod Keys
 pub mod Search
 pub mod Onward
+pub mod Wrong

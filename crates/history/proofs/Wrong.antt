@@ -1,0 +1,105 @@
+-- Page 01's wrong relays and tempting slips, each shown to be wrong at the definition that the code is proved against: what it would have to answer
+-- is not what the definition gives. (That code which does so is refused is tried by the must-fail edits.) Assumes nothing.
+use native.Mathlib.Omega.{arith}
+use Prim.Native.Nat.{ℕ, _+_, _%_, _^_, _<_}
+use mathlib.Core.Path.{_≡_, refl, sym, ap, _∙_}
+use mathlib.Core.Bool.{true, false}
+use mathlib.Core.List.{List}
+use borrow.Author.Tests.{le-ltb}
+use Rattle.checks.specs.Order.{firstOf}
+use Rattle.checks.proofs.Bools.{true-false}
+use Rattle.address.specs.Octets.{dotted}
+use Rattle.address.specs.Class.{familyOf, scpsClass, netClass, classIn, classOf}
+use Rattle.address.specs.Mask.{onesBelow, onesOf}
+use Rattle.address.specs.declared.Class.the-variants as class
+use Rattle.header.specs.declared.Octet.the-variants as octet
+use Rattle.datagram.specs.Asked.{spentOf}
+use Rattle.routes.specs.Refusals.{codesRefused}
+use Rattle.routes.specs.Routes.{matched, candidate}
+use Rattle.routes.specs.Search.{beaten, betterOf, searchFrom, searchOf}
+use Rattle.routes.specs.declared.Found.the-variants.{At, No}
+use Rattle.routes.proofs.Marked as marked
+use Rattle.state.specs.Relay.{Relay, counterIn}
+use Rattle.survey.specs.Survey.{isWide}
+use Rattle.survey.specs.declared.Sought.{Sought}
+use Rattle.records.specs.declared.Port.{Port}
+use Rattle.address.specs.declared.Address.{Address}
+use Rattle.address.specs.declared.Mask.{Mask}
+use Rattle.settings.specs.Refusals.{placeRefused, portClassRefused}
+use Rattle.judge.specs.Ending.{notSetUp, callChecks, endingOf}
+use Rattle.refusals.specs.Lists.{portChecks}
+use Rattle.tally.specs.Tally.{counterFor}
+use Rattle.history.specs.Calls.{Call, done}
+use Rattle.history.specs.Board.{boardOf}
+use Rattle.history.specs.Tally.{givenBy}
+use Rattle.history.proofs.Counters.{Fit, one-call}
+
+-- ---- wrong relays
+
+-- case a, and what its route is
+case-a : searchOf (record { 0 = dotted 10 4 9 14 }) marked.all ≡ At 3 32 marked.D
+unfolding searchOf searchFrom betterOf beaten candidate matched onesOf onesBelow
+case-a = refl
+
+-- one that always refuses finds no route in case a
+pub always-refusing : searchOf (record { 0 = dotted 10 4 9 14 }) marked.all ≡ No → ⊥
+always-refusing h = let e = sym case-a ∙ h in true-false cc
+
+-- one that always names port 0 does so in case a
+pub always-port-0 : marked.D .port ≡ 0 → ⊥
+always-port-0 h = omega arith
+
+-- one that does nothing leaves a counter that a call was to move by one
+pub doing-nothing : (i : ℕ) (inside : i < 15) (r : Relay) (c : Call) → Fit i inside r
+    → givenBy (boardOf r) c i ≡ 1 → counterIn (done r c) i ≡ counterIn r i → ⊥
+doing-nothing i inside r c f one same =
+    let step = one-call i inside r c f .0 in
+    let moved : counterIn r i ≡ (counterIn r i + 1) % 2 ^ 32 = sym same ∙ step ∙ ap (λ (n : ℕ). (counterIn r i + n) % 2 ^ 32) one in
+    omega (arith, moved, f .small)
+
+-- one that copies its first answer has one class for two addresses
+pub copying-answers : classOf (dotted 10 4 9 15) ≡ classOf (dotted 10 4 9 16) → ⊥
+unfolding classOf classIn familyOf scpsClass netClass
+copying-answers h = true-false cc
+
+-- ---- slips
+
+-- the multicast flag read as the top bit: z = 15 has it low, z = 130 has it high
+pub flag-is-low : (classOf (dotted 10 4 9 15) ≡ class.Multicast) × (classOf (dotted 10 4 9 130) ≡ class.Unicast)
+unfolding classOf classIn familyOf scpsClass netClass
+flag-is-low = (refl, refl)
+
+-- the first match kept: in case b the default route of place 0 matches, and place 2 is taken
+pub not-the-first-match : searchOf (record { 0 = dotted 10 4 9 16 }) marked.all ≡ At 2 24 marked.C
+unfolding searchOf searchFrom betterOf beaten candidate matched onesOf onesBelow
+not-the-first-match = refl
+
+-- capability 3 taken for both: both is 4
+pub three-is-refused : (codesRefused 1 3 ≡ true) × (codesRefused 1 4 ≡ false)
+unfolding codesRefused
+three-is-refused = (refl, refl)
+
+-- the hop test off by one: 2 goes on, 1 does not
+pub hops-of-two : (spentOf (octet.Present 2) ≡ 0) × (spentOf (octet.Present 1) ≡ 1)
+hops-of-two = (refl, refl)
+
+-- a number counted by the wrong counter: 9 is npInAddrErrors, 13 left domain, and 15 has none
+pub numbers-counted : (counterFor 9 ≡ 6) × ((counterFor 13 ≡ 13) × (counterFor 15 ≡ 15))
+unfolding counterFor
+numbers-counted = (refl, (refl, refl))
+
+-- an MTU that is equal refused: it holds the datagram
+pub mtu-equal-holds : (p : Port) (q : Sought) → p .mtu ≡ q .length → isWide p q ≡ true
+mtu-equal-holds p q h = simp (le-ltb (p .mtu) (q .length) (omega arith))
+
+-- 17 before 16: a port that is not set up is 16, whatever the room
+pub sixteen-comes-first : (r : Relay) (port : ℕ) (octets : List ℕ) (room : ℕ)
+    → notSetUp r port ≡ true → endingOf r port octets room .refusal ≡ 16
+unfolding endingOf callChecks firstOf
+sixteen-comes-first r port octets room h = simp (h)
+
+-- 25 after 22: an address of another class is 25, whatever the mask
+pub class-comes-before-mask : (r : Relay) (p : ℕ) (a : Address) (m : Mask) (mtu : ℕ)
+    → placeRefused p 8 ≡ false → portClassRefused a ≡ true → firstOf (portChecks r p a m mtu) ≡ 25
+unfolding firstOf
+class-comes-before-mask r p a m mtu h k = simp (h, k)
