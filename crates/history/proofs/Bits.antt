@@ -1,13 +1,15 @@
 -- Which ports a set has: the bits of an intersection, of a set without another, of one port, and of what a walk gathers. Assumes nothing.
 use native.Mathlib.Omega.{arith}
-use native.Mathlib.Nat.{mod-lt, zero-lt-suc, div-div-eq-div-mul, pow-succ', div-one, div-eq-of-lt, add-zero, add-mul-div-right, eq-or-lt-of-le, le-of-suc-le-suc}
+use native.Mathlib.Nat.{mod-lt, zero-lt-suc, div-div-eq-div-mul, pow-succ', div-one, div-eq-of-lt, add-zero, add-mul-div-right, eq-or-lt-of-le, le-of-suc-le-suc, lt-of-not-le}
 use native.Mathlib.Numerals.{one-add}
 use Prim.Native.Nat.{ℕ, zero, suc, _+_, _-_, _*_, _/_, _%_, _^_, _≤_, _<_, min}
 use mathlib.Core.Path.{_≡_, refl, sym, ap, ap₂, _∙_}
 use mathlib.Core.Bool.{Bool, true, false, not, _&&_}
-use mathlib.Core.Logic.{_⊎_, inl, inr, ⊎-elim}
+use native.Mathlib.Decide.{decLe}
+use mathlib.Core.Logic.{_⊎_, inl, inr, ⊎-elim, by-cases}
 use lib.Bits.{bitAnd, and-step, and-high, and-le-l}
-use lib.Pow.{pow-pos, pow-add}
+use lib.Pow.{pow-pos, pow-add, pow-lt}
+use Rattle.checks.proofs.Bools.{true-false}
 use borrow.Author.Tests.{eq-eqb, ne-eqb, lt-ltb}
 use lib.Dec.{eqb}
 use Rattle.checks.specs.Order.{pick}
@@ -107,3 +109,27 @@ in-gathered test p (suc m) h =
     ∙ lower-case (test m) p (m - suc p) (portSet test m)
     ∙ in-gathered test p m l)
     (eq-or-lt-of-le (le-of-suc-le-suc h))
+
+-- the set of one port has that port alone
+pub only-that : (p q : ℕ) → q < 8 → inSet p (onlyPort q) ≡ true → p ≡ q
+only-that p q h k =
+    ⊎-elim
+    (λ (l : p < q). true-false (sym is ∙ lower l))
+    (λ (g : q ≤ p). ⊎-elim (λ (e : q ≡ p). sym e) (λ (o : q < p). true-false (sym is ∙ higher o)) (eq-or-lt-of-le g))
+    (lt-or-ge p q)
+  where
+    is : inSet p (2 ^ q) ≡ true
+    is = sym (ap (inSet p) (simp (lt-ltb q 8 h))) ∙ k
+
+    higher : q < p → inSet p (2 ^ q) ≡ false
+    higher o = ap (λ (b : ℕ). eqb b 1) (over-bit p (2 ^ q) (pow-lt {i = q} {j = p} o))
+
+    lower : p < q → inSet p (2 ^ q) ≡ false
+    lower l =
+        ap (λ (n : ℕ). inSet p (2 ^ n)) (let e : q ≡ suc (q - suc p) + p = omega arith in e)
+        ∙ ap (λ (n : ℕ). inSet p n) (let e : 2 ^ (suc (q - suc p) + p) ≡ 0 + 2 ^ (suc (q - suc p) + p) = omega arith in e)
+        ∙ ap (λ (b : ℕ). eqb b 1) (added-bit p (q - suc p) 0)
+        ∙ ap (λ (b : ℕ). eqb b 1) (over-bit p 0 (pow-pos p))
+
+    lt-or-ge : (a b : ℕ) → (a < b) ⊎ (b ≤ a)
+    lt-or-ge a b = by-cases (decLe b a) (λ g. inr g) (λ n. inl (lt-of-not-le n))

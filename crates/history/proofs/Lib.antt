@@ -21,3 +21,4 @@ pub mod Keys
 pub mod Search
 pub mod Onward
 pub mod Wrong
+pub mod Wanted

@@ -70,7 +70,7 @@ set-grows : (a b : ℕ) → Grows a b → (s : ℕ) → setRefused s a ≡ false
 unfolding setRefused
 set-grows a b g s h = names-grows a b g 32 s h
 
-not-false-true : (t : Bool) → not t ≡ false → t ≡ true
+pub not-false-true : (t : Bool) → not t ≡ false → t ≡ true
 not-false-true true h = refl
 not-false-true false h = true-false h
 
@@ -81,7 +81,7 @@ record-grows a b g x h =
     none-zero (recordChecks b x) (ap not ready, none .1)
 
 -- a port is ready where it is set up
-ready-is : (r : Relay) (p : ℕ) → p < 8 → isReady p (readySet r) ≡ isSetUp r p
+pub ready-is : (r : Relay) (p : ℕ) → p < 8 → isReady p (readySet r) ≡ isSetUp r p
 unfolding readySet
 ready-is r p h = simp (lt-ltb p 8 h) (in-gathered (isSetUp r) p 8 h)
 

@@ -1,0 +1,238 @@
+-- In every state that a history reaches the ports wanted for a datagram are set up, and so those granted. Assumes nothing.
+use native.Mathlib.Omega.{arith}
+use native.Mathlib.Nat.{eq-or-lt-of-le}
+use Prim.Native.Nat.{ℕ, zero, suc, _≤_, _<_}
+use mathlib.Core.Path.{_≡_, refl, sym, ap, _∙_}
+use mathlib.Core.Bool.{Bool, true, false, not, _&&_, _||_}
+use mathlib.Core.Logic.{_⊎_, inl, inr, ⊎-elim}
+use mathlib.Core.List.{List}
+use lib.Dec.{eqb, ltb}
+use lib.ListN.{length}
+use borrow.Author.Tests.{eqb-true, eqb-false, ltb-true}
+use Rattle.checks.specs.Order.{pick, firstOf}
+use Rattle.checks.proofs.Bools.{true-false, and-true, or-false}
+use Rattle.checks.proofs.Laws.{zero-none}
+use Rattle.sets.specs.Sets.{inSet, onlyPort, firstBelow}
+use Rattle.settings.specs.Sets.{isReady, namesOther, setRefused}
+use Rattle.address.specs.declared.Address.{Address}
+use Rattle.address.specs.declared.PathAddress.{PathAddress}
+use Rattle.lookup.specs.Lookup.{holdsGroup, holdsPath, groupFound, pathFound, groupSays, pathSays, groupPlace, pathPlace}
+use Rattle.routes.specs.Routes.{isFilled, matched, candidate}
+use Rattle.routes.specs.Search.{searchOf}
+use Rattle.routes.specs.declared.Found.{Found}
+use Rattle.routes.specs.declared.Found.the-variants.{At, No}
+use Rattle.routes.specs.declared.Route.{Route}
+use Rattle.routes.proofs.Longest.{search-found}
+use Rattle.ready.specs.Ready.{isSetUp, readySet}
+use Rattle.ready.specs.Record.{recordChecks}
+use Rattle.rule.specs.Ruling.{wayOf, placeFor, wayFor}
+use Rattle.state.specs.Relay.{Relay, routeIn, groupIn, pathIn}
+use Rattle.survey.specs.Survey.{surveyBelow, surveyOf}
+use Rattle.survey.specs.declared.Sought.{Sought}
+use Rattle.verdict.specs.Rule.{exceptBy, aloneBy, groupLine, pathLine, routeLine, routerLine, hostLine, lineOf}
+use Rattle.verdict.specs.declared.Target.{Target}
+use Rattle.verdict.specs.declared.Target.the-variants as target
+use Rattle.verdict.specs.declared.Case.{Case}
+use Rattle.verdict.specs.declared.Line.{Line}
+use Rattle.verdict.specs.declared.Line.the-variants.{Unasked, Refused, Wanted}
+use Rattle.verdict.specs.declared.Place.{Place}
+use Rattle.verdict.specs.declared.Place.the-variants.{Held, Missing}
+use Rattle.verdict.specs.declared.Way.{Way}
+use Rattle.verdict.specs.declared.Way.the-variants.{By, Lost}
+use Rattle.history.specs.Calls.{Call, after}
+use Rattle.history.proofs.Reach.{Kept, ready-is, not-false-true, kept-after}
+use Rattle.history.proofs.Bits.{in-except, in-gathered, only-that}
+
+-- ---- the first place that a test holds at
+first-case : (test : ℕ → Bool) (i : ℕ) (f : ℕ) (t u : Bool) → eqb f i ≡ t → test i ≡ u → f ≤ i → (f < i → test f ≡ true)
+    → pick t (pick u i (suc i)) f < suc i → test (pick t (pick u i (suc i)) f) ≡ true
+first-case test i f true true e k l ih h = k
+first-case test i f true false e k l ih h = absurd (omega arith)
+first-case test i f false u e k l ih h = ih (⊎-elim (λ z. absurd (eqb-false f i e z)) (λ z. z) (eq-or-lt-of-le l))
+
+below-case : (i f : ℕ) (t u : Bool) → f ≤ i → pick t (pick u i (suc i)) f ≤ suc i
+below-case i f true true l = omega arith
+below-case i f true false l = omega arith
+below-case i f false u l = omega arith
+
+first-at-most : (test : ℕ → Bool) (n : ℕ) → firstBelow test n ≤ n
+first-at-most test zero = omega arith
+first-at-most test (suc i) = below-case i (firstBelow test i) (eqb (firstBelow test i) i) (test i) (first-at-most test i)
+
+pub first-holds : (test : ℕ → Bool) (n : ℕ) → firstBelow test n < n → test (firstBelow test n) ≡ true
+first-holds test zero h = absurd (omega arith)
+first-holds test (suc i) h =
+    first-case test i (firstBelow test i) (eqb (firstBelow test i) i) (test i) refl refl (first-at-most test i) (first-holds test i) h
+
+-- ---- a set that is not refused names ports that are ready
+named-case : (s a : Bool) → (s && not a) ≡ false → s ≡ true → a ≡ true
+named-case true true h k = refl
+named-case true false h k = true-false h
+named-case false a h k = true-false (sym k)
+
+names-ready : (k s ready p : ℕ) → namesOther k s ready ≡ false → p < k → inSet p s ≡ true → isReady p ready ≡ true
+unfolding namesOther
+names-ready zero s ready p h l m = absurd (omega arith)
+names-ready (suc k) s ready p h l m =
+    let both = or-false (inSet k s && not (isReady k ready)) (namesOther k s ready) h in
+    ⊎-elim
+    (λ (e : p ≡ k). named-case (inSet p s) (isReady p ready) (rw e (both .0)) m)
+    (λ (z : p < k). names-ready k s ready p (both .1) z m)
+    (eq-or-lt-of-le (let e : p ≤ k = omega arith in e))
+
+pub set-ready : (s ready p : ℕ) → setRefused s ready ≡ false → p < 8 → inSet p s ≡ true → isReady p ready ≡ true
+unfolding setRefused
+set-ready s ready p h l m = names-ready 32 s ready p h (omega arith) m
+
+-- ---- what is wanted is set up
+module _ (r : Relay) (k : Kept r) (p : ℕ) (inside : p < 8) where
+  ready-set-up : isReady p (readySet r) ≡ true → isSetUp r p ≡ true
+  ready-set-up h = sym (ready-is r p inside) ∙ h
+
+  except-in : (g f : ℕ) → inSet p (exceptBy g f) ≡ true → inSet p g ≡ true
+  except-in g f h = and-true (inSet p g) (not (inSet p f)) (sym (in-except p g f) ∙ h) .0
+
+  -- what a place may send to
+  abbrev Good : Place → Type 0
+  Good Missing = Unit
+  Good (Held send word) = inSet p send ≡ true → isSetUp r p ≡ true
+
+  abbrev GoodWay : Way → Type 0
+  GoodWay Lost = Unit
+  GoodWay (By set availability) = inSet p set ≡ true → isSetUp r p ≡ true
+
+  pick-good : (t : Bool) (a b : Place) → (t ≡ true → Good a) → Good b → Good (pick t a b)
+  pick-good true a b f g = f refl
+  pick-good false a b f g = g
+
+  group-good : (a : Address) (arrival : ℕ) → Good (groupPlace r a arrival)
+  unfolding groupPlace
+  group-good a arrival =
+      let i = groupFound r a in
+      pick-good (ltb i 16) (groupSays (groupIn r i) arrival) Missing
+      (λ t m.
+      let l = ltb-true i 16 t in
+      let filled = and-true (not (eqb (groupIn r i .filled) 0)) (eqb (groupIn r i .address .0) (a .0)) (first-holds (λ (j : ℕ). holdsGroup (groupIn r j) a) 16 l) .0 in
+      ready-set-up (set-ready (groupIn r i .send) (readySet r) p (k .good .groups i l filled .1 .0) inside m))
+      tt
+
+  path-good : (x : PathAddress) → Good (pathPlace r x)
+  unfolding pathPlace
+  path-good x =
+      let i = pathFound r x in
+      pick-good (ltb i 16) (pathSays (pathIn r i)) Missing
+      (λ t m.
+      let l = ltb-true i 16 t in
+      let filled = and-true (not (eqb (pathIn r i .filled) 0)) (eqb (pathIn r i .path .0) (x .0)) (first-holds (λ (j : ℕ). holdsPath (pathIn r j) x) 16 l) .0 in
+      ready-set-up (set-ready (pathIn r i .send) (readySet r) p (k .good .paths i l filled .1) inside m))
+      tt
+
+  found-good : (a : Address) (f : Found) → searchOf a (r .routes) ≡ f → GoodWay (wayOf f)
+  unfolding candidate
+  found-good a No e = tt
+  found-good a (At place ones x) e =
+      λ m.
+      let found = search-found a (r .routes) e in
+      let l : place < 64 = rw (sym (k .routes)) (found .0) in
+      let held = found .1 in
+      let filled = and-true (isFilled x) (matched x a) (found .2) .0 in
+      let none =
+      zero-none (recordChecks (readySet r) (routeIn r place)) ((λ z. omega arith), ((λ z. omega arith), ((λ z. omega arith), tt)))
+      (k .good .routes place l (sym (ap isFilled held) ∙ filled)) in
+      let ready : isReady (x .port) (readySet r) ≡ true = ap (λ (y : Route). isReady (y .port) (readySet r)) held ∙ not-false-true _ (none .0) in
+      let port = ltb-true (x .port) 8 (and-true (ltb (x .port) 8) (inSet (x .port) (readySet r)) ready .0) in
+      ready-set-up (ap (λ (q : ℕ). isReady q (readySet r)) (only-that p (x .port) port m) ∙ ready)
+
+  -- the lines
+  abbrev GoodLine : Line → Type 0
+  GoodLine Unasked = Unit
+  GoodLine (Refused n) = Unit
+  GoodLine (Wanted g) = inSet p g ≡ true → isSetUp r p ≡ true
+
+  pick-line : (t : Bool) (a b : Line) → GoodLine a → GoodLine b → GoodLine (pick t a b)
+  pick-line true a b f g = f
+  pick-line false a b f g = g
+
+  group-line : (x : Place) (arrival others : ℕ) → Good x → GoodLine (groupLine x arrival others)
+  unfolding groupLine
+  group-line Missing arrival others g = tt
+  group-line (Held send word) arrival others g =
+      pick-line (eqb (aloneBy word others) 1) Unasked _ tt
+      (pick-line (eqb (exceptBy send arrival) 0) (Refused 11) (Wanted (exceptBy send arrival)) tt (λ m. g (except-in send arrival m)))
+
+  path-line : (x : Place) (arrival : ℕ) → Good x → GoodLine (pathLine x arrival)
+  unfolding pathLine
+  path-line Missing arrival g = tt
+  path-line (Held send here) arrival g =
+      pick-line (not (eqb (exceptBy send arrival) 0)) (Wanted (exceptBy send arrival)) _ (λ m. g (except-in send arrival m))
+      (pick-line (not (eqb here 0)) Unasked (Refused 11) tt tt)
+
+  route-line : (w : Way) → GoodWay w → GoodLine (routeLine w)
+  unfolding routeLine
+  route-line Lost g = tt
+  route-line (By set availability) g = pick-line (eqb availability 1) (Wanted set) (Refused 12) g tt
+
+  host-line : (t : Target) (local : ℕ) → GoodLine (hostLine t local)
+  host-line target.Here local = tt
+  host-line target.Broadcast local = pick-line (eqb local 0) (Refused 9) Unasked tt tt
+  host-line target.Group local = pick-line (eqb local 0) (Refused 9) Unasked tt tt
+  host-line target.Path local = pick-line (eqb local 0) (Refused 9) Unasked tt tt
+  host-line target.Route local = pick-line (eqb local 0) (Refused 9) Unasked tt tt
+
+  survey-ready : (q : Sought) → inSet p (surveyOf r q .ready) ≡ true → isSetUp r p ≡ true
+  unfolding surveyBelow
+  survey-ready q h =
+      and-true (isSetUp r p) true (sym (in-gathered (λ (i : ℕ). isSetUp r i && true) p 8 inside) ∙ h) .0
+
+  router-line : (t : Target) (x : Place) (w : Way) (arrival : ℕ) (q : Sought) → Good x → GoodWay w → GoodLine (routerLine t x w arrival (surveyOf r q .ready))
+  router-line target.Here x w arrival q g h = tt
+  router-line target.Broadcast x w arrival q g h =
+      let ready = surveyOf r q .ready in
+      pick-line (eqb (exceptBy ready arrival) 0) Unasked (Wanted (exceptBy ready arrival)) tt (λ m. survey-ready q (except-in ready arrival m))
+  router-line target.Group x w arrival q g h = group-line x arrival (exceptBy (surveyOf r q .ready) arrival) g
+  router-line target.Path x w arrival q g h = path-line x arrival g
+  router-line target.Route x w arrival q g h = route-line w h
+
+  line-good : (t : Target) (x : Place) (w : Way) (c : Case) (q : Sought) (local : ℕ) → Good x → GoodWay w → GoodLine (lineOf t x w c (surveyOf r q .ready) local)
+  unfolding lineOf
+  line-good t x w c q local g h = pick-line (eqb (c .router) 0) _ _ (host-line t local) (router-line t x w (c .arrival) q g h)
+
+  place-good : (t : Target) (a : Address) (arrival : ℕ) → Good (placeFor r t a arrival)
+  place-good target.Here a arrival = tt
+  place-good target.Broadcast a arrival = tt
+  place-good target.Group a arrival = group-good a arrival
+  place-good target.Path a arrival = tt
+  place-good target.Route a arrival = tt
+
+  way-good : (t : Target) (a : Address) → GoodWay (wayFor r t a)
+  way-good target.Here a = tt
+  way-good target.Broadcast a = tt
+  way-good target.Group a = tt
+  way-good target.Path a = tt
+  way-good target.Route a = found-good a (searchOf a (r .routes)) refl
+
+  wanted-is : (l : Line) (g : ℕ) → GoodLine l → l ≡ Wanted g → inSet p g ≡ true → isSetUp r p ≡ true
+  wanted-is Unasked g h e m = true-false cc
+  wanted-is (Refused n) g h e m = true-false cc
+  wanted-is (Wanted s) g h e m = h (rw (let z : s ≡ g = cc in z) m)
+
+-- After any history each port that is wanted for a datagram to an end system or a group is set up, ..
+pub wanted-is-set-up : (cs : List Call) (p : ℕ) → p < 8 → (t : Target) (a : Address) (c : Case) (q : Sought) (local g : ℕ)
+    → lineOf t (placeFor (after cs) t a (c .arrival)) (wayFor (after cs) t a) c (surveyOf (after cs) q .ready) local ≡ Wanted g
+    → inSet p g ≡ true
+    → isSetUp (after cs) p ≡ true
+wanted-is-set-up cs p inside t a c q local g =
+    let r = after cs in
+    let k = kept-after cs in
+    wanted-is r k p inside _ g
+    (line-good r k p inside t (placeFor r t a (c .arrival)) (wayFor r t a) c q local (place-good r k p inside t a (c .arrival)) (way-good r k p inside t a))
+
+-- .. and each that is wanted for one on a path.
+pub wanted-on-path-is-set-up : (cs : List Call) (p : ℕ) → p < 8 → (x : PathAddress) (c : Case) (q : Sought) (local g : ℕ)
+    → lineOf target.Path (pathPlace (after cs) x) Lost c (surveyOf (after cs) q .ready) local ≡ Wanted g
+    → inSet p g ≡ true
+    → isSetUp (after cs) p ≡ true
+wanted-on-path-is-set-up cs p inside x c q local g =
+    let r = after cs in
+    let k = kept-after cs in
+    wanted-is r k p inside _ g (line-good r k p inside target.Path (pathPlace r x) Lost c q local (path-good r k p inside x) tt)
