@@ -1,9 +1,10 @@
 -- The demands over histories. To be read, each by itself with the definitions it cites:
 -- Refusals, Listed and Onward (demand 1: what a refused call leaves; the numbers an answer can be; the TP-ID refuses local delivery alone);
--- Meaning, Search, Reach and Keys (demand 2: what addresses name on every copy granted, no one-octet address leaves its domain; the route taken;
--- what holds of the settings in every state that a history reaches);
+-- Meaning, Search, Copies, Wanted, Reach and Keys (demand 2: what addresses name on every copy granted, no one-octet address leaves its domain; the
+-- route taken; which ports are wanted and granted; what holds of the settings in every state that a history reaches);
 -- Counters, Named, Ledger and Oldest (demand 3: every counter, the four that the customer names, the ledger of a port, the order of taking);
--- Marked (page 01's marked cases, one table). The others serve these: Boards, that no rule reads a counter; Bits, Fair and Queues.
+-- Marked (page 01's marked cases, one table) and Wrong (its wrong relays and slips, each shown wrong).
+-- The others serve these: Boards, that no rule reads a counter; Bits, Fair and Queues.
 pub mod Boards
 pub mod Counters
 pub mod Bits
@@ -22,3 +23,4 @@ pub mod Search
 pub mod Onward
 pub mod Wrong
 pub mod Wanted
+pub mod Copies

@@ -352,3 +352,23 @@ pub never-unsaid : (r : Relay) (port : ℕ) (octets : List ℕ) (room : ℕ)
     → endingOf r port octets room .ruling .onward ≡ 0
     → ⊥
 never-unsaid = of-every-ending (λ (x : Ruling). x .local ≡ 0 → x .onward ≡ 0 → ⊥) asked-ruled
+
+-- ---- the other calls
+pub router-listed : (x : ℕ) → listed settingNumbers (firstOf (routerChecks x)) ≡ true
+router-listed x = first-listed settingNumbers (routerChecks x) refl refl
+
+pub clear-listed : (place places : ℕ) → listed settingNumbers (firstOf (clearChecks place places)) ≡ true
+clear-listed place places = first-listed settingNumbers (clearChecks place places) refl refl
+
+-- a take that is refused is refused by 16 or 18
+abbrev pub takeNumbers : List ℕ
+takeNumbers = 16 ∷ 18 ∷ []
+
+taken-case : (t : Bool) (h : Head) (n : ℕ) → pick t (taking.Refused 16) (handed h) ≡ taking.Refused n → listed takeNumbers n ≡ true
+taken-case true h n e = ap (listed takeNumbers) (let z : n ≡ 16 = cc in z)
+taken-case false (First x) n e = true-false cc
+taken-case false Nothing n e = ap (listed takeNumbers) (let z : n ≡ 18 = cc in z)
+
+pub take-listed : (r : Relay) (port n : ℕ) → takeOutcome r port ≡ taking.Refused n → listed takeNumbers n ≡ true
+unfolding takeOutcome
+take-listed r port n e = taken-case (notSetUp r port) (takeOf (queueIn r port) .head) n e
