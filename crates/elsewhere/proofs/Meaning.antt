@@ -13,7 +13,8 @@ use Rattle.routes.specs.Routes.{sameEntry}
 use Rattle.sets.specs.Sets.{anyBelow}
 use Rattle.sets.proofs.Anywhere.{any-is}
 use Rattle.state.specs.Relay.{Relay, groupIn, pathIn, routeIn}
-use Rattle.elsewhere.specs.Elsewhere.{holdsGroup, holdsPath, routeElsewhere, groupElsewhere, pathElsewhere}
+use Rattle.records.specs.Held.{holdsGroup, holdsPath}
+use Rattle.elsewhere.specs.Elsewhere.{routeElsewhere, groupElsewhere, pathElsewhere}
 
 both : (t u : Bool) → (not t && u) ≡ true → (t ≡ false) × (u ≡ true)
 both true u e = true-false (sym e)

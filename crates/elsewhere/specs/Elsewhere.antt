@@ -10,14 +10,8 @@ use Rattle.records.specs.declared.PathPlace.{PathPlace}
 use Rattle.routes.specs.declared.Route.{Route}
 use Rattle.routes.specs.Routes.{sameEntry}
 use Rattle.sets.specs.Sets.{anyBelow}
+use Rattle.records.specs.Held.{holdsGroup, holdsPath}
 use Rattle.state.specs.Relay.{Relay, groupIn, pathIn, routeIn}
-
--- an empty place holds no address
-abbrev pub holdsGroup : Group → Address → Bool
-holdsGroup g a = not (eqb (g .filled) 0) && eqb (g .address .0) (a .0)
-
-abbrev pub holdsPath : PathPlace → PathAddress → Bool
-holdsPath x p = not (eqb (x .filled) 0) && eqb (x .path .0) (p .0)
 
 -- place j is another one than i, and holds the entry
 abbrev pub otherRoute : Relay → ℕ → Route → ℕ → Bool

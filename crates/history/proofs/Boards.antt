@@ -38,7 +38,8 @@ use Rattle.queue.specs.declared.Head.the-variants.{First, Nothing}
 use Rattle.queue.specs.declared.Queue.{Queue}
 use Rattle.state.specs.Relay.{Relay, groupIn, pathIn, queueIn, withRouter, withPort, withRoute, withGroup, withPath, added}
 use Rattle.survey.specs.Survey.{surveyBelow, surveyOf}
-use Rattle.lookup.specs.Lookup.{holdsGroup, holdsPath, groupFound, pathFound, groupSays, pathSays, groupPlace, pathPlace}
+use Rattle.records.specs.Held.{holdsGroup, holdsPath}
+use Rattle.lookup.specs.Lookup.{groupFound, pathFound, groupSays, pathSays, groupPlace, pathPlace}
 use Rattle.rule.specs.Ruling.{caseOf, soughtOf, ruledBy, ruleTarget, ruleAim, ruleOf}
 use Rattle.rule.specs.declared.Arrival.{Arrival}
 use Rattle.judge.specs.Ending.{orElse, notSetUp, callChecks, arrivalChecks, headerEnding, octetsEnding, arrivalAt, endingOf}

@@ -16,7 +16,8 @@ use Rattle.sets.specs.Sets.{inSet, onlyPort, firstBelow}
 use Rattle.settings.specs.Sets.{isReady, namesOther, setRefused}
 use Rattle.address.specs.declared.Address.{Address}
 use Rattle.address.specs.declared.PathAddress.{PathAddress}
-use Rattle.lookup.specs.Lookup.{holdsGroup, holdsPath, groupFound, pathFound, groupSays, pathSays, groupPlace, pathPlace}
+use Rattle.records.specs.Held.{holdsGroup, holdsPath}
+use Rattle.lookup.specs.Lookup.{groupFound, pathFound, groupSays, pathSays, groupPlace, pathPlace}
 use Rattle.routes.specs.Routes.{isFilled, matched, candidate}
 use Rattle.routes.specs.Search.{searchOf}
 use Rattle.routes.specs.declared.Found.{Found}

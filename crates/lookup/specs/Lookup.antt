@@ -8,20 +8,14 @@ use Rattle.checks.specs.Order.{pick}
 use Rattle.sets.specs.Sets.{firstBelow}
 use Rattle.address.specs.declared.Address.{Address}
 use Rattle.address.specs.declared.PathAddress.{PathAddress}
+use Rattle.records.specs.Held.{holdsGroup, holdsPath}
 use Rattle.records.specs.declared.Group.{Group}
 use Rattle.records.specs.declared.PathPlace.{PathPlace}
 use Rattle.state.specs.Relay.{Relay, groupIn, pathIn}
 use Rattle.verdict.specs.declared.Place.{Place}
 use Rattle.verdict.specs.declared.Place.the-variants.{Held, Missing}
 
--- a place that is filled, with just this address
-abbrev pub holdsGroup : Group → Address → Bool
-holdsGroup g a = not (eqb (g .filled) 0) && eqb (g .address .0) (a .0)
-
-abbrev pub holdsPath : PathPlace → PathAddress → Bool
-holdsPath x p = not (eqb (x .filled) 0) && eqb (x .path .0) (p .0)
-
--- the first such place; 16 where there is none
+-- the first place that is the address's; 16 where there is none
 abbrev pub groupFound : Relay → Address → ℕ
 groupFound r a = firstBelow (λ (i : ℕ). holdsGroup (groupIn r i) a) 16
 

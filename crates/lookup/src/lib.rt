@@ -11,7 +11,8 @@ use verdict::Place;
 ghost use mathlib.Core.Path.{_≡_};
 ghost use lib.ListN.{length};
 ghost use Rattle.state.specs.Layout.{stateWords, decode};
-ghost use Rattle.lookup.specs.Lookup.{holdsGroup, holdsPath, groupFound, pathFound, groupPlace, pathPlace};
+ghost use Rattle.records.specs.Held.{holdsGroup, holdsPath};
+ghost use Rattle.lookup.specs.Lookup.{groupFound, pathFound, groupPlace, pathPlace};
 
 // How many places there are of each kind; as a place, none of them.
 const PLACES: usize = 16;

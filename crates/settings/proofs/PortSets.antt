@@ -9,7 +9,8 @@ use lib.Bits.{bitAnd, and-le-l}
 use borrow.Author.Tests.{eq-eqb, eqb-true, eqb-false, lt-ltb, ltb-true, not-true}
 use Rattle.checks.proofs.Bools.{true-false, or-false, and-not-false, and-not}
 use Rattle.networks.proofs.Bits.{bit, bit-small, and-bit, ones-bit, high-bit, same-bits}
-use Rattle.settings.specs.Sets.{inSet, isReady, namesOther, setRefused}
+use Rattle.sets.specs.Sets.{inSet}
+use Rattle.settings.specs.Sets.{isReady, namesOther, setRefused}
 use Rattle.settings.proofs.Answers.{both-true, either-true, both-false, not-taken}
 
 -- every port in the set is one of the eight and set up

@@ -1,12 +1,9 @@
 -- When a set of ports is refused: page 01, "Refusal numbers" (21: place or port number, or port not set up). Port p stands in
 -- a set as 2^p, so a set of thirty-two bits can name the ports 0 to 31. Assumes nothing.
-use Prim.Native.Nat.{ℕ, zero, suc, _/_, _%_, _^_}
+use Prim.Native.Nat.{ℕ, zero, suc}
 use mathlib.Core.Bool.{Bool, false, not, _&&_, _||_}
-use lib.Dec.{eqb, ltb}
-
--- p is in the set
-abbrev pub inSet : ℕ → ℕ → Bool
-inSet p set = eqb (set / 2 ^ p % 2) 1
+use lib.Dec.{ltb}
+use Rattle.sets.specs.Sets.{inSet}
 
 -- p is 0 to 7 and set up
 abbrev pub isReady : ℕ → ℕ → Bool

@@ -7,7 +7,7 @@ use Rattle.sets.specs.Sets.{firstBelow}
 use Rattle.sets.proofs.Loops.{firstBelow-none, firstBelow-found, firstBelow-end}
 use Rattle.state.specs.Layout.{decode}
 use Rattle.state.specs.Relay.{groupIn}
-use Rattle.lookup.specs.Lookup.{holdsGroup}
+use Rattle.records.specs.Held.{holdsGroup}
 use Rattle.lookup.proofs.Found.{test-read}
 use Rattle.lookup.proofs.find_group.Statement.{statement}
 use Rattle.lookup.proofs.find_group.Tie as tie

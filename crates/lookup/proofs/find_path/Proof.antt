@@ -7,7 +7,7 @@ use Rattle.sets.specs.Sets.{firstBelow}
 use Rattle.sets.proofs.Loops.{firstBelow-none, firstBelow-found, firstBelow-end}
 use Rattle.state.specs.Layout.{decode}
 use Rattle.state.specs.Relay.{pathIn}
-use Rattle.lookup.specs.Lookup.{holdsPath}
+use Rattle.records.specs.Held.{holdsPath}
 use Rattle.lookup.proofs.Found.{test-read}
 use Rattle.lookup.proofs.find_path.Statement.{statement}
 use Rattle.lookup.proofs.find_path.Tie as tie
