@@ -62,10 +62,12 @@ archiver = x86_64-linux-gnu-ar
 endif
 
 # The folders are named too, since a file that is gone changes its folder only.
-# `rt ci` removes target/, so the objects are taken out of it.
+# `rt ci` removes target/, so the objects are taken out of it. `rt check` before that
+# proves on every core; `rt staticlib` alone would prove one crate after the other.
 $(ARCHIVE): crates.txt $(shell find crates 2>/dev/null) | prepare
 	@mkdir -p build/objects
 	rm -f $@ $(OBJECTS)
+	rt check $(EXPORTING)
 	for crate in $(EXPORTING); do rt staticlib $$crate && \
 	    ar x --output build/objects target/staticlib/lib$$crate.a || exit 1; done
 	$(archiver) rcs $@ $(OBJECTS)
