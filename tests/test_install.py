@@ -126,6 +126,13 @@ class Install(unittest.TestCase):
             output = self.output_of(os.path.join(ROOT, f"examples/{name}.c"))
             self.assertEqual(output, read(f"examples/{name}.expected"))
 
+    def test_the_header_as_c99_and_as_cpp11(self):
+        for words in (["gcc", "-std=c99"], ["g++", "-std=c++11", "-x", "c++"]):
+            words += ["-Wall", "-Wextra", "-Wpedantic", "-Werror", *self.flags()[:1], "-fsyntax-only",
+                      os.path.join(ROOT, "tests/header_clean.c")]
+            ended = subprocess.run(words, capture_output=True, text=True, check=False)
+            self.assertEqual((ended.returncode, ended.stderr), (0, ""))
+
     def test_the_example_of_the_manual(self):
         source = os.path.join(self.work, "manual.c")
         with open(source, "w", encoding="ascii") as file:
