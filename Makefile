@@ -6,6 +6,9 @@
 #   make plain     build/plain, which answers it by the independent C program
 #   make compare   the two of them on a generated trace
 #   make bench     instructions per call and stack, of the two of them
+#   make install   the library, its manual and replay, once `make replay` made them;
+#                  PREFIX says where (/usr/local), DESTDIR what stands before it
+#   make uninstall removes what install put there
 #   make clean     removes build/ and target/
 #
 # Everything that is made stands in build/. The archive is x86-64 code, and so is
@@ -15,17 +18,19 @@
 MACHINE := $(shell uname -m)
 STRICT := -Wall -Wextra -Wpedantic -Werror
 CFLAGS := -std=c99 -O2 $(STRICT)
+VERSION := $(shell cat VERSION)
 
 ARCHIVE := build/libharpjuniper.a
 REPLAY := $(addprefix host/,replay.c words_header.c words_relay.c \
-	lent.c lent_state.c trace.c text.c)
+	lent.c lent_state.c trace.c text.c options.c)
 GENERATE := $(addprefix host/,generate.c generate_header.c generate_build.c \
 	history.c history_ports.c history_settings.c history_arrivals.c world.c \
-	datagram.c form.c settings.c text.c)
+	datagram.c form.c settings.c text.c options.c)
 COVERAGE := $(addprefix host/,coverage.c coverage_relay.c view.c arriving.c \
-	answered.c settings.c trace.c)
-LEDGER := $(addprefix host/,ledger.c arriving.c answered.c trace.c)
-BENCH := $(addprefix host/,bench.c bench_ours.c bench_plain.c painted.c trace.c)
+	answered.c settings.c trace.c options.c)
+LEDGER := $(addprefix host/,ledger.c arriving.c answered.c trace.c options.c)
+BENCH := $(addprefix host/,bench.c bench_ours.c bench_plain.c painted.c trace.c \
+	options.c)
 PLAIN := $(wildcard host/plain/plain_*.c)
 HEADERS := $(wildcard include/*.h host/*.h host/plain/*.h)
 
@@ -33,7 +38,7 @@ HEADERS := $(wildcard include/*.h host/*.h host/plain/*.h)
 .NOTPARALLEL:
 .DELETE_ON_ERROR:
 .PHONY: test archive replay plain compare bench clean prepare format exports header \
-	readme host-tests promises gate
+	readme host-tests promises gate install uninstall
 
 test: prepare format archive exports header readme host-tests compare promises \
 	gate
@@ -98,6 +103,14 @@ build/bench: $(BENCH) $(PLAIN) $(ARCHIVE) $(HEADERS) scripts/emulated | prepare
 	$(link) $(BENCH) $(PLAIN) $(ARCHIVE)
 	$(emulate)
 
+build/flight_loop: examples/flight_loop.c $(ARCHIVE) $(HEADERS) scripts/emulated | prepare
+	$(link) examples/flight_loop.c $(ARCHIVE)
+	$(emulate)
+
+build/settings_batch: examples/settings_batch.c $(ARCHIVE) $(HEADERS) scripts/emulated | prepare
+	$(link) examples/settings_batch.c $(ARCHIVE)
+	$(emulate)
+
 build/readme.c: README.md scripts/readme-program | prepare
 	@mkdir -p build
 	scripts/readme-program $@ build/readme.expected
@@ -108,9 +121,9 @@ build/readme: build/readme.c $(ARCHIVE) $(HEADERS) scripts/emulated | prepare
 
 # ---- Programs for this machine
 
-build/plain: host/plain/plain.c $(PLAIN) $(HEADERS) | prepare
+build/plain: host/plain/plain.c $(PLAIN) $(HEADERS) VERSION | prepare
 	@mkdir -p build
-	gcc $(CFLAGS) -o $@ host/plain/plain.c $(PLAIN)
+	gcc $(CFLAGS) -DPLAIN_VERSION='"$(VERSION)"' -o $@ host/plain/plain.c $(PLAIN)
 
 build/test_%: host/plain/test_%.c $(PLAIN) $(HEADERS) | prepare
 	@mkdir -p build
@@ -118,15 +131,15 @@ build/test_%: host/plain/test_%.c $(PLAIN) $(HEADERS) | prepare
 
 build/generate: $(GENERATE) $(HEADERS) | prepare
 	@mkdir -p build
-	gcc $(CFLAGS) -o $@ $(GENERATE)
+	gcc $(CFLAGS) -Iinclude -o $@ $(GENERATE)
 
 build/coverage: $(COVERAGE) $(HEADERS) | prepare
 	@mkdir -p build
-	gcc $(CFLAGS) -o $@ $(COVERAGE)
+	gcc $(CFLAGS) -Iinclude -o $@ $(COVERAGE)
 
 build/ledger: $(LEDGER) $(HEADERS) | prepare
 	@mkdir -p build
-	gcc $(CFLAGS) -o $@ $(LEDGER)
+	gcc $(CFLAGS) -Iinclude -o $@ $(LEDGER)
 
 # ---- Tests
 
@@ -142,14 +155,21 @@ readme: build/readme
 	cmp build/readme.output build/readme.expected
 
 host-tests: build/calls build/relay_calls build/test_plain build/test_relay \
-	build/replay build/plain build/ledger
+	build/replay build/plain build/ledger build/generate build/coverage \
+	build/bench build/flight_loop build/settings_batch
 	build/calls
 	build/relay_calls
 	build/test_plain
 	build/test_relay
+	build/flight_loop > build/flight_loop.output
+	diff examples/flight_loop.expected build/flight_loop.output
+	build/settings_batch > build/settings_batch.output
+	diff examples/settings_batch.expected build/settings_batch.output
 	scripts/check-traces build/replay build/plain
 	python3 tests/test_ledger.py
 	python3 tests/test_scripts.py
+	python3 tests/test_options.py
+	python3 tests/test_install.py
 
 compare: build/generate build/plain build/replay build/coverage build/ledger
 	scripts/compare
@@ -162,6 +182,38 @@ promises: | prepare
 
 gate: | prepare
 	@scripts/gate
+
+# ---- Installing
+
+# What stands in build/ is installed and nothing is built, so that root needs no rt.
+# All of it is for x86-64; elsewhere the program is the one that the stand-in runs.
+DESTDIR ?=
+PREFIX ?= /usr/local
+into = $(DESTDIR)$(PREFIX)
+INSTALLED := bin/replay include/harpjuniper.h lib/libharpjuniper.a \
+	lib/pkgconfig/harpjuniper.pc share/man/man1/replay.1 share/man/man3/harpjuniper.3
+
+ifeq ($(MACHINE),x86_64)
+installed_replay = build/replay
+else
+installed_replay = build/replay.x86-64
+endif
+
+install:
+	@for file in $(ARCHIVE) $(installed_replay); do [ -f $$file ] || \
+	    { echo "install: there is no $$file: make replay first" >&2; exit 1; }; done
+	install -d $(addprefix "$(into)"/,$(sort $(dir $(INSTALLED))))
+	install -m 755 $(installed_replay) "$(into)"/bin/replay
+	install -m 644 include/harpjuniper.h "$(into)"/include
+	install -m 644 $(ARCHIVE) "$(into)"/lib
+	sed 's|@PREFIX@|$(PREFIX)|; s|@VERSION@|$(VERSION)|' harpjuniper.pc.in \
+	    > "$(into)"/lib/pkgconfig/harpjuniper.pc
+	chmod 644 "$(into)"/lib/pkgconfig/harpjuniper.pc
+	install -m 644 man/replay.1 "$(into)"/share/man/man1
+	install -m 644 man/harpjuniper.3 "$(into)"/share/man/man3
+
+uninstall:
+	rm -f $(addprefix "$(into)"/,$(INSTALLED))
 
 clean:
 	rm -rf build target

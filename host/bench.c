@@ -24,6 +24,7 @@
 #include <string.h>
 
 #include "bench_sides.h"
+#include "options.h"
 #include "painted.h"
 #include "trace.h"
 
@@ -180,10 +181,27 @@ static void nothing(void)
     bench_end();
 }
 
+static const char HELP[] =
+    "usage: bench [--help | --version] count|stack < TRACE\n"
+    "       bench state\n"
+    "\n"
+    "Makes the calls of a trace (docs/TRACE.md) on the library and on the\n"
+    "plain C implementation. `make bench` calls it and says what it found.\n"
+    "    count  each measured call between two marks, for an emulator's log\n"
+    "    stack  each measured call, with the octets of stack it has written to\n"
+    "    state  the octets of the two states\n"
+    "\n"
+    "Status: 0 done; 1 the two answered a call differently, or a line is not\n"
+    "understood, or the input or the output failed; 2 bad usage.\n";
+
 int main(int count, char **arguments)
 {
+    static const struct program PROGRAM = {"bench", HELP, true};
+    int status = options_status(&PROGRAM, arguments + (count > 0));
     enum mode mode;
 
+    if (status != OPTIONS_GO_ON)
+        return status;
     if (count == 2 && strcmp(arguments[1], "state") == 0) {
         printf("ours\t%zu\nplain\t%zu\n", bench_our_state(),
                bench_plain_state());
@@ -191,7 +209,9 @@ int main(int count, char **arguments)
     }
     if (count != 2 || (strcmp(arguments[1], "count") != 0 &&
                        strcmp(arguments[1], "stack") != 0)) {
-        fputs("usage: bench count|stack < TRACE, or bench state\n", stderr);
+        fputs("bench: say one of count, stack and state\n"
+              "bench: try --help\n",
+              stderr);
         return 2;
     }
     mode = arguments[1][0] == 'c' ? COUNT : STACK;

@@ -20,6 +20,7 @@
 
 #include "coverage.h"
 #include "coverage_lists.h"
+#include "options.h"
 #include "settings.h"
 #include "trace.h"
 
@@ -300,23 +301,18 @@ static void say_checksums(void)
 
 enum { HEADERS, BUILDS, ADDRESSES, CHECKSUMS, HISTORIES, SETTINGS };
 
-int main(int count, char **arguments)
-{
-    struct setting stated[SETTINGS] = {[HEADERS] = {"headers", 0},
-                                       [BUILDS] = {"builds", 0},
-                                       [ADDRESSES] = {"addresses", 0},
-                                       [CHECKSUMS] = {"checksums", 0},
-                                       [HISTORIES] = {"histories", 0}};
+static const char HELP[] =
+    "usage: coverage [--help | --version] headers=N builds=N addresses=N\n"
+    "                checksums=N histories=N < ANSWERED\n"
+    "\n"
+    "Says how often each answer and each element was reached in an answered\n"
+    "trace (docs/TRACE.md). The numbers are those that `generate` was given.\n"
+    "\n"
+    "Status: 0 all was reached often enough; 1 something was not, or a line\n"
+    "has no good answer; 2 bad usage.\n";
 
-    if (count != 1 + SETTINGS ||
-        !settings_take(stated, SETTINGS, arguments + 1)) {
-        fputs("coverage: headers=N builds=N addresses=N checksums=N "
-              "histories=N\n",
-              stderr);
-        return 2;
-    }
-    if (!answered_lines(count_line))
-        say_failed("some line has no good answer");
+static void say_calls(const struct setting *stated)
+{
     puts("Calls:");
     say_row("read", sum_of(tally.read, 6), stated[HEADERS].value);
     say_row("build", sum_of(tally.build, 21), stated[BUILDS].value);
@@ -325,6 +321,31 @@ int main(int count, char **arguments)
     say_row("checksum", tally.checksum, stated[CHECKSUMS].value);
     say_row("the relay's, 200 a history", relay_calls(),
             200 * stated[HISTORIES].value);
+}
+
+int main(int count, char **arguments)
+{
+    static const struct program PROGRAM = {"coverage", HELP, true};
+    int status = options_status(&PROGRAM, arguments + (count > 0));
+    struct setting stated[SETTINGS] = {[HEADERS] = {"headers", 0},
+                                       [BUILDS] = {"builds", 0},
+                                       [ADDRESSES] = {"addresses", 0},
+                                       [CHECKSUMS] = {"checksums", 0},
+                                       [HISTORIES] = {"histories", 0}};
+
+    if (status != OPTIONS_GO_ON)
+        return status;
+    if (count != 1 + SETTINGS ||
+        !settings_take(stated, SETTINGS, arguments + 1)) {
+        fputs("coverage: headers=N builds=N addresses=N checksums=N "
+              "histories=N\n"
+              "coverage: try --help\n",
+              stderr);
+        return 2;
+    }
+    if (!answered_lines(count_line))
+        say_failed("some line has no good answer");
+    say_calls(stated);
     say_headers();
     say_addresses();
     say_checksums();

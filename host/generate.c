@@ -19,6 +19,7 @@
 
 #include "form.h"
 #include "generate_parts.h"
+#include "options.h"
 #include "random.h"
 #include "settings.h"
 #include "text.h"
@@ -131,6 +132,21 @@ static void write_checksums(uint64_t count, struct random *random)
 
 enum { SEED, HEADERS, BUILDS, ADDRESSES, CHECKSUMS, HISTORIES, SETTINGS };
 
+static const char HELP[] =
+    "usage: generate [--help | --version] [NAME=N]... > TRACE\n"
+    "\n"
+    "Writes a trace (docs/TRACE.md) to compare implementations on, the same\n"
+    "from the same numbers on every machine. The names, and what N is where\n"
+    "none is given:\n"
+    "    seed       1071     begins the random numbers\n"
+    "    headers    1000000  read lines\n"
+    "    builds     100000   build lines\n"
+    "    addresses  200000   class lines, and as many path lines\n"
+    "    checksums  30000    checksum lines\n"
+    "    histories  3600     histories of a whole relay\n"
+    "\n"
+    "Status: 0 written; 2 bad usage, or the output failed.\n";
+
 int main(int count, char **arguments)
 {
     struct setting settings[SETTINGS] = {
@@ -141,9 +157,12 @@ int main(int count, char **arguments)
         [CHECKSUMS] = {"checksums", 30000},
         [HISTORIES] = {"histories", 3600},
     };
+    static const struct program PROGRAM = {"generate", HELP, true};
+    int status = options_status(&PROGRAM, arguments + (count > 0));
     struct random random;
 
-    (void)count;
+    if (status != OPTIONS_GO_ON)
+        return status;
     if (!settings_take(settings, SETTINGS, arguments + 1))
         return 2;
     random.state = settings[SEED].value;

@@ -21,6 +21,7 @@
 
 #include "answered.h"
 #include "arriving.h"
+#include "options.h"
 
 #define PORTS 8
 #define QUEUE 32
@@ -274,10 +275,25 @@ static bool book_line(const struct trace_call *call,
     return true;
 }
 
-int main(void)
-{
-    bool good = answered_lines(book_line);
+static const char HELP[] =
+    "usage: ledger [--help | --version] < ANSWERED\n"
+    "\n"
+    "Recounts an answered trace (docs/TRACE.md) from its calls and answers\n"
+    "alone: for each port the copies taken, handed out and waiting, the order\n"
+    "of what is handed out, and each counter.\n"
+    "\n"
+    "Status: 0 the books balance; 1 they do not, or a line has no good\n"
+    "answer; 2 bad usage.\n";
 
+int main(int count, char **arguments)
+{
+    static const struct program PROGRAM = {"ledger", HELP, false};
+    int status = options_status(&PROGRAM, arguments + (count > 0));
+    bool good;
+
+    if (status != OPTIONS_GO_ON)
+        return status;
+    good = answered_lines(book_line);
     printf("ledger: %" PRIu64 " receipts, %" PRIu64 " copies, %" PRIu64
            " takes, %" PRIu64 " waiting lines, %" PRIu64
            " counters lines (npOutDiscards exact in %" PRIu64 ")\n",

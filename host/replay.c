@@ -10,8 +10,8 @@
 
 #include <stdio.h>
 #include <stdlib.h>
-#include <string.h>
 
+#include "options.h"
 #include "text.h"
 #include "trace.h"
 #include "words.h"
@@ -106,7 +106,7 @@ static bool replay(void)
 }
 
 static const char HELP[] =
-    "usage: replay < TRACE > ANSWERED\n"
+    "usage: replay [--help | --version] < TRACE > ANSWERED\n"
     "\n"
     "Reads calls in the trace form (docs/TRACE.md), one a line, makes each\n"
     "on the library and writes it with the library's answer:\n"
@@ -122,20 +122,12 @@ static const char HELP[] =
 
 int main(int count, char **arguments)
 {
+    static const struct program PROGRAM = {"replay", HELP, false};
+    int status = options_status(&PROGRAM, arguments + (count > 0));
     bool understood;
 
-    if (count == 2 && strcmp(arguments[1], "--help") == 0) {
-        fputs(HELP, stdout);
-        return 0;
-    }
-    if (count == 2 && strcmp(arguments[1], "--version") == 0) {
-        puts("replay (Harpjuniper) 0.1");
-        return 0;
-    }
-    if (count != 1) {
-        fputs(HELP, stderr);
-        return 2;
-    }
+    if (status != OPTIONS_GO_ON)
+        return status;
     understood = replay();
     if (ferror(stdin) || fflush(stdout) != 0 || ferror(stdout)) {
         fputs("replay: the input or the output failed\n", stderr);

@@ -35,6 +35,14 @@
 extern "C" {
 #endif
 
+/* ---- The version -------------------------------------------------------- */
+
+/* Of this header, and of the library that it comes with. */
+#define HJ_VERSION "0.3.0"
+#define HJ_VERSION_MAJOR 0
+#define HJ_VERSION_MINOR 3
+#define HJ_VERSION_PATCH 0
+
 /* ---- Numbers that hold everywhere ------------------------------------- */
 
 /* The words of a relay's state. C allocates them. */

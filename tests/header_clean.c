@@ -71,6 +71,9 @@ int accessors(void)
 
 int numbers_are_ordered(void)
 {
+    const char version[] = HJ_VERSION;
+    const int versions[] = {HJ_VERSION_MAJOR, HJ_VERSION_MINOR,
+                            HJ_VERSION_PATCH};
     const int limits[] = {HJ_STATE_WORDS, HJ_OUTPUT_ROOM, HJ_MOST_DATA,
                           HJ_MOST_LENGTH, HJ_PORTS,       HJ_ROUTES,
                           HJ_GROUPS,      HJ_PATHS,       HJ_QUEUE};
@@ -104,5 +107,6 @@ int numbers_are_ordered(void)
         HJ_FORW_HOP_DISCARD,  HJ_FORW_DATAGRAMS, HJ_OUT_NO_ROUTES,
         HJ_OUT_DISCARDS,      HJ_LEFT_DOMAIN,    HJ_TOO_BIG_COUNT};
 
-    return limits[0] + refusals[0] + classes[0] + codes[0] + counters[14];
+    return version[0] + versions[0] + limits[0] + refusals[0] + classes[0] +
+           codes[0] + counters[14];
 }

@@ -5,13 +5,15 @@
  * proof answers.
  *
  * Status 0: every line was understood; 1: some line was not, and was answered
- * by "? LINE"; 2: the output could not be written or the input not read.
+ * by "? LINE"; 2: the output could not be written or the input not read, or an
+ * argument is not known.
  *
  * The awkward case: a line is known not to be understood only after its
  * arguments are looked at, so the echo of the call is put first and taken
  * back then.
  */
 #include <stdio.h>
+#include <string.h>
 
 #include "plain_words.h"
 
@@ -67,14 +69,12 @@ static bool answer_call(const plain_call *call)
     return true;
 }
 
-int main(void)
+/* Whether every line was understood. */
+static bool answer_lines(void)
 {
     bool all_understood = true;
     plain_call call;
 
-    input.file = stdin;
-    session.text.file = stdout;
-    plain_relay_fresh(&session.relay);
     while (plain_input_line(&input, &line)) {
         plain_kind kind = plain_line_split(&line, &call);
 
@@ -85,6 +85,45 @@ int main(void)
             put_line_not_understood();
         }
     }
+    return all_understood;
+}
+
+static const char help[] =
+    "usage: plain [--help | --version] < TRACE > ANSWERED\n"
+    "\n"
+    "Reads calls in the trace form (docs/TRACE.md), one a line, and writes\n"
+    "each with the answer of the relay in plain C. The library's own answers\n"
+    "are what `replay` writes; the two must not differ.\n"
+    "\n"
+    "Status: 0 every line was understood; 1 some line was not; 2 bad usage,\n"
+    "or the input or the output failed.\n";
+
+/* The status that the first argument ends the program with. */
+static int answer_argument(const char *argument)
+{
+    if (strcmp(argument, "--help") == 0) {
+        fputs(help, stdout);
+    } else if (strcmp(argument, "--version") == 0) {
+        puts("plain (Harpjuniper) " PLAIN_VERSION);
+    } else {
+        fprintf(stderr, "plain: %s: %s\nplain: try --help\n",
+                argument[0] == '-' ? "unknown option" : "unexpected argument",
+                argument);
+        return 2;
+    }
+    return fflush(stdout) == 0 ? 0 : 2;
+}
+
+int main(int count, char **arguments)
+{
+    bool all_understood;
+
+    if (count > 1)
+        return answer_argument(arguments[1]);
+    input.file = stdin;
+    session.text.file = stdout;
+    plain_relay_fresh(&session.relay);
+    all_understood = answer_lines();
     plain_text_flush(&session.text);
     if (session.text.failed || ferror(stdin)) {
         fputs("plain: cannot read the input or write the output\n", stderr);

@@ -1,0 +1,186 @@
+/*
+ * flight_loop: the smallest loop that relays. It sets up two ports and a route,
+ * hears datagrams, lets the relay judge each, and sends on what the relay says:
+ * the header that the relay wrote, then the data that the loop kept.
+ *
+ * The links are stood in for: `heard` hands out datagrams built here, and
+ * `send_on` prints. In flight both would be drivers, and the rest would stay.
+ *
+ * The relay keeps a slot number and no octets, so the loop has a store of slots.
+ * The awkward case is a datagram that several ports take: its slot is free again
+ * only once each of them has sent its copy, so the copies are counted.
+ */
+#include <stdio.h>
+#include <string.h>
+
+#include "harpjuniper.h"
+
+#define SLOTS 64
+#define NO_SLOT SLOTS
+
+static uint32_t relay[HJ_STATE_WORDS];
+
+static struct slot {
+    uint32_t copies; /* still to be sent; 0 where the slot is free */
+    uint32_t header_octets;
+    uint32_t length;
+    uint8_t header[HJ_OUTPUT_ROOM];
+    uint8_t octets[HJ_MOST_LENGTH];
+} slots[SLOTS];
+
+/* ---- The links, stood in for --------------------------------------------- */
+
+#define HERE 0x0a0a0a02u  /* 10.10.10.2, this node on port 0 */
+#define NEAR 0x0a0a0a04u  /* 10.10.10.4, whom port 0 hears */
+#define FAR 0x0a04090eu   /* 10.4.9.14, behind port 1 */
+#define OTHER 0xc0000201u /* 192.0.2.1, which no route leads to */
+
+static const struct {
+    uint32_t destination, precedence, hop_count;
+    const char *data;
+} HEARD[] = {{FAR, 0, 64, "temperature"}, {FAR, 9, 64, "alarm"},
+             {HERE, 0, 64, "command"},    {OTHER, 0, 64, "stray"},
+             {FAR, 0, 1, "tired"}};
+
+/* The next datagram that port 0 hears, or 0 octets where there is none. */
+static uint32_t heard(uint8_t *octets)
+{
+    static size_t next;
+    hj_fields fields = {0};
+    hj_answer built;
+    size_t data;
+
+    if (next == sizeof HEARD / sizeof *HEARD)
+        return 0;
+    data = strlen(HEARD[next].data);
+    fields.tp_id = 6;
+    fields.extended = 1;
+    fields.destination_low = HEARD[next].destination;
+    fields.has_source = 1;
+    fields.source_low = NEAR;
+    fields.has_qos = 1;
+    fields.precedence = HEARD[next].precedence;
+    fields.has_hop_count = 1;
+    fields.hop_count = HEARD[next].hop_count;
+    fields.has_checksum = 1;
+    built = hj_build(fields, data, octets, HJ_OUTPUT_ROOM);
+    memcpy(octets + hj_value(built), HEARD[next].data, data);
+    next++;
+    return hj_value(built) + (uint32_t)data;
+}
+
+static void print_octets(const uint8_t *octets, uint32_t count)
+{
+    for (uint32_t at = 0; at < count; at++)
+        printf("%02x", (unsigned)octets[at]);
+}
+
+/* The header sent on is as long as the one that arrived, so the data begin where
+ * they began. */
+static void send_on(uint32_t port, const struct slot *slot)
+{
+    uint32_t data = slot->length - slot->header_octets;
+
+    printf("port %u sends ", (unsigned)port);
+    print_octets(slot->header, slot->header_octets);
+    printf(" %.*s\n", (int)data,
+           (const char *)slot->octets + slot->header_octets);
+}
+
+/* ---- The loop ------------------------------------------------------------ */
+
+/* 0, or the number of what refused a setting. */
+static uint32_t set_up(void)
+{
+    uint32_t refusal = hj_fresh(relay, HJ_STATE_WORDS);
+
+    if (refusal == HJ_DONE)
+        refusal = hj_set_router(relay, HJ_STATE_WORDS, 1);
+    if (refusal == HJ_DONE)
+        refusal = hj_set_port(relay, HJ_STATE_WORDS, 0, HERE, 0xffffff00, 8191);
+    if (refusal == HJ_DONE)
+        refusal = hj_set_port(relay, HJ_STATE_WORDS, 1, 0x0a0a0b02, 0xffffff00,
+                              1500);
+    if (refusal == HJ_DONE)
+        refusal = hj_set_route(relay, HJ_STATE_WORDS, 0, 0x0a040900, 0xffffff00,
+                               1, HJ_UP, HJ_CAPABLE_NONE);
+    return refusal;
+}
+
+static uint16_t free_slot(void)
+{
+    uint16_t number = 0;
+
+    while (number < SLOTS && slots[number].copies > 0)
+        number++;
+    return number;
+}
+
+static uint32_t size_of_set(uint32_t ports)
+{
+    uint32_t size = 0;
+
+    for (; ports != 0; ports >>= 1)
+        size += ports & 1;
+    return size;
+}
+
+/* The datagram stands in the slot. The length field says where it ends: a link
+ * may hand over more octets than that. */
+static void judge(uint32_t port, uint16_t number, uint32_t count)
+{
+    struct slot *slot = &slots[number];
+    hj_verdict verdict =
+        hj_receive(relay, HJ_STATE_WORDS, port, number, slot->octets, count,
+                   slot->header, sizeof slot->header);
+
+    printf("port %u hears %u octets: ended by %u, local %u, onward %u\n",
+           (unsigned)port, (unsigned)count, (unsigned)hj_ended_by(verdict),
+           (unsigned)hj_local(verdict), (unsigned)hj_onward(verdict));
+    if (hj_local(verdict) == HJ_DELIVERED)
+        puts("  it is for this node");
+    slot->copies = size_of_set(hj_took(verdict));
+    slot->header_octets = hj_header_octets(verdict);
+    slot->length = hj_read(slot->octets, count).length;
+}
+
+/* Sends what waits on a port, the highest precedence first. */
+static void send_waiting(uint32_t port)
+{
+    hj_answer taken;
+
+    while (hj_refusal(taken = hj_take(relay, HJ_STATE_WORDS, port)) == HJ_DONE) {
+        send_on(port, &slots[hj_slot(taken)]);
+        slots[hj_slot(taken)].copies--;
+    }
+}
+
+/* Whether there was a datagram to hear, and a slot for it. */
+static int hear(uint32_t port)
+{
+    uint16_t number = free_slot();
+    uint32_t count = number == NO_SLOT ? 0 : heard(slots[number].octets);
+
+    if (count > 0)
+        judge(port, number, count);
+    return count > 0;
+}
+
+int main(void)
+{
+    uint32_t refusal = set_up();
+
+    if (refusal != HJ_DONE) {
+        printf("a setting was refused by %u\n", (unsigned)refusal);
+        return 1;
+    }
+    while (hear(0))
+        continue; /* in flight, the ports would be served in turn */
+    for (uint32_t port = 0; port < 2; port++)
+        send_waiting(port);
+    printf("received %u, sent on %u\n",
+           (unsigned)hj_value(hj_counter(relay, HJ_STATE_WORDS, HJ_IN_RECEIVES)),
+           (unsigned)hj_value(
+               hj_counter(relay, HJ_STATE_WORDS, HJ_FORW_DATAGRAMS)));
+    return 0;
+}
