@@ -5,6 +5,7 @@
 #   make replay    build/replay, which answers a trace by the library
 #   make plain     build/plain, which answers it by the independent C program
 #   make compare   the two of them on a generated trace
+#   make rehearsal scenarios/biocide.txt, flown on relays that are linked in memory
 #   make bench     instructions per call and stack, of the two of them
 #   make clean     removes build/ and target/
 #
@@ -26,14 +27,17 @@ COVERAGE := $(addprefix host/,coverage.c coverage_relay.c view.c arriving.c \
 	answered.c settings.c trace.c)
 LEDGER := $(addprefix host/,ledger.c arriving.c answered.c trace.c)
 BENCH := $(addprefix host/,bench.c bench_ours.c bench_plain.c painted.c trace.c)
+REHEARSAL := $(addprefix host/,rehearsal.c rehearsal_line.c rehearsal_settings.c \
+	rehearsal_events.c rehearsal_net.c rehearsal_told.c rehearsal_expect.c \
+	rehearsal_books.c)
 PLAIN := $(wildcard host/plain/plain_*.c)
 HEADERS := $(wildcard include/*.h host/*.h host/plain/*.h)
 
 # `make test` goes through its parts in this order, whatever -j says.
 .NOTPARALLEL:
 .DELETE_ON_ERROR:
-.PHONY: test archive replay plain compare bench clean prepare format exports header \
-	readme host-tests promises gate
+.PHONY: test archive replay plain rehearsal compare bench clean prepare format \
+	exports header readme host-tests promises gate
 
 test: prepare format archive exports header readme host-tests compare promises \
 	gate
@@ -41,6 +45,9 @@ test: prepare format archive exports header readme host-tests compare promises \
 archive: $(ARCHIVE)
 replay: build/replay
 plain: build/plain
+
+rehearsal: build/rehearsal
+	@build/rehearsal scenarios/biocide.txt
 
 prepare:
 	@scripts/prepare
@@ -82,6 +89,10 @@ endif
 
 build/replay: $(REPLAY) $(ARCHIVE) $(HEADERS) scripts/emulated | prepare
 	$(link) $(REPLAY) $(ARCHIVE)
+	$(emulate)
+
+build/rehearsal: $(REHEARSAL) $(ARCHIVE) $(HEADERS) scripts/emulated | prepare
+	$(link) $(REHEARSAL) $(ARCHIVE)
 	$(emulate)
 
 build/calls: tests/calls.c $(ARCHIVE) $(HEADERS) scripts/emulated | prepare
@@ -140,13 +151,14 @@ readme: build/readme
 	cmp build/readme.output build/readme.expected
 
 host-tests: build/calls build/relay_calls build/test_plain build/test_relay \
-	build/replay build/plain build/ledger
+	build/replay build/plain build/ledger build/rehearsal
 	build/calls
 	build/relay_calls
 	build/test_plain
 	build/test_relay
 	scripts/check-traces build/replay build/plain
 	python3 tests/test_ledger.py
+	python3 tests/test_rehearsal.py
 	python3 tests/test_scripts.py
 
 compare: build/generate build/plain build/replay build/coverage build/ledger
