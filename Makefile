@@ -95,6 +95,12 @@ build/rehearsal: $(REHEARSAL) $(ARCHIVE) $(HEADERS) scripts/emulated | prepare
 	$(link) $(REHEARSAL) $(ARCHIVE)
 	$(emulate)
 
+# The same on a relay that loses entries: its ledger must not close.
+build/rehearsal_wrong: $(REHEARSAL) tests/wrong_take.c $(ARCHIVE) $(HEADERS) \
+	scripts/emulated | prepare
+	$(link) -Wl,--wrap=hj_take $(REHEARSAL) tests/wrong_take.c $(ARCHIVE)
+	$(emulate)
+
 build/calls: tests/calls.c $(ARCHIVE) $(HEADERS) scripts/emulated | prepare
 	$(link) tests/calls.c $(ARCHIVE)
 	$(emulate)
@@ -151,7 +157,7 @@ readme: build/readme
 	cmp build/readme.output build/readme.expected
 
 host-tests: build/calls build/relay_calls build/test_plain build/test_relay \
-	build/replay build/plain build/ledger build/rehearsal
+	build/replay build/plain build/ledger build/rehearsal build/rehearsal_wrong
 	build/calls
 	build/relay_calls
 	build/test_plain

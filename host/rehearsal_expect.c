@@ -49,8 +49,10 @@ void expect_note(uint32_t node, const struct datagram *datagram,
     nodes[node].answered = true;
     nodes[node].verdict = verdict;
     nodes[node].arrivals++;
-    if (hj_local(verdict) != HJ_DELIVERED || delivered == MOST_DELIVERIES)
+    if (hj_local(verdict) != HJ_DELIVERED)
         return;
+    if (delivered == MOST_DELIVERIES)
+        line_refuse("at most 1024 deliveries in a scene", "more");
     deliveries[delivered].node = node;
     memcpy(deliveries[delivered].text, datagram->octets + datagram->header,
            data);

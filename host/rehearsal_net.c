@@ -131,16 +131,12 @@ static uint32_t count_copies(struct node *node, hj_verdict verdict)
     return copies;
 }
 
-/* The header that goes on, with the data that came. */
+/* The header that goes on, as long as the one that came, and the data. */
 static void keep(struct datagram *kept, const struct datagram *came,
                  const uint8_t *header, uint32_t header_octets)
 {
-    uint32_t data = came->length - came->header;
-
+    *kept = *came;
     memcpy(kept->octets, header, header_octets);
-    memcpy(kept->octets + header_octets, came->octets + came->header, data);
-    kept->header = header_octets;
-    kept->length = header_octets + data;
 }
 
 static void arrive(uint32_t at, uint32_t port, const struct datagram *came)

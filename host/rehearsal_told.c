@@ -92,8 +92,9 @@ void told_say(const char *text)
 
 static void at_now(void)
 {
-    printf("%5" PRIu64 ".%04" PRIu64 " s  ", now / 1000000,
-           now % 1000000 / 100);
+    uint64_t tenths = (now + 50) / 100;
+
+    printf("%5" PRIu64 ".%04" PRIu64 " s  ", tenths / 10000, tenths % 10000);
 }
 
 static void data_of(const struct datagram *datagram)
@@ -123,7 +124,7 @@ static void addresses(const hj_fields *fields)
 void told_send(uint32_t node, uint32_t port, const hj_fields *fields,
                const struct datagram *datagram)
 {
-    sent_unseen++;
+    sent_unseen += is_quiet;
     if (is_quiet)
         return;
     at_now();
@@ -143,10 +144,23 @@ void told_send(uint32_t node, uint32_t port, const hj_fields *fields,
            datagram->length);
 }
 
+/* Milliseconds, rounded to a tenth. */
+static void wire_time(const struct wire *wire)
+{
+    uint64_t tenths =
+        (net_microseconds(wire->flying.length, wire->bits_per_second) + 50) /
+        100;
+
+    printf("%14s%" PRIu32 " octets at %" PRIu32 " bit/s: %" PRIu64 ".%" PRIu64
+           " ms on the wire",
+           "", wire->flying.length, wire->bits_per_second, tenths / 10,
+           tenths % 10);
+}
+
 void told_start(uint32_t node, uint32_t port, bool own, hj_answer entry)
 {
     const struct wire *wire = &nodes[node].wires[port];
-    uint64_t took = net_microseconds(wire->flying.length, wire->bits_per_second);
+    hj_reading reading = hj_read(wire->flying.octets, wire->flying.length);
 
     if (is_quiet)
         return;
@@ -154,12 +168,12 @@ void told_start(uint32_t node, uint32_t port, bool own, hj_answer entry)
     printf("%s port %" PRIu32 " to %s port %" PRIu32 ": ", nodes[node].name,
            port, nodes[wire->peer].name, wire->peer_port);
     data_of(&wire->flying);
-    printf(", %" PRIu32 " octets at %" PRIu32 " bit/s: %" PRIu64 ".%" PRIu64
-           " ms",
-           wire->flying.length, wire->bits_per_second, took / 1000,
-           took % 1000 / 100);
+    puts("");
+    wire_time(wire);
+    if (reading.fields.has_hop_count)
+        printf("; hop count %" PRIu32, reading.fields.hop_count);
     if (!own)
-        printf(" (slot %u, precedence %u; %" PRIu32 " still wait)",
+        printf("; slot %u, precedence %u, %" PRIu32 " still wait",
                (unsigned)hj_slot(entry), (unsigned)hj_precedence(entry),
                net_waiting(&nodes[node], port));
     puts("");
@@ -170,25 +184,25 @@ void told_start(uint32_t node, uint32_t port, bool own, hj_answer entry)
 static void local_half(uint32_t local)
 {
     if (local == HJ_LOCAL_NO)
-        printf("here: not delivered (0)");
+        puts("here: not delivered (0)");
     else if (local == HJ_DELIVERED)
-        printf("here: DELIVERED (1)");
+        puts("here: DELIVERED (1)");
     else
-        printf("here: REFUSED (%" PRIu32 "), %s", local, told_number(local));
+        printf("here: REFUSED (%" PRIu32 "), %s\n", local, told_number(local));
 }
 
 static void onward_half(hj_verdict verdict)
 {
     uint32_t onward = hj_onward(verdict);
 
+    printf("%14sonward: ", "");
     if (onward == HJ_NOT_ASKED)
-        printf("; onward: not asked (0)");
+        printf("not asked (0)");
     else if (onward == HJ_SENT_ON)
-        printf("; onward: sent on (1), header %" PRIu32 " octets",
+        printf("sent on (1), header %" PRIu32 " octets",
                hj_header_octets(verdict));
     else
-        printf("; onward: REFUSED (%" PRIu32 "), %s", onward,
-               told_number(onward));
+        printf("REFUSED (%" PRIu32 "), %s", onward, told_number(onward));
 }
 
 static void ports_of(hj_verdict verdict)
@@ -226,8 +240,8 @@ void told_arrival(uint32_t node, uint32_t port,
                   const struct datagram *datagram, hj_verdict verdict,
                   const uint32_t *before)
 {
-    arrived_unseen++;
-    dropped_unseen += hj_dropped(verdict) != 0;
+    arrived_unseen += is_quiet;
+    dropped_unseen += is_quiet && hj_dropped(verdict) != 0;
     if (is_quiet)
         return;
     at_now();
