@@ -1,13 +1,13 @@
 /*
  * rehearsal_line.c: one line of a scenario as words.
  *
- * Words stand apart by blanks, "quotes" hold a text together, `#` begins a
- * comment. A line that is not understood ends the program at once, by
- * line_refuse: a scenario that is half understood would rehearse another story.
+ * Words stand apart by blanks, "quotes" hold a text together, a word that begins
+ * with `#` begins a comment. A line that is not understood ends the program at
+ * once, by line_refuse: a scenario that is half understood would rehearse another
+ * story.
  *
- * The awkward case is a text with `#` in it: a comment begins only outside of
- * quotes. `say` and `scene` take the rest of the line as it is, and a `#` in
- * that is a part of it.
+ * The awkward case is a `#` that is meant: in quotes it is a part of the text,
+ * and so it is in the rest of the line, which `say` and `scene` take as it is.
  */
 #include <stdio.h>
 #include <stdlib.h>
@@ -37,9 +37,12 @@ bool line_begin(const char *file, unsigned number, char *text)
 void line_refuse(const char *expected, const char *found)
 {
     fflush(stdout);
-    fprintf(stderr, "rehearsal: %s, line %u: expected %s, found %s%s%s\n",
-            file_name, line_at, expected, found ? "'" : "",
-            found ? found : "the end of the line", found ? "'" : "");
+    fprintf(stderr, "rehearsal: %s, line %u: expected %s, found ", file_name,
+            line_at, expected);
+    if (found != NULL)
+        fprintf(stderr, "'%.*s'\n", (int)strcspn(found, "\r\n"), found);
+    else
+        fputs("the end of the line\n", stderr);
     exit(2);
 }
 

@@ -83,6 +83,7 @@ void set_link(void)
         line_refuse("two nodes", nodes[one].name);
     join(free_wire(one, one_port), other, other_port, bits);
     join(free_wire(other, other_port), one, one_port, bits);
+    net_start_wires();
 }
 
 void set_route(void)

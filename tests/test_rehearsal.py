@@ -129,6 +129,13 @@ class Small(unittest.TestCase):
             status, output, _ = fly_text(order % (text, due))
             self.assertEqual(status, 0, output)
 
+    def test_a_link_that_comes_late(self):
+        late = SMALL.replace("link Middle 1 Right 0 2400\n", "")
+        order = "send Left 0 to 10.2.2.14 from 10.1.1.4 data \"dose # 2\" # a comment\nrun\nexpect Middle waiting 1 1\n"
+        status, output, _ = fly_text(late + order + "link Middle 1 Right 0 2400\nrun\n"
+                                     "expect Right delivered \"dose # 2\"\n")
+        self.assertEqual(status, 0, output)
+
     def test_a_failed_expectation(self):
         order = SMALL + "send Left 0 to 10.2.2.14 from 10.1.1.4 data \"dose\"\nrun\n"
         for wrong in ("Right nothing", "Middle refused 13", "Right delivered \"dos\"", "Middle took 0",
@@ -151,7 +158,7 @@ class Small(unittest.TestCase):
                            ("port Left 1 10.1.1.15 255.255.255.0 9", "found '25: the wrong class of address'"),
                            ("port Left 1 10.1.1.14 255.255.255.0 0", "found '24: a code or size out of range'"),
                            ("port Left 1 10.1.1.14 255.255.255.0", "an MTU, found the end of the line"),
-                           ("port Left 1 10.1.1.14 255.255.255.0 9 9", "the end of the line, found '9"),
+                           ("port Left 1 10.1.1.14 255.255.255.0 9 9", "the end of the line, found '9'\n"),
                            ("link Left 0 Right 0 2400", "a port without a link"),
                            ("link Left 3 Right 3 2400", "a port that is set up"),
                            ("route Middle 1 10.2.2.0 255.255.255.0 1 up", "found '23: the same entry"),
