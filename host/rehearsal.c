@@ -4,10 +4,10 @@
  *
  *     rehearsal FILE
  *
- * FILE is a scenario, a line for each step (docs/REHEARSAL.md). The story of the
- * customer stands in scenarios/biocide.txt. Each line is done as it is read: a
- * line that is not understood ends the rehearsal where it stands, and what was
- * flown up to there has been told.
+ * FILE is a scenario, a line for each step (docs/REHEARSAL.md). The story of
+ * the customer stands in scenarios/biocide.txt. Each line is done as it is
+ * read: a line that is not understood ends the rehearsal where it stands, and
+ * what was flown up to there has been told.
  */
 #include <errno.h>
 #include <stdio.h>

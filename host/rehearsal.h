@@ -66,11 +66,11 @@ extern uint32_t node_count;
 /* Microseconds since the rehearsal began. */
 extern uint64_t now;
 
-/* ---- rehearsal_line.c ---------------------------------------------------- */
+/* ---- rehearsal_line.c -------------------------------------------------- */
 
 /* Cuts a line into words, in place; false where nothing stands in it. */
 bool line_begin(const char *file, unsigned number, char *text);
-/* Says where the line is wrong and what was expected, and ends with status 2. */
+/* Says where the line is wrong and what was expected; ends with status 2. */
 void line_refuse(const char *expected, const char *found);
 /* What is left of the line, as it was written. */
 const char *line_rest(void);
@@ -93,7 +93,7 @@ uint32_t line_set(const char *expected);
 uint32_t line_choice(const char *expected, const char *const *choices);
 void line_end(void);
 
-/* ---- Words of a scenario: each reads the rest of its line ----------------- */
+/* ---- Words of a scenario: each reads the rest of its line -------------- */
 
 void set_node(void);
 void set_port(void);
@@ -112,7 +112,7 @@ void event_quiet(void);
 void event_loud(void);
 void expect(void);
 
-/* ---- rehearsal_net.c ------------------------------------------------------ */
+/* ---- rehearsal_net.c --------------------------------------------------- */
 
 uint64_t net_microseconds(uint32_t octets, uint32_t bits_per_second);
 /* False where no more of the node's own can stand before the wire. */
@@ -124,7 +124,7 @@ bool net_step(void);
 uint32_t net_counter(const struct node *node, uint32_t counter);
 uint32_t net_waiting(const struct node *node, uint32_t port);
 
-/* ---- rehearsal_told.c ----------------------------------------------------- */
+/* ---- rehearsal_told.c -------------------------------------------------- */
 
 extern const char *const COUNTER_NAMES[HJ_COUNTERS];
 const char *told_number(uint32_t number);
@@ -139,7 +139,7 @@ void told_arrival(uint32_t node, uint32_t port,
                   const struct datagram *datagram, hj_verdict verdict,
                   const uint32_t *before);
 
-/* ---- rehearsal_expect.c --------------------------------------------------- */
+/* ---- rehearsal_expect.c ------------------------------------------------ */
 
 void expect_scene(void);
 void expect_note(uint32_t node, const struct datagram *datagram,
@@ -147,7 +147,7 @@ void expect_note(uint32_t node, const struct datagram *datagram,
 uint32_t expect_failures(void);
 uint32_t expect_count(void);
 
-/* ---- rehearsal_books.c ---------------------------------------------------- */
+/* ---- rehearsal_books.c ------------------------------------------------- */
 
 /* Prints counters and ledgers; whether every ledger closes. */
 bool books_close(void);

@@ -5,8 +5,8 @@
  * ports took and which dropped a copy: what was granted. The answers of hj_take
  * say what was handed out. The relay itself says what waits (hj_waiting) and
  * how many copies it dropped (npOutDiscards). For each port, granted has to be
- * handed out + waiting + dropped; for each relay, the drops of all ports have to
- * be npOutDiscards.
+ * handed out + waiting + dropped; for each relay, the drops of all ports have
+ * to be npOutDiscards.
  */
 #include <inttypes.h>
 #include <stdio.h>

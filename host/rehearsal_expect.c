@@ -60,7 +60,7 @@ void expect_note(uint32_t node, const struct datagram *datagram,
     delivered++;
 }
 
-/* ---- Each kind of expectation, of a node -------------------------------------- */
+/* ---- Each kind of expectation, of a node ------------------------------- */
 
 /* When the text was first delivered to the node, or how many were delivered. */
 static uint32_t first_delivery(uint32_t node, const char *text)

@@ -1,10 +1,10 @@
 /*
  * rehearsal_line.c: one line of a scenario as words.
  *
- * Words stand apart by blanks, "quotes" hold a text together, a word that begins
- * with `#` begins a comment. A line that is not understood ends the program at
- * once, by line_refuse: a scenario that is half understood would rehearse another
- * story.
+ * Words stand apart by blanks, "quotes" hold a text together, a word that
+ * begins with `#` begins a comment. A line that is not understood ends the
+ * program at once, by line_refuse: a scenario that is half understood would
+ * rehearse another story.
  *
  * The awkward case is a `#` that is meant: in quotes it is a part of the text,
  * and so it is in the rest of the line, which `say` and `scene` take as it is.

@@ -43,7 +43,7 @@ uint32_t net_waiting(const struct node *node, uint32_t port)
     return hj_value(hj_waiting(node->relay, HJ_STATE_WORDS, port));
 }
 
-/* ---- A wire begins -------------------------------------------------------- */
+/* ---- A wire begins ----------------------------------------------------- */
 
 bool net_send(uint32_t node, uint32_t port, const struct datagram *datagram)
 {
@@ -103,7 +103,7 @@ void net_start_wires(void)
     }
 }
 
-/* ---- A datagram arrives ---------------------------------------------------- */
+/* ---- A datagram arrives ------------------------------------------------ */
 
 /* There is one: each slot in use has an entry that waits. */
 static uint16_t free_slot(const struct node *node)

@@ -88,7 +88,8 @@ void set_link(void)
 
 void set_route(void)
 {
-    static const char *const AVAILABLE[] = {"up", "down", "testing", "out", NULL};
+    static const char *const AVAILABLE[] = {"up", "down", "testing", "out",
+                                            NULL};
     struct node *node = &nodes[line_node()];
     uint32_t place = line_number("a place, 0 to 63", 0, 999999);
     uint32_t prefix = line_address("the prefix", NULL);

@@ -88,7 +88,7 @@ void told_say(const char *text)
     printf("   %s\n", text);
 }
 
-/* ---- One event -------------------------------------------------------------- */
+/* ---- One event --------------------------------------------------------- */
 
 static void at_now(void)
 {
@@ -179,7 +179,7 @@ void told_start(uint32_t node, uint32_t port, bool own, hj_answer entry)
     puts("");
 }
 
-/* ---- What a relay answered --------------------------------------------------- */
+/* ---- What a relay answered --------------------------------------------- */
 
 static void local_half(uint32_t local)
 {

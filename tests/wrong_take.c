@@ -1,7 +1,7 @@
 /*
- * wrong_take.c: a relay that loses an entry whenever two or more wait. It stands
- * in for hj_take (by the linker's --wrap) in build/rehearsal_wrong, to show that
- * the rehearsal's ledger finds such a relay out.
+ * wrong_take.c: a relay that loses an entry whenever two or more wait. It
+ * stands in for hj_take (by the linker's --wrap) in build/rehearsal_wrong, to
+ * show that the rehearsal's ledger finds such a relay out.
  */
 #include "harpjuniper.h"
 
