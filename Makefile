@@ -5,6 +5,7 @@
 #   make replay    build/replay, which answers a trace by the library
 #   make plain     build/plain, which answers it by the independent C program
 #   make compare   the two of them on a generated trace
+#   make rehearsal scenarios/biocide.txt, flown on relays that are linked in memory
 #   make bench     instructions per call and stack, of the two of them
 #   make install   the library, its manual and replay, once `make replay` made them;
 #                  PREFIX says where (/usr/local), DESTDIR what stands before it
@@ -31,14 +32,17 @@ COVERAGE := $(addprefix host/,coverage.c coverage_relay.c view.c arriving.c \
 LEDGER := $(addprefix host/,ledger.c arriving.c answered.c trace.c options.c)
 BENCH := $(addprefix host/,bench.c bench_ours.c bench_plain.c painted.c trace.c \
 	options.c)
+REHEARSAL := $(addprefix host/,rehearsal.c rehearsal_line.c rehearsal_settings.c \
+	rehearsal_events.c rehearsal_net.c rehearsal_told.c rehearsal_expect.c \
+	rehearsal_books.c)
 PLAIN := $(wildcard host/plain/plain_*.c)
 HEADERS := $(wildcard include/*.h host/*.h host/plain/*.h)
 
 # `make test` goes through its parts in this order, whatever -j says.
 .NOTPARALLEL:
 .DELETE_ON_ERROR:
-.PHONY: test archive replay plain compare bench clean prepare format exports header \
-	readme host-tests promises gate install uninstall
+.PHONY: test archive replay plain rehearsal compare bench clean prepare format \
+	exports header readme host-tests promises gate install uninstall
 
 test: prepare format archive exports header readme host-tests compare promises \
 	gate
@@ -46,6 +50,9 @@ test: prepare format archive exports header readme host-tests compare promises \
 archive: $(ARCHIVE)
 replay: build/replay
 plain: build/plain
+
+rehearsal: build/rehearsal
+	@build/rehearsal scenarios/biocide.txt
 
 prepare:
 	@scripts/prepare
@@ -89,6 +96,16 @@ endif
 
 build/replay: $(REPLAY) $(ARCHIVE) $(HEADERS) scripts/emulated | prepare
 	$(link) $(REPLAY) $(ARCHIVE)
+	$(emulate)
+
+build/rehearsal: $(REHEARSAL) $(ARCHIVE) $(HEADERS) scripts/emulated | prepare
+	$(link) $(REHEARSAL) $(ARCHIVE)
+	$(emulate)
+
+# The same on a relay that loses entries: its ledger must not close.
+build/rehearsal_wrong: $(REHEARSAL) tests/wrong_take.c $(ARCHIVE) $(HEADERS) \
+	scripts/emulated | prepare
+	$(link) -Wl,--wrap=hj_take $(REHEARSAL) tests/wrong_take.c $(ARCHIVE)
 	$(emulate)
 
 build/calls: tests/calls.c $(ARCHIVE) $(HEADERS) scripts/emulated | prepare
@@ -156,7 +173,8 @@ readme: build/readme
 
 host-tests: build/calls build/relay_calls build/test_plain build/test_relay \
 	build/replay build/plain build/ledger build/generate build/coverage \
-	build/bench build/flight_loop build/settings_batch
+	build/bench build/flight_loop build/settings_batch build/rehearsal \
+	build/rehearsal_wrong
 	build/calls
 	build/relay_calls
 	build/test_plain
@@ -167,6 +185,7 @@ host-tests: build/calls build/relay_calls build/test_plain build/test_relay \
 	diff examples/settings_batch.expected build/settings_batch.output
 	scripts/check-traces build/replay build/plain
 	python3 tests/test_ledger.py
+	python3 tests/test_rehearsal.py
 	python3 tests/test_scripts.py
 	python3 tests/test_options.py
 	python3 tests/test_install.py

@@ -1,0 +1,216 @@
+#!/usr/bin/env python3
+"""build/rehearsal: the customer's story goes as it should; a bad line, a failed
+expectation and a relay that loses entries are each found out.
+"""
+import os
+import subprocess
+import tempfile
+import unittest
+
+ROOT = os.path.dirname(os.path.dirname(os.path.abspath(__file__)))
+STORY = os.path.join(ROOT, "scenarios/biocide.txt")
+
+# Two hosts with a router between them.
+SMALL = """\
+node Left host
+port Left 0 10.1.1.4 255.255.255.0 1500
+node Middle router
+port Middle 0 10.1.1.2 255.255.255.0 1500
+port Middle 1 10.2.2.2 255.255.255.0 30
+route Middle 0 10.2.2.0 255.255.255.0 1 up
+node Right host
+port Right 0 10.2.2.14 255.255.255.0 1500
+link Left 0 Middle 0 64000
+link Middle 1 Right 0 2400
+"""
+
+
+def fly(*arguments, program="rehearsal"):
+    """Its status, output and complaints."""
+    words = [os.path.join(ROOT, "build", program), *arguments]
+    ended = subprocess.run(words, capture_output=True, text=True, check=False)
+    return ended.returncode, ended.stdout, ended.stderr
+
+
+def fly_text(text, program="rehearsal"):
+    with tempfile.NamedTemporaryFile("w", suffix=".txt", encoding="ascii") as file:
+        file.write(text)
+        file.flush()
+        return fly(file.name, program=program)
+
+
+class Story(unittest.TestCase):
+    @classmethod
+    def setUpClass(cls):
+        cls.status, cls.output, cls.complaints = fly(STORY)
+        parts = cls.output.split("\n== ")
+        cls.scenes = {part.split(".")[0]: part for part in parts}
+
+    def has(self, scene, *lines):
+        """The lines stand in the scene, in this order."""
+        rest = self.scenes[scene]
+        for line in lines:
+            self.assertIn(line, rest)
+            rest = rest.split(line, 1)[1]
+
+    def lacks(self, scene, text):
+        self.assertNotIn(text, self.scenes[scene])
+
+    def test_it_ends_well(self):
+        self.assertEqual((self.status, self.complaints), (0, ""))
+        self.assertNotIn("NOT AS EXPECTED", self.output)
+        self.assertRegex(self.output, r"\n(\d+) of \1 expectations held; the ledger closes on every port\.\n$")
+
+    def test_one_octet_order_stays_in_its_domain(self):
+        self.has("1", "header 6 + data 22 = 28 octets", "28 octets at 2400 bit/s: 93.3 ms", "Buoy receives",
+                 "onward: REFUSED (13), a one-octet address would leave its domain; no port took it",
+                 "left-domain 1 (+1)")
+        self.lacks("1", "South receives")
+        self.lacks("1", "DELIVERED")
+
+    def test_four_octet_order_arrives(self):
+        self.has("2", "header 12 + data 22 = 34 octets", "34 octets at 2400 bit/s: 113.3 ms",
+                 "SouthUnit receives \"dose biocide 20 litres\"", "here: DELIVERED (1)")
+        self.lacks("2", "NorthUnit receives")
+
+    def test_within_a_domain_one_octet_does(self):
+        self.has("3", "NorthUnit receives", "here: DELIVERED (1)")
+        self.lacks("3", "Buoy receives")
+
+    def test_an_urgent_order_overtakes(self):
+        self.has("5", "North receives \"reading 2", "North receives \"reading 3", "North receives \"STOP",
+                 "SouthUnit receives \"reading 1", "SouthUnit receives \"STOP", "SouthUnit receives \"reading 2",
+                 "SouthUnit receives \"reading 3")
+
+    def test_a_full_queue(self):
+        self.has("6", "32 sent, 32 arrivals, 0 of them dropped", "REFUSED (15), every queue is full; no port took it; "
+                 "DROPPED, queue full, by port 2", "npOutDiscards 1 (+1)", "31 still wait", "taken by port 2")
+
+    def test_a_group_with_one_port_full(self):
+        self.has("7", "taken by port 1; DROPPED, queue full, by port 2", "NorthUnit receives \"all units: flush\"",
+                 "taken by port 1,2", "SouthUnit receives \"all units: rinse\"")
+        self.lacks("7", "SouthUnit receives \"all units: flush\"")
+
+    def test_a_path(self):
+        self.has("8", "by path 10.1.1.40", "header 8 + data 21", "SouthUnit receives", "here: DELIVERED (1)")
+
+    def test_hops(self):
+        self.has("9", "hop count 4", "hop count 3", "hop count 2", "hop count 1", "REFUSED (10), hop count used up")
+
+    def test_intermediate_delivery(self):
+        for relay in ("North", "Buoy", "South"):
+            self.has("10", relay + " receives", "here: DELIVERED (1)", "onward: sent on (1)")
+
+    def test_unknown_transport(self):
+        self.has("11", "North receives", "here: REFUSED (26), unknown transport number", "onward: sent on (1)",
+                 "SouthUnit receives", "here: REFUSED (26)", "onward: not asked (0)")
+
+    def test_counters_and_ledger(self):
+        self.assertIn(
+            "\nNorth\n   counters: npInReceives 49, npInUnknownProtos 1, npInDelivers 1, npForwDatagrams 48, "
+            "npOutDiscards 2; all others 0\n"
+            "   port 0: granted 1 = handed out 1 + waiting 0 + dropped 0\n"
+            "   port 1: granted 3 = handed out 3 + waiting 0 + dropped 0\n"
+            "   port 2: granted 47 = handed out 45 + waiting 0 + dropped 2\n", self.output)
+        for relay in ("ControlRoom", "NorthUnit", "Buoy", "South", "SouthUnit"):
+            self.assertRegex(self.output, f"\n{relay}\n   counters: .*\n   port 0: granted ")
+
+
+class Small(unittest.TestCase):
+    def test_entries_that_still_wait(self):
+        status, output, _ = fly_text(SMALL + "hold Middle 1\nsend Left 0 to 10.2.2.14 from 10.1.1.4 times 3 "
+                                     "data \"dose\"\nrun\nexpect Middle waiting 1 3\n")
+        self.assertEqual(status, 0, output)
+        self.assertIn("granted 3 = handed out 0 + waiting 3 + dropped 0", output)
+
+    def test_the_mtu_is_the_library_s(self):
+        order = SMALL + "send Left 0 to 10.2.2.14 from 10.1.1.4 data \"%s\"\nrun\nexpect Middle %s\n"
+        for text, due in (("x" * 18, "took 1"), ("x" * 19, "refused 14")):
+            status, output, _ = fly_text(order % (text, due))
+            self.assertEqual(status, 0, output)
+
+    def test_a_link_that_comes_late(self):
+        late = SMALL.replace("link Middle 1 Right 0 2400\n", "")
+        order = "send Left 0 to 10.2.2.14 from 10.1.1.4 data \"dose # 2\" # a comment\nrun\nexpect Middle waiting 1 1\n"
+        status, output, _ = fly_text(late + order + "link Middle 1 Right 0 2400\nrun\n"
+                                     "expect Right delivered \"dose # 2\"\n")
+        self.assertEqual(status, 0, output)
+
+    def test_a_failed_expectation(self):
+        order = SMALL + "send Left 0 to 10.2.2.14 from 10.1.1.4 data \"dose\"\nrun\n"
+        for wrong in ("Right nothing", "Middle refused 13", "Right delivered \"dos\"", "Middle took 0",
+                      "Middle dropped 1", "Middle counter left-domain 1", "Middle waiting 1 1",
+                      "Right order \"dose\" \"other\"", "Left took -"):
+            status, output, complaints = fly_text(order + f"expect {wrong}\nexpect Right delivered \"dose\"\n")
+            self.assertEqual((status, complaints), (1, ""), wrong)
+            self.assertIn("NOT AS EXPECTED: " + wrong + "\n", output)
+            self.assertIn("1 of 2 expectations held", output)
+
+    def test_bad_lines(self):
+        at = SMALL.count("\n") + 1
+        for line, says in (("sned Left 0", "expected node, port, link"),
+                           ("node Left host", "a name that no other node has"),
+                           ("node Other gateway", "'router' or 'host', found 'gateway'"),
+                           ("port Other 0 10.1.1.4 255.255.255.0 9", "the name of a node, found 'Other'"),
+                           ("port Left 8 10.1.1.4 255.255.255.0 9", "a port, 0 to 7, found '8'"),
+                           ("port Left 1 10.1.1.256 255.255.255.0 9", "the port's address, found '10.1.1.256'"),
+                           ("port Left 1 10.1.1.14 255.255.0.0 9", "found '22: wrong mask or prefix bits'"),
+                           ("port Left 1 10.1.1.15 255.255.255.0 9", "found '25: the wrong class of address'"),
+                           ("port Left 1 10.1.1.14 255.255.255.0 0", "found '24: a code or size out of range'"),
+                           ("port Left 1 10.1.1.14 255.255.255.0", "an MTU, found the end of the line"),
+                           ("port Left 1 10.1.1.14 255.255.255.0 9 9", "the end of the line, found '9'\n"),
+                           ("link Left 0 Right 0 2400", "a port without a link"),
+                           ("link Left 3 Right 3 2400", "a port that is set up"),
+                           ("route Middle 1 10.2.2.0 255.255.255.0 1 up", "found '23: the same entry"),
+                           ("route Middle 64 0.0.0.0 0.0.0.0 1 up", "found '21: no such place"),
+                           ("route Middle 1 0.0.0.0 0.0.0.0 1 high", "found 'high'"),
+                           ("group Middle 0 10.9.9.31 0;1 -", "found '0;1'"),
+                           ("path Middle 0 10.9.9.40 0,1 there", "'here' or 'on', found 'there'"),
+                           ("send Left 0 data \"x\"", "'to' or 'path' before the data"),
+                           ("send Left 0 to 14 data \"x\"", "'from' with 'to'"),
+                           ("send Left 0 to 14 from 10.1.1.4 data \"x\"", "two addresses of one octet, or two of four"),
+                           ("send Left 0 to 14 from 4 hops 256 data \"x\"", "a hop count, 0 to 255, found '256'"),
+                           ("send Left 0 to 14 from 4 speed 3 data \"x\"", "found 'speed'"),
+                           ("send Left 0 to 14 from 4 data \"x", "a quote that ends the text"),
+                           ("send Left 0 to 14 from 4 data x", "the data as \"text\", found 'x'"),
+                           ("send Left 0 to 14 from 4", "times or data, found the end of the line"),
+                           ("send Left 1 to 14 from 4 data \"x\"", "a port with a link"),
+                           ("step", "something on a wire, found 'nothing'"),
+                           ("expect Left happy", "found 'happy'"),
+                           ("expect Left counter npOut 1", "the name of a counter, found 'npOut'"),
+                           ("say " + "x" * 1100, "at most 1000 characters")):
+            status, _, complaints = fly_text(SMALL + line + "\nsay not reached\n")
+            self.assertEqual(status, 2, line)
+            self.assertIn(f", line {at}: expected ", complaints, line)
+            self.assertIn(says, complaints, line)
+
+    def test_a_ring_without_a_hop_count(self):
+        ring = SMALL + ("node End router\nport End 0 10.1.1.6 255.255.255.0 1500\nport Middle 2 10.1.1.8 "
+                        "255.255.255.0 1500\nlink End 0 Middle 2 9600\nroute End 0 0.0.0.0 0.0.0.0 0 up\n"
+                        "route Middle 1 10.7.7.0 255.255.255.0 2 up\nquiet\n"
+                        "send Left 0 to 10.7.7.14 from 10.1.1.4 %s data \"x\"\nrun\n")
+        self.assertEqual(fly_text(ring % "hops 255")[0], 0)
+        status, _, complaints = fly_text(ring % "")
+        self.assertEqual(status, 2)
+        self.assertIn("routes in a ring need a hop count", complaints)
+
+    def test_a_relay_that_loses_entries(self):
+        status, output, _ = fly(STORY, program="rehearsal_wrong")
+        self.assertEqual(status, 1)
+        self.assertRegex(output, r"   port 2: granted .*  DOES NOT CLOSE\n")
+        self.assertIn("the ledger DOES NOT CLOSE.", output)
+
+    def test_arguments(self):
+        self.assertEqual(fly("--version")[:2], (0, "rehearsal (Harpjuniper) 0.1\n"))
+        self.assertTrue(fly("--help")[1].startswith("usage: rehearsal FILE\n"))
+        for words in ((), ("--no-such",), (STORY, STORY)):
+            status, output, complaints = fly(*words)
+            self.assertEqual((status, output), (2, ""))
+            self.assertTrue(complaints.startswith("usage: "))
+        status, _, complaints = fly(os.path.join(ROOT, "scenarios/none.txt"))
+        self.assertEqual(status, 2)
+        self.assertIn("none.txt: No such file", complaints)
+
+
+if __name__ == "__main__":
+    unittest.main()
