@@ -6,6 +6,8 @@
 #   make plain     build/plain, which answers it by the independent C program
 #   make compare   the two of them on a generated trace
 #   make bench     instructions per call and stack, of the two of them
+#   make soak      5,000,000 random calls, each looked at from outside
+#   make coverage-plain   what of host/plain the generated trace reaches
 #   make clean     removes build/ and target/
 #
 # Everything that is made stands in build/. The archive is x86-64 code, and so is
@@ -26,13 +28,15 @@ COVERAGE := $(addprefix host/,coverage.c coverage_relay.c view.c arriving.c \
 	answered.c settings.c trace.c)
 LEDGER := $(addprefix host/,ledger.c arriving.c answered.c trace.c)
 BENCH := $(addprefix host/,bench.c bench_ours.c bench_plain.c painted.c trace.c)
+SOAK := $(addprefix host/,soak.c soak_ours.c soak_plain.c soak_rules.c soak_lent.c \
+	soak_draw.c soak_octets.c soak_table.c world.c datagram.c form.c settings.c)
 PLAIN := $(wildcard host/plain/plain_*.c)
 HEADERS := $(wildcard include/*.h host/*.h host/plain/*.h)
 
 # `make test` goes through its parts in this order, whatever -j says.
 .NOTPARALLEL:
 .DELETE_ON_ERROR:
-.PHONY: test archive replay plain compare bench clean prepare format exports header \
+.PHONY: test archive replay plain compare bench soak clean prepare format exports header \
 	readme host-tests promises gate
 
 test: prepare format archive exports header readme host-tests compare promises \
@@ -96,6 +100,10 @@ build/bench: $(BENCH) $(PLAIN) $(ARCHIVE) $(HEADERS) scripts/emulated | prepare
 	$(link) $(BENCH) $(PLAIN) $(ARCHIVE)
 	$(emulate)
 
+build/soak: $(SOAK) $(PLAIN) $(ARCHIVE) $(HEADERS) scripts/emulated | prepare
+	$(link) $(SOAK) $(PLAIN) $(ARCHIVE)
+	$(emulate)
+
 build/readme.c: README.md scripts/readme-program | prepare
 	@mkdir -p build
 	scripts/readme-program $@ build/readme.expected
@@ -140,7 +148,7 @@ readme: build/readme
 	cmp build/readme.output build/readme.expected
 
 host-tests: build/calls build/relay_calls build/test_plain build/test_relay \
-	build/replay build/plain build/ledger
+	build/replay build/plain build/ledger build/soak
 	build/calls
 	build/relay_calls
 	build/test_plain
@@ -148,12 +156,17 @@ host-tests: build/calls build/relay_calls build/test_plain build/test_relay \
 	scripts/check-traces build/replay build/plain
 	python3 tests/test_ledger.py
 	python3 tests/test_scripts.py
+	build/soak calls=60000
 
 compare: build/generate build/plain build/replay build/coverage build/ledger
 	scripts/compare
 
 bench: build/bench
 	@scripts/bench
+
+# SOAK_ARGUMENTS: seed=N, calls=N
+soak: build/soak
+	build/soak $(SOAK_ARGUMENTS)
 
 promises: | prepare
 	scripts/check-promises
