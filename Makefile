@@ -104,6 +104,14 @@ build/soak: $(SOAK) $(PLAIN) $(ARCHIVE) $(HEADERS) scripts/emulated | prepare
 	$(link) $(SOAK) $(PLAIN) $(ARCHIVE)
 	$(emulate)
 
+# The soak with faults put between it and the library, which it has to find.
+FAULTY := class take counter waiting set_port receive
+build/soak_faulty: tests/soak_faults.c $(SOAK) $(PLAIN) $(ARCHIVE) $(HEADERS) \
+	scripts/emulated | prepare
+	$(link) $(FAULTY:%=-Wl,--wrap=hj_%) tests/soak_faults.c $(SOAK) $(PLAIN) \
+	    $(ARCHIVE)
+	$(emulate)
+
 build/readme.c: README.md scripts/readme-program | prepare
 	@mkdir -p build
 	scripts/readme-program $@ build/readme.expected
@@ -148,7 +156,7 @@ readme: build/readme
 	cmp build/readme.output build/readme.expected
 
 host-tests: build/calls build/relay_calls build/test_plain build/test_relay \
-	build/replay build/plain build/ledger build/soak
+	build/replay build/plain build/ledger build/soak build/soak_faulty
 	build/calls
 	build/relay_calls
 	build/test_plain
@@ -157,6 +165,7 @@ host-tests: build/calls build/relay_calls build/test_plain build/test_relay \
 	python3 tests/test_ledger.py
 	python3 tests/test_scripts.py
 	build/soak calls=60000
+	python3 tests/test_soak.py
 
 compare: build/generate build/plain build/replay build/coverage build/ledger
 	scripts/compare

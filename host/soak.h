@@ -106,7 +106,8 @@ void soak_note(const struct soak_call *call, struct world *world);
 /* A number that often means something somewhere. */
 uint32_t soak_odd_number(const struct world *world, struct random *random);
 
-/* soak_octets.c: the octets of a datagram, and fields to build. */
+/* soak_octets.c: the octets of a datagram, fields to build, an address. */
+uint32_t soak_draw_edge(struct random *random);
 void soak_draw_octets(struct soak_call *call, const struct world *world,
                       struct random *random);
 void soak_draw_fields(struct soak_call *call, const struct world *world,

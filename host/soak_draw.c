@@ -140,7 +140,9 @@ void soak_draw_kind(struct soak_call *call, enum soak_kind kind,
         if (random_one_in(random, 4))
             spoil(call, world, random);
     } else {
-        call->numbers[0] = soak_odd_number(world, random);
+        call->numbers[0] = random_one_in(random, 2)
+                               ? soak_draw_edge(random)
+                               : soak_odd_number(world, random);
         call->room = random_below(random, SOAK_MOST_ROOM + 1);
         if (kind == SOAK_BUILD)
             soak_draw_fields(call, world, random);

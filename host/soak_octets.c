@@ -62,6 +62,31 @@ static uint32_t draw_address(const struct world *world, struct random *random)
     }
 }
 
+/* Of a path that was set, mostly. */
+static uint32_t draw_path(const struct world *world, struct random *random)
+{
+    uint32_t path = world->paths[random_below(random, WORLD_PATHS)];
+
+    if (random_one_in(random, 8))
+        return draw_address(world, random);
+    return path != 0 ? path : world_path(random);
+}
+
+/* At the edges of the classes: each octet one that decides something. */
+uint32_t soak_draw_edge(struct random *random)
+{
+    static const uint8_t FIRST[] = {0,   1,   9,   10,  10,  11,  126, 127,
+                                    128, 191, 192, 223, 224, 239, 240, 255};
+    static const uint8_t OTHER[] = {0, 1, 2, 253, 254, 255, 255};
+    uint32_t address = PICK(FIRST);
+
+    for (int octet = 0; octet < 3; octet++)
+        address = address << 8 | (random_one_in(random, 4)
+                                      ? random_below(random, 256)
+                                      : PICK(OTHER));
+    return address;
+}
+
 static void put_address(uint8_t *octets, unsigned count, uint32_t address)
 {
     for (unsigned i = 0; i < count && count < 16; i++)
@@ -78,11 +103,15 @@ static void draw_form(struct form *form, const struct world *world,
         form->address_octets = random_one_in(random, 2) ? 1 : 4;
         form->has_source = !random_one_in(random, 4);
     }
+    if (form->address_octets == 1 && world->nets == INTERNET &&
+        !random_one_in(random, 8))
+        form->address_octets = 4; /* most would end in 7 */
     if (!random_one_in(random, 16))
         form->routing = 0;
     form->hop_count = PICK(HOPS);
     put_address(form->destination, form->address_octets,
-                draw_address(world, random));
+                form->has_source ? draw_address(world, random)
+                                 : draw_path(world, random));
     put_address(form->source, form->address_octets,
                 random_one_in(random, 16) ? draw_address(world, random)
                                           : world_unicast(world, random));
