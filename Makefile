@@ -36,8 +36,8 @@ HEADERS := $(wildcard include/*.h host/*.h host/plain/*.h)
 # `make test` goes through its parts in this order, whatever -j says.
 .NOTPARALLEL:
 .DELETE_ON_ERROR:
-.PHONY: test archive replay plain compare bench soak clean prepare format exports header \
-	readme host-tests promises gate
+.PHONY: test archive replay plain compare bench soak coverage-plain clean prepare format \
+	exports header readme host-tests promises gate
 
 test: prepare format archive exports header readme host-tests compare promises \
 	gate
@@ -142,6 +142,11 @@ build/ledger: $(LEDGER) $(HEADERS) | prepare
 	@mkdir -p build
 	gcc $(CFLAGS) -o $@ $(LEDGER)
 
+build/coverage-plain/plain: host/plain/plain.c $(PLAIN) $(HEADERS) | prepare
+	@mkdir -p $(@D)
+	rm -f $(@D)/*
+	gcc -std=c99 -O0 --coverage $(STRICT) -o $@ host/plain/plain.c $(PLAIN)
+
 # ---- Tests
 
 exports: $(ARCHIVE) | prepare
@@ -176,6 +181,9 @@ bench: build/bench
 # SOAK_ARGUMENTS: seed=N, calls=N
 soak: build/soak
 	build/soak $(SOAK_ARGUMENTS)
+
+coverage-plain: build/generate build/coverage-plain/plain
+	scripts/coverage-plain
 
 promises: | prepare
 	scripts/check-promises

@@ -17,7 +17,7 @@
  * calls on every machine, so that it fails again.
  *
  * The awkward case is a call that reads beyond what was lent. No guard shows
- * that. So every other piece ends where memory that can be read ends, and the
+ * that. So half of the pieces end where memory that can be read ends, and the
  * machine's own signal is reported as the failure of the call at hand.
  */
 #define _POSIX_C_SOURCE 200809L
@@ -35,6 +35,7 @@
 
 #define HISTORY_CALLS 400
 #define OTHER_CALLS 120
+#define CALLS_ON_ONE 40 /* of the other states */
 
 /* ---- The run ------------------------------------------------------------- */
 
@@ -176,13 +177,12 @@ static void note_in_books(void)
         books[call.numbers[0]].handed_out++;
 }
 
-static bool make(bool compared)
+static bool make(enum soak_state sort)
 {
     call.words = HJ_STATE_WORDS;
-    if (!make_on(&state, compared))
+    if (!make_on(&state, sort == SOAK_HISTORY))
         return false;
-    if (call.kind >= SOAK_FRESH && compared)
-        tally.compared_calls++;
+    tally.calls_on[sort] += call.kind >= SOAK_FRESH;
     if (answer.parts[0] == HJ_DONE)
         soak_note(&call, &world);
     note_in_books();
@@ -208,7 +208,7 @@ static enum soak_kind draw_kind(void)
     return draw < 50 ? SOAK_TAKE : SOAK_RECEIVE;
 }
 
-static bool make_any(bool compared)
+static bool make_any(enum soak_state sort)
 {
     if (random_one_in(random, 8)) {
         soak_draw_kind(&call,
@@ -219,7 +219,7 @@ static bool make_any(bool compared)
         return make_wrong_length();
     }
     soak_draw_kind(&call, draw_kind(), &world, random);
-    return make(compared);
+    return make(sort);
 }
 
 /* ---- Histories ----------------------------------------------------------- */
@@ -228,7 +228,7 @@ static bool make_look(enum soak_kind kind, uint32_t number)
 {
     call.kind = kind;
     call.numbers[0] = number;
-    return make(true);
+    return make(SOAK_HISTORY);
 }
 
 static bool compare_all(void)
@@ -274,7 +274,7 @@ static bool make_settings(enum soak_kind kind, uint32_t count)
 
     while (good && count-- > 0) {
         soak_draw_setting(&call, kind, &world, random);
-        good = make(true);
+        good = make(SOAK_HISTORY);
     }
     return good;
 }
@@ -301,12 +301,12 @@ static bool run_history(void)
     for (uint32_t i = 0; good && i < calls; i++) {
         if (!takes && i % 4 != 0) {
             soak_draw_kind(&call, SOAK_RECEIVE, &world, random);
-            good = make(true);
+            good = make(SOAK_HISTORY);
         } else {
-            good = make_any(true);
+            good = make_any(SOAK_HISTORY);
         }
     }
-    tally.histories++;
+    tally.states[SOAK_HISTORY]++;
     return good && compare_all() && close_books();
 }
 
@@ -331,13 +331,12 @@ static bool run_changed(void)
     bool good = true;
 
     for (uint32_t i = 0; good && i < OTHER_CALLS; i++) {
-        if (i % 40 == 0) {
+        if (i % CALLS_ON_ONE == 0) {
             for (uint32_t n = 1 + random_below(random, 8); n > 0; n--)
                 change_word();
-            tally.changed++;
+            tally.states[SOAK_CHANGED]++;
         }
-        good = make_any(false);
-        tally.changed_calls++;
+        good = make_any(SOAK_CHANGED);
     }
     return good;
 }
@@ -361,7 +360,7 @@ static void fill_with_garbage(void)
             words[i] = soak_odd_number(&world, random);
     }
     soak_lent_keep(&state);
-    tally.garbage++;
+    tally.states[SOAK_GARBAGE]++;
 }
 
 static bool run_garbage(void)
@@ -369,10 +368,9 @@ static bool run_garbage(void)
     bool good = true;
 
     for (uint32_t i = 0; good && i < OTHER_CALLS; i++) {
-        if (i % 40 == 0)
+        if (i % CALLS_ON_ONE == 0)
             fill_with_garbage();
-        good = make_any(false);
-        tally.garbage_calls++;
+        good = make_any(SOAK_GARBAGE);
     }
     return good;
 }
@@ -382,7 +380,8 @@ static bool run_garbage(void)
 static bool run_three(void)
 {
     soak_lent_begin(&state, HJ_STATE_WORDS * sizeof(uint32_t),
-                    random_one_in(random, 2), 0);
+                    random_one_in(random, 2),
+                    (uint8_t)random_below(random, 256));
     return run_history() && run_changed() && run_garbage();
 }
 

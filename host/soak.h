@@ -113,14 +113,17 @@ void soak_draw_octets(struct soak_call *call, const struct world *world,
 void soak_draw_fields(struct soak_call *call, const struct world *world,
                       struct random *random);
 
-/* soak_table.c: what was run. */
+/* soak_table.c: what was run. The sorts of states: those of a history, which
+ * plain lives through too; those with a few words changed; garbage. */
+enum soak_state { SOAK_HISTORY, SOAK_CHANGED, SOAK_GARBAGE, SOAK_STATES };
+
 struct soak_tally {
     uint64_t calls;
     uint64_t kinds[SOAK_KINDS];
     uint64_t wrong_kinds[SOAK_KINDS];     /* of them with a wrong length */
     uint64_t wrong[SOAK_MOST_WORDS + 1];  /* calls by the words lent */
-    uint64_t garbage, changed, histories; /* states made */
-    uint64_t garbage_calls, changed_calls, compared_calls;
+    uint64_t states[SOAK_STATES];         /* made, of each sort */
+    uint64_t calls_on[SOAK_STATES];       /* on their 824 words */
     uint64_t ledgers;                     /* ports whose ledger closed */
     /* Calls on 824 words, or on none, that ended in each number; the onward
      * halves of the verdicts beside them. */

@@ -121,16 +121,17 @@ static bool say_ends(const struct soak_tally *tally, const struct ends *ends,
     uint32_t i = 0;
 
     if (aloud)
-        printf("%s:", ends->what);
+        printf("  %s:", ends->what);
     do {
         uint64_t times = times_met(tally, ends, ends->numbers[i]);
 
         if (aloud)
-            printf(" %u %" PRIu64 ",", (unsigned)ends->numbers[i], times);
+            printf("%s %u %" PRIu64, i == 0 ? "" : ",",
+                   (unsigned)ends->numbers[i], times);
         met = met && times > 0;
     } while (ends->numbers[++i] != 0);
     if (aloud)
-        puts(" (number, times)");
+        putchar('\n');
     return met;
 }
 
@@ -154,22 +155,26 @@ void soak_say_tally(const struct soak_tally *tally)
     printf("%-22s%12" PRIu64 "%22" PRIu64 "\n\n", "all", tally->calls,
            wrong_calls(tally));
     say("wrong lengths of 0 to 830 tried, of 830", lengths_met(tally));
-    say("histories, compared call by call", tally->histories);
-    say("  calls in them, plain's answers the same", tally->compared_calls);
+    say("histories", tally->states[SOAK_HISTORY]);
+    say("  calls on them, plain's answers the same",
+        tally->calls_on[SOAK_HISTORY]);
     say("  ledgers of a port found closed", tally->ledgers);
-    say("garbage states", tally->garbage);
-    say("  calls on them", tally->garbage_calls);
-    say("states with a few words changed", tally->changed);
-    say("  calls on them", tally->changed_calls);
+    say("states with a few words changed", tally->states[SOAK_CHANGED]);
+    say("  calls on them", tally->calls_on[SOAK_CHANGED]);
+    say("garbage states", tally->states[SOAK_GARBAGE]);
+    say("  calls on them", tally->calls_on[SOAK_GARBAGE]);
+    puts("numbers that calls not lent a wrong length ended in, each with how "
+         "often:");
     all_ends(tally, true);
 }
 
 bool soak_is_whole(const struct soak_tally *tally)
 {
-    bool whole = lengths_met(tally) == 830 && tally->histories > 0 &&
-                 tally->garbage > 0 && tally->changed > 0 &&
-                 tally->ledgers > 0 && all_ends(tally, false);
+    bool whole = lengths_met(tally) == 830 && tally->ledgers > 0 &&
+                 all_ends(tally, false);
 
+    for (int sort = 0; sort < SOAK_STATES; sort++)
+        whole = whole && tally->calls_on[sort] > 0;
     for (int kind = 0; kind < SOAK_KINDS; kind++)
         whole = whole && tally->kinds[kind] > 0 &&
                 (kind < SOAK_FRESH || tally->wrong_kinds[kind] > 0);
