@@ -80,10 +80,12 @@ static void lend_octets(void)
     soak_lent_keep(&octets);
 }
 
-static void lend_output(void)
+/* Octets of any one value. */
+static void lend_filled(struct soak_lent *lent, size_t count)
 {
-    soak_lent_begin(&output, call.room, random_one_in(random, 2),
-                    (uint8_t)random_below(random, 256));
+    bool fenced = random_one_in(random, 2);
+
+    soak_lent_begin(lent, count, fenced, (uint8_t)random_below(random, 256));
 }
 
 /* Words of the state, or as many as there are of it. */
@@ -134,7 +136,7 @@ static bool make_on(struct soak_lent *lent, bool compared)
     if (call.words != HJ_STATE_WORDS)
         lend_other_state();
     lend_octets();
-    lend_output();
+    lend_filled(&output, call.room);
     soak_ours(&call, (uint32_t *)soak_lent_piece(lent),
               (const uint8_t *)soak_lent_piece(&octets),
               (uint8_t *)soak_lent_piece(&output), &answer);
@@ -379,9 +381,7 @@ static bool run_garbage(void)
 
 static bool run_three(void)
 {
-    soak_lent_begin(&state, HJ_STATE_WORDS * sizeof(uint32_t),
-                    random_one_in(random, 2),
-                    (uint8_t)random_below(random, 256));
+    lend_filled(&state, HJ_STATE_WORDS * sizeof(uint32_t));
     return run_history() && run_changed() && run_garbage();
 }
 

@@ -3,6 +3,10 @@
  * it stands, and one in four has then a number or two of it replaced by one
  * that means something elsewhere: a place just beyond the last, an address, a
  * mask, a number of all ones.
+ *
+ * The awkward case is two draws in one expression, whose order C leaves open:
+ * each draw is a statement of its own, so that a seed means the same calls
+ * everywhere.
  */
 #include <string.h>
 
@@ -68,9 +72,11 @@ static void spoil(struct soak_call *call, const struct world *world,
 {
     uint32_t times = 1 + random_below(random, 2);
 
-    while (times-- > 0)
-        call->numbers[random_below(random, SOAK_NUMBERS)] =
-            soak_odd_number(world, random);
+    while (times-- > 0) {
+        uint32_t *number = call->numbers + random_below(random, SOAK_NUMBERS);
+
+        *number = soak_odd_number(world, random);
+    }
 }
 
 void soak_draw_setting(struct soak_call *call, enum soak_kind kind,

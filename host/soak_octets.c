@@ -171,7 +171,7 @@ void soak_draw_octets(struct soak_call *call, const struct world *world,
     memcpy(call->octets, datagram.octets, datagram.count);
 }
 
-/* Any number in one field, in the order of hj_fields. */
+/* Any number in one field. */
 static void spoil_fields(hj_fields *fields, uint32_t number,
                          struct random *random)
 {
@@ -186,10 +186,14 @@ static void spoil_fields(hj_fields *fields, uint32_t number,
         &fields->has_expanded, &fields->expanded,      &fields->has_checksum,
         &fields->intermediate};
 
-    if (random_one_in(random, 4))
-        *PICK(wide) = random_number(random) >> random_below(random, 64);
-    else
+    if (random_one_in(random, 4)) {
+        uint64_t *field = PICK(wide);
+
+        *field = random_number(random);
+        *field >>= random_below(random, 64);
+    } else {
         *PICK(narrow) = number;
+    }
 }
 
 void soak_draw_fields(struct soak_call *call, const struct world *world,
