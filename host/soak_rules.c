@@ -10,7 +10,8 @@
  *
  * The awkward case is a queue in a state that no history leaves. Entries behind
  * those that wait, and counts over 32, are words like any other: a newcomer
- * moves only those that wait, and a count over 32 is full and hands nothing out.
+ * moves only those that wait, and a count over 32 is full and hands nothing
+ * out.
  */
 #include <string.h>
 

@@ -87,7 +87,7 @@ static void say(const char *what, uint64_t number)
 struct ends {
     const char *what;
     enum soak_kind from, to;
-    uint8_t numbers[SOAK_NUMBERS_MOST]; /* the first after 0 that is 0 ends it */
+    uint8_t numbers[SOAK_NUMBERS_MOST]; /* 0 and others; a second 0 ends it */
 };
 
 static const struct ends ENDS[] = {
@@ -100,7 +100,8 @@ static const struct ends ENDS[] = {
     {"reading a relay", SOAK_COUNTER, SOAK_GET_PATH, {0, 21}},
 };
 static const struct ends ONWARD = {
-    "onward half", SOAK_RECEIVE, SOAK_RECEIVE, {0, 1, 9, 10, 11, 12, 13, 14, 15}};
+    "onward half", SOAK_RECEIVE, SOAK_RECEIVE,
+    {0, 1, 9, 10, 11, 12, 13, 14, 15}};
 
 static uint64_t times_met(const struct soak_tally *tally,
                           const struct ends *ends, uint32_t number)

@@ -93,7 +93,7 @@ uint32_t __wrap_hj_set_port(uint32_t *state, size_t words, uint32_t port,
 static void touch(hj_verdict verdict, uint32_t *state, const uint8_t *octets,
                   size_t length, uint8_t *output)
 {
-    volatile uint8_t beyond;
+    volatile uint8_t beyond = 0;
     uint32_t ended = hj_ended_by(verdict);
 
     if (fault() == 9 && length > 0)
