@@ -14,7 +14,7 @@
  * After each call the state, the octets and the output, with the guards around
  * them, must be what is due (soak_rules.c). The first call that fails is said,
  * with the seed, and ends the run with status 1. The same seed makes the same
- * calls on every machine, so that it fails again.
+ * calls, so that it fails again.
  *
  * The awkward case is a call that reads beyond what was lent. No guard shows
  * that. So half of the pieces end where memory that can be read ends, and the

@@ -5,8 +5,8 @@
  * mask, a number of all ones.
  *
  * The awkward case is two draws in one expression, whose order C leaves open:
- * each draw is a statement of its own, so that a seed means the same calls
- * everywhere.
+ * each draw here is a statement of its own, so that no compiler changes what a
+ * seed means.
  */
 #include <string.h>
 
