@@ -10,6 +10,8 @@
 #   make install   the library, its manual and replay, once `make replay` made them;
 #                  PREFIX says where (/usr/local), DESTDIR what stands before it
 #   make uninstall removes what install put there
+#   make soak      5,000,000 random calls, each looked at from outside
+#   make coverage-plain   what of host/plain the generated trace reaches
 #   make clean     removes build/ and target/
 #
 # Everything that is made stands in build/. The archive is x86-64 code, and so is
@@ -35,14 +37,16 @@ BENCH := $(addprefix host/,bench.c bench_ours.c bench_plain.c painted.c trace.c 
 REHEARSAL := $(addprefix host/,rehearsal.c rehearsal_line.c rehearsal_settings.c \
 	rehearsal_events.c rehearsal_net.c rehearsal_told.c rehearsal_expect.c \
 	rehearsal_books.c)
+SOAK := $(addprefix host/,soak.c soak_ours.c soak_plain.c soak_rules.c soak_lent.c \
+	soak_draw.c soak_octets.c soak_table.c world.c datagram.c form.c settings.c)
 PLAIN := $(wildcard host/plain/plain_*.c)
 HEADERS := $(wildcard include/*.h host/*.h host/plain/*.h)
 
 # `make test` goes through its parts in this order, whatever -j says.
 .NOTPARALLEL:
 .DELETE_ON_ERROR:
-.PHONY: test archive replay plain rehearsal compare bench clean prepare format \
-	exports header readme host-tests promises gate install uninstall
+.PHONY: test archive replay plain rehearsal compare bench soak coverage-plain clean \
+	prepare format exports header readme host-tests promises gate install uninstall
 
 test: prepare format archive exports header readme host-tests compare promises \
 	gate
@@ -128,6 +132,18 @@ build/settings_batch: examples/settings_batch.c $(ARCHIVE) $(HEADERS) scripts/em
 	$(link) examples/settings_batch.c $(ARCHIVE)
 	$(emulate)
 
+build/soak: $(SOAK) $(PLAIN) $(ARCHIVE) $(HEADERS) scripts/emulated | prepare
+	$(link) $(SOAK) $(PLAIN) $(ARCHIVE)
+	$(emulate)
+
+# The soak with faults put between it and the library, which it has to find.
+FAULTY := class take counter waiting set_port receive
+build/soak_faulty: tests/soak_faults.c $(SOAK) $(PLAIN) $(ARCHIVE) $(HEADERS) \
+	scripts/emulated | prepare
+	$(link) $(FAULTY:%=-Wl,--wrap=hj_%) tests/soak_faults.c $(SOAK) $(PLAIN) \
+	    $(ARCHIVE)
+	$(emulate)
+
 build/readme.c: README.md scripts/readme-program | prepare
 	@mkdir -p build
 	scripts/readme-program $@ build/readme.expected
@@ -158,6 +174,11 @@ build/ledger: $(LEDGER) $(HEADERS) | prepare
 	@mkdir -p build
 	gcc $(CFLAGS) -Iinclude -o $@ $(LEDGER)
 
+build/coverage-plain/plain: host/plain/plain.c $(PLAIN) $(HEADERS) | prepare
+	@mkdir -p $(@D)
+	rm -f $(@D)/*
+	gcc -std=c99 -O0 --coverage $(STRICT) -o $@ host/plain/plain.c $(PLAIN)
+
 # ---- Tests
 
 exports: $(ARCHIVE) | prepare
@@ -174,7 +195,7 @@ readme: build/readme
 host-tests: build/calls build/relay_calls build/test_plain build/test_relay \
 	build/replay build/plain build/ledger build/generate build/coverage \
 	build/bench build/flight_loop build/settings_batch build/rehearsal \
-	build/rehearsal_wrong
+	build/rehearsal_wrong build/soak build/soak_faulty
 	build/calls
 	build/relay_calls
 	build/test_plain
@@ -189,12 +210,21 @@ host-tests: build/calls build/relay_calls build/test_plain build/test_relay \
 	python3 tests/test_scripts.py
 	python3 tests/test_options.py
 	python3 tests/test_install.py
+	build/soak calls=60000
+	python3 tests/test_soak.py
 
 compare: build/generate build/plain build/replay build/coverage build/ledger
 	scripts/compare
 
 bench: build/bench
 	@scripts/bench
+
+# SOAK_ARGUMENTS: seed=N, calls=N
+soak: build/soak
+	build/soak $(SOAK_ARGUMENTS)
+
+coverage-plain: build/generate build/coverage-plain/plain
+	scripts/coverage-plain
 
 promises: | prepare
 	scripts/check-promises

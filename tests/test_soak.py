@@ -1,0 +1,46 @@
+"""test_soak.py: the soak finds every fault of soak_faults.c, says the seed and
+the call, and ends with status 1; without a fault, it finds none."""
+import os
+import subprocess
+
+PROGRAM = "build/soak_faulty"
+FAULTS = [
+    "plain answers otherwise",             # a class
+    "not the refusal that is due",         # a wrong length, 21 for 16
+    "the words of the state",              # the word before the state
+    "beyond what was lent|the words of the state",  # the word after it
+    "the words of the state",              # a call that only reads writes
+    "not what the words say",              # waiting, one too few
+    "the words of the state",              # a refused setting writes
+    "the words of the state",              # a setting writes elsewhere
+    "beyond what was lent",                # a read beyond the octets
+    "the output's octets",                 # an output written by a refusal
+    "the output's octets",                 # an octet behind the header
+    "the octets lent to be read",          # the datagram changed
+    "the words of the state",              # a counter too low
+    "the words of the state",              # 17 counted
+    "plain answers otherwise",             # 11 for 12
+    "copies dropped, and not|the words of the state|plain answers otherwise",
+]
+
+
+def run(fault):
+    return subprocess.run([PROGRAM, "calls=60000", "seed=7"], capture_output=True, text=True,
+                          check=False, env={**os.environ, "SOAK_FAULT": str(fault)})
+
+
+def main():
+    done = run(0)
+    assert done.returncode == 0, done.stdout
+    assert "calls, not one failure" in done.stdout, done.stdout
+    for number, expected in enumerate(FAULTS, 1):
+        done = run(number)
+        first = done.stdout.partition("\n")[0]
+        assert done.returncode == 1, f"fault {number} is not found: {done.stdout}"
+        assert first.startswith("soak: FAILED: seed=7, call "), first
+        assert any(text in first for text in expected.split("|")), f"fault {number}: {first}"
+        assert "soak: the call: hj_" in done.stdout, done.stdout
+    print(f"test_soak: no fault is none, and {len(FAULTS)} faults are found")
+
+
+main()
