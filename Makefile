@@ -38,7 +38,8 @@ REHEARSAL := $(addprefix host/,rehearsal.c rehearsal_line.c rehearsal_settings.c
 	rehearsal_events.c rehearsal_net.c rehearsal_told.c rehearsal_expect.c \
 	rehearsal_books.c)
 SOAK := $(addprefix host/,soak.c soak_ours.c soak_plain.c soak_rules.c soak_lent.c \
-	soak_draw.c soak_octets.c soak_table.c world.c datagram.c form.c settings.c)
+	soak_draw.c soak_octets.c soak_table.c world.c datagram.c form.c settings.c \
+	options.c)
 PLAIN := $(wildcard host/plain/plain_*.c)
 HEADERS := $(wildcard include/*.h host/*.h host/plain/*.h)
 

@@ -13,6 +13,7 @@
 #include <stdio.h>
 #include <string.h>
 
+#include "harpjuniper.h"
 #include "rehearsal.h"
 
 /* Characters of a line, its end not counted. */
@@ -112,7 +113,7 @@ int main(int count, char **arguments)
         return 0;
     }
     if (count == 2 && strcmp(arguments[1], "--version") == 0) {
-        puts("rehearsal (Harpjuniper) 0.1");
+        puts("rehearsal (Harpjuniper) " HJ_VERSION);
         return 0;
     }
     if (count != 2 || arguments[1][0] == '-') {

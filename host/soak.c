@@ -29,6 +29,7 @@
 #include <unistd.h>
 
 #include "history_ways.h"
+#include "options.h"
 #include "settings.h"
 #include "soak.h"
 #include "soak_lent.h"
@@ -399,12 +400,22 @@ static bool prepare(void)
            soak_lent_make(&output, SOAK_MOST_ROOM);
 }
 
+static const struct program PROGRAM = {
+    "soak",
+    "soak [--help | --version] [seed=N] [calls=N]\n"
+    "Makes so many random calls of the library (5000000) and looks at each from\n"
+    "outside; tells what was met. Ends with 1 where a call failed.\n",
+    true,
+};
+
 int main(int count, char **arguments)
 {
     struct setting settings[] = {{"seed", 1}, {"calls", 5000000}};
     bool good = true;
+    int status = options_status(&PROGRAM, arguments + (count > 0));
 
-    (void)count;
+    if (status != OPTIONS_GO_ON)
+        return status;
     if (!settings_take(settings, LENGTH(settings), arguments + 1))
         return 2;
     if (!prepare()) {

@@ -7,7 +7,7 @@ import subprocess
 import unittest
 
 ROOT = os.path.dirname(os.path.dirname(os.path.abspath(__file__)))
-PROGRAMS = [f"build/{name}" for name in ("replay", "plain", "generate", "coverage", "ledger", "bench")]
+PROGRAMS = [f"build/{name}" for name in ("replay", "plain", "generate", "coverage", "ledger", "bench", "soak")]
 PROGRAMS.append("scripts/bench")
 # Those that take no argument but the options.
 WITHOUT_ARGUMENTS = ("build/replay", "build/plain", "build/ledger")
@@ -34,6 +34,10 @@ class Options(unittest.TestCase):
         for program in PROGRAMS:
             says = f"{os.path.basename(program)} (Harpjuniper) {VERSION}\n"
             self.assertEqual(run(program, "--version"), (0, says, ""))
+
+    def test_the_rehearsal_has_the_version_too(self):
+        says = f"rehearsal (Harpjuniper) {VERSION}\n"
+        self.assertEqual(run("build/rehearsal", "--version"), (0, says, ""))
 
     def test_the_first_option_decides(self):
         for program in PROGRAMS:
