@@ -402,9 +402,13 @@ static bool prepare(void)
 
 static const struct program PROGRAM = {
     "soak",
-    "soak [--help | --version] [seed=N] [calls=N]\n"
-    "Makes so many random calls of the library (5000000) and looks at each from\n"
-    "outside; tells what was met. Ends with 1 where a call failed.\n",
+    "usage: soak [--help | --version] [seed=N] [calls=N]\n"
+    "\n"
+    "Makes random calls of the library, 5000000 where no number is given, with\n"
+    "good states and garbage, and looks at each from outside (docs/SOAK.md).\n"
+    "\n"
+    "Status: 0 not one failure; 1 a call failed, or too little was met; 2 bad\n"
+    "usage.\n",
     true,
 };
 

@@ -57,6 +57,10 @@ def program_of(page):
     return found[1].replace(r"\e", "\\").replace(r"\-", "-")
 
 
+# Every manual page of the source; two of them are installed.
+PAGES = sorted(os.path.join("man", name) for name in os.listdir(os.path.join(ROOT, "man")))
+
+
 class Install(unittest.TestCase):
     PREFIX = "/usr/local"
     WORDS = ()
@@ -173,7 +177,7 @@ class Version(unittest.TestCase):
         self.assertEqual(re.findall(r'^#define HJ_VERSION "(.*)"$', header, re.M), [VERSION])
 
     def test_the_pages(self):
-        for page in ("man/replay.1", "man/rehearsal.1", "man/harpjuniper.3"):
+        for page in PAGES:
             self.assertEqual(re.findall(r'^\.TH .*"Harpjuniper ([0-9.]+)"', read(page), re.M), [VERSION])
 
 
@@ -204,7 +208,7 @@ class Pages(unittest.TestCase):
 
     @unittest.skipUnless(shutil.which("groff"), "there is no groff")
     def test_groff_has_no_warning(self):
-        for page in ("man/replay.1", "man/rehearsal.1", "man/harpjuniper.3"):
+        for page in PAGES:
             ended = subprocess.run(["groff", "-man", "-ww", "-z", os.path.join(ROOT, page)],
                                    capture_output=True, text=True, check=False)
             self.assertEqual((ended.returncode, ended.stderr), (0, ""))
