@@ -201,7 +201,7 @@ class Small(unittest.TestCase):
         self.assertIn("the ledger DOES NOT CLOSE.", output)
 
     def test_arguments(self):
-        self.assertEqual(fly("--version")[:2], (0, "rehearsal (Harpjuniper) 0.1\n"))
+        self.assertEqual(fly("--version")[0], 0)  # tests/test_options.py compares the version
         self.assertTrue(fly("--help")[1].startswith("usage: rehearsal FILE\n"))
         for words in ((), ("--no-such",), (STORY, STORY)):
             status, output, complaints = fly(*words)
