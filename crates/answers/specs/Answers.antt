@@ -5,8 +5,8 @@ use lib.Dec.{eqb}
 use Rattle.checks.specs.Order.{pick}
 use Rattle.queue.specs.declared.Entry.{Entry}
 use Rattle.judge.specs.declared.Ending.{Ending}
-use Rattle.relay.specs.declared.Taking.{Taking}
-use Rattle.relay.specs.declared.Taking.the-variants.{Handed, Refused}
+use Rattle.taking.specs.declared.Taking.{Taking}
+use Rattle.taking.specs.declared.Taking.the-variants.{Handed, Refused}
 
 -- ---- receiving: eight bits a part, the refusal lowest
 unfoldable pub partsOf : ℕ → ℕ → ℕ → ℕ → ℕ → ℕ → ℕ

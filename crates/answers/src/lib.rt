@@ -5,7 +5,7 @@
 // slot. The awkward case is a part over 255, which no ending has: each is taken modulo 256 all the same, so that no part can reach into the
 // next.
 use judge::Ending;
-use relay::Taking;
+use taking::Taking;
 ghost use mathlib.Core.Path.{_≡_};
 ghost use Prim.Native.Nat.{_%_, _<_};
 ghost use Rattle.answers.specs.Answers.{sentSize, partsOf, receiveNumber, refusalNumber, entryNumber, takingNumber};

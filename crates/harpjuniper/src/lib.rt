@@ -1,10 +1,8 @@
-// What C calls.
+// What C calls to read and to build headers.
 //
 // Each function takes numbers and lent octets, calls the floor below and gives its answer as numbers; the C header
 // (include/harpjuniper.h) has a doc block for each. None requires anything: whatever octets, lengths or numbers come, the answer is the
 // one that the definitions state. An answer that is a refusal or a value is one number of 64 bits, the refusal above the value.
-use address::Address;
-use address::PathAddress;
 use checks::Check;
 use header::Built;
 use header::Read;
@@ -13,9 +11,6 @@ use numbers::Wide;
 ghost use mathlib.Core.Path.{_≡_};
 ghost use Prim.Native.Nat.{_*_};
 ghost use lib.ListN.{length};
-ghost use Rattle.address.specs.Class.{classOf, classNumber};
-ghost use Rattle.address.specs.Path.{pathForm, pathNumber};
-ghost use Rattle.checksum.specs.Sum.{checksumOf};
 ghost use Rattle.header.specs.Read.{readOf};
 ghost use Rattle.harpjuniper.specs.Face.{readingOf, nothing, builtAnswer, buildAnswer, buildOutput};
 
@@ -114,28 +109,4 @@ pub extern "C" fn hj_build(fields: Numbers, size: usize, output: &mut [u8]) -> u
     };
     let f = gather::fields_from(fields);
     built_answer(builder::build_header(f, size, output))
-}
-
-// The class of a four-octet address.
-#[no_mangle]
-pub extern "C" fn hj_class(address: u32) -> u32
-    ensures { λ r. ⌜ r ≡ classNumber (classOf address) ⌝ }
-{
-    address::class_number(address::class_of(Address(address)))
-}
-
-// Whether a path address is valid.
-#[no_mangle]
-pub extern "C" fn hj_path(path: u32) -> u32
-    ensures { λ r. ⌜ r ≡ pathNumber (pathForm path) ⌝ }
-{
-    address::path_number(address::path_form(PathAddress(path)))
-}
-
-// The checksum of RFC 1071.
-#[no_mangle]
-pub extern "C" fn hj_checksum(octets: &[u8]) -> u16
-    ensures { λ r. ⌜ r ≡ checksumOf (now (octets .entry)) ⌝ }
-{
-    checksum::checksum(octets)
 }

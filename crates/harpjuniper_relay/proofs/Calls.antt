@@ -1,13 +1,8 @@
 -- The answers of the calls, over plain variables. Assumes nothing.
 use Prim.Native.Nat.{ℕ, _≤_, _<_}
-use mathlib.Core.Path.{_≡_, ap, _∙_}
-use mathlib.Core.List.{List}
+use mathlib.Core.Path.{_≡_}
 use borrow.Author.Tests.{lt-ltb, le-ltb}
 use Rattle.state.specs.Relay.{Relay, queueIn, counterIn}
-use Rattle.address.specs.declared.Slot.{Slot}
-use Rattle.judge.specs.declared.Ending.{Ending}
-use Rattle.outgo.specs.Outgo.{outputOf}
-use Rattle.relay.specs.Calls.{receivedState}
 use Rattle.answers.specs.Answers.{refusalNumber}
 use Rattle.harpjuniper_relay.specs.Face.{counterAnswer, waitingAnswer}
 
@@ -27,12 +22,3 @@ module _ (r : Relay) (i : ℕ) {n : ℕ} where
   pub count : i < 8 → n ≡ queueIn r i .count → n ≡ waitingAnswer r i
   unfolding waitingAnswer
   count h e = simp (lt-ltb i 8 h) e
-
--- what was done by an ending, by that ending as it is defined
-module _ {e f : Ending} (same : e ≡ f) where
-  pub done-by : (r : Relay) (slot : Slot) {s : Relay} → s ≡ receivedState r slot e → s ≡ receivedState r slot f
-  done-by r slot is = is ∙ ap (receivedState r slot) same
-
-  pub sent-by : (octets lent : List ℕ) {out : List ℕ}
-      → out ≡ outputOf (e .ruling .took) octets lent → out ≡ outputOf (f .ruling .took) octets lent
-  sent-by octets lent is = is ∙ ap (λ (x : Ending). outputOf (x .ruling .took) octets lent) same

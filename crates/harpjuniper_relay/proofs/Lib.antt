@@ -1,2 +1,2 @@
--- What the calls on datagrams hand together.
-pub mod Calls
+-- What the reads hand together.
+mod Calls

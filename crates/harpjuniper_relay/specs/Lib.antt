@@ -1,2 +1,2 @@
--- What the contracts of the calls on datagrams cite.
+-- What the contracts of taking and of the reads cite.
 pub mod Face

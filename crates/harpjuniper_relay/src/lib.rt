@@ -1,21 +1,16 @@
-// What C calls on datagrams: receiving, taking, counters, and how many wait.
+// What C calls of what waits and of what was counted: taking, how many wait, the counters, and how many words the state has.
 //
-// Each function tests the number of words lent and then calls the relay. None requires anything: whatever words, octets, port or room come,
-// the answer is the one that the definitions state, and where the words are not as many as the state has no port stands in them: receiving
-// and taking answer 16, reading answers 21, and nothing is written. The library's archive is put together of the four crates whose
-// names begin with `harpjuniper`; the C header (include/harpjuniper.h) has a doc block for each call.
-use address::Slot;
+// Each function tests the number of words lent and then calls the relay. None requires anything: whatever words or port come, the answer is
+// the one that the definitions state, and where the words are not as many as the state has, no port stands in them: taking answers 16,
+// reading answers 21, and nothing is written.
 ghost use mathlib.Core.Path.{_≡_};
 ghost use lib.ListN.{length};
 ghost use Rattle.state.specs.Relay.{Relay};
 ghost use Rattle.state.specs.Layout.{stateWords};
-ghost use Rattle.relay.specs.Calls.{takenState};
+ghost use Rattle.taking.specs.Taking.{takenState};
 ghost use Rattle.answers.specs.Answers.{refusalNumber};
 ghost use Rattle.lent.specs.View.{lent, told, changed};
 ghost use Rattle.harpjuniper_relay.specs.Face.{
-  receiveAnswer,
-  receiveState,
-  receiveOutput,
   takeAnswer,
   counterAnswer,
   waitingAnswer,
@@ -29,38 +24,6 @@ pub extern "C" fn hj_state_words() -> u32
     store::STATE_WORDS as u32
 }
 
-// The verdict on the octets that came in by a port, carried out.
-#[no_mangle]
-pub extern "C" fn hj_receive(
-    state: &mut [u32],
-    port: u32,
-    slot: u16,
-    octets: &[u8],
-    output: &mut [u8],
-) -> u64
-    ensures { λ r. ⌜
-        r ≡ told (λ (x : Relay). receiveAnswer x port (now (octets .entry)) (length (now (output .entry)))) 16 (now (state .entry))
-        ⌝ }
-    ensures { λ _. ⌜
-        lent (now (state .exit))
-        ≡ changed
-        (λ (x : Relay). receiveState x port slot (now (octets .entry)) (length (now (output .entry))))
-        (now (state .entry))
-        ⌝ }
-    ensures { λ _. ⌜
-        now (output .exit)
-        ≡ told
-        (λ (x : Relay). receiveOutput x port (now (octets .entry)) (now (output .entry)))
-        (now (output .entry))
-        (now (state .entry))
-        ⌝ }
-{
-    if state.len() != store::STATE_WORDS {
-        return 16;
-    }
-    answers::receive_number(relay::receive(state, port, Slot(slot), octets, output))
-}
-
 // The first entry that waits on a port, removed.
 #[no_mangle]
 pub extern "C" fn hj_take(state: &mut [u32], port: u32) -> u64
@@ -70,7 +33,7 @@ pub extern "C" fn hj_take(state: &mut [u32], port: u32) -> u64
     if state.len() != store::STATE_WORDS {
         return answers::refusal_number(16);
     }
-    answers::taking_number(relay::take(state, port))
+    answers::taking_number(taking::take(state, port))
 }
 
 // A counter.

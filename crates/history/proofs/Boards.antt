@@ -42,11 +42,13 @@ use Rattle.records.specs.Held.{holdsGroup, holdsPath}
 use Rattle.lookup.specs.Lookup.{groupFound, pathFound, groupSays, pathSays, groupPlace, pathPlace}
 use Rattle.rule.specs.Ruling.{caseOf, soughtOf, ruledBy, ruleTarget, ruleAim, ruleOf}
 use Rattle.rule.specs.declared.Arrival.{Arrival}
-use Rattle.judge.specs.Ending.{orElse, notSetUp, callChecks, arrivalChecks, headerEnding, octetsEnding, arrivalAt, endingOf}
+use Rattle.arrival.specs.Arrival.{arrivalChecks}
+use Rattle.taking.specs.Taking.{notSetUp, without, takeOutcome, takenState}
+use Rattle.judge.specs.Ending.{orElse, callChecks, headerEnding, octetsEnding, arrivalAt, endingOf}
 use Rattle.judge.specs.declared.Ending.{Ending}
 use Rattle.tally.specs.Tally.{Row, movesOf, countedAt, countedAll}
 use Rattle.outgo.specs.Outgo.{entered, enteredIf, enteredAll}
-use Rattle.relay.specs.Calls.{entryOf, receivedState, without, takeOutcome, takenState}
+use Rattle.relay.specs.Received.{entryOf, receivedState}
 use Rattle.records.specs.Fresh.{freshGroup, freshPath}
 use Rattle.routes.specs.Routes.{emptyRoute}
 use Rattle.routes.specs.declared.Route.{Route}

@@ -22,13 +22,14 @@ use Rattle.records.specs.Fresh.{freshGroup, freshPath}
 use Rattle.routes.specs.Routes.{emptyRoute}
 use Rattle.state.specs.Relay.{Relay, freshRelay, queueIn, withRouter, withPort, withRoute, withGroup, withPath}
 use Rattle.verdict.specs.declared.Ruling.{Ruling}
-use Rattle.judge.specs.Ending.{notSetUp, endingOf}
+use Rattle.taking.specs.Taking.{notSetUp, handed, without, takeOutcome, takenState}
+use Rattle.judge.specs.Ending.{endingOf}
 use Rattle.judge.specs.declared.Ending.{Ending}
 use Rattle.tally.specs.Tally.{movesOf, countedAll}
 use Rattle.outgo.specs.Outgo.{enteredAll}
-use Rattle.relay.specs.Calls.{entryOf, receivedState, handed, without, takeOutcome, takenState}
-use Rattle.relay.specs.declared.Taking.{Taking}
-use Rattle.relay.specs.declared.Taking.the-variants.{Refused}
+use Rattle.relay.specs.Received.{entryOf, receivedState}
+use Rattle.taking.specs.declared.Taking.{Taking}
+use Rattle.taking.specs.declared.Taking.the-variants.{Refused}
 use Rattle.refusals.specs.Lists.{portChecks, routeChecks, groupChecks, pathChecks, routerChecks, clearChecks}
 use Rattle.adjust.specs.Settled.{settled, newPort, newRoute, newGroup, newPath}
 use Rattle.history.specs.Calls.{Call, setRouter, setPort, setRoute, setGroup, setPath, clearRoute, clearGroup, clearPath, receives, takes, done, run, after}

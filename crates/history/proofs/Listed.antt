@@ -43,13 +43,15 @@ use Rattle.meaning.specs.declared.Aim.the-variants.{Node, Line as PathLine}
 use Rattle.survey.specs.Survey.{surveyOf}
 use Rattle.lookup.specs.Lookup.{pathPlace}
 use Rattle.header.proofs.Refusals.{never-zero}
-use Rattle.rule.specs.Ruling.{placeFor, wayFor, caseOf, soughtOf, ruledBy, ruleTarget, ruleAim, ruleOf}
+use Rattle.ways.specs.Ways.{placeFor, wayFor}
+use Rattle.rule.specs.Ruling.{caseOf, soughtOf, ruledBy, ruleTarget, ruleAim, ruleOf}
 use Rattle.rule.specs.declared.Arrival.{Arrival}
-use Rattle.judge.specs.Ending.{refusedBy, ruled, notSetUp, callChecks, arrivalChecks, headerEnding, octetsEnding, arrivalAt, endingOf}
+use Rattle.arrival.specs.Arrival.{arrivalChecks}
+use Rattle.taking.specs.Taking.{notSetUp, handed, takeOutcome}
+use Rattle.judge.specs.Ending.{refusedBy, ruled, callChecks, headerEnding, octetsEnding, arrivalAt, endingOf}
 use Rattle.judge.specs.declared.Ending.{Ending}
-use Rattle.relay.specs.Calls.{handed, takeOutcome}
-use Rattle.relay.specs.declared.Taking.{Taking}
-use Rattle.relay.specs.declared.Taking.the-variants as taking
+use Rattle.taking.specs.declared.Taking.{Taking}
+use Rattle.taking.specs.declared.Taking.the-variants as taking
 use Rattle.refusals.specs.Lists.{portChecks, routeChecks, groupChecks, pathChecks, routerChecks, clearChecks}
 
 -- n stands in the list

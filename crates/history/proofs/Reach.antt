@@ -38,11 +38,12 @@ use Rattle.queue.specs.declared.Entry.{Entry}
 use Rattle.queue.specs.declared.Head.{Head}
 use Rattle.queue.specs.declared.Head.the-variants.{First, Nothing}
 use Rattle.queue.specs.declared.Queue.{Queue}
-use Rattle.judge.specs.Ending.{notSetUp, endingOf}
+use Rattle.taking.specs.Taking.{notSetUp, without, takenState}
+use Rattle.judge.specs.Ending.{endingOf}
 use Rattle.judge.specs.declared.Ending.{Ending}
 use Rattle.tally.specs.Tally.{Row, movesOf, countedAt, countedAll}
 use Rattle.outgo.specs.Outgo.{entered, enteredIf, enteredAll}
-use Rattle.relay.specs.Calls.{entryOf, receivedState, without, takenState}
+use Rattle.relay.specs.Received.{entryOf, receivedState}
 use Rattle.history.specs.Calls.{Call, setRouter, setPort, setRoute, setGroup, setPath, clearRoute, clearGroup, clearPath, receives, takes, done, run, after}
 use Rattle.history.specs.Reach.{Reached}
 use Rattle.history.proofs.Bits.{in-gathered}

@@ -26,7 +26,7 @@ use Rattle.routes.specs.declared.Route.{Route}
 use Rattle.routes.proofs.Longest.{search-found}
 use Rattle.ready.specs.Ready.{isSetUp, readySet}
 use Rattle.ready.specs.Record.{recordChecks}
-use Rattle.rule.specs.Ruling.{wayOf, placeFor, wayFor}
+use Rattle.ways.specs.Ways.{wayOf, placeFor, wayFor}
 use Rattle.state.specs.Relay.{Relay, routeIn, groupIn, pathIn}
 use Rattle.survey.specs.Survey.{surveyBelow, surveyOf}
 use Rattle.survey.specs.declared.Sought.{Sought}

@@ -26,7 +26,8 @@ use Rattle.records.specs.declared.Port.{Port}
 use Rattle.address.specs.declared.Address.{Address}
 use Rattle.address.specs.declared.Mask.{Mask}
 use Rattle.settings.specs.Refusals.{placeRefused, portClassRefused}
-use Rattle.judge.specs.Ending.{notSetUp, callChecks, endingOf}
+use Rattle.taking.specs.Taking.{notSetUp}
+use Rattle.judge.specs.Ending.{callChecks, endingOf}
 use Rattle.refusals.specs.Lists.{portChecks}
 use Rattle.tally.specs.Tally.{counterFor}
 use Rattle.history.specs.Calls.{Call, done}

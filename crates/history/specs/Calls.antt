@@ -10,7 +10,8 @@ use Rattle.address.specs.declared.Slot.{Slot}
 use Rattle.state.specs.Relay.{Relay, freshRelay}
 use Rattle.adjust.specs.Settled.{newRoute, settledRouter, settledPort, settledRoute, settledGroup, settledPath, clearedRoute, clearedGroup, clearedPath}
 use Rattle.judge.specs.Ending.{endingOf}
-use Rattle.relay.specs.Calls.{receivedState, takenState}
+use Rattle.taking.specs.Taking.{takenState}
+use Rattle.relay.specs.Received.{receivedState}
 
 pub data Call : Type 0 where
   setRouter : ℕ → Call

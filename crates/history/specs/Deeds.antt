@@ -10,9 +10,10 @@ use Rattle.address.specs.declared.Slot.{Slot}
 use Rattle.queue.specs.Queue.{putOf, takeOf}
 use Rattle.queue.specs.Turns as turns
 use Rattle.queue.specs.declared.Queue.{Queue}
-use Rattle.judge.specs.Ending.{notSetUp, endingOf}
+use Rattle.taking.specs.Taking.{notSetUp}
+use Rattle.judge.specs.Ending.{endingOf}
 use Rattle.judge.specs.declared.Ending.{Ending}
-use Rattle.relay.specs.Calls.{entryOf}
+use Rattle.relay.specs.Received.{entryOf}
 use Rattle.history.specs.Calls.{Call, setRouter, setPort, setRoute, setGroup, setPath, clearRoute, clearGroup, clearPath, receives, takes}
 use Rattle.history.specs.Board.{Board, onBoard, next}
 

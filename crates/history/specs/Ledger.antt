@@ -8,9 +8,9 @@ use Rattle.checks.specs.Order.{pick}
 use Rattle.sets.specs.Sets.{inSet}
 use Rattle.verdict.specs.declared.Ruling.{Ruling}
 use Rattle.judge.specs.Ending.{endingOf}
-use Rattle.relay.specs.Calls.{takeOutcome}
-use Rattle.relay.specs.declared.Taking.{Taking}
-use Rattle.relay.specs.declared.Taking.the-variants.{Handed, Refused}
+use Rattle.taking.specs.Taking.{takeOutcome}
+use Rattle.taking.specs.declared.Taking.{Taking}
+use Rattle.taking.specs.declared.Taking.the-variants.{Handed, Refused}
 use Rattle.history.specs.Calls.{Call, setRouter, setPort, setRoute, setGroup, setPath, clearRoute, clearGroup, clearPath, receives, takes}
 use Rattle.history.specs.Board.{Board, onBoard, next}
 

@@ -28,25 +28,9 @@ use Rattle.verdict.specs.declared.Ruling.{Ruling}
 use Rattle.rule.specs.Ruling.{ruleOf}
 use Rattle.rule.specs.declared.Arrival.{Arrival}
 use Rattle.judge.specs.declared.Ending.{Ending}
-use Rattle.judge.specs.Ending.{refusedBy, orElse, notSetUp, callChecks, arrivalChecks, headerEnding, octetsEnding, arrivalAt, endingOf}
-
--- ---- the port
-module _ (r : Relay) (port : ℕ) where
-  pub over-seven : 8 ≤ port → Failed ≡ checkOf (notSetUp r port)
-  unfolding notSetUp
-  over-seven h = simp (le-ltb port 8 h)
-
-  pub not-ready : {p : Port} → port < 8 → p ≡ portIn r port → p .ready ≡ 0 → Failed ≡ checkOf (notSetUp r port)
-  unfolding notSetUp
-  not-ready h e z = rw (← e) (simp (lt-ltb port 8 h, eq-eqb _ 0 z))
-
-  pub set-up : {p : Port} → port < 8 → p ≡ portIn r port → (p .ready ≡ 0 → ⊥) → Passed ≡ checkOf (notSetUp r port)
-  unfolding notSetUp
-  set-up h e z = rw (← e) (simp (lt-ltb port 8 h, ne-eqb _ 0 z))
-
-  pub is-port : {c : Check} → c ≡ checkOf (notSetUp r port) → c ≡ Passed → port < 8
-  unfolding notSetUp
-  is-port told is = ltb-true port 8 (not-false _ (or-false _ _ (passed-false _ (sym told ∙ is)) .0))
+use Rattle.taking.specs.Taking.{notSetUp}
+use Rattle.arrival.specs.Arrival.{arrivalChecks}
+use Rattle.judge.specs.Ending.{refusedBy, orElse, callChecks, headerEnding, octetsEnding, arrivalAt, endingOf}
 
 -- ---- an ending by a number, or by what follows
 pub by-number : {n : ℕ} {e : Ending} (m : ℕ) (rest : Ending) → n ≡ m → (n ≡ 0 → ⊥) → e ≡ refusedBy n → e ≡ orElse m rest
@@ -96,11 +80,3 @@ module _ (r : Relay) (port : ℕ) (octets : List ℕ) (room : ℕ) {e : Ending} 
     judged h same only is =
         by-rest _ _ (passes _ _ _ told ready (holds-not _ _ _ (le-ltb room 50 h) none-left)) refl
         (is ∙ ap (λ (at : Arrival). octetsEnding r at (readOf octets)) cc)
-
--- ---- what a check was told of
-pub aim-told : (at : Address) (a : Addresses) {x : Aim} {c : Check} → x ≡ aimOf (at .0) a → c ≡ checkOf (badAim x) → c ≡ checkOf (badAim (aimOf (at .0) a))
-aim-told at a e told = told ∙ ap (λ (x : Aim). checkOf (badAim x)) e
-
-pub origin-told : (at : Address) (a : Addresses) {x : Origin} {c : Check}
-    → x ≡ sourceOf (at .0) a → c ≡ checkOf (badSource x) → c ≡ checkOf (badSource (sourceOf (at .0) a))
-origin-told at a e told = told ∙ ap (λ (x : Origin). checkOf (badSource x)) e

@@ -1,23 +1,22 @@
 -- All that becomes of a received datagram: page 01, "One received datagram, step by step". Each list of checks is in the page's order, and
 -- the first whose condition holds ends the call with its number. Assumes nothing.
 use Prim.Native.Nat.{ℕ}
-use mathlib.Core.Bool.{Bool, not, _||_}
 use mathlib.Core.List.{List, [], _∷_}
 use lib.Dec.{eqb, ltb}
 use Rattle.checks.specs.Order.{pick, Checks, firstOf}
 use Rattle.sets.specs.Sets.{onlyPort}
-use Rattle.address.specs.declared.Address.{Address}
 use Rattle.header.specs.Read.{readOf}
-use Rattle.header.specs.declared.Fields.{Fields}
 use Rattle.header.specs.declared.Header.{Header}
 use Rattle.header.specs.declared.Read.{Read}
 use Rattle.header.specs.declared.Read.the-variants as read
-use Rattle.meaning.specs.Names.{aimOf, sourceOf, notCarried, noDomain, badAim, badSource}
+use Rattle.meaning.specs.Names.{aimOf}
+use Rattle.arrival.specs.Arrival.{arrivalChecks}
 use Rattle.datagram.specs.Asked.{precedenceOf}
 use Rattle.verdict.specs.declared.Ruling.{Ruling}
 use Rattle.state.specs.Relay.{Relay, portIn}
 use Rattle.rule.specs.Ruling.{ruleOf}
 use Rattle.rule.specs.declared.Arrival.{Arrival}
+use Rattle.taking.specs.Taking.{notSetUp}
 use Rattle.judge.specs.declared.Ending.{Ending}
 
 -- a refusal delivers, grants and drops nothing
@@ -32,21 +31,8 @@ abbrev pub orElse : ℕ → Ending → Ending
 orElse n e = pick (eqb n 0) e (refusedBy n)
 
 -- ---- step 1
--- "Port not set up, or over 7"
-unfoldable pub notSetUp : Relay → ℕ → Bool
-notSetUp r port = not (ltb port 8) || eqb (portIn r port .ready) 0
-
 unfoldable pub callChecks : Relay → ℕ → ℕ → Checks
 callChecks r port room = (notSetUp r port, 16) ∷ (ltb room 50, 17) ∷ []
-
--- ---- steps 4, 5 and 6, by the arrival port's address
-abbrev pub arrivalChecks : Address → Fields → Checks
-arrivalChecks at f =
-    (notCarried f, 8)
-    ∷ (noDomain (at .0) (f .addresses), 7)
-    ∷ (badAim (aimOf (at .0) (f .addresses)), 6)
-    ∷ (badSource (sourceOf (at .0) (f .addresses)), 6)
-    ∷ []
 
 -- ---- the ending
 abbrev pub ruled : Relay → Arrival → Header → Ending

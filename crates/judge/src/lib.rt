@@ -6,9 +6,7 @@
 //
 // The awkward case is a refusal: it has a ruling too, one that delivers nothing, grants nothing and drops nothing, so that whoever carries
 // an ending out need not ask whether it is a refusal.
-use address::Address;
 use checks::Check;
-use header::Fields;
 use header::Header;
 use header::Read;
 use rule::Arrival;
@@ -16,20 +14,14 @@ use verdict::Ruling;
 ghost use mathlib.Core.Path.{_≡_};
 ghost use Prim.Native.Nat.{_<_};
 ghost use lib.ListN.{length};
-ghost use Rattle.checks.specs.Order.{checkOf, firstOf};
 ghost use Rattle.header.specs.Read.{readOf};
 ghost use Rattle.state.specs.Layout.{stateWords, decode};
 ghost use Rattle.judge.specs.Ending.{
   refusedBy,
-  notSetUp,
-  arrivalChecks,
   headerEnding,
   octetsEnding,
   endingOf,
 };
-
-// How many ports there are.
-const PORTS: u32 = 8;
 
 // How many octets the output has at least.
 const ROOM: usize = 50;
@@ -62,41 +54,6 @@ fn refused(refusal: u32) -> Ending
     }
 }
 
-// Step 1: the port is one of the eight, and set up.
-pub fn check_port(state: &[u32], port: u32) -> Check
-    requires { ⌜ length (now state) ≡ stateWords ⌝ }
-    ensures { λ r. ⌜ r ≡ checkOf (notSetUp (decode (now (state .entry))) port) ⌝ }
-{
-    if PORTS <= port {
-        return Check::Failed;
-    }
-    let p = store::port_of(state, port as usize);
-    if p.ready == 0 {
-        return Check::Failed;
-    }
-    Check::Passed
-}
-
-// Steps 4 to 6: the number of the first that refuses, 0 where none does.
-fn check_arrival(at: Address, f: Fields) -> u32
-    ensures { λ r. ⌜ r ≡ firstOf (arrivalChecks at f) ⌝ }
-{
-    let addresses = f.addresses;
-    let Check::Passed = meaning::check_carried(f) else {
-        return 8;
-    };
-    let Check::Passed = meaning::check_domain(at, addresses) else {
-        return 7;
-    };
-    let Check::Passed = meaning::check_aim(meaning::aim_of(at, addresses)) else {
-        return 6;
-    };
-    let Check::Passed = meaning::check_origin(meaning::origin_of(at, addresses)) else {
-        return 6;
-    };
-    0
-}
-
 // Steps 4 to 6, and the ruling.
 fn judge_header(state: &[u32], at: Arrival, h: Header) -> Ending
     requires { ⌜ (length (now state) ≡ stateWords) × (h .length < 8192) ⌝ }
@@ -104,7 +61,7 @@ fn judge_header(state: &[u32], at: Arrival, h: Header) -> Ending
 {
     let f = h.fields;
     let port = at.address;
-    let refusal = check_arrival(port, f);
+    let refusal = arrival::check_arrival(port, f);
     if refusal != 0 {
         return refused(refusal);
     }
@@ -135,7 +92,7 @@ pub fn judge(state: &[u32], port: u32, octets: &[u8], room: usize) -> Ending
     requires { ⌜ length (now state) ≡ stateWords ⌝ }
     ensures { λ r. ⌜ r ≡ endingOf (decode (now (state .entry))) port (now (octets .entry)) room ⌝ }
 {
-    let Check::Passed = check_port(state, port) else {
+    let Check::Passed = taking::check_port(state, port) else {
         return refused(16);
     };
     if room < ROOM {

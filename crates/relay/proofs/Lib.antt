@@ -1,2 +1,2 @@
--- What the calls hand together.
-pub mod Outcomes
+-- What receiving hands together.
+pub mod Received

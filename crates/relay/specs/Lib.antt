@@ -1,2 +1,2 @@
--- What the contracts cite: the calls on datagrams.
-pub mod Calls
+-- What the contract cites: receiving.
+pub mod Received

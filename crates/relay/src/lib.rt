@@ -1,21 +1,19 @@
-// The relay's two calls on datagrams: receiving one, and taking an entry from a port.
+// Receiving a datagram.
 //
 // To receive is to judge and then to do. The verdict reads the state and writes nothing; what it says is then counted, entered in the
-// queues of the ports that took a copy, and the header sent on is written. To take is to hand out the first entry of a port's queue.
+// queues of the ports that took a copy, and the header sent on is written.
 //
 // The awkward case is the output: it is written only where some port took an entry, and then the header was read and there was room,
 // which the verdict has tested.
 use address::Slot;
-use checks::Check;
 use judge::Ending;
 use queue::Entry;
-use queue::Head;
 ghost use mathlib.Core.Path.{_≡_};
 ghost use lib.ListN.{length};
 ghost use Rattle.state.specs.Layout.{stateWords, decode};
 ghost use Rattle.judge.specs.Ending.{endingOf};
 ghost use Rattle.outgo.specs.Outgo.{outputOf};
-ghost use Rattle.relay.specs.Calls.{receivedState, takeOutcome, takenState};
+ghost use Rattle.relay.specs.Received.{receivedState};
 
 // What becomes of the octets that came in by a port; they are known to the caller by the slot.
 pub fn receive(state: &mut [u32], port: u32, slot: Slot, octets: &[u8], output: &mut [u8]) -> Ending
@@ -37,30 +35,4 @@ pub fn receive(state: &mut [u32], port: u32, slot: Slot, octets: &[u8], output: 
     );
     outgo::send(took, octets, output);
     e
-}
-
-// What taking from a port answers.
-pub enum Taking {
-    Handed(Entry),
-    Refused(u32),
-}
-
-// The first entry that waits on a port, removed.
-pub fn take(state: &mut [u32], port: u32) -> Taking
-    requires { ⌜ length (now state) ≡ stateWords ⌝ }
-    ensures { λ r. ⌜ r ≡ takeOutcome (decode (now (state .entry))) port ⌝ }
-    ensures { λ _. ⌜ decode (now (state .exit)) ≡ takenState (decode (now (state .entry))) port ⌝ }
-{
-    let Check::Passed = judge::check_port(state, port) else {
-        return Taking::Refused(16);
-    };
-    let q = waiting::queue_of(state, port as usize);
-    let taken = q.take();
-    let head = taken.head;
-    let Head::First(entry) = head else {
-        return Taking::Refused(18);
-    };
-    let rest = taken.queue;
-    waiting::put_queue(state, port as usize, rest);
-    Taking::Handed(entry)
 }

@@ -23,7 +23,8 @@ use Rattle.verdict.specs.declared.Line.{Line}
 use Rattle.verdict.specs.declared.Survey.{Survey}
 use Rattle.verdict.specs.declared.Ruling.{Ruling}
 use Rattle.rule.specs.declared.Arrival.{Arrival}
-use Rattle.rule.specs.Ruling.{placeFor, wayFor, ruledBy, ruleTarget, ruleNode, caseOf, soughtOf, ruleAim, ruleOf}
+use Rattle.ways.specs.Ways.{placeFor, wayFor}
+use Rattle.rule.specs.Ruling.{ruledBy, ruleTarget, ruleNode, caseOf, soughtOf, ruleAim, ruleOf}
 
 module _ {out : Ruling} where
   pub halves :

@@ -1,15 +1,10 @@
--- The ruling on a datagram whose header is good, over the relay's state: page 01, "Local half" and "Onward half". What a line does not ask is
--- not looked up. Assumes nothing.
+-- The ruling on a datagram whose header is good, over the relay's state: page 01, "Local half" and "Onward half". Assumes nothing.
 use Prim.Native.Nat.{ℕ}
-use Rattle.sets.specs.Sets.{onlyPort}
 use Rattle.address.specs.Class.{classOf}
 use Rattle.address.specs.declared.Address.{Address}
 use Rattle.header.specs.declared.Fields.{Fields}
 use Rattle.header.specs.declared.Header.{Header}
 use Rattle.networks.specs.Networks.{domainOf}
-use Rattle.routes.specs.Search.{searchOf}
-use Rattle.routes.specs.declared.Found.{Found}
-use Rattle.routes.specs.declared.Found.the-variants.{At, No}
 use Rattle.meaning.specs.Names.{isBasic}
 use Rattle.meaning.specs.declared.Aim.{Aim}
 use Rattle.meaning.specs.declared.Aim.the-variants as aim
@@ -17,41 +12,18 @@ use Rattle.datagram.specs.Asked.{assignedOf, spentOf}
 use Rattle.state.specs.Relay.{Relay}
 use Rattle.verdict.specs.Rule.{targetOf, localOf, lineOf, grantedOf, rulingOf}
 use Rattle.verdict.specs.declared.Target.{Target}
-use Rattle.verdict.specs.declared.Target.the-variants.{Here, Broadcast, Group, Path, Route}
+use Rattle.verdict.specs.declared.Target.the-variants.{Path}
 use Rattle.verdict.specs.declared.Place.{Place}
-use Rattle.verdict.specs.declared.Place.the-variants.{Missing}
 use Rattle.verdict.specs.declared.Way.{Way}
-use Rattle.verdict.specs.declared.Way.the-variants.{By, Lost}
+use Rattle.verdict.specs.declared.Way.the-variants.{Lost}
 use Rattle.verdict.specs.declared.Case.{Case}
 use Rattle.verdict.specs.declared.Survey.{Survey}
 use Rattle.verdict.specs.declared.Ruling.{Ruling}
 use Rattle.survey.specs.Survey.{surveyOf}
 use Rattle.survey.specs.declared.Sought.{Sought}
-use Rattle.lookup.specs.Lookup.{groupPlace, pathPlace}
+use Rattle.lookup.specs.Lookup.{pathPlace}
+use Rattle.ways.specs.Ways.{placeFor, wayFor}
 use Rattle.rule.specs.declared.Arrival.{Arrival}
-
--- ---- what is looked up
-
--- the place of the group, for a group alone
-abbrev pub placeFor : Relay → Target → Address → ℕ → Place
-placeFor r Here a arrival = Missing
-placeFor r Broadcast a arrival = Missing
-placeFor r Group a arrival = groupPlace r a arrival
-placeFor r Path a arrival = Missing
-placeFor r Route a arrival = Missing
-
--- the port of the route taken, as a set, and its availability
-abbrev pub wayOf : Found → Way
-wayOf (At place ones route) = By (onlyPort (route .port)) (route .availability)
-wayOf No = Lost
-
--- the route, where the route line decides
-abbrev pub wayFor : Relay → Target → Address → Way
-wayFor r Here a = Lost
-wayFor r Broadcast a = Lost
-wayFor r Group a = Lost
-wayFor r Path a = Lost
-wayFor r Route a = wayOf (searchOf a (r .routes))
 
 -- ---- what is asked
 abbrev pub caseOf : ℕ → ℕ → Fields → Case

@@ -1,8 +1,7 @@
 // The ruling on a datagram whose header is good, over the state.
 //
 // What the verdict is handed is looked up here: the survey of the ports, the place of the group or the path, the route. Nothing is
-// written. A place is looked up only for a group or a path, and a route searched only where the route line decides, so that a datagram
-// pays for no more than its own line; the definition says the same, line by line.
+// written, and what a line does not ask is not looked up; the definition says the same, line by line.
 //
 // The awkward case is a path: its number is never compared with a port's address, a broadcast or a route, even where they are equal, so
 // the ports are surveyed for the address 0.0.0.0 and what they say of it is not asked.
@@ -10,7 +9,6 @@ use address::Address;
 use header::Fields;
 use header::Header;
 use meaning::Aim;
-use routes::Found;
 use survey::Sought;
 use verdict::Case;
 use verdict::Place;
@@ -22,50 +20,12 @@ ghost use mathlib.Core.Path.{_≡_};
 ghost use Prim.Native.Nat.{_<_};
 ghost use lib.ListN.{length};
 ghost use Rattle.state.specs.Layout.{stateWords, decode};
-ghost use Rattle.rule.specs.Ruling.{wayOf, placeFor, wayFor, ruledBy, ruleNode, caseOf, soughtOf, ruleAim, ruleOf};
+ghost use Rattle.rule.specs.Ruling.{ruledBy, ruleNode, caseOf, soughtOf, ruleAim, ruleOf};
 
 // Where a datagram came in: the port as a set, and its address.
 pub struct Arrival {
     pub set: u32,
     pub address: Address,
-}
-
-// What the place of a group says, for a group alone.
-fn place_for(state: &[u32], t: Target, a: Address, arrival: u32) -> Place
-    requires { ⌜ length (now state) ≡ stateWords ⌝ }
-    ensures { λ r. ⌜ r ≡ placeFor (decode (now (state .entry))) t a arrival ⌝ }
-{
-    match t {
-        Target::Here => Place::Missing,
-        Target::Broadcast => Place::Missing,
-        Target::Group => lookup::group_place(state, a, arrival),
-        Target::Path => Place::Missing,
-        Target::Route => Place::Missing,
-    }
-}
-
-// A route that was found, as the verdict asks for it.
-fn way_of(found: Found) -> Way
-    ensures { λ r. ⌜ r ≡ wayOf found ⌝ }
-{
-    match found {
-        Found::At(_, _, route) => Way::By(sets::only_port(route.port), route.availability),
-        Found::No => Way::Lost,
-    }
-}
-
-// The route of an address, where the route line decides.
-fn way_for(state: &[u32], t: Target, a: Address) -> Way
-    requires { ⌜ length (now state) ≡ stateWords ⌝ }
-    ensures { λ r. ⌜ r ≡ wayFor (decode (now (state .entry))) t a ⌝ }
-{
-    match t {
-        Target::Here => Way::Lost,
-        Target::Broadcast => Way::Lost,
-        Target::Group => Way::Lost,
-        Target::Path => Way::Lost,
-        Target::Route => way_of(table::search(state, a)),
-    }
 }
 
 // Both halves, of what was looked up.
@@ -84,8 +44,8 @@ fn rule_node(state: &[u32], a: Address, c: Case, s: Survey) -> Ruling
     ensures { λ r. ⌜ r ≡ ruleNode (decode (now (state .entry))) a c s ⌝ }
 {
     let t = verdict::target_of(address::class_of(a), s);
-    let place = place_for(state, t, a, c.arrival);
-    let way = way_for(state, t, a);
+    let place = ways::place_for(state, t, a, c.arrival);
+    let way = ways::way_for(state, t, a);
     ruled(t, place, way, c, s)
 }
 

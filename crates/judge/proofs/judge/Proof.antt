@@ -1,5 +1,6 @@
 -- `judge::judge` meets its contract. Assumes nothing.
-use Rattle.judge.proofs.Stages.{is-port, no-port, no-room, judged}
+use Rattle.taking.proofs.Port.{is-port}
+use Rattle.judge.proofs.Stages.{no-port, no-room, judged}
 use borrow.Author.Needs.{needs}
 use Rattle.judge.proofs.judge.Statement.{statement}
 use Rattle.judge.proofs.judge.Tie as tie

@@ -1,15 +1,15 @@
 -- `relay::receive` meets its contract: the verdict, and then the deed. Assumes nothing.
 use Rattle.judge.proofs.Took.{told-good}
-use Rattle.relay.proofs.Outcomes.{received}
+use Rattle.relay.proofs.Received.{received}
 use borrow.Author.Needs.{needs}
 use Rattle.relay.proofs.receive.Statement.{statement}
 use Rattle.relay.proofs.receive.Tie as tie
 
 judge-requires : tie.Need-judge-requires
-judge-requires c κs = search needs
+judge-requires c κs = c .before .before .before .before .pre
 
 count-requires : tie.Need-count-requires
-count-requires c κs = search needs
+count-requires c κs = c .before .before .before .before .before .before .pre
 
 enter-all-requires : tie.Need-enter-all-requires
 enter-all-requires c κs = search needs

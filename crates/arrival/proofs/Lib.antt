@@ -1,0 +1,2 @@
+-- What the checks of a good header were told of.
+mod Told

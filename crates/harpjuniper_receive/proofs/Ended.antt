@@ -1,0 +1,17 @@
+-- What was done by an ending, by that ending as it is defined: over plain variables. Assumes nothing.
+use Prim.Native.Nat.{ℕ}
+use mathlib.Core.Path.{_≡_, ap, _∙_}
+use mathlib.Core.List.{List}
+use Rattle.address.specs.declared.Slot.{Slot}
+use Rattle.state.specs.Relay.{Relay}
+use Rattle.judge.specs.declared.Ending.{Ending}
+use Rattle.outgo.specs.Outgo.{outputOf}
+use Rattle.relay.specs.Received.{receivedState}
+
+module _ {e f : Ending} (same : e ≡ f) where
+  pub done-by : (r : Relay) (slot : Slot) {s : Relay} → s ≡ receivedState r slot e → s ≡ receivedState r slot f
+  done-by r slot is = is ∙ ap (receivedState r slot) same
+
+  pub sent-by : (octets lent : List ℕ) {out : List ℕ}
+      → out ≡ outputOf (e .ruling .took) octets lent → out ≡ outputOf (f .ruling .took) octets lent
+  sent-by octets lent is = is ∙ ap (λ (x : Ending). outputOf (x .ruling .took) octets lent) same

@@ -1,0 +1,2 @@
+-- What receiving hands together.
+mod Ended

@@ -1,0 +1,19 @@
+-- What receiving answers, leaves and sends on, of a relay: page 01, "One received datagram, step by step". Assumes nothing.
+use Prim.Native.Nat.{ℕ}
+use mathlib.Core.List.{List}
+use lib.ListN.{length}
+use Rattle.address.specs.declared.Slot.{Slot}
+use Rattle.state.specs.Relay.{Relay}
+use Rattle.judge.specs.Ending.{endingOf}
+use Rattle.outgo.specs.Outgo.{outputOf}
+use Rattle.relay.specs.Received.{receivedState}
+use Rattle.answers.specs.Answers.{receiveNumber}
+
+abbrev pub receiveAnswer : Relay → ℕ → List ℕ → ℕ → ℕ
+receiveAnswer r port octets room = receiveNumber (endingOf r port octets room)
+
+abbrev pub receiveState : Relay → ℕ → ℕ → List ℕ → ℕ → Relay
+receiveState r port slot octets room = receivedState r (record { 0 = slot }) (endingOf r port octets room)
+
+abbrev pub receiveOutput : Relay → ℕ → List ℕ → List ℕ → List ℕ
+receiveOutput r port octets output = outputOf (endingOf r port octets (length output) .ruling .took) octets output

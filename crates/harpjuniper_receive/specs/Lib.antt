@@ -1,0 +1,2 @@
+-- What the contract of receiving cites.
+pub mod Face

@@ -1,0 +1,2 @@
+-- What the contracts cite: the place of a group, the route of an address.
+pub mod Ways
