@@ -32,8 +32,8 @@ pub struct Arrival {
 fn ruled(t: Target, p: Place, w: Way, c: Case, s: Survey) -> Ruling
     ensures { λ r. ⌜ r ≡ ruledBy t p w c s ⌝ }
 {
-    let local = verdict::local_of(t, p, c);
-    let line = verdict::line_of(t, p, w, c, s.ready, local);
+    let local = local::local_of(t, p, c);
+    let line = lines::line_of(t, p, w, c, s.ready, local);
     let granted = copies::granted_of(line, c, s);
     copies::ruling_of(local, granted, s.full)
 }
@@ -43,7 +43,7 @@ fn rule_node(state: &[u32], a: Address, c: Case, s: Survey) -> Ruling
     requires { ⌜ length (now state) ≡ stateWords ⌝ }
     ensures { λ r. ⌜ r ≡ ruleNode (decode (now (state .entry))) a c s ⌝ }
 {
-    let t = verdict::target_of(address::class_of(a), s);
+    let t = local::target_of(address::class_of(a), s);
     let place = ways::place_for(state, t, a, c.arrival);
     let way = ways::way_for(state, t, a);
     ruled(t, place, way, c, s)

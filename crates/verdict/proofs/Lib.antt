@@ -1,2 +1,2 @@
-pub mod Laws
+-- The laws between the two halves.
 pub mod Promises

@@ -1,9 +1,9 @@
--- `verdict::target_of` meets its contract: each answer by what its callees ensure. Assumes nothing.
+-- `local::target_of` meets its contract: each answer by what its callees ensure. Assumes nothing.
 use borrow.Author.Tests.{eq-eqb, ne-eqb}
 use Rattle.verdict.specs.Rule.{targetOf}
 use borrow.Author.Needs.{needs}
-use Rattle.verdict.proofs.target_of.Statement.{statement}
-use Rattle.verdict.proofs.target_of.Tie as tie
+use Rattle.local.proofs.target_of.Statement.{statement}
+use Rattle.local.proofs.target_of.Tie as tie
 
 returns : tie.Need-returns
 unfolding targetOf

@@ -1,9 +1,9 @@
--- `verdict::router_line` meets its contract: each answer by what its callees ensure. Assumes nothing.
+-- `lines::router_line` meets its contract: each answer by what its callees ensure. Assumes nothing.
 use borrow.Author.Needs.{needs}
 use mathlib.Core.Path.{ap, _∙_}
 use Rattle.verdict.specs.Rule.{broadcastLine}
-use Rattle.verdict.proofs.router_line.Statement.{statement}
-use Rattle.verdict.proofs.router_line.Tie as tie
+use Rattle.lines.proofs.router_line.Statement.{statement}
+use Rattle.lines.proofs.router_line.Tie as tie
 
 except-requires : tie.Need-except-requires
 except-requires c κs = search needs

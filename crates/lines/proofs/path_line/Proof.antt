@@ -1,9 +1,9 @@
--- `verdict::path_line` meets its contract: each answer by the law of its return. Assumes nothing.
+-- `lines::path_line` meets its contract: each answer by the law of its return. Assumes nothing.
 use Rattle.verdict.specs.Rule.{pathLine}
-use Rattle.verdict.proofs.Laws.{path-some, path-here, path-none}
+use Rattle.lines.proofs.Laws.{path-some, path-here, path-none}
 use borrow.Author.Needs.{needs}
-use Rattle.verdict.proofs.path_line.Statement.{statement}
-use Rattle.verdict.proofs.path_line.Tie as tie
+use Rattle.lines.proofs.path_line.Statement.{statement}
+use Rattle.lines.proofs.path_line.Tie as tie
 
 enum-known-p : tie.Need-enum-known-p
 enum-known-p c = search needs

@@ -1,8 +1,8 @@
--- `verdict::local_of` meets its contract: each answer by the law of its return. Assumes nothing.
-use Rattle.verdict.proofs.Laws.{local-no, local-unknown, local-yes}
+-- `local::local_of` meets its contract: each answer by the law of its return. Assumes nothing.
+use Rattle.local.proofs.Laws.{local-no, local-unknown, local-yes}
 use borrow.Author.Needs.{needs}
-use Rattle.verdict.proofs.local_of.Statement.{statement}
-use Rattle.verdict.proofs.local_of.Tie as tie
+use Rattle.local.proofs.local_of.Statement.{statement}
+use Rattle.local.proofs.local_of.Tie as tie
 
 here-by-requires : tie.Need-here-by-requires
 here-by-requires c κs = search needs

@@ -1,14 +1,11 @@
 -- The answers of the lines, over plain variables. Assumes nothing.
 use Prim.Native.Nat.{ℕ}
-use mathlib.Core.Path.{_≡_, _∙_}
+use mathlib.Core.Path.{_≡_}
 use borrow.Author.Tests.{eq-eqb, ne-eqb}
-use Rattle.verdict.specs.Rule.{hereBy, oursBy, wantedHere, localOf, exceptBy, aloneBy, groupLine, pathLine, routeLine}
-use Rattle.verdict.specs.declared.Target.{Target}
-use Rattle.verdict.specs.declared.Case.{Case}
-use Rattle.verdict.specs.declared.Place.{Place}
+use Rattle.verdict.specs.Rule.{exceptBy, aloneBy, groupLine, pathLine, routeLine}
 use Rattle.verdict.specs.declared.Place.the-variants.{Held}
 use Rattle.verdict.specs.declared.Way.the-variants.{By}
 use Rattle.verdict.specs.declared.Line.the-variants.{Unasked, Refused, Wanted}
 
 pub route-down : (set availability : ℕ) → (availability ≡ 1 → ⊥) → Refused 12 ≡ routeLine (By set availability)
 unfolding routeLine
@@ -43,19 +40,3 @@ module _ (send word arrival set : ℕ) (is : set ≡ exceptBy send arrival) wher
     pub group-some : (by ≡ 1 → ⊥) → (set ≡ 0 → ⊥) → Wanted set ≡ groupLine (Held send word) arrival others
     unfolding groupLine
     group-some h z = rw (← a, ← is) (simp (ne-eqb by 1 h, ne-eqb set 0 z))
-
-module _ (t : Target) (p : Place) (c : Case) (here ours would : ℕ) (h : here ≡ hereBy p) (o : ours ≡ oursBy t here) (w : would ≡ wantedHere ours (c .intermediate)) where
-  is : would ≡ wantedHere (oursBy t (hereBy p)) (c .intermediate)
-  is = w ∙ rw (o, h)
-
-  pub local-no : would ≡ 0 → 0 ≡ localOf t p c
-  unfolding localOf
-  local-no z = rw (← is) (simp (eq-eqb would 0 z))
-
-  pub local-unknown : (would ≡ 0 → ⊥) → c .assigned ≡ 0 → 26 ≡ localOf t p c
-  unfolding localOf
-  local-unknown z a = rw (← is) (simp (ne-eqb would 0 z, eq-eqb (c .assigned) 0 a))
-
-  pub local-yes : (would ≡ 0 → ⊥) → (c .assigned ≡ 0 → ⊥) → 1 ≡ localOf t p c
-  unfolding localOf
-  local-yes z a = rw (← is) (simp (ne-eqb would 0 z, ne-eqb (c .assigned) 0 a))

@@ -1,9 +1,9 @@
--- `verdict::line_of` meets its contract: each answer by what its callees ensure. Assumes nothing.
+-- `lines::line_of` meets its contract: each answer by what its callees ensure. Assumes nothing.
 use borrow.Author.Tests.{eq-eqb, ne-eqb}
 use Rattle.verdict.specs.Rule.{lineOf}
 use borrow.Author.Needs.{needs}
-use Rattle.verdict.proofs.line_of.Statement.{statement}
-use Rattle.verdict.proofs.line_of.Tie as tie
+use Rattle.lines.proofs.line_of.Statement.{statement}
+use Rattle.lines.proofs.line_of.Tie as tie
 
 host-line-requires : tie.Need-host-line-requires
 host-line-requires c κs = search needs

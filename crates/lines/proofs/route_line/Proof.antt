@@ -1,9 +1,9 @@
--- `verdict::route_line` meets its contract: each answer by the law of its return. Assumes nothing.
+-- `lines::route_line` meets its contract: each answer by the law of its return. Assumes nothing.
 use Rattle.verdict.specs.Rule.{routeLine}
-use Rattle.verdict.proofs.Laws.{route-down, route-up}
+use Rattle.lines.proofs.Laws.{route-down, route-up}
 use borrow.Author.Needs.{needs}
-use Rattle.verdict.proofs.route_line.Statement.{statement}
-use Rattle.verdict.proofs.route_line.Tie as tie
+use Rattle.lines.proofs.route_line.Statement.{statement}
+use Rattle.lines.proofs.route_line.Tie as tie
 
 enum-known-w : tie.Need-enum-known-w
 enum-known-w c = search needs

@@ -1,7 +1,7 @@
--- `verdict::host_line` meets its contract: nothing is asked, or what its callee answers. Assumes nothing.
+-- `lines::host_line` meets its contract: nothing is asked, or what its callee answers. Assumes nothing.
 use borrow.Author.Needs.{needs}
-use Rattle.verdict.proofs.host_line.Statement.{statement}
-use Rattle.verdict.proofs.host_line.Tie as tie
+use Rattle.lines.proofs.host_line.Statement.{statement}
+use Rattle.lines.proofs.host_line.Tie as tie
 
 unheard-requires : tie.Need-unheard-requires
 unheard-requires c κs = search needs

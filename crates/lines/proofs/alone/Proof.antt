@@ -1,7 +1,7 @@
--- `verdict::alone` meets its contract: each answer by the tests that led to it. Assumes nothing.
+-- `lines::alone` meets its contract: each answer by the tests that led to it. Assumes nothing.
 use borrow.Author.Tests.{eq-eqb, ne-eqb}
-use Rattle.verdict.proofs.alone.Statement.{statement}
-use Rattle.verdict.proofs.alone.Tie as tie
+use Rattle.lines.proofs.alone.Statement.{statement}
+use Rattle.lines.proofs.alone.Tie as tie
 
 returns : tie.Need-returns
 returns c = simp (eq-eqb _ _ (c .if1 .taken))

@@ -1,10 +1,10 @@
--- `verdict::group_line` meets its contract: each answer by the law of its return. Assumes nothing.
-use Rattle.verdict.proofs.Laws.{group-alone, group-none, group-some}
+-- `lines::group_line` meets its contract: each answer by the law of its return. Assumes nothing.
+use Rattle.lines.proofs.Laws.{group-alone, group-none, group-some}
 use Rattle.verdict.specs.Rule.{groupLine}
 use mathlib.Core.Path.{refl}
 use borrow.Author.Needs.{needs}
-use Rattle.verdict.proofs.group_line.Statement.{statement}
-use Rattle.verdict.proofs.group_line.Tie as tie
+use Rattle.lines.proofs.group_line.Statement.{statement}
+use Rattle.lines.proofs.group_line.Tie as tie
 
 enum-known-p : tie.Need-enum-known-p
 enum-known-p c = search needs

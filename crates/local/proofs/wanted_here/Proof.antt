@@ -1,7 +1,7 @@
--- `verdict::wanted_here` meets its contract: each answer by the tests that led to it. Assumes nothing.
+-- `local::wanted_here` meets its contract: each answer by the tests that led to it. Assumes nothing.
 use borrow.Author.Tests.{eq-eqb, ne-eqb}
-use Rattle.verdict.proofs.wanted_here.Statement.{statement}
-use Rattle.verdict.proofs.wanted_here.Tie as tie
+use Rattle.local.proofs.wanted_here.Statement.{statement}
+use Rattle.local.proofs.wanted_here.Tie as tie
 
 returns : tie.Need-returns
 returns c = simp (ne-eqb _ _ (c .if1 .taken))

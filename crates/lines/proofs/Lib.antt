@@ -1,0 +1,2 @@
+-- What the lines hand together.
+mod Laws

@@ -1,0 +1,2 @@
+-- What the local half hands together.
+mod Laws
