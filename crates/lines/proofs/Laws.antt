@@ -2,9 +2,14 @@
 use Prim.Native.Nat.{ℕ}
 use mathlib.Core.Path.{_≡_}
 use borrow.Author.Tests.{eq-eqb, ne-eqb}
-use Rattle.verdict.specs.Rule.{exceptBy, aloneBy, groupLine, pathLine, routeLine}
+use Rattle.verdict.specs.Rule.{exceptBy, aloneBy, groupLine, pathLine, routeLine, routerLine, hostLine, lineOf}
+use Rattle.verdict.specs.declared.Target.{Target}
+use Rattle.verdict.specs.declared.Place.{Place}
 use Rattle.verdict.specs.declared.Place.the-variants.{Held}
+use Rattle.verdict.specs.declared.Way.{Way}
 use Rattle.verdict.specs.declared.Way.the-variants.{By}
+use Rattle.verdict.specs.declared.Case.{Case}
+use Rattle.verdict.specs.declared.Line.{Line}
 use Rattle.verdict.specs.declared.Line.the-variants.{Unasked, Refused, Wanted}
 
 pub route-down : (set availability : ℕ) → (availability ≡ 1 → ⊥) → Refused 12 ≡ routeLine (By set availability)
@@ -40,3 +45,12 @@ module _ (send word arrival set : ℕ) (is : set ≡ exceptBy send arrival) wher
     pub group-some : (by ≡ 1 → ⊥) → (set ≡ 0 → ⊥) → Wanted set ≡ groupLine (Held send word) arrival others
     unfolding groupLine
     group-some h z = rw (← a, ← is) (simp (ne-eqb by 1 h, ne-eqb set 0 z))
+
+module _ (t : Target) (p : Place) (w : Way) (c : Case) (ready local : ℕ) {out : Line} where
+  pub of-host : c .router ≡ 0 → out ≡ hostLine t local → out ≡ lineOf t p w c ready local
+  unfolding lineOf
+  of-host h e = simp (eq-eqb (c .router) 0 h) e
+
+  pub of-router : (c .router ≡ 0 → ⊥) → out ≡ routerLine t p w (c .arrival) ready → out ≡ lineOf t p w c ready local
+  unfolding lineOf
+  of-router h e = simp (ne-eqb (c .router) 0 h) e

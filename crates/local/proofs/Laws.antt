@@ -1,11 +1,28 @@
--- The answers of the local half, over plain variables. Assumes nothing.
+-- What a destination is to this node, and the answers of the local half: over plain variables. Assumes nothing.
 use Prim.Native.Nat.{ℕ}
 use mathlib.Core.Path.{_≡_, _∙_}
 use borrow.Author.Tests.{eq-eqb, ne-eqb}
-use Rattle.verdict.specs.Rule.{hereBy, oursBy, wantedHere, localOf}
+use Rattle.address.specs.declared.Class.{Class}
+use Rattle.verdict.specs.Rule.{classTarget, overBroadcast, targetOf, hereBy, oursBy, wantedHere, localOf}
 use Rattle.verdict.specs.declared.Target.{Target}
+use Rattle.verdict.specs.declared.Target.the-variants.{Here}
+use Rattle.verdict.specs.declared.Survey.{Survey}
 use Rattle.verdict.specs.declared.Case.{Case}
 use Rattle.verdict.specs.declared.Place.{Place}
+
+module _ (class : Class) (s : Survey) where
+  pub ours-itself : (s .own ≡ 0 → ⊥) → Here ≡ targetOf class s
+  unfolding targetOf
+  ours-itself h = simp (ne-eqb (s .own) 0 h)
+
+  module _ (not-own : s .own ≡ 0) {t : Target} (is : t ≡ classTarget class) where
+    pub broadcast-of-ours : {out : Target} → (s .ours ≡ 0 → ⊥) → out ≡ overBroadcast t → out ≡ targetOf class s
+    unfolding targetOf
+    broadcast-of-ours h e = simp (eq-eqb (s .own) 0 not-own, ne-eqb (s .ours) 0 h) (e ∙ rw (is))
+
+    pub by-class : s .ours ≡ 0 → t ≡ targetOf class s
+    unfolding targetOf
+    by-class h = simp (eq-eqb (s .own) 0 not-own, eq-eqb (s .ours) 0 h) is
 
 module _ (t : Target) (p : Place) (c : Case) (here ours would : ℕ) (h : here ≡ hereBy p) (o : ours ≡ oursBy t here) (w : would ≡ wantedHere ours (c .intermediate)) where
   is : would ≡ wantedHere (oursBy t (hereBy p)) (c .intermediate)
