@@ -85,8 +85,8 @@ endif
 $(ARCHIVE): crates.txt $(shell find crates 2>/dev/null) | prepare
 	@mkdir -p build/objects
 	rm -f $@ $(OBJECTS)
-	rt check $(EXPORTING)
-	for crate in $(EXPORTING); do rt staticlib $$crate && \
+	scripts/in-memory rt check $(EXPORTING)
+	for crate in $(EXPORTING); do scripts/in-memory rt staticlib $$crate && \
 	    ar x --output build/objects target/staticlib/lib$$crate.a || exit 1; done
 	$(archiver) rcs $@ $(OBJECTS)
 
