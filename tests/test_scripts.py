@@ -281,6 +281,7 @@ class Gate(Tree):
 
     def gate(self, rt, logs="exit 0"):
         self.copy_script("gate")
+        self.copy_script("in-memory")
         self.write("scripts/check-must-fail", f"#!/bin/sh\necho looked at the logs\n{logs}\n", 0o755)
         self.write("bin/rt", f"#!/bin/sh\n{rt}\n", 0o755)
         path = os.path.join(self.root, "bin") + os.pathsep + os.environ["PATH"]
@@ -306,6 +307,29 @@ class Gate(Tree):
             status, lines = self.gate(f"echo {last}")
             self.assertEqual(status, 1, last)
             self.assertIn("gate: FAILED", lines[-1])
+
+
+class InMemory(Tree):
+    """scripts/in-memory with a stand-in for df, which says what room there is."""
+
+    def folder(self, free, **variables):
+        self.write("bin/df", f"#!/bin/sh\necho Avail; echo '{free}'\n", 0o755)
+        environment = {"PATH": os.path.join(self.root, "bin") + os.pathsep + os.environ["PATH"], **variables}
+        command = [os.path.join(ROOT, "scripts/in-memory"), "sh", "-c", 'echo "${TMPDIR:-as it is}"; exit 3']
+        ended = subprocess.run(command, capture_output=True, text=True, env=environment, check=False)
+        self.assertEqual(ended.returncode, 3, ended.stderr)
+        return ended.stdout.strip()
+
+    @unittest.skipUnless(os.access("/dev/shm", os.W_OK), "this machine lends no memory")
+    def test_where_there_is_room(self):
+        self.assertEqual(self.folder(" 512"), "/dev/shm")
+
+    def test_where_there_is_none(self):
+        self.assertEqual(self.folder("  64"), "as it is")
+        self.assertEqual(self.folder(""), "as it is")
+
+    def test_a_folder_that_was_chosen_stays(self):
+        self.assertEqual(self.folder("4096", TMPDIR="/chosen"), "/chosen")
 
 
 class Compare(Tree):
