@@ -1,6 +1,7 @@
 -- Histories, what calls leave, and what the rules give over a history.
 pub mod Calls
 pub mod Board
+pub mod Answers
 pub mod Tally
 pub mod Ledger
 pub mod Deeds
