@@ -37,11 +37,12 @@ use Rattle.meaning.specs.Names.{aimOf}
 use Rattle.meaning.specs.declared.Aim.{Aim}
 use Rattle.meaning.specs.declared.Aim.the-variants.{Node, Line as PathLine}
 use Rattle.survey.specs.Survey.{surveyOf}
+use Rattle.survey.specs.declared.Sought.{Sought}
 use Rattle.lookup.specs.Lookup.{pathPlace}
 use Rattle.header.proofs.Refusals.{never-zero}
 use Rattle.rule.specs.Ruling.{placeFor, wayFor, caseOf, soughtOf, ruledBy, ruleTarget, ruleAim, ruleOf}
 use Rattle.rule.specs.declared.Arrival.{Arrival}
-use Rattle.judge.specs.Ending.{refusedBy, ruled, notSetUp, callChecks, arrivalChecks, headerEnding, octetsEnding, arrivalAt, endingOf}
+use Rattle.judge.specs.Ending.{noRuling, refusedBy, ruled, notSetUp, callChecks, arrivalChecks, headerEnding, octetsEnding, arrivalAt, endingOf}
 use Rattle.judge.specs.declared.Ending.{Ending}
 use Rattle.relay.specs.Calls.{handed, takeOutcome}
 use Rattle.relay.specs.declared.Taking.the-variants as taking
@@ -292,17 +293,17 @@ judged t p w c s =
 -- ---- what holds of every ruling holds of every ending
 
 -- a law of every ruling, and of none, is one of every ending
-module _ (P : Ruling → Type 0) (every : (t : Target) (p : Place) (w : Way) (c : Case) (s : Survey) → P (ruledBy t p w c s)) where
-  every-aim : (r : Relay) (x : Aim) (c : Case) (s : Survey) → P (ruleAim r x c s)
+module _ (P : Ruling → Type 0) (every : (r : Relay) (q : Sought) (t : Target) (p : Place) (w : Way) (c : Case) → P (ruledBy t p w c (surveyOf r q))) where
+  every-aim : (r : Relay) (q : Sought) (x : Aim) (c : Case) → P (ruleAim r x c (surveyOf r q))
   unfolding ruleTarget
-  every-aim r (Node a) c s =
-      let t = targetOf (classOf (a .0)) s in
-      every t (placeFor r t a (c .arrival)) (wayFor r t a) c s
-  every-aim r (PathLine x) c s = every target.Path (pathPlace r x) Lost c s
+  every-aim r q (Node a) c =
+      let t = targetOf (classOf (a .0)) (surveyOf r q) in
+      every r q t (placeFor r t a (c .arrival)) (wayFor r t a) c
+  every-aim r q (PathLine x) c = every r q target.Path (pathPlace r x) Lost c
 
   every-rule : (r : Relay) (at : Arrival) (x : Aim) (h : Header) → P (ruleOf r at x h)
   unfolding ruleOf
-  every-rule r at x h = every-aim r x (caseOf (r .router) (at .set) (h .fields)) (surveyOf r (soughtOf x (domainOf (at .address)) (h .length)))
+  every-rule r at x h = every-aim r (soughtOf x (domainOf (at .address)) (h .length)) x (caseOf (r .router) (at .set) (h .fields))
 
   ended-or : (t : Bool) (n : ℕ) (e : Ending) → eqb n 0 ≡ t → (e .refusal ≡ 0 → P (e .ruling)) → pick t e (refusedBy n) .refusal ≡ 0 → P (pick t e (refusedBy n) .ruling)
   ended-or true n e z f h = f h
@@ -324,6 +325,19 @@ module _ (P : Ruling → Type 0) (every : (t : Target) (p : Place) (w : Way) (c 
       ended-or (eqb n 0) n (octetsEnding r (arrivalAt r port) (readOf octets)) refl
       (ended-read r (arrivalAt r port) octets (readOf octets) refl) z
 
+  -- of every call, where it is one of no ruling too
+  any-case : P noRuling → (r : Relay) (port : ℕ) (octets : List ℕ) (room : ℕ) (t : Bool) → eqb (endingOf r port octets room .refusal) 0 ≡ t
+      → P (endingOf r port octets room .ruling)
+  any-case none r port octets room true z = of-every-ending r port octets room (eqb-true (endingOf r port octets room .refusal) 0 z)
+  any-case none r port octets room false z =
+      rw (refused-grants-nothing r port octets room (eqb-false (endingOf r port octets room .refusal) 0 z)) none
+
+  pub of-any-ending : P noRuling → (r : Relay) (port : ℕ) (octets : List ℕ) (room : ℕ) → P (endingOf r port octets room .ruling)
+  of-any-ending none r port octets room = any-case none r port octets room _ refl
+
+judged-ending : (r : Relay) (port : ℕ) (octets : List ℕ) (room : ℕ) → endingOf r port octets room .refusal ≡ 0 → Judged (endingOf r port octets room .ruling)
+judged-ending = of-every-ending Judged (λ r q t p w c. judged t p w c (surveyOf r q))
+
 -- ---- receiving
 refused-row : (n : ℕ) → eqb n 0 ≡ false → listed endNumbers n ≡ true → stands receiveRows (ended n 0 0 0) ≡ true
 refused-row n z h = let k : listed refusals n ≡ true = rw z at h in row-first _ _ k
@@ -332,7 +346,7 @@ ended-case : (r : Relay) (port : ℕ) (octets : List ℕ) (room : ℕ) (t : Bool
     → stands receiveRows (endedBy (endingOf r port octets room)) ≡ true
 ended-case r port octets room true z =
     let n = eqb-true (endingOf r port octets room .refusal) 0 z in
-    rw n (of-every-ending Judged judged r port octets room n)
+    rw n (judged-ending r port octets room n)
 ended-case r port octets room false z =
     let e = endingOf r port octets room in
     let none = refused-grants-nothing r port octets room (eqb-false (e .refusal) 0 z) in
@@ -373,4 +387,4 @@ pub never-unsaid : (r : Relay) (port : ℕ) (octets : List ℕ) (room : ℕ)
     → endingOf r port octets room .ruling .local ≡ 0
     → endingOf r port octets room .ruling .onward ≡ 0
     → ⊥
-never-unsaid r port octets room h = unsaid (endingOf r port octets room .ruling) (of-every-ending Judged judged r port octets room h)
+never-unsaid r port octets room h = unsaid (endingOf r port octets room .ruling) (judged-ending r port octets room h)

@@ -4,5 +4,6 @@ pub mod Board
 pub mod Answers
 pub mod Tally
 pub mod Ledger
+pub mod Sums
 pub mod Deeds
 pub mod Reach
