@@ -10,6 +10,7 @@ use lib.Dec.{eqb}
 use borrow.Author.Tests.{eqb-true, eqb-false}
 use Rattle.checks.specs.Order.{pick, Checks, firstOf}
 use Rattle.checks.proofs.Bools.{true-false, and-true}
+use Rattle.checks.proofs.Laws.{either}
 use Rattle.address.specs.Class.{classOf}
 use Rattle.header.specs.Read.{readChecks, headerOf, readOf}
 use Rattle.header.specs.declared.Header.{Header}
@@ -72,16 +73,12 @@ abbrev allListed : List ℕ → Checks → Bool
 allListed xs [] = true
 allListed xs (c ∷ cs) = listed xs (c .1) && allListed xs cs
 
-pick-listed : (xs : List ℕ) (t : Bool) (a b : ℕ) → listed xs a ≡ true → listed xs b ≡ true → listed xs (pick t a b) ≡ true
-pick-listed xs true a b h k = h
-pick-listed xs false a b h k = k
-
 first-listed : (xs : List ℕ) (cs : Checks) → listed xs 0 ≡ true → allListed xs cs ≡ true → listed xs (firstOf cs) ≡ true
 unfolding firstOf
 first-listed xs [] z h = z
 first-listed xs (c ∷ cs) z h =
     let both = and-true (listed xs (c .1)) (allListed xs cs) h in
-    pick-listed xs (c .0) (c .1) (firstOf cs) (both .0) (first-listed xs cs z (both .1))
+    either (λ n. listed xs n ≡ true) (c .0) (both .0) (first-listed xs cs z (both .1))
 
 -- what stands in a list stands in one that has all of it
 abbrev allIn : List ℕ → List ℕ → Bool
@@ -108,38 +105,35 @@ row-first true u h = refl
 row-first false u h = true-false (sym h)
 
 -- ---- the number that ends a call
-end-or : (t : Bool) (n : ℕ) (e : Ending) → listed endNumbers n ≡ true → listed endNumbers (e .refusal) ≡ true
-    → listed endNumbers (pick t e (refusedBy n) .refusal) ≡ true
-end-or true n e h k = k
-end-or false n e h k = h
+abbrev EndListed : Ending → Type 0
+EndListed e = listed endNumbers (e .refusal) ≡ true
 
 read-case : (r : Relay) (at : Arrival) (t : Bool) (n : ℕ) (h : Header) → listed endNumbers n ≡ true
-    → listed endNumbers (octetsEnding r at (pick t (read.Good h) (read.Refused n)) .refusal) ≡ true
+    → EndListed (octetsEnding r at (pick t (read.Good h) (read.Refused n)))
 unfolding headerEnding
 read-case r at true n h k =
     let m = firstOf (arrivalChecks (at .address) (h .fields)) in
-    end-or (eqb m 0) m (ruled r at h) (first-listed endNumbers (arrivalChecks (at .address) (h .fields)) refl refl) refl
+    either EndListed (eqb m 0) refl (first-listed endNumbers (arrivalChecks (at .address) (h .fields)) refl refl)
 read-case r at false n h k = k
 
-octets-listed : (r : Relay) (at : Arrival) (s : List ℕ) → listed endNumbers (octetsEnding r at (readOf s) .refusal) ≡ true
+octets-listed : (r : Relay) (at : Arrival) (s : List ℕ) → EndListed (octetsEnding r at (readOf s))
 unfolding readOf readChecks
 octets-listed r at s =
     let n = firstOf (readChecks s) in
     read-case r at (eqb n 0) n (headerOf s) (first-listed endNumbers (readChecks s) refl refl)
 
-end-listed : (r : Relay) (port : ℕ) (octets : List ℕ) (room : ℕ) → listed endNumbers (endingOf r port octets room .refusal) ≡ true
+end-listed : (r : Relay) (port : ℕ) (octets : List ℕ) (room : ℕ) → EndListed (endingOf r port octets room)
 unfolding endingOf callChecks
 end-listed r port octets room =
     let n = firstOf (callChecks r port room) in
-    end-or (eqb n 0) n (octetsEnding r (arrivalAt r port) (readOf octets)) (first-listed endNumbers (callChecks r port room) refl refl)
-    (octets-listed r (arrivalAt r port) octets)
+    either EndListed (eqb n 0) (octets-listed r (arrivalAt r port) octets) (first-listed endNumbers (callChecks r port room) refl refl)
 
 -- ---- the local half
 local-listed : (t : Target) (p : Place) (c : Case) → listed localNumbers (localOf t p c) ≡ true
 unfolding localOf
 local-listed t p c =
-    pick-listed localNumbers (eqb (wantedHere (oursBy t (hereBy p)) (c .intermediate)) 0) 0 (pick (eqb (c .assigned) 0) 26 1) refl
-    (pick-listed localNumbers (eqb (c .assigned) 0) 26 1 refl refl)
+    either (λ n. listed localNumbers n ≡ true) (eqb (wantedHere (oursBy t (hereBy p)) (c .intermediate)) 0) refl
+    (either (λ n. listed localNumbers n ≡ true) (eqb (c .assigned) 0) refl refl)
 
 -- ---- the onward half: 9 where the local half is no, and else none but the line's numbers
 abbrev numbered : Bool → Line → Bool
@@ -148,36 +142,33 @@ numbered bare (Refused n) = (bare && eqb n 9) || listed lineNumbers n
 numbered bare (Wanted set) = true
 
 module _ (bare : Bool) where
-  either : (t : Bool) (a b : Line) → numbered bare a ≡ true → numbered bare b ≡ true → numbered bare (pick t a b) ≡ true
-  either true a b h k = h
-  either false a b h k = k
+  abbrev Numbered : Line → Type 0
+  Numbered l = numbered bare l ≡ true
 
   -- a number of the lines
   line-number : (n : ℕ) → listed lineNumbers n ≡ true → numbered bare (Refused n) ≡ true
   line-number n h = or-right (bare && eqb n 9) (listed lineNumbers n) h
 
-  group-numbered : (p : Place) (arrival others : ℕ) → numbered bare (groupLine p arrival others) ≡ true
+  group-numbered : (p : Place) (arrival others : ℕ) → Numbered (groupLine p arrival others)
   unfolding groupLine
   group-numbered Missing arrival others = line-number 11 refl
   group-numbered (Held send word) arrival others =
-      either (eqb (aloneBy word others) 1) Unasked _ refl
-      (either (eqb (exceptBy send arrival) 0) (Refused 11) (Wanted (exceptBy send arrival)) (line-number 11 refl) refl)
+      either Numbered (eqb (aloneBy word others) 1) refl (either Numbered (eqb (exceptBy send arrival) 0) (line-number 11 refl) refl)
 
-  path-numbered : (p : Place) (arrival : ℕ) → numbered bare (pathLine p arrival) ≡ true
+  path-numbered : (p : Place) (arrival : ℕ) → Numbered (pathLine p arrival)
   unfolding pathLine
   path-numbered Missing arrival = line-number 11 refl
   path-numbered (Held send here) arrival =
-      either (not (eqb (exceptBy send arrival) 0)) (Wanted (exceptBy send arrival)) _ refl
-      (either (not (eqb here 0)) Unasked (Refused 11) refl (line-number 11 refl))
+      either Numbered (not (eqb (exceptBy send arrival) 0)) refl (either Numbered (not (eqb here 0)) refl (line-number 11 refl))
 
-  route-numbered : (w : Way) → numbered bare (routeLine w) ≡ true
+  route-numbered : (w : Way) → Numbered (routeLine w)
   unfolding routeLine
   route-numbered Lost = line-number 11 refl
-  route-numbered (By set availability) = either (eqb availability 1) (Wanted set) (Refused 12) refl (line-number 12 refl)
+  route-numbered (By set availability) = either Numbered (eqb availability 1) refl (line-number 12 refl)
 
-  router-numbered : (t : Target) (p : Place) (w : Way) (arrival ready : ℕ) → numbered bare (routerLine t p w arrival ready) ≡ true
+  router-numbered : (t : Target) (p : Place) (w : Way) (arrival ready : ℕ) → Numbered (routerLine t p w arrival ready)
   router-numbered target.Here p w arrival ready = refl
-  router-numbered target.Broadcast p w arrival ready = either (eqb (exceptBy ready arrival) 0) Unasked (Wanted (exceptBy ready arrival)) refl refl
+  router-numbered target.Broadcast p w arrival ready = either Numbered (eqb (exceptBy ready arrival) 0) refl refl
   router-numbered target.Group p w arrival ready = group-numbered p arrival (exceptBy ready arrival)
   router-numbered target.Path p w arrival ready = path-numbered p arrival
   router-numbered target.Route p w arrival ready = route-numbered w
@@ -198,7 +189,7 @@ host-numbered target.Route local = unheard (eqb local 0)
 
 line-numbered : (t : Target) (p : Place) (w : Way) (c : Case) (ready local : ℕ) → numbered (eqb local 0) (lineOf t p w c ready local) ≡ true
 unfolding lineOf
-line-numbered t p w c ready local = either (eqb local 0) (eqb (c .router) 0) _ _ (host-numbered t local) (router-numbered (eqb local 0) t p w (c .arrival) ready)
+line-numbered t p w c ready local = either (Numbered (eqb local 0)) (eqb (c .router) 0) (host-numbered t local) (router-numbered (eqb local 0) t p w (c .arrival) ready)
 
 -- and "no" with "not asked" never occurs
 abbrev good : Bool → Line → Bool
@@ -214,34 +205,26 @@ line-good bare (Wanted set) h asked = refl
 
 -- what strikes ports out leaves it so
 module _ (bare : Bool) where
-  struck : (t : Bool) (n set : ℕ) → listed lineNumbers n ≡ true → good bare (pick t (Refused n) (Wanted set)) ≡ true
-  struck true n set h = line-number bare n h
-  struck false n set h = refl
+  abbrev Good : Line → Type 0
+  Good l = good bare l ≡ true
 
-  hops-good : (l : Line) (spent : ℕ) → good bare l ≡ true → good bare (afterHops l spent) ≡ true
+  hops-good : (l : Line) (spent : ℕ) → Good l → Good (afterHops l spent)
   hops-good Unasked spent h = h
   hops-good (Refused n) spent h = h
-  hops-good (Wanted set) spent h = hops-case (eqb spent 0)
-    where
-      hops-case : (t : Bool) → good bare (pick t (Wanted set) (Refused 10)) ≡ true
-      hops-case true = refl
-      hops-case false = line-number bare 10 refl
+  hops-good (Wanted set) spent h = either Good (eqb spent 0) refl (line-number bare 10 refl)
 
-  domain-good : (l : Line) (basic near : ℕ) → good bare l ≡ true → good bare (afterDomain l basic near) ≡ true
+  domain-good : (l : Line) (basic near : ℕ) → Good l → Good (afterDomain l basic near)
   domain-good Unasked basic near h = h
   domain-good (Refused n) basic near h = h
-  domain-good (Wanted set) basic near h = domain-case (eqb basic 0)
-    where
-      domain-case : (t : Bool) → good bare (pick t (Wanted set) (pick (eqb (bitAnd set near) 0) (Refused 13) (Wanted (bitAnd set near)))) ≡ true
-      domain-case true = refl
-      domain-case false = struck (eqb (bitAnd set near) 0) 13 (bitAnd set near) refl
+  domain-good (Wanted set) basic near h =
+      either Good (eqb basic 0) refl (either Good (eqb (bitAnd set near) 0) (line-number bare 13 refl) refl)
 
-  size-good : (l : Line) (wide : ℕ) → good bare l ≡ true → good bare (afterSize l wide) ≡ true
+  size-good : (l : Line) (wide : ℕ) → Good l → Good (afterSize l wide)
   size-good Unasked wide h = h
   size-good (Refused n) wide h = h
-  size-good (Wanted set) wide h = struck (eqb (bitAnd set wide) 0) 14 (bitAnd set wide) refl
+  size-good (Wanted set) wide h = either Good (eqb (bitAnd set wide) 0) (line-number bare 14 refl) refl
 
-  granted-good : (l : Line) (c : Case) (s : Survey) → good bare l ≡ true → good bare (grantedOf l c s) ≡ true
+  granted-good : (l : Line) (c : Case) (s : Survey) → Good l → Good (grantedOf l c s)
   unfolding grantedOf
   granted-good l c s h =
       let hops = afterHops l (c .spent) in

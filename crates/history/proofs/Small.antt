@@ -1,11 +1,11 @@
 -- Every set of ports that an ending has is one of the ports 0 to 7. Assumes nothing.
 use native.Mathlib.Omega.{arith}
 use Prim.Native.Nat.{ℕ, _<_, _≤_}
-use mathlib.Core.Bool.{Bool, true, false, _&&_}
+use mathlib.Core.Bool.{_&&_}
 use mathlib.Core.List.{List}
 use lib.Bits.{bitAnd, and-le-l, and-le-r}
 use lib.Dec.{eqb}
-use Rattle.checks.specs.Order.{pick}
+use Rattle.checks.proofs.Laws.{either}
 use Rattle.sets.proofs.Loops.{portSet-below}
 use Rattle.state.specs.Relay.{Relay, portIn}
 use Rattle.survey.specs.Survey.{isSetUp, isWide, surveyBelow, surveyOf}
@@ -34,14 +34,10 @@ wantedBy (Refused n) = 0
 wantedBy (Wanted set) = set
 
 -- the MTU leaves only ports that are set up
-size-case : (t : Bool) (set wide : ℕ) → wantedBy (pick t (Refused 14) (Wanted (bitAnd set wide))) ≤ wide
-size-case true set wide = omega arith
-size-case false set wide = and-le-r set wide
-
 size-small : (l : Line) (wide : ℕ) → wantedBy (afterSize l wide) ≤ wide
 size-small Unasked wide = omega arith
 size-small (Refused n) wide = omega arith
-size-small (Wanted set) wide = size-case (eqb (bitAnd set wide) 0) set wide
+size-small (Wanted set) wide = either (λ l. wantedBy l ≤ wide) (eqb (bitAnd set wide) 0) (omega arith) (and-le-r set wide)
 
 ruling-small : (local : ℕ) (l : Line) (full : ℕ) → wantedBy l < 256 → Small (rulingOf local l full)
 unfolding rulingOf copiesOf
