@@ -2,9 +2,10 @@
 -- Refusals, Listed and Onward (demand 1: what a refused call leaves; the numbers an answer can be; the TP-ID refuses local delivery alone);
 -- Meaning, Search, Copies, Wanted, Reach and Keys (demand 2: what addresses name on every copy granted, no one-octet address leaves its domain; the
 -- route taken; which ports are wanted and granted; what holds of the settings in every state that a history reaches);
--- Counters, Named, Ledger and Oldest (demand 3: every counter, the four that the customer names, the ledger of a port, the order of taking);
--- Marked (page 01's marked cases, one table) and Wrong (its wrong relays and slips, each shown wrong).
--- The others serve these: Boards, that no rule reads a counter; Bits, Fair and Queues.
+-- Counters, Named, Sums, Ledger and Oldest (demand 3: every counter, the four that the customer names, by datagram and over a history, the ledger of a
+-- port, the order of taking);
+-- Marked (page 01's marked cases, one table), WrongRelays and Wrong (its wrong relays and its slips, each shown wrong).
+-- The others serve these: Boards, that no rule reads a counter; Small, that a set of ports is one of the eight; Bits, Fair and Queues.
 pub mod Boards
 pub mod Counters
 pub mod Bits
@@ -16,11 +17,14 @@ pub mod Meaning
 pub mod Oldest
 pub mod Named
 pub mod Listed
+pub mod Small
+pub mod Sums
 pub mod Marked
 pub mod Reach
 pub mod Keys
 pub mod Search
 pub mod Onward
 pub mod Wrong
+pub mod WrongRelays
 pub mod Wanted
 pub mod Copies

@@ -1,13 +1,12 @@
--- Page 01's wrong relays and tempting slips, each shown to be wrong at the definition that the code is proved against: what it would have to answer
--- is not what the definition gives. (Where one changed expression can make the slip, a must-fail edit tries that such code is refused.) Assumes nothing.
+-- Page 01's tempting slips, each shown to be wrong at the definition that the code is proved against: what it would have to answer is not what the
+-- definition gives. (Where one changed expression can make the slip, a must-fail edit tries that such code is refused.) Assumes nothing.
 use native.Mathlib.Omega.{arith}
-use Prim.Native.Nat.{ℕ, _+_, _%_, _^_, _<_}
-use mathlib.Core.Path.{_≡_, refl, sym, ap, _∙_}
+use Prim.Native.Nat.{ℕ}
+use mathlib.Core.Path.{_≡_, refl}
 use mathlib.Core.Bool.{true, false}
 use mathlib.Core.List.{List}
 use borrow.Author.Tests.{le-ltb}
 use Rattle.checks.specs.Order.{firstOf}
-use Rattle.checks.proofs.Bools.{true-false}
 use Rattle.address.specs.Octets.{dotted}
 use Rattle.address.specs.Class.{familyOf, scpsClass, netClass, classIn, classOf}
 use Rattle.address.specs.Mask.{onesBelow, onesOf}
@@ -17,9 +16,9 @@ use Rattle.datagram.specs.Asked.{spentOf}
 use Rattle.routes.specs.Refusals.{codesRefused}
 use Rattle.routes.specs.Routes.{matched, candidate}
 use Rattle.routes.specs.Search.{beaten, betterOf, searchFrom, searchOf}
-use Rattle.routes.specs.declared.Found.the-variants.{At, No}
+use Rattle.routes.specs.declared.Found.the-variants.{At}
 use Rattle.routes.proofs.Marked as marked
-use Rattle.state.specs.Relay.{Relay, counterIn}
+use Rattle.state.specs.Relay.{Relay}
 use Rattle.survey.specs.Survey.{isWide}
 use Rattle.survey.specs.declared.Sought.{Sought}
 use Rattle.records.specs.declared.Port.{Port}
@@ -30,40 +29,6 @@ use Rattle.taking.specs.Taking.{notSetUp}
 use Rattle.judge.specs.Ending.{callChecks, endingOf}
 use Rattle.refusals.specs.Lists.{portChecks}
 use Rattle.tally.specs.Tally.{counterFor}
-use Rattle.history.specs.Calls.{Call, done}
-use Rattle.history.specs.Board.{boardOf}
-use Rattle.history.specs.Tally.{givenBy}
-use Rattle.history.proofs.Counters.{Fit, one-call}
-
--- ---- wrong relays
-
--- case a, and what its route is
-case-a : searchOf (record { 0 = dotted 10 4 9 14 }) marked.all ≡ At 3 32 marked.D
-unfolding searchOf searchFrom betterOf beaten candidate matched onesOf onesBelow
-case-a = refl
-
--- one that always refuses finds no route in case a
-pub always-refusing : searchOf (record { 0 = dotted 10 4 9 14 }) marked.all ≡ No → ⊥
-always-refusing h = let e = sym case-a ∙ h in true-false cc
-
--- one that always names port 0 does so in case a
-pub always-port-0 : marked.D .port ≡ 0 → ⊥
-always-port-0 h = omega arith
-
--- one that does nothing leaves a counter that a call was to move by one
-pub doing-nothing : (i : ℕ) (inside : i < 15) (r : Relay) (c : Call) → Fit i inside r
-    → givenBy (boardOf r) c i ≡ 1 → counterIn (done r c) i ≡ counterIn r i → ⊥
-doing-nothing i inside r c f one same =
-    let step = one-call i inside r c f .0 in
-    let moved : counterIn r i ≡ (counterIn r i + 1) % 2 ^ 32 = sym same ∙ step ∙ ap (λ (n : ℕ). (counterIn r i + n) % 2 ^ 32) one in
-    omega (arith, moved, f .small)
-
--- one that copies its first answer has one class for two addresses
-pub copying-answers : classOf (dotted 10 4 9 15) ≡ classOf (dotted 10 4 9 16) → ⊥
-unfolding classOf classIn familyOf scpsClass netClass
-copying-answers h = true-false cc
-
--- ---- slips
 
 -- the multicast flag read as the top bit: z = 15 has it low, z = 130 has it high
 pub flag-is-low : (classOf (dotted 10 4 9 15) ≡ class.Multicast) × (classOf (dotted 10 4 9 130) ≡ class.Unicast)

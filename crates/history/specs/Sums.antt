@@ -1,0 +1,51 @@
+-- Counts over a history, from the calls and the boards alone: page 01, step 1 ("These two count nothing. All later ends count one in npInReceives")
+-- and below its table of refusal numbers ("npOutDiscards counts dropped copies .. npInDelivers counts deliveries, npForwDatagrams datagrams with at
+-- least one entry taken"). No counter and no table of counters is looked at here. Assumes nothing.
+use Prim.Native.Nat.{ℕ, zero, suc, _+_}
+use mathlib.Core.Bool.{not, _||_}
+use mathlib.Core.List.{List}
+use lib.ListN.{length}
+use lib.Dec.{eqb}
+use Rattle.sets.specs.Sets.{inSet}
+use Rattle.judge.specs.Ending.{endingOf}
+use Rattle.judge.specs.declared.Ending.{Ending}
+use Rattle.history.specs.Calls.{Call, setRouter, setPort, setRoute, setGroup, setPath, clearRoute, clearGroup, clearPath, receives, takes}
+use Rattle.history.specs.Board.{Board, onBoard, freshBoard}
+use Rattle.history.specs.Ledger.{one, sumOver}
+
+-- ---- what is counted of one received datagram
+-- it did not end in 16 or 17
+abbrev pub receipt : Ending → ℕ
+receipt e = one (not (eqb (e .refusal) 16 || eqb (e .refusal) 17))
+
+abbrev pub delivery : Ending → ℕ
+delivery e = one (eqb (e .ruling .local) 1)
+
+-- at least one port took an entry
+abbrev pub sentOn : Ending → ℕ
+sentOn e = one (not (eqb (e .ruling .took) 0))
+
+-- how many of the first n ports are in a set
+abbrev pub portsIn : ℕ → ℕ → ℕ
+portsIn zero set = 0
+portsIn (suc p) set = portsIn p set + one (inSet p set)
+
+-- the ports that dropped their copy
+abbrev pub drops : Ending → ℕ
+drops e = portsIn 8 (e .ruling .dropped)
+
+-- ---- over the calls, from a fresh relay on: only receiving is counted
+abbrev pub byEnding : (Ending → ℕ) → Board → Call → ℕ
+byEnding f b (setRouter x) = 0
+byEnding f b (setPort p address mask mtu) = 0
+byEnding f b (setRoute place prefix mask port availability capabilities) = 0
+byEnding f b (setGroup place address send subscribed) = 0
+byEnding f b (setPath place path send here) = 0
+byEnding f b (clearRoute place) = 0
+byEnding f b (clearGroup place) = 0
+byEnding f b (clearPath place) = 0
+byEnding f b (receives port slot octets output) = f (endingOf (onBoard b) port octets (length output))
+byEnding f b (takes port) = 0
+
+abbrev pub total : (Ending → ℕ) → List Call → ℕ
+total f cs = sumOver (byEnding f) freshBoard cs
