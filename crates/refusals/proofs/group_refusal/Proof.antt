@@ -26,10 +26,16 @@ past-target : (c : tie.After-enum-told) → Past 2 (start c)
 past-target c = passes _ _ _ (c .before .before .check-target .ensures) (c .enum-told .given .1) refl ∙ joined _ _ _ _
 
 past-subscribed : (c : tie.After-enum-told3) → Past 3 (start (c .before .before .before .before))
-past-subscribed c = passes _ _ _ (against _ _ _ _ (c .before .before .before .ready-ports .ensures) (c .before .before .check-set .ensures)) (c .enum-told3 .given .1) refl ∙ past-target (c .before .before .before .before)
+past-subscribed c =
+    passes _ _ _
+    (against _ _ _ _ (c .before .before .before .ready-ports .ensures) (c .before .before .check-set .ensures))
+    (c .enum-told3 .given .1) refl
+    ∙ past-target (c .before .before .before .before)
 
 past-class : (c : tie.After-enum-told5) → Past 4 (start (c .before .before .before .before .before .before .before))
-past-class c = passes _ _ _ (c .before .before .check-group-class .ensures) (c .enum-told5 .given .1) refl ∙ past-subscribed (c .before .before .before)
+past-class c =
+    passes _ _ _ (c .before .before .check-group-class .ensures) (c .enum-told5 .given .1) refl
+    ∙ past-subscribed (c .before .before .before)
 
 -- ---- the needs
 
@@ -58,7 +64,11 @@ enum-told-4 : tie.Need-enum-told-4
 enum-told-4 c = search needs
 
 returns-2 : tie.Need-returns-2
-returns-2 c = fails-here _ _ _ (against _ _ _ _ (c .before .before .before .ready-ports .ensures) (c .before .before .check-set .ensures)) (c .enum-told4 .given .1) ∙ past-target (c .before .before .before .before)
+returns-2 c =
+    fails-here _ _ _
+    (against _ _ _ _ (c .before .before .before .ready-ports .ensures) (c .before .before .check-set .ensures))
+    (c .enum-told4 .given .1)
+    ∙ past-target (c .before .before .before .before)
 
 check-group-class-requires : tie.Need-check-group-class-requires
 check-group-class-requires c κs = search needs
@@ -70,7 +80,9 @@ enum-told-6 : tie.Need-enum-told-6
 enum-told-6 c = search needs
 
 returns-3 : tie.Need-returns-3
-returns-3 c = fails-here _ _ _ (c .before .before .check-group-class .ensures) (c .enum-told6 .given .1) ∙ past-subscribed (c .before .before .before)
+returns-3 c =
+    fails-here _ _ _ (c .before .before .check-group-class .ensures) (c .enum-told6 .given .1)
+    ∙ past-subscribed (c .before .before .before)
 
 check-other-groups-requires : tie.Need-check-other-groups-requires
 check-other-groups-requires c κs = search needs
@@ -82,10 +94,14 @@ enum-told-8 : tie.Need-enum-told-8
 enum-told-8 c = search needs
 
 returns-4 : tie.Need-returns-4
-returns-4 c = fails-here _ _ _ (c .before .before .check-other-groups .ensures) (c .enum-told8 .given .1) ∙ past-class (c .before .before .before)
+returns-4 c =
+    fails-here _ _ _ (c .before .before .check-other-groups .ensures) (c .enum-told8 .given .1)
+    ∙ past-class (c .before .before .before)
 
 returns-5 : tie.Need-returns-5
-returns-5 c = passes _ _ _ (c .before .before .check-other-groups .ensures) (c .enum-told7 .given .1) none-left ∙ past-class (c .before .before .before)
+returns-5 c =
+    passes _ _ _ (c .before .before .check-other-groups .ensures) (c .enum-told7 .given .1) none-left
+    ∙ past-class (c .before .before .before)
 
 pub group-refusal-spec : {M : Type 1} → statement M
 group-refusal-spec =

@@ -25,7 +25,9 @@ past-target : (c : tie.After-enum-told) → Past 2 (start c)
 past-target c = passes _ _ _ (c .before .before .check-target .ensures) (c .enum-told .given .1) refl ∙ joined _ _ _ _
 
 past-class : (c : tie.After-enum-told3) → Past 3 (start (c .before .before .before))
-past-class c = passes _ _ _ (c .before .before .check-path-class .ensures) (c .enum-told3 .given .1) refl ∙ past-target (c .before .before .before)
+past-class c =
+    passes _ _ _ (c .before .before .check-path-class .ensures) (c .enum-told3 .given .1) refl
+    ∙ past-target (c .before .before .before)
 
 past-flag : (c : tie.After-enum-told5) → Past 4 (start (c .before .before .before .before .before .before))
 past-flag c = passes _ _ _ (c .before .before .check-flag .ensures) (c .enum-told5 .given .1) refl ∙ past-class (c .before .before .before)
@@ -54,7 +56,9 @@ enum-told-4 : tie.Need-enum-told-4
 enum-told-4 c = search needs
 
 returns-2 : tie.Need-returns-2
-returns-2 c = fails-here _ _ _ (c .before .before .check-path-class .ensures) (c .enum-told4 .given .1) ∙ past-target (c .before .before .before)
+returns-2 c =
+    fails-here _ _ _ (c .before .before .check-path-class .ensures) (c .enum-told4 .given .1)
+    ∙ past-target (c .before .before .before)
 
 check-flag-requires : tie.Need-check-flag-requires
 check-flag-requires c κs = search needs
@@ -78,10 +82,14 @@ enum-told-8 : tie.Need-enum-told-8
 enum-told-8 c = search needs
 
 returns-4 : tie.Need-returns-4
-returns-4 c = fails-here _ _ _ (c .before .before .check-other-paths .ensures) (c .enum-told8 .given .1) ∙ past-flag (c .before .before .before)
+returns-4 c =
+    fails-here _ _ _ (c .before .before .check-other-paths .ensures) (c .enum-told8 .given .1)
+    ∙ past-flag (c .before .before .before)
 
 returns-5 : tie.Need-returns-5
-returns-5 c = passes _ _ _ (c .before .before .check-other-paths .ensures) (c .enum-told7 .given .1) none-left ∙ past-flag (c .before .before .before)
+returns-5 c =
+    passes _ _ _ (c .before .before .check-other-paths .ensures) (c .enum-told7 .given .1) none-left
+    ∙ past-flag (c .before .before .before)
 
 pub path-refusal-spec : {M : Type 1} → statement M
 path-refusal-spec =

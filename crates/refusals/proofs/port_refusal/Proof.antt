@@ -26,10 +26,14 @@ past-place : (c : tie.After-enum-told) → Past 1 (start c)
 past-place c = passes _ _ _ (c .before .before .check-place .ensures) (c .enum-told .given .1) refl
 
 past-class : (c : tie.After-enum-told3) → Past 2 (start (c .before .before .before))
-past-class c = passes _ _ _ (c .before .before .check-port-class .ensures) (c .enum-told3 .given .1) refl ∙ past-place (c .before .before .before)
+past-class c =
+    passes _ _ _ (c .before .before .check-port-class .ensures) (c .enum-told3 .given .1) refl
+    ∙ past-place (c .before .before .before)
 
 past-mask : (c : tie.After-enum-told5) → Past 3 (start (c .before .before .before .before .before .before))
-past-mask c = passes _ _ _ (c .before .before .check-port-mask .ensures) (c .enum-told5 .given .1) refl ∙ past-class (c .before .before .before)
+past-mask c =
+    passes _ _ _ (c .before .before .check-port-mask .ensures) (c .enum-told5 .given .1) refl
+    ∙ past-class (c .before .before .before)
 
 past-mtu : (c : tie.After-enum-told7) → Past 4 (start (c .before .before .before .before .before .before .before .before .before))
 past-mtu c = passes _ _ _ (c .before .before .check-mtu .ensures) (c .enum-told7 .given .1) refl ∙ past-mask (c .before .before .before)
@@ -58,7 +62,9 @@ enum-told-4 : tie.Need-enum-told-4
 enum-told-4 c = search needs
 
 returns-2 : tie.Need-returns-2
-returns-2 c = fails-here _ _ _ (c .before .before .check-port-class .ensures) (c .enum-told4 .given .1) ∙ past-place (c .before .before .before)
+returns-2 c =
+    fails-here _ _ _ (c .before .before .check-port-class .ensures) (c .enum-told4 .given .1)
+    ∙ past-place (c .before .before .before)
 
 check-port-mask-requires : tie.Need-check-port-mask-requires
 check-port-mask-requires c κs = search needs
@@ -70,7 +76,9 @@ enum-told-6 : tie.Need-enum-told-6
 enum-told-6 c = search needs
 
 returns-3 : tie.Need-returns-3
-returns-3 c = fails-here _ _ _ (c .before .before .check-port-mask .ensures) (c .enum-told6 .given .1) ∙ past-class (c .before .before .before)
+returns-3 c =
+    fails-here _ _ _ (c .before .before .check-port-mask .ensures) (c .enum-told6 .given .1)
+    ∙ past-class (c .before .before .before)
 
 check-mtu-requires : tie.Need-check-mtu-requires
 check-mtu-requires c κs = search needs
@@ -99,7 +107,9 @@ returns-5 : tie.Need-returns-5
 returns-5 c = fails-here _ _ _ (c .before .before .check-idle .ensures) (c .enum-told10 .given .1) ∙ past-mtu (c .before .before .before)
 
 returns-6 : tie.Need-returns-6
-returns-6 c = passes _ _ _ (c .before .before .check-idle .ensures) (c .enum-told9 .given .1) none-left ∙ past-mtu (c .before .before .before)
+returns-6 c =
+    passes _ _ _ (c .before .before .check-idle .ensures) (c .enum-told9 .given .1) none-left
+    ∙ past-mtu (c .before .before .before)
 
 pub port-refusal-spec : {M : Type 1} → statement M
 port-refusal-spec =

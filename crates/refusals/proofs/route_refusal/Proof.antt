@@ -79,10 +79,14 @@ enum-told-4 : tie.Need-enum-told-4
 enum-told-4 c = search needs
 
 returns-3 : tie.Need-returns-3
-returns-3 c = fails-here _ _ _ (c .before .before .check-other-routes .ensures) (c .enum-told4 .given .1) ∙ past-tested (c .before .before .before)
+returns-3 c =
+    fails-here _ _ _ (c .before .before .check-other-routes .ensures) (c .enum-told4 .given .1)
+    ∙ past-tested (c .before .before .before)
 
 returns-4 : tie.Need-returns-4
-returns-4 c = passes _ _ _ (c .before .before .check-other-routes .ensures) (c .enum-told3 .given .1) none-left ∙ past-tested (c .before .before .before)
+returns-4 c =
+    passes _ _ _ (c .before .before .check-other-routes .ensures) (c .enum-told3 .given .1) none-left
+    ∙ past-tested (c .before .before .before)
 
 pub route-refusal-spec : {M : Type 1} → statement M
 route-refusal-spec =
