@@ -67,7 +67,8 @@ module _ (r : Relay) (sized : Sized r) (i : ℕ) where
 
   pub group-taken : (address : Address) (send subscribed : ℕ) → firstOf (groupChecks r i address send subscribed) ≡ 0
       → groupIn (settledGroup r i address send subscribed) i ≡ newGroup address send subscribed
-  group-taken address send subscribed none = written-back (λ y. groupIn y i) _ r _ i 16 _ refl none (group-back r sized i (newGroup address send subscribed))
+  group-taken address send subscribed none =
+      written-back (λ y. groupIn y i) _ r _ i 16 _ refl none (group-back r sized i (newGroup address send subscribed))
 
   pub path-taken : (path : PathAddress) (send here : ℕ) → firstOf (pathChecks r i path send here) ≡ 0
       → pathIn (settledPath r i path send here) i ≡ newPath path send here
