@@ -24,6 +24,6 @@ module _ (t : Bool) (n : ℕ) (new old : Relay) (answer : Check) (is : answer �
   pub check-failed : answer ≡ Failed → n ≢ 0 → (n ≡ firstOf ((t, n) ∷ [])) × (old ≡ settled (firstOf ((t, n) ∷ [])) new old)
   check-failed failed not-zero = refused n _ new old (fails-here t n [] is failed) not-zero
 
-  pub check-passed : answer ≡ Passed → (left : Relay) → left ≡ new
+  pub check-passed : (left : Relay) → left ≡ new → answer ≡ Passed
       → (0 ≡ firstOf ((t, n) ∷ [])) × (left ≡ settled (firstOf ((t, n) ∷ [])) new old)
-  check-passed passed left e = taken 0 _ new old (passes t n [] is passed none-left) left refl e
+  check-passed left e passed = taken 0 _ new old (passes t n [] is passed none-left) left refl e

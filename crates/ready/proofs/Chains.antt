@@ -4,11 +4,16 @@ use mathlib.Core.Path.{_≡_, refl, sym}
 use mathlib.Core.Logic.{_↔_, _≢_}
 use mathlib.Core.Bool.{Bool, true, false, not, _&&_}
 use mathlib.Core.List.{[], _∷_, _++_}
+use lib.ListN.{drop}
 use lib.Dec.{eqb}
 use borrow.Author.Tests.{eqb-false, not-true}
 use Rattle.checks.proofs.Bools.{and-true}
 use Rattle.checks.specs.Order.{Checks, firstOf, noneHolds, firstHolds, Numbered}
 use Rattle.checks.proofs.Laws.{zero-none, none-zero, number-first, first-number}
+
+-- past the first n checks the others decide
+abbrev pub Past : ℕ → Checks → Type 0
+Past n all = firstOf (drop n all) ≡ firstOf all
 
 -- ---- a list within a list
 after : (t : Bool) (n : ℕ) (xs ys : Checks) → (firstOf xs ≡ 0 → firstOf (xs ++ ys) ≡ firstOf ys)

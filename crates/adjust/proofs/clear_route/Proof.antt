@@ -26,9 +26,9 @@ same-length c = search needs
 
 returns-2 : tie.Need-returns-2
 returns-2 c =
-    let put = c .before .before in
-    let test = put .before .before in
-    check-passed _ _ _ _ _ (test .before .before .check-place .ensures) (test .enum-told .given .1) _ (put .put-route .ensures)
+    let put-route = c .before .before in
+    let test = put-route .before .before in
+    check-passed _ _ _ _ _ (test .before .before .check-place .ensures) _ (put-route .put-route .ensures) (test .enum-told .given .1)
 
 pub clear-route-spec : {M : Type 1} → statement M
 clear-route-spec =

@@ -25,9 +25,9 @@ same-length c = search needs
 
 returns-2 : tie.Need-returns-2
 returns-2 c =
-    let put = c .before .before in
-    let test = put .before .before in
-    check-passed _ _ _ _ _ (test .before .before .check-flag .ensures) (test .enum-told .given .1) _ (put .put-router .ensures)
+    let put-router = c .before .before in
+    let test = put-router .before .before in
+    check-passed _ _ _ _ _ (test .before .before .check-flag .ensures) _ (put-router .put-router .ensures) (test .enum-told .given .1)
 
 pub set-router-spec : {M : Type 1} → statement M
 set-router-spec =

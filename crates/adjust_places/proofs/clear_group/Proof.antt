@@ -26,9 +26,9 @@ same-length c = search needs
 
 returns-2 : tie.Need-returns-2
 returns-2 c =
-    let put = c .before .before in
-    let test = put .before .before in
-    check-passed _ _ _ _ _ (test .before .before .check-place .ensures) (test .enum-told .given .1) _ (put .put-group .ensures)
+    let put-group = c .before .before in
+    let test = put-group .before .before in
+    check-passed _ _ _ _ _ (test .before .before .check-place .ensures) _ (put-group .put-group .ensures) (test .enum-told .given .1)
 
 pub clear-group-spec : {M : Type 1} → statement M
 clear-group-spec =

@@ -26,9 +26,9 @@ same-length c = search needs
 
 returns-2 : tie.Need-returns-2
 returns-2 c =
-    let put = c .before .before in
-    let test = put .before .before in
-    check-passed _ _ _ _ _ (test .before .before .check-place .ensures) (test .enum-told .given .1) _ (put .put-path .ensures)
+    let put-path = c .before .before in
+    let test = put-path .before .before in
+    check-passed _ _ _ _ _ (test .before .before .check-place .ensures) _ (put-path .put-path .ensures) (test .enum-told .given .1)
 
 pub clear-path-spec : {M : Type 1} → statement M
 clear-path-spec =

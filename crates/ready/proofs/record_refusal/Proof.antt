@@ -1,24 +1,22 @@
 -- `ready::record_refusal` meets its contract: each return is past the checks before it. Assumes nothing.
 use borrow.Author.Needs.{needs}
-use Prim.Native.Nat.{ℕ}
-use mathlib.Core.Path.{_≡_, refl, _∙_}
-use lib.ListN.{drop}
-use Rattle.checks.specs.Order.{firstOf}
+use mathlib.Core.Path.{refl, _∙_}
+use Rattle.checks.specs.Order.{Checks}
 use Rattle.checks.proofs.Steps.{fails-here, passes, none-left}
 use Rattle.ready.specs.Record.{recordChecks}
+use Rattle.ready.proofs.Chains.{Past}
 use Rattle.ready.proofs.record_refusal.Statement.{statement}
 use Rattle.ready.proofs.record_refusal.Tie as tie
 
 -- ---- past the checks
 
--- past the first n checks the others decide
-abbrev Past : ℕ → tie.Start → Type 0
-Past n s = let all = recordChecks (s .args .ready) (s .args .x) in firstOf (drop n all) ≡ firstOf all
+abbrev tests : tie.Start → Checks
+tests s = recordChecks (s .args .ready) (s .args .x)
 
-past-port : (c : tie.After-enum-told) → Past 1 (c .before .before .before)
+past-port : (c : tie.After-enum-told) → Past 1 (tests (c .before .before .before))
 past-port c = passes _ _ _ (c .before .before .check-ready .ensures) (c .enum-told .given .1) refl
 
-past-prefix : (c : tie.After-enum-told3) → Past 2 (c .before .before .before .before .before .before)
+past-prefix : (c : tie.After-enum-told3) → Past 2 (tests (c .before .before .before .before .before .before))
 past-prefix c =
     passes _ _ _ (c .before .before .check-prefix .ensures) (c .enum-told3 .given .1) refl ∙ past-port (c .before .before .before)
 

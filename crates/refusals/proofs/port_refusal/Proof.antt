@@ -1,11 +1,10 @@
 -- `refusals::port_refusal` meets its contract: past each check the rest of the list decides. Assumes nothing.
 use borrow.Author.Needs.{needs}
-use Prim.Native.Nat.{ℕ}
-use mathlib.Core.Path.{_≡_, refl, _∙_}
-use lib.ListN.{drop}
-use Rattle.checks.specs.Order.{firstOf}
+use mathlib.Core.Path.{refl, _∙_}
+use Rattle.checks.specs.Order.{Checks}
 use Rattle.checks.proofs.Steps.{fails-here, passes, none-left}
 use Rattle.state.specs.Layout.{decode}
+use Rattle.ready.proofs.Chains.{Past}
 use Rattle.refusals.specs.Lists.{portChecks}
 use Rattle.refusals.proofs.Places.{tested-there}
 use Rattle.refusals.proofs.port_refusal.Statement.{statement}
@@ -13,29 +12,23 @@ use Rattle.refusals.proofs.port_refusal.Tie as tie
 
 -- ---- past the checks
 
--- past the first n checks the others decide
-abbrev Past : ℕ → tie.Start → Type 0
-Past n s =
-    let all = portChecks (decode (s .args .state .now)) (s .args .port) (s .args .address) (s .args .mask) (s .args .mtu) in
-    firstOf (drop n all) ≡ firstOf all
+abbrev tests : tie.Start → Checks
+tests s = portChecks (decode (s .args .state .now)) (s .args .port) (s .args .address) (s .args .mask) (s .args .mtu)
 
-abbrev start : tie.After-enum-told → tie.Start
-start c = c .before .before .before .before
-
-past-place : (c : tie.After-enum-told) → Past 1 (start c)
+past-place : (c : tie.After-enum-told) → Past 1 (tests (c .before .before .before .before))
 past-place c = passes _ _ _ (c .before .before .check-place .ensures) (c .enum-told .given .1) refl
 
-past-class : (c : tie.After-enum-told3) → Past 2 (start (c .before .before .before))
+past-class : (c : tie.After-enum-told3) → Past 2 (tests (c .before .before .before .before .before .before .before))
 past-class c =
     passes _ _ _ (c .before .before .check-port-class .ensures) (c .enum-told3 .given .1) refl
     ∙ past-place (c .before .before .before)
 
-past-mask : (c : tie.After-enum-told5) → Past 3 (start (c .before .before .before .before .before .before))
+past-mask : (c : tie.After-enum-told5) → Past 3 (tests (c .before .before .before .before .before .before .before .before .before .before))
 past-mask c =
     passes _ _ _ (c .before .before .check-port-mask .ensures) (c .enum-told5 .given .1) refl
     ∙ past-class (c .before .before .before)
 
-past-mtu : (c : tie.After-enum-told7) → Past 4 (start (c .before .before .before .before .before .before .before .before .before))
+past-mtu : (c : tie.After-enum-told7) → Past 4 (tests (c .before .before .before .before .before .before .before .before .before .before .before .before .before))
 past-mtu c = passes _ _ _ (c .before .before .check-mtu .ensures) (c .enum-told7 .given .1) refl ∙ past-mask (c .before .before .before)
 
 -- ---- the needs
@@ -95,7 +88,7 @@ returns-4 c = fails-here _ _ _ (c .before .before .check-mtu .ensures) (c .enum-
 check-idle-requires : tie.Need-check-idle-requires
 check-idle-requires c κs =
     let place = c .before .before .before .before .before .before .before .before .before in
-    (start place .pre, tested-there _ _ _ (place .before .before .check-place .ensures) (place .enum-told .given .1))
+    (place .before .before .before .before .pre, tested-there _ _ _ (place .before .before .check-place .ensures) (place .enum-told .given .1))
 
 enum-told-9 : tie.Need-enum-told-9
 enum-told-9 c = search needs

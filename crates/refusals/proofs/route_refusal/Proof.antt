@@ -2,32 +2,26 @@
 use borrow.Author.Needs.{needs}
 use Prim.Native.Nat.{ℕ}
 use mathlib.Core.Path.{_≡_, refl, ap, _∙_}
-use lib.ListN.{drop}
-use Rattle.checks.specs.Order.{firstOf}
+use Rattle.checks.specs.Order.{Checks, firstOf}
 use Rattle.checks.proofs.Steps.{fails-here, passes, none-left}
 use Rattle.state.specs.Layout.{decode}
 use Rattle.ready.specs.Ready.{readySet}
 use Rattle.ready.specs.Record.{recordChecks}
 use Rattle.ready.proofs.Record.{record-stops, past-record}
+use Rattle.ready.proofs.Chains.{Past}
 use Rattle.refusals.specs.Lists.{routeChecks}
 use Rattle.refusals.proofs.route_refusal.Statement.{statement}
 use Rattle.refusals.proofs.route_refusal.Tie as tie
 
 -- ---- past the checks
 
--- past the first n checks the others decide
-abbrev Past : ℕ → tie.Start → Type 0
-Past n s =
-    let all = routeChecks (decode (s .args .state .now)) (s .args .place) (s .args .x) in
-    firstOf (drop n all) ≡ firstOf all
-
-abbrev start : tie.After-enum-told → tie.Start
-start c = c .before .before .before .before
+abbrev tests : tie.Start → Checks
+tests s = routeChecks (decode (s .args .state .now)) (s .args .place) (s .args .x)
 
 abbrev at-record : tie.After-record-refusal → tie.Start
-at-record c = start (c .before .before)
+at-record c = c .before .before .before .before .before .before
 
-past-place : (c : tie.After-enum-told) → Past 1 (start c)
+past-place : (c : tie.After-enum-told) → Past 1 (tests (c .before .before .before .before))
 past-place c = passes _ _ _ (c .before .before .check-place .ensures) (c .enum-told .given .1) refl
 
 -- the record is tested against the ports that are set up
@@ -37,7 +31,7 @@ tested c =
     c .record-refusal .ensures
     ∙ ap (λ (s : ℕ). firstOf (recordChecks s (at-record c .args .x))) (c .before .ready-ports .ensures)
 
-past-tested : (c : tie.Else1) → Past 4 (at-record (c .before))
+past-tested : (c : tie.Else1) → Past 4 (tests (at-record (c .before)))
 past-tested c =
     let s = at-record (c .before) in
     past-record (readySet (decode (s .args .state .now))) (s .args .x) _ _ (tested (c .before)) (c .if1 .left)
