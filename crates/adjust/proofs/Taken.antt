@@ -1,13 +1,14 @@
 -- What holds after a settings call: page 01, "Settings" ("A setting that no rule here refuses is taken and holds until it is changed").
 -- A refused call changes nothing; of a taken one the record is read back; no other place and no other part changes, either way.
 -- Assumes nothing.
-use Prim.Native.Nat.{ℕ}
+use Prim.Native.Nat.{ℕ, _<_}
 use mathlib.Core.Path.{_≡_, refl, ap, _∙_}
 use mathlib.Core.Logic.{_≢_}
 use mathlib.Core.Bool.{Bool, true, false}
+use mathlib.Core.List.{_∷_}
 use lib.Dec.{eqb}
 use borrow.Author.Tests.{eq-eqb, ne-eqb}
-use Rattle.checks.specs.Order.{pick, firstOf}
+use Rattle.checks.specs.Order.{pick, Checks, firstOf}
 use Rattle.address.specs.declared.Address.{Address}
 use Rattle.address.specs.declared.Mask.{Mask}
 use Rattle.address.specs.declared.PathAddress.{PathAddress}
@@ -23,6 +24,8 @@ use Rattle.state.proofs.Sizes.{Sized}
 use Rattle.state.proofs.Places.{port-back, route-back, group-back, path-back, port-left, route-left, group-left, path-left}
 use Rattle.refusals.specs.Lists.{portChecks, routeChecks, groupChecks, pathChecks, routerChecks, clearChecks}
 use Rattle.refusals.proofs.Places.{place-there}
+use Rattle.settings.specs.Refusals.{placeRefused}
+use Rattle.ready.proofs.Chains.{areNumbers}
 use Rattle.adjust.specs.Settled.{settled, newPort, newGroup, newPath}
 use Rattle.adjust.specs.Settled.{settledRouter, settledPort, settledRoute, settledGroup, settledPath}
 use Rattle.adjust.specs.Settled.{clearedRoute, clearedGroup, clearedPath}
@@ -47,45 +50,39 @@ module _ (refusal : ℕ) (new old : Relay) where
 pub router-taken : (r : Relay) (router : ℕ) → firstOf (routerChecks router) ≡ 0 → settledRouter r router .router ≡ router
 router-taken r router none = ap (λ (x : Relay). x .router) (taken-new _ (withRouter r router) r none)
 
+-- a place that was written, its number tested first: what a view of the new state shows of a place that is there
+written-back : {A : Type 0} (view : Relay → A) (new old : Relay) (x : A) (i places : ℕ) (more : Checks) → areNumbers more ≡ true
+    → firstOf ((placeRefused i places, 21) ∷ more) ≡ 0 → (i < places → view new ≡ x)
+    → view (settled (firstOf ((placeRefused i places, 21) ∷ more)) new old) ≡ x
+written-back {A} view new old x i places more numbers none back =
+    ap view (taken-new _ new old none) ∙ back (place-there i places more _ numbers refl none)
+
 module _ (r : Relay) (sized : Sized r) (i : ℕ) where
   pub port-taken : (address : Address) (mask : Mask) (mtu : ℕ) → firstOf (portChecks r i address mask mtu) ≡ 0
       → portIn (settledPort r i address mask mtu) i ≡ newPort address mask mtu
-  port-taken address mask mtu none =
-      ap (λ (x : Relay). portIn x i) (taken-new _ (withPort r i _) r none)
-      ∙ port-back r sized i (newPort address mask mtu) (place-there i 8 _ _ refl refl none)
+  port-taken address mask mtu none = written-back (λ y. portIn y i) _ r _ i 8 _ refl none (port-back r sized i (newPort address mask mtu))
 
   pub route-taken : (x : Route) → firstOf (routeChecks r i x) ≡ 0 → routeIn (settledRoute r i x) i ≡ x
-  route-taken x none =
-      ap (λ (y : Relay). routeIn y i) (taken-new _ (withRoute r i x) r none)
-      ∙ route-back r sized i x (place-there i 64 _ _ refl refl none)
+  route-taken x none = written-back (λ y. routeIn y i) _ r _ i 64 _ refl none (route-back r sized i x)
 
   pub group-taken : (address : Address) (send subscribed : ℕ) → firstOf (groupChecks r i address send subscribed) ≡ 0
       → groupIn (settledGroup r i address send subscribed) i ≡ newGroup address send subscribed
   group-taken address send subscribed none =
-      ap (λ (x : Relay). groupIn x i) (taken-new _ (withGroup r i _) r none)
-      ∙ group-back r sized i (newGroup address send subscribed) (place-there i 16 _ _ refl refl none)
+      written-back (λ y. groupIn y i) _ r _ i 16 _ refl none (group-back r sized i (newGroup address send subscribed))
 
   pub path-taken : (path : PathAddress) (send here : ℕ) → firstOf (pathChecks r i path send here) ≡ 0
       → pathIn (settledPath r i path send here) i ≡ newPath path send here
-  path-taken path send here none =
-      ap (λ (x : Relay). pathIn x i) (taken-new _ (withPath r i _) r none)
-      ∙ path-back r sized i (newPath path send here) (place-there i 16 _ _ refl refl none)
+  path-taken path send here none = written-back (λ y. pathIn y i) _ r _ i 16 _ refl none (path-back r sized i (newPath path send here))
 
   -- an emptied place is a fresh one
   pub route-emptied : firstOf (clearChecks i 64) ≡ 0 → routeIn (clearedRoute r i) i ≡ emptyRoute
-  route-emptied none =
-      ap (λ (x : Relay). routeIn x i) (taken-new _ (withRoute r i _) r none)
-      ∙ route-back r sized i emptyRoute (place-there i 64 _ _ refl refl none)
+  route-emptied none = written-back (λ y. routeIn y i) _ r _ i 64 _ refl none (route-back r sized i emptyRoute)
 
   pub group-emptied : firstOf (clearChecks i 16) ≡ 0 → groupIn (clearedGroup r i) i ≡ freshGroup
-  group-emptied none =
-      ap (λ (x : Relay). groupIn x i) (taken-new _ (withGroup r i _) r none)
-      ∙ group-back r sized i freshGroup (place-there i 16 _ _ refl refl none)
+  group-emptied none = written-back (λ y. groupIn y i) _ r _ i 16 _ refl none (group-back r sized i freshGroup)
 
   pub path-emptied : firstOf (clearChecks i 16) ≡ 0 → pathIn (clearedPath r i) i ≡ freshPath
-  path-emptied none =
-      ap (λ (x : Relay). pathIn x i) (taken-new _ (withPath r i _) r none)
-      ∙ path-back r sized i freshPath (place-there i 16 _ _ refl refl none)
+  path-emptied none = written-back (λ y. pathIn y i) _ r _ i 16 _ refl none (path-back r sized i freshPath)
 
 -- ---- no other place and no other part changes, whatever is written and whatever the answer
 -- No other place of the same kind.

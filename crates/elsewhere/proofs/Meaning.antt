@@ -1,11 +1,11 @@
 -- What 23 says: a place other than the one that is written holds the same entry. Assumes nothing.
 use Prim.Native.Nat.{ℕ, _<_}
-use mathlib.Core.Path.{_≡_, sym}
+use mathlib.Core.Path.{_≡_}
 use mathlib.Core.Logic.{_↔_, _≢_}
-use mathlib.Core.Bool.{Bool, true, false, not, _&&_}
+use mathlib.Core.Bool.{Bool, true, not, _&&_}
 use lib.Dec.{eqb}
-use borrow.Author.Tests.{ne-eqb, eqb-false}
-use Rattle.checks.proofs.Bools.{true-false}
+use borrow.Author.Tests.{ne-eqb, eqb-false, not-true}
+use Rattle.checks.proofs.Bools.{and-true}
 use Rattle.address.specs.declared.Address.{Address}
 use Rattle.address.specs.declared.PathAddress.{PathAddress}
 use Rattle.routes.specs.declared.Route.{Route}
@@ -15,10 +15,6 @@ use Rattle.sets.proofs.Anywhere.{any-is}
 use Rattle.state.specs.Relay.{Relay, groupIn, pathIn, routeIn}
 use Rattle.records.specs.Held.{holdsGroup, holdsPath}
 use Rattle.elsewhere.specs.Elsewhere.{routeElsewhere, groupElsewhere, pathElsewhere}
-
-both : (t u : Bool) → (not t && u) ≡ true → (t ≡ false) × (u ≡ true)
-both true u e = true-false (sym e)
-both false u e = (let z : false ≡ false = cc in z, e)
 
 -- some place but i, among n, that the test holds at
 abbrev pub Elsewhere : (ℕ → Bool) → ℕ → ℕ → Type 0
@@ -30,8 +26,8 @@ elsewhere holds i n = (there, back)
     there : anyBelow (λ j. not (eqb j i) && holds j) n ≡ true → Elsewhere holds i n
     there e =
         let at = any-is (λ j. not (eqb j i) && holds j) n .0 e in
-        let p = both (eqb (at .0) i) (holds (at .0)) (at .2) in
-        (at .0, at .1, eqb-false (at .0) i (p .0), p .1)
+        let p = and-true (not (eqb (at .0) i)) (holds (at .0)) (at .2) in
+        (at .0, at .1, eqb-false (at .0) i (not-true (eqb (at .0) i) (p .0)), p .1)
 
     back : Elsewhere holds i n → anyBelow (λ j. not (eqb j i) && holds j) n ≡ true
     back at = any-is (λ j. not (eqb j i) && holds j) n .1 (at .0, at .1, rw (ne-eqb (at .0) i (at .2)) (at .3))

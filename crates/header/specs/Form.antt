@@ -79,12 +79,12 @@ bits36to39 k = k .third % 16
 
 -- what 003 does not allow (tables 3-4, 3-6 and 3-8; page 01, refusal 4): IPv6 addresses that are extended or have no source; reserved and
 -- unassigned bits set, a fourth control octet, no destination
-abbrev pub forbiddenIpv6 : Control → Bool
-forbiddenIpv6 k = eqb (isIpv6 k) 1 && (eqb (isExtended k) 1 || eqb (hasSource k) 0)
+abbrev pub wrongIpv6 : ℕ → ℕ → ℕ → Bool
+wrongIpv6 ipv6 extended sourced = eqb ipv6 1 && (eqb extended 1 || eqb sourced 0)
 
 unfoldable pub forbidden : Control → Bool
 forbidden k =
-    eqb (bit21 k) 1 || (eqb (hasDestination k) 0 || (eqb (bit29 k) 1 || (eqb (bit32 k) 1 || (not (eqb (bits36to39 k) 0) || forbiddenIpv6 k))))
+    eqb (bit21 k) 1 || (eqb (hasDestination k) 0 || (eqb (bit29 k) 1 || (eqb (bit32 k) 1 || (not (eqb (bits36to39 k) 0) || wrongIpv6 (isIpv6 k) (isExtended k) (hasSource k)))))
 
 -- octets of one address (table 3-5)
 unfoldable pub addressSize : Control → ℕ

@@ -25,7 +25,7 @@ use Rattle.numbers.specs.Numbers.{narrow, destinationOf, sourceOf, precedenceOf
 use Rattle.numbers.specs.declared.Wide.{Wide}
 use Rattle.numbers.specs.declared.Numbers.{Numbers}
 use Rattle.gather.specs.Fields.{addressesFrom, qosFrom, octetFrom, stampFrom, fieldsFrom}
-use Rattle.intake.specs.Out.{wideOut, addressFlagsOut, addressWidthsOut, octetOut, qosOut, stampOut, octetsOut, elementsOut, numbersOut}
+use Rattle.intake.specs.Out.{wideOut, anyOver, addressFlagsOut, addressWidthsOut, octetOut, qosOut, stampOut, octetsOut, elementsOut, numbersOut}
 
 -- ---- from numbers to fields and back
 
@@ -78,15 +78,21 @@ module _ (n : Numbers) (six : (eqb (n .ipv6) 1 && (eqb (n .extended) 1 || eqb (n
       rw (is-i, is-e, is-s)
       (record { destination = narrow-back 256 _ (w .0); source = absent-back _ (w .1); sourced = refl; extended = refl; ipv6 = refl })
 
+all-under : (m x y z : ℕ) → anyOver m x y z ≡ false → (x < m) × (y < m) × (z < m)
+unfolding anyOver
+all-under m x y z h =
+    let p = or-false (leb m x) _ h in
+    let q = or-false (leb m y) (leb m z) (p .1) in
+    (leb-false m x (p .0), leb-false m y (q .0), leb-false m z (q .1))
+
 addresses-back : (n : Numbers) → addressFlagsOut n ≡ false → addressWidthsOut n ≡ false → AddressesBack n (addressesFrom n)
 unfolding addressFlagsOut
 addresses-back n h widths =
-    let p = or-false (leb 2 (n .sourced)) _ h in
-    let q = or-false (leb 2 (n .extended)) _ (p .1) in
-    let r = or-false (leb 2 (n .ipv6)) _ (q .1) in
-    addresses-case n (r .1) widths (eqb (n .ipv6) 1) (eqb (n .extended) 1) (eqb (n .sourced) 1) (flag (n .ipv6) (leb-false 2 (n .ipv6) (r .0)))
-    (flag (n .extended) (leb-false 2 (n .extended) (q .0)))
-    (flag (n .sourced) (leb-false 2 (n .sourced) (p .0)))
+    let p = or-false (anyOver 2 (n .sourced) (n .extended) (n .ipv6)) _ h in
+    let under = all-under 2 (n .sourced) (n .extended) (n .ipv6) (p .0) in
+    addresses-case n (p .1) widths (eqb (n .ipv6) 1) (eqb (n .extended) 1) (eqb (n .sourced) 1) (flag (n .ipv6) (under .2))
+    (flag (n .extended) (under .1))
+    (flag (n .sourced) (under .0))
 
 octet-in : (on v : ℕ) → octetOut on v ≡ false → (on < 2) × (v < pick (eqb on 0) 1 256)
 unfolding octetOut
@@ -152,7 +158,7 @@ stamp-back n (suc (suc (suc (suc format)))) e h =
 
 -- numbers that are not refused are those of the fields that they stand for
 pub numbers-back : (n : Numbers) → numbersOut n ≡ false → numbersOf (fieldsFrom n) ≡ n
-unfolding numbersOut octetsOut elementsOut numbersOf fieldsFrom
+unfolding numbersOut elementsOut numbersOf fieldsFrom
 numbers-back n h =
     let p = or-false (octetsOut n) _ h in
     let q = or-false (addressFlagsOut n) _ (p .1) in
@@ -160,16 +166,15 @@ numbers-back n h =
     let s = or-false (qosOut n) _ (r .1) in
     let t = or-false (octetOut (n .counted) (n .hops)) _ (s .1) in
     let u = or-false (octetOut (n .expands) (n .expanded)) (stampOut n) (t .1) in
-    let v = or-false (leb 256 (n .tpid)) _ (p .0) in
-    let w = or-false (leb 256 (n .checksum)) (leb 256 (n .intermediate)) (v .1) in
+    let under = all-under 256 (n .tpid) (n .checksum) (n .intermediate) (p .0) in
     let addresses = addresses-back n (q .0) (r .0) in
     let qos = qos-back n (s .0) in
     let hops = octet-back (n .counted) (n .hops) (t .0) in
     let expanded = octet-back (n .expands) (n .expanded) (u .0) in
     let stamp = stamp-back n (n .format) refl (u .1) in
-    let tpid = mod-eq-of-lt (leb-false 256 (n .tpid) (v .0)) in
-    let checksum = mod-eq-of-lt (leb-false 256 (n .checksum) (w .0)) in
-    let intermediate = mod-eq-of-lt (leb-false 256 (n .intermediate) (w .1)) in
+    let tpid = mod-eq-of-lt (under .0) in
+    let checksum = mod-eq-of-lt (under .1) in
+    let intermediate = mod-eq-of-lt (under .2) in
     rw
     (← addresses .destination, ← addresses .source, ← addresses .sourced, ← addresses .extended, ← addresses .ipv6, ← qos .qualified, ← qos .precedence, ← qos .routing, ← qos .program, ← hops .0, ← hops .1, ← stamp .time, ← stamp .format, ← stamp .pfield, ← expanded .0, ← expanded .1, tpid, checksum, intermediate)
 
@@ -177,7 +182,7 @@ numbers-back n h =
 
 addresses-there : (f : Fields) (a : Addresses) → f .addresses ≡ a → addressesFit a
     → (addressFlagsOut (numbersOf f) ≡ false) × ((addressWidthsOut (numbersOf f) ≡ false) × (addressesFrom (numbersOf f) ≡ a))
-unfolding numbersOf addressFlagsOut addressWidthsOut addressesFrom
+unfolding numbersOf anyOver addressFlagsOut addressWidthsOut addressesFrom
 addresses-there f (BasicPath d) e t = rw e (refl, (simp (lt-leb 256 d t), rw (mod-eq-of-lt t)))
 addresses-there f (ExtendedPath p) e t = rw e (refl, (simp (lt-leb (256 ^ 4) (p .0) t), rw (mod-eq-of-lt t)))
 addresses-there f (BasicEndSystem d s) e t =
@@ -207,7 +212,7 @@ stamp-there f (stamp.Binary v) e t = rw e (refl, refl)
 
 -- the numbers of fields are never refused, and stand for these fields
 pub fields-back : (f : Fields) → Typed f → (numbersOut (numbersOf f) ≡ false) × (fieldsFrom (numbersOf f) ≡ f)
-unfolding numbersOut octetsOut elementsOut numbersOf fieldsFrom
+unfolding numbersOut anyOver elementsOut numbersOf fieldsFrom
 fields-back f t =
     let addresses = addresses-there f (f .addresses) refl (t .addresses) in
     let qos = qos-there f (f .qos) refl (t .qos) in

@@ -4,6 +4,7 @@ use Prim.Native.Nat.{ℕ, _^_}
 use mathlib.Core.Bool.{Bool, not, _&&_, _||_}
 use lib.Dec.{eqb, leb}
 use Rattle.checks.specs.Order.{pick}
+use Rattle.header.specs.Form.{wrongIpv6}
 use Rattle.numbers.specs.declared.Wide.{Wide}
 use Rattle.numbers.specs.declared.Numbers.{Numbers}
 
@@ -15,10 +16,13 @@ wideOut m w = not (eqb (w .high) 0) || leb m (w .low)
 abbrev pub addressLimit : ℕ → ℕ → ℕ
 addressLimit on extended = pick (eqb on 0) 1 (pick (eqb extended 1) (256 ^ 4) 256)
 
+-- one of three numbers is m or more
+unfoldable pub anyOver : ℕ → ℕ → ℕ → ℕ → Bool
+anyOver m x y z = leb m x || (leb m y || leb m z)
+
 -- flags that are no flags; IPv6 that is extended or has no source
 unfoldable pub addressFlagsOut : Numbers → Bool
-addressFlagsOut n =
-    leb 2 (n .sourced) || (leb 2 (n .extended) || (leb 2 (n .ipv6) || (eqb (n .ipv6) 1 && (eqb (n .extended) 1 || eqb (n .sourced) 0))))
+addressFlagsOut n = anyOver 2 (n .sourced) (n .extended) (n .ipv6) || wrongIpv6 (n .ipv6) (n .extended) (n .sourced)
 
 -- an address wider than its type, or a source that is absent and not 0
 unfoldable pub addressWidthsOut : Numbers → Bool
@@ -42,8 +46,8 @@ unfoldable pub stampOut : Numbers → Bool
 stampOut n = leb 4 (n .format) || (leb (pfieldLimit (n .format)) (n .pfield) || (eqb (n .format) 0 && not (eqb (n .time) 0)))
 
 -- TP-ID and the two flags, wider than an octet
-unfoldable pub octetsOut : Numbers → Bool
-octetsOut n = leb 256 (n .tpid) || (leb 256 (n .checksum) || leb 256 (n .intermediate))
+abbrev pub octetsOut : Numbers → Bool
+octetsOut n = anyOver 256 (n .tpid) (n .checksum) (n .intermediate)
 
 unfoldable pub elementsOut : Numbers → Bool
 elementsOut n = qosOut n || (octetOut (n .counted) (n .hops) || (octetOut (n .expands) (n .expanded) || stampOut n))

@@ -12,13 +12,13 @@ ghost use Rattle.checks.specs.Order.{checkOf};
 ghost use Rattle.intake.specs.Out.{
   wideOut,
   addressLimit,
+  anyOver,
   addressFlagsOut,
   addressWidthsOut,
   octetOut,
   qosOut,
   pfieldLimit,
   stampOut,
-  octetsOut,
   elementsOut,
   numbersOut,
 };
@@ -49,29 +49,30 @@ fn address_limit(on: u32, extended: u32) -> u64
     256
 }
 
+// Three numbers under a limit.
+fn check_under(limit: u32, x: u32, y: u32, z: u32) -> Check
+    ensures { λ r. ⌜ r ≡ checkOf (anyOver limit x y z) ⌝ }
+{
+    if limit <= x {
+        return Check::Failed;
+    }
+    if limit <= y {
+        return Check::Failed;
+    }
+    if limit <= z {
+        return Check::Failed;
+    }
+    Check::Passed
+}
+
 // The address flags are flags and go together.
 fn check_address_flags(n: Numbers) -> Check
     ensures { λ r. ⌜ r ≡ checkOf (addressFlagsOut n) ⌝ }
 {
-    if 2 <= n.sourced {
+    let Check::Passed = check_under(2, n.sourced, n.extended, n.ipv6) else {
         return Check::Failed;
-    }
-    if 2 <= n.extended {
-        return Check::Failed;
-    }
-    if 2 <= n.ipv6 {
-        return Check::Failed;
-    }
-    if n.ipv6 != 1 {
-        return Check::Passed;
-    }
-    if n.extended == 1 {
-        return Check::Failed;
-    }
-    if n.sourced == 0 {
-        return Check::Failed;
-    }
-    Check::Passed
+    };
+    layout::check_ipv6(n.ipv6, n.extended, n.sourced)
 }
 
 // The addresses fit their type, IPv6 addresses always.
@@ -150,22 +151,6 @@ fn check_stamp(n: Numbers) -> Check
     Check::Passed
 }
 
-// TP-ID and the two flags fit an octet; the builder bounds them further.
-fn check_octets(n: Numbers) -> Check
-    ensures { λ r. ⌜ r ≡ checkOf (octetsOut n) ⌝ }
-{
-    if 256 <= n.tpid {
-        return Check::Failed;
-    }
-    if 256 <= n.checksum {
-        return Check::Failed;
-    }
-    if 256 <= n.intermediate {
-        return Check::Failed;
-    }
-    Check::Passed
-}
-
 // The elements behind the addresses.
 fn check_elements(n: Numbers) -> Check
     ensures { λ r. ⌜ r ≡ checkOf (elementsOut n) ⌝ }
@@ -182,11 +167,11 @@ fn check_elements(n: Numbers) -> Check
     check_stamp(n)
 }
 
-// The numbers stand for some fields.
+// The numbers stand for some fields: TP-ID and the two flags fit an octet (the builder bounds them further), and so on.
 pub fn check_numbers(n: Numbers) -> Check
     ensures { λ r. ⌜ r ≡ checkOf (numbersOut n) ⌝ }
 {
-    let Check::Passed = check_octets(n) else {
+    let Check::Passed = check_under(256, n.tpid, n.checksum, n.intermediate) else {
         return Check::Failed;
     };
     let Check::Passed = check_address_flags(n) else {

@@ -9,7 +9,7 @@ use header::Layout;
 ghost use mathlib.Core.Path.{_≡_};
 ghost use Prim.Native.Nat.{_≤_};
 ghost use Rattle.checks.specs.Order.{checkOf};
-ghost use Rattle.header.specs.Form.{controlOf, forbidden, forbiddenIpv6, addressSize, stampSize, layoutOf};
+ghost use Rattle.header.specs.Form.{controlOf, forbidden, wrongIpv6, addressSize, stampSize, layoutOf};
 
 // The control field of the octets; an octet that is not there counts as 0.
 pub fn control_of(s: &[u8]) -> Control
@@ -45,20 +45,24 @@ pub fn check_form(k: Control) -> Check
     if k.third % 16 != 0 {
         return Check::Failed;
     }
-    check_ipv6(k)
+    check_ipv6(
+        (k.third / 64 % 2) as u32,
+        (k.second % 2) as u32,
+        (k.second / 64 % 2) as u32,
+    )
 }
 
 // IPv6 addresses are not extended and come with a source.
-fn check_ipv6(k: Control) -> Check
-    ensures { λ r. ⌜ r ≡ checkOf (forbiddenIpv6 k) ⌝ }
+pub fn check_ipv6(ipv6: u32, extended: u32, sourced: u32) -> Check
+    ensures { λ r. ⌜ r ≡ checkOf (wrongIpv6 ipv6 extended sourced) ⌝ }
 {
-    if k.third / 64 % 2 != 1 {
+    if ipv6 != 1 {
         return Check::Passed;
     }
-    if k.second % 2 == 1 {
+    if extended == 1 {
         return Check::Failed;
     }
-    if k.second / 64 % 2 == 0 {
+    if sourced == 0 {
         return Check::Failed;
     }
     Check::Passed

@@ -4,6 +4,7 @@ use mathlib.Core.Bool.{Bool, false, not, _&&_, _||_}
 use lib.Dec.{eqb}
 use Rattle.address.specs.Class.{classOf, classNumber}
 use Rattle.address.specs.Path.{pathForm, pathNumber}
+use Rattle.header.specs.Build.{ipv6Flag}
 use Rattle.header.specs.declared.Fields.{Fields}
 use Rattle.header.specs.declared.Addresses.{Addresses}
 use Rattle.header.specs.declared.Addresses.the-variants.{BasicPath, ExtendedPath, BasicEndSystem, ExtendedEndSystem, Ipv6}
@@ -41,20 +42,13 @@ isBasic (BasicEndSystem d s) = 1
 isBasic (ExtendedEndSystem d s) = 0
 isBasic (Ipv6 d s) = 0
 
-abbrev pub isIpv6 : Addresses → ℕ
-isIpv6 (BasicPath z) = 0
-isIpv6 (ExtendedPath p) = 0
-isIpv6 (BasicEndSystem d s) = 0
-isIpv6 (ExtendedEndSystem d s) = 0
-isIpv6 (Ipv6 d s) = 1
-
 abbrev pub routingOf : Qos → ℕ
 routingOf qos.Absent = 0
 routingOf (qos.Present precedence routing program) = routing
 
 -- 8: routing requirements not 0, or IPv6 addresses
 abbrev pub notCarried : Fields → Bool
-notCarried f = not (eqb (routingOf (f .qos)) 0) || not (eqb (isIpv6 (f .addresses)) 0)
+notCarried f = not (eqb (routingOf (f .qos)) 0) || not (eqb (ipv6Flag (f .addresses)) 0)
 
 -- 7: a one-octet address, and the arrival port's address does not begin with 10
 abbrev pub noDomain : ℕ → Addresses → Bool

@@ -18,7 +18,6 @@ ghost use Rattle.meaning.specs.Names.{
   aimOf,
   sourceOf,
   isBasic,
-  isIpv6,
   routingOf,
   notCarried,
   noDomain,
@@ -87,19 +86,6 @@ pub fn is_basic(a: Addresses) -> u32
     }
 }
 
-// 1 for IPv6 addresses, else 0.
-fn is_ipv6(a: Addresses) -> u32
-    ensures { λ r. ⌜ r ≡ isIpv6 a ⌝ }
-{
-    match a {
-        Addresses::BasicPath(_) => 0,
-        Addresses::ExtendedPath(_) => 0,
-        Addresses::BasicEndSystem(_, _) => 0,
-        Addresses::ExtendedEndSystem(_, _) => 0,
-        Addresses::Ipv6(_, _) => 1,
-    }
-}
-
 // The routing requirements, 0 where there is no basic QOS.
 fn routing_of(q: Qos) -> u8
     ensures { λ r. ⌜ r ≡ routingOf q ⌝ }
@@ -119,7 +105,7 @@ pub fn check_carried(f: Fields) -> Check
     if routing_of(qos) != 0 {
         return Check::Failed;
     }
-    if is_ipv6(addresses) != 0 {
+    if flags::ipv6_flag(addresses) != 0 {
         return Check::Failed;
     }
     Check::Passed

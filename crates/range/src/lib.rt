@@ -18,16 +18,7 @@ fn numbers_in(octets: usize) -> u64
     requires { ⌜ octets ≤ 7 ⌝ }
     ensures { λ r. ⌜ r ≡ 256 ^ octets ⌝ }
 {
-    match octets {
-        0 => 1,
-        1 => 256,
-        2 => 65536,
-        3 => 16777216,
-        4 => 4294967296,
-        5 => 1099511627776,
-        6 => 281474976710656,
-        _ => 72057594037927936,
-    }
+    1u64 << (8 * octets)
 }
 
 // Precedence under 16, routing requirements and program specific under 4.

@@ -1,40 +1,19 @@
--- Checks in a row, as `let .. else` takes them: what a passed and a failed check make of the number of the list. Assumes nothing.
+-- Lists of checks: what stands behind others, and what the number of a whole list says. Assumes nothing.
 use Prim.Native.Nat.{ℕ}
-use mathlib.Core.Path.{_≡_, refl, sym, _∙_}
+use mathlib.Core.Path.{_≡_, refl, sym}
 use mathlib.Core.Logic.{_↔_, _≢_}
 use mathlib.Core.Bool.{Bool, true, false, not, _&&_}
 use mathlib.Core.List.{[], _∷_, _++_}
+use lib.ListN.{drop}
 use lib.Dec.{eqb}
-use borrow.Author.Tests.{eqb-false}
-use Rattle.checks.proofs.Bools.{true-false}
-use Rattle.checks.specs.Order.{checkOf, Checks, firstOf, noneHolds, firstHolds, Numbered}
-use Rattle.checks.specs.declared.Check.{Check}
-use Rattle.checks.specs.declared.Check.the-variants.{Passed, Failed}
-use Rattle.checks.proofs.Laws.{passed-false, failed-true, zero-none, none-zero, number-first, first-number}
+use borrow.Author.Tests.{eqb-false, not-true}
+use Rattle.checks.proofs.Bools.{and-true}
+use Rattle.checks.specs.Order.{Checks, firstOf, noneHolds, firstHolds, Numbered}
+use Rattle.checks.proofs.Laws.{zero-none, none-zero, number-first, first-number}
 
--- past the checks before them, what the rest of the list gives is what the whole list gives
-abbrev pub Onward : Checks → Checks → Type 0
-Onward rest all = (r : ℕ) → r ≡ firstOf rest → r ≡ firstOf all
-
--- ---- one check
-module _ (t : Bool) (n : ℕ) (cs : Checks) where
-  pub held : t ≡ true → n ≡ firstOf ((t, n) ∷ cs)
-  unfolding firstOf
-  held e = rw e
-
-  pub not-held : (r : ℕ) → t ≡ false → r ≡ firstOf cs → r ≡ firstOf ((t, n) ∷ cs)
-  unfolding firstOf
-  not-held r e rest = rw e rest
-
-  pub stopped : (answer : Check) → answer ≡ checkOf t → answer ≡ Failed → n ≡ firstOf ((t, n) ∷ cs)
-  stopped answer is failed = held (failed-true t (sym is ∙ failed))
-
-  pub past : (answer : Check) → answer ≡ checkOf t → answer ≡ Passed → Onward cs ((t, n) ∷ cs)
-  past answer is passed r rest = not-held r (passed-false t (sym is ∙ passed)) rest
-
-pub none : 0 ≡ firstOf []
-unfolding firstOf
-none = refl
+-- past the first n checks the others decide
+abbrev pub Past : ℕ → Checks → Type 0
+Past n all = firstOf (drop n all) ≡ firstOf all
 
 -- ---- a list within a list
 after : (t : Bool) (n : ℕ) (xs ys : Checks) → (firstOf xs ≡ 0 → firstOf (xs ++ ys) ≡ firstOf ys)
@@ -66,15 +45,11 @@ abbrev pub areNumbers : Checks → Bool
 areNumbers [] = true
 areNumbers (c ∷ cs) = not (eqb (c .1) 0) && areNumbers cs
 
-apart : (t u : Bool) → (not t && u) ≡ true → (t ≡ false) × (u ≡ true)
-apart true u e = true-false (sym e)
-apart false u e = (refl, e)
-
 pub numbered : (cs : Checks) → areNumbers cs ≡ true → Numbered cs
 numbered [] e = tt
 numbered (c ∷ cs) e =
-    let p = apart (eqb (c .1) 0) (areNumbers cs) e in
-    (eqb-false (c .1) 0 (p .0), numbered cs (p .1))
+    let p = and-true (not (eqb (c .1) 0)) (areNumbers cs) e in
+    (eqb-false (c .1) 0 (not-true (eqb (c .1) 0) (p .0)), numbered cs (p .1))
 
 -- 0 exactly where no condition holds, and a number exactly where its condition holds and none before it
 abbrev pub Decided : Checks → Type 0

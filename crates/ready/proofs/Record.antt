@@ -6,7 +6,7 @@ use mathlib.Core.List.{_++_}
 use Rattle.checks.specs.Order.{Checks, firstOf}
 use Rattle.routes.specs.declared.Route.{Route}
 use Rattle.ready.specs.Record.{recordChecks}
-use Rattle.ready.proofs.Chains.{Onward, Decided, decided, numbered, others-decide, first-decides}
+use Rattle.ready.proofs.Chains.{Decided, decided, numbered, others-decide, first-decides}
 
 -- 21, 22 and 24, each exactly where its condition holds and none before it
 pub record-decided : (ready : ℕ) (x : Route) → Decided (recordChecks ready x)
@@ -17,5 +17,5 @@ module _ (ready : ℕ) (x : Route) (more : Checks) (refused : ℕ) (is : refused
   pub record-stops : refused ≢ 0 → refused ≡ firstOf (recordChecks ready x ++ more)
   record-stops not-zero = sym (first-decides (recordChecks ready x) more refused not-zero (sym is))
 
-  pub past-record : refused ≡ 0 → Onward more (recordChecks ready x ++ more)
-  past-record zero r e = e ∙ sym (others-decide (recordChecks ready x) more (numbered (recordChecks ready x) refl) (sym is ∙ zero))
+  pub past-record : refused ≡ 0 → firstOf more ≡ firstOf (recordChecks ready x ++ more)
+  past-record zero = sym (others-decide (recordChecks ready x) more (numbered (recordChecks ready x) refl) (sym is ∙ zero))

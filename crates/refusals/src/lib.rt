@@ -11,10 +11,14 @@ use address::PathAddress;
 use checks::Check;
 use routes::Route;
 ghost use mathlib.Core.Path.{_≡_};
+ghost use mathlib.Core.Bool.{_||_};
 ghost use Prim.Native.Nat.{_<_};
 ghost use lib.ListN.{length};
 ghost use Rattle.checks.specs.Order.{checkOf, firstOf};
+ghost use Rattle.settings.specs.Refusals.{placeRefused};
+ghost use Rattle.settings.specs.Sets.{setRefused};
 ghost use Rattle.state.specs.Layout.{stateWords, decode};
+ghost use Rattle.ready.specs.Ready.{readySet};
 ghost use Rattle.refusals.specs.Lists.{entriesWait, portChecks, routeChecks, groupChecks, pathChecks};
 
 // How many ports and places there are.
@@ -78,19 +82,26 @@ pub fn route_refusal(state: &[u32], place: u32, x: Route) -> u32
     0
 }
 
+// Refusal 21 of a group or a path: the place is one of so many, and the set to send to has ports that are set up.
+fn check_target(state: &[u32], place: u32, places: u32, send: u32) -> Check
+    requires { ⌜ length (now state) ≡ stateWords ⌝ }
+    ensures { λ r. ⌜ r ≡ checkOf (placeRefused place places || setRefused send (readySet (decode (now (state .entry))))) ⌝ }
+{
+    let Check::Passed = settings::check_place(place, places) else {
+        return Check::Failed;
+    };
+    settings::check_set(send, ready::ready_ports(state))
+}
+
 // Why this group may not stand in that place, or 0.
 pub fn group_refusal(state: &[u32], place: u32, address: Address, send: u32, subscribed: u32) -> u32
     requires { ⌜ length (now state) ≡ stateWords ⌝ }
     ensures { λ r. ⌜ r ≡ firstOf (groupChecks (decode (now (state .entry))) place address send subscribed) ⌝ }
 {
-    let Check::Passed = settings::check_place(place, GROUPS) else {
+    let Check::Passed = check_target(state, place, GROUPS, send) else {
         return 21;
     };
-    let ready = ready::ready_ports(state);
-    let Check::Passed = settings::check_set(send, ready) else {
-        return 21;
-    };
-    let Check::Passed = settings::check_set(subscribed, ready) else {
+    let Check::Passed = settings::check_set(subscribed, ready::ready_ports(state)) else {
         return 21;
     };
     let Check::Passed = settings::check_group_class(address) else {
@@ -107,10 +118,7 @@ pub fn path_refusal(state: &[u32], place: u32, path: PathAddress, send: u32, her
     requires { ⌜ length (now state) ≡ stateWords ⌝ }
     ensures { λ r. ⌜ r ≡ firstOf (pathChecks (decode (now (state .entry))) place path send here) ⌝ }
 {
-    let Check::Passed = settings::check_place(place, PATHS) else {
-        return 21;
-    };
-    let Check::Passed = settings::check_set(send, ready::ready_ports(state)) else {
+    let Check::Passed = check_target(state, place, PATHS, send) else {
         return 21;
     };
     let Check::Passed = settings::check_path_class(path) else {

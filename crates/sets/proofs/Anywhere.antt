@@ -4,9 +4,9 @@ use native.Mathlib.Decide.{decLe}
 use native.Mathlib.Nat.{lt-of-not-le}
 use Prim.Native.Nat.{ℕ, zero, suc, _+_, _<_}
 use mathlib.Core.Path.{_≡_, refl, sym, ap, _∙_}
-use mathlib.Core.Logic.{_↔_, _⊎_, inl, inr, ⊎-elim, by-cases}
+use mathlib.Core.Logic.{_↔_, ⊎-elim, by-cases}
 use mathlib.Core.Bool.{Bool, true, false, _||_}
-use Rattle.checks.proofs.Bools.{true-false}
+use Rattle.checks.proofs.Bools.{true-false, or-true}
 use Rattle.sets.specs.Sets.{anyBelow}
 use Rattle.sets.proofs.Loops.{anyBelow-next}
 
@@ -16,10 +16,6 @@ or-left t u e = rw e
 or-right : (t u : Bool) → u ≡ true → (t || u) ≡ true
 or-right true u e = refl
 or-right false u e = e
-
-or-cases : (t u : Bool) → (t || u) ≡ true → (t ≡ true) ⊎ (u ≡ true)
-or-cases true u e = inl refl
-or-cases false u e = inr e
 
 -- nothing is found below i, nor at i: nothing one place further
 pub any-none : (test : ℕ → Bool) (i : ℕ) → anyBelow test i ≡ false → test i ≡ false → anyBelow test (i + 1) ≡ false
@@ -37,7 +33,7 @@ any-where : (test : ℕ → Bool) (n : ℕ) → anyBelow test n ≡ true → (i 
 any-where test zero e = true-false (sym e)
 any-where test (suc n) e =
     ⊎-elim (λ l. let at = any-where test n l in (at .0, omega (arith, at .1), at .2)) (λ h. (n, omega arith, h))
-    (or-cases (anyBelow test n) (test n) e)
+    (or-true (anyBelow test n) (test n) e)
 
 -- It holds anywhere exactly where it holds at one of them.
 pub any-is : (test : ℕ → Bool) (n : ℕ) → (anyBelow test n ≡ true) ↔ ((i : ℕ) × (i < n) × (test i ≡ true))

@@ -1,11 +1,8 @@
 -- `adjust_places::clear_group` meets its contract. Assumes nothing.
 use borrow.Author.Needs.{needs}
 use native.Mathlib.Omega.{arith}
-use mathlib.Core.Path.{refl, sym, _∙_}
-use Rattle.checks.proofs.Laws.{passed-false}
-use Rattle.settings.proofs.Values.{place-taken}
-use Rattle.ready.proofs.Chains.{stopped, past, none}
-use Rattle.adjust.proofs.Settled.{refused, taken}
+use Rattle.refusals.proofs.Places.{tested-there}
+use Rattle.adjust.proofs.Settled.{check-failed, check-passed}
 use Rattle.adjust_places.proofs.clear_group.Statement.{statement}
 use Rattle.adjust_places.proofs.clear_group.Tie as tie
 
@@ -19,23 +16,19 @@ enum-told-2 : tie.Need-enum-told-2
 enum-told-2 c = search needs
 
 returns : tie.Need-returns
-returns c =
-    refused _ _ _ _ (stopped _ _ _ _ (c .before .before .check-place .ensures) (c .enum-told2 .given .1)) (λ zero. omega arith)
+returns c = check-failed _ _ _ _ _ (c .before .before .check-place .ensures) (c .enum-told2 .given .1) (λ zero. omega arith)
 
 put-group-requires : tie.Need-put-group-requires
-put-group-requires c κs =
-    let place = c .before in
-    (search needs, place-taken _ _ .0 (passed-false _ (sym (place .before .before .check-place .ensures) ∙ place .enum-told .given .1)))
+put-group-requires c κs = (search needs, tested-there _ _ _ (c .before .before .before .check-place .ensures) (c .before .enum-told .given .1))
 
 same-length : tie.Need-same-length
 same-length c = search needs
 
 returns-2 : tie.Need-returns-2
 returns-2 c =
-    let put = c .before .before in
-    let test = put .before .before in
-    taken _ _ _ _ (past _ _ _ _ (test .before .before .check-place .ensures) (test .enum-told .given .1) _ none)
-    _ refl (put .put-group .ensures)
+    let put-group = c .before .before in
+    let test = put-group .before .before in
+    check-passed _ _ _ _ _ (test .before .before .check-place .ensures) _ (put-group .put-group .ensures) (test .enum-told .given .1)
 
 pub clear-group-spec : {M : Type 1} → statement M
 clear-group-spec =

@@ -1,38 +1,27 @@
 -- `elsewhere::check_other_routes` meets its contract: no place below i is another one with the same entry. Assumes nothing.
-use native.Mathlib.Omega.{arith}
 use Prim.Native.Nat.{_-_, _≤_}
-use mathlib.Core.Path.{_≡_, refl, sym, ap, _∙_}
-use mathlib.Core.Bool.{false}
 use borrow.Author.Needs.{needs}
-use Rattle.checks.specs.Order.{checkOf}
-use Rattle.sets.specs.Sets.{anyBelow}
-use Rattle.sets.proofs.Anywhere.{any-none, any-found}
 use Rattle.state.specs.Layout.{decode}
 use Rattle.elsewhere.specs.Elsewhere.{otherRoute, routeElsewhere}
+use Rattle.elsewhere.proofs.Others.{NoneBelow, at-first, found, not-here, nowhere}
 use Rattle.elsewhere.proofs.check_other_routes.Statement.{statement}
 use Rattle.elsewhere.proofs.check_other_routes.Tie as tie
 
 abbrev Inv-loop : tie.InvT-loop
-Inv-loop state place x i₀ i = (i ≤ 64) × (anyBelow (otherRoute (decode state) place x) i ≡ false)
+Inv-loop state place x i₀ i = (i ≤ 64) × NoneBelow (otherRoute (decode state) place x) i
 
 abbrev μ-loop : tie.MeasureT-loop
 μ-loop state place x i₀ i = 64 - i
 
 loop-holds : tie.Need-loop-holds Inv-loop μ-loop
-loop-holds c = (search needs, refl)
+loop-holds c = (search needs, at-first _)
 
 other-route-requires : tie.Need-other-route-requires Inv-loop μ-loop
 other-route-requires c κs = search needs
 
 returns : tie.Need-returns Inv-loop μ-loop
 unfolding routeElsewhere
-returns c =
-    let k = c .before .before .before in
-    let start = k .before .before in
-    ap checkOf
-    (sym
-    (any-found (otherRoute (decode (start .args .state .now)) (start .args .place) (start .args .x)) (k .loop .i) 64
-    (c .before .before .loop-test .taken) (sym (c .before .other-route .ensures) ∙ c .if1 .taken)))
+returns c = found _ _ (c .before .before .before .loop .inv .1) _ (c .before .other-route .ensures) _ (c .before .before .loop-test .taken) (c .if1 .taken)
 
 add-i : tie.Need-add-i Inv-loop μ-loop
 add-i c = search needs
@@ -41,22 +30,11 @@ loop-less : tie.Need-loop-less Inv-loop μ-loop
 loop-less c = search needs
 
 loop-again : tie.Need-loop-again Inv-loop μ-loop
-loop-again c =
-    let k = c .before .before .before in
-    let start = k .before .before in (
-      search needs,
-      any-none (otherRoute (decode (start .args .state .now)) (start .args .place) (start .args .x)) (k .loop .i) (k .loop .inv .1)
-          (sym (c .before .other-route .ensures) ∙ c .if1 .left),
-    )
+loop-again c = (search needs, not-here _ _ (c .before .before .before .loop .inv .1) _ (c .before .other-route .ensures) (c .if1 .left))
 
 returns-2 : tie.Need-returns-2 Inv-loop μ-loop
 unfolding routeElsewhere
-returns-2 c =
-    let k = c .before in
-    let start = k .before .before in
-    let end : 64 ≡ k .loop .i = omega arith in
-    ap checkOf
-    (sym (ap (anyBelow (otherRoute (decode (start .args .state .now)) (start .args .place) (start .args .x))) end ∙ k .loop .inv .1))
+returns-2 c = nowhere _ _ (c .before .loop .inv .1) _ (c .before .loop .inv .0) (c .loop-test .left)
 
 pub check-other-routes-spec : {M : Type 1} → statement M
 check-other-routes-spec =

@@ -1,10 +1,28 @@
 -- `intake::check_qos` meets its contract, check by check: what each answers tells its condition. Assumes nothing.
 use borrow.Author.Needs.{needs}
-use mathlib.Core.Path.{sym, _∙_}
+use mathlib.Core.Path.{_≡_, sym, _∙_}
+use mathlib.Core.Bool.{Bool, false}
 use Rattle.checks.proofs.Laws.{passed-false, failed-true}
+use Rattle.numbers.specs.declared.Numbers.{Numbers}
 use Rattle.intake.specs.Out.{octetOut}
 use Rattle.intake.proofs.check_qos.Statement.{statement}
 use Rattle.intake.proofs.check_qos.Tie as tie
+
+-- ---- what a check that passed tells
+
+abbrev precedenceOut : Numbers → Bool
+precedenceOut n = octetOut (n .qualified) (n .precedence)
+
+precedence-in : (c : tie.After-enum-told) → precedenceOut (c .before .before .before .args .n) ≡ false
+precedence-in c = passed-false _ (sym (c .before .before .check-octet .ensures) ∙ c .enum-told .given .1)
+
+abbrev routingOut : Numbers → Bool
+routingOut n = octetOut (n .qualified) (n .routing)
+
+routing-in : (c : tie.After-enum-told3) → routingOut (c .before .before .before .before .before .before .args .n) ≡ false
+routing-in c = passed-false _ (sym (c .before .before .check-octet2 .ensures) ∙ c .enum-told3 .given .1)
+
+-- ---- the needs
 
 check-octet-requires : tie.Need-check-octet-requires
 check-octet-requires c κs = search needs
@@ -18,8 +36,8 @@ enum-told-2 c = search needs
 returns : tie.Need-returns
 returns c =
     let n = c .before .before .before .args .n in
-    let precedence = failed-true (octetOut (n .qualified) (n .precedence)) (sym (c .before .before .check-octet .ensures) ∙ c .enum-told2 .given .1) in
-    simp precedence
+    let out = failed-true (precedenceOut n) (sym (c .before .before .check-octet .ensures) ∙ c .enum-told2 .given .1) in
+    simp out
 
 check-octet-requires-2 : tie.Need-check-octet-requires-2
 check-octet-requires-2 c κs = search needs
@@ -32,23 +50,15 @@ enum-told-4 c = search needs
 
 returns-2 : tie.Need-returns-2
 returns-2 c =
-    let c₁ = c .before .before .before in
-    let n = c₁ .before .before .before .args .n in
-    let precedence = passed-false (octetOut (n .qualified) (n .precedence)) (sym (c₁ .before .before .check-octet .ensures) ∙ c₁ .enum-told .given .1) in
-    let routing = failed-true (octetOut (n .qualified) (n .routing)) (sym (c .before .before .check-octet2 .ensures) ∙ c .enum-told4 .given .1) in
-    simp (precedence, routing)
+    let n = c .before .before .before .before .before .before .args .n in
+    let out = failed-true (routingOut n) (sym (c .before .before .check-octet2 .ensures) ∙ c .enum-told4 .given .1) in
+    simp (precedence-in (c .before .before .before), out)
 
 check-octet-requires-3 : tie.Need-check-octet-requires-3
 check-octet-requires-3 c κs = search needs
 
 returns-3 : tie.Need-returns-3
-returns-3 c =
-    let c₂ = c .before in
-    let c₁ = c₂ .before .before .before in
-    let n = c₁ .before .before .before .args .n in
-    let precedence = passed-false (octetOut (n .qualified) (n .precedence)) (sym (c₁ .before .before .check-octet .ensures) ∙ c₁ .enum-told .given .1) in
-    let routing = passed-false (octetOut (n .qualified) (n .routing)) (sym (c₂ .before .before .check-octet2 .ensures) ∙ c₂ .enum-told3 .given .1) in
-    simp (precedence, routing) (c .check-octet3 .ensures)
+returns-3 c = simp (precedence-in (c .before .before .before .before), routing-in (c .before)) (c .check-octet3 .ensures)
 
 pub check-qos-spec : {M : Type 1} → statement M
 check-qos-spec =

@@ -1,6 +1,10 @@
 -- `intake::check_stamp` meets its contract, test by test, with the limit that `pfield_limit` gives. Assumes nothing.
 use borrow.Author.Needs.{needs}
+use mathlib.Core.Path.{_≡_}
+use mathlib.Core.Bool.{not, _&&_}
+use lib.Dec.{eqb}
 use borrow.Author.Tests.{eq-eqb, ne-eqb, le-leb, lt-leb}
+use Rattle.checks.specs.Order.{checkOf}
 use Rattle.intake.specs.Out.{stampOut}
 use Rattle.intake.proofs.check_stamp.Statement.{statement}
 use Rattle.intake.proofs.check_stamp.Tie as tie
@@ -18,30 +22,22 @@ returns-2 c =
     let limit = c .before .before in
     rw (← limit .pfield-limit .ensures) (simp (lt-leb _ _ (limit .before .if1 .left), le-leb _ _ (c .if2 .taken)))
 
-returns-3 : tie.Need-returns-3
+-- a format, with a P-field that it has: the time is left
+past-limit : (c : tie.Else2) → let n = c .before .before .before .before .before .args .n in
+    checkOf (eqb (n .format) 0 && not (eqb (n .time) 0)) ≡ checkOf (stampOut n)
 unfolding stampOut
-returns-3 c =
-    let c₂ = c .before .before in
-    let limit = c₂ .before .before in
-    rw (← limit .pfield-limit .ensures) (simp (lt-leb _ _ (limit .before .if1 .left), lt-leb _ _ (c₂ .if2 .left), ne-eqb _ _ (c .if3 .taken)))
+past-limit c =
+    let limit = c .before .before in
+    rw (← limit .pfield-limit .ensures) (simp (lt-leb _ _ (limit .before .if1 .left), lt-leb _ _ (c .if2 .left)))
+
+returns-3 : tie.Need-returns-3
+returns-3 c = rw (← past-limit (c .before .before)) (simp (ne-eqb _ _ (c .if3 .taken)))
 
 returns-4 : tie.Need-returns-4
-unfolding stampOut
-returns-4 c =
-    let c₃ = c .before .before in
-    let c₂ = c₃ .before .before in
-    let limit = c₂ .before .before in
-    rw (← limit .pfield-limit .ensures)
-    (simp (lt-leb _ _ (limit .before .if1 .left), lt-leb _ _ (c₂ .if2 .left), eq-eqb _ _ (c₃ .if3 .left), ne-eqb _ _ (c .if4 .taken)))
+returns-4 c = rw (← past-limit (c .before .before .before .before)) (simp (eq-eqb _ _ (c .before .before .if3 .left), ne-eqb _ _ (c .if4 .taken)))
 
 returns-5 : tie.Need-returns-5
-unfolding stampOut
-returns-5 c =
-    let c₃ = c .before .before in
-    let c₂ = c₃ .before .before in
-    let limit = c₂ .before .before in
-    rw (← limit .pfield-limit .ensures)
-    (simp (lt-leb _ _ (limit .before .if1 .left), lt-leb _ _ (c₂ .if2 .left), eq-eqb _ _ (c₃ .if3 .left), eq-eqb _ _ (c .if4 .left)))
+returns-5 c = rw (← past-limit (c .before .before .before .before)) (simp (eq-eqb _ _ (c .before .before .if3 .left), eq-eqb _ _ (c .if4 .left)))
 
 pub check-stamp-spec : {M : Type 1} → statement M
 check-stamp-spec =

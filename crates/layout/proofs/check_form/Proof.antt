@@ -38,13 +38,22 @@ returns-5 c =
     simp
     (ne-eqb _ _ (c₁ .if1 .left), ne-eqb _ _ (c₂ .if2 .left), ne-eqb _ _ (c₃ .if3 .left), ne-eqb _ _ (c₄ .if4 .left), ne-eqb _ _ (c .if5 .taken))
 
+cast-check-ipv6 : tie.Need-cast-check-ipv6
+cast-check-ipv6 c = search needs
+
+cast-check-ipv6-2 : tie.Need-cast-check-ipv6-2
+cast-check-ipv6-2 c = search needs
+
+cast-check-ipv6-3 : tie.Need-cast-check-ipv6-3
+cast-check-ipv6-3 c = search needs
+
 check-ipv6-requires : tie.Need-check-ipv6-requires
 check-ipv6-requires c κs = search needs
 
 returns-6 : tie.Need-returns-6
 unfolding forbidden
 returns-6 c =
-    let c₅ = c .before in
+    let c₅ = c .before .before .before .before in
     let c₄ = c₅ .before .before in
     let c₃ = c₄ .before .before in
     let c₂ = c₃ .before .before in
@@ -56,4 +65,4 @@ returns-6 c =
 pub check-form-spec : {M : Type 1} → statement M
 check-form-spec =
     tie.close
-    (tie.spec returns returns-2 returns-3 returns-4 returns-5 check-ipv6-requires returns-6)
+    (tie.spec returns returns-2 returns-3 returns-4 returns-5 cast-check-ipv6 cast-check-ipv6-2 cast-check-ipv6-3 check-ipv6-requires returns-6)

@@ -10,15 +10,15 @@ routing-of-requires c κs = search needs
 returns : tie.Need-returns
 returns c = rw (← c .before .routing-of .ensures) (simp (ne-eqb _ _ (c .if1 .taken)))
 
-is-ipv6-requires : tie.Need-is-ipv6-requires
-is-ipv6-requires c κs = search needs
+ipv6-flag-requires : tie.Need-ipv6-flag-requires
+ipv6-flag-requires c κs = search needs
 
 returns-2 : tie.Need-returns-2
-returns-2 c = rw (← c .before .before .before .routing-of .ensures, ← c .before .is-ipv6 .ensures) (simp (eq-eqb _ _ (c .before .before .if1 .left), ne-eqb _ _ (c .if2 .taken)))
+returns-2 c = rw (← c .before .before .before .routing-of .ensures, ← c .before .ipv6-flag .ensures) (simp (eq-eqb _ _ (c .before .before .if1 .left), ne-eqb _ _ (c .if2 .taken)))
 
 returns-3 : tie.Need-returns-3
-returns-3 c = rw (← c .before .before .before .routing-of .ensures, ← c .before .is-ipv6 .ensures) (simp (eq-eqb _ _ (c .before .before .if1 .left), eq-eqb _ _ (c .if2 .left)))
+returns-3 c = rw (← c .before .before .before .routing-of .ensures, ← c .before .ipv6-flag .ensures) (simp (eq-eqb _ _ (c .before .before .if1 .left), eq-eqb _ _ (c .if2 .left)))
 
 pub check-carried-spec : {M : Type 1} → statement M
 check-carried-spec =
-    tie.close (tie.spec routing-of-requires returns is-ipv6-requires returns-2 returns-3)
+    tie.close (tie.spec routing-of-requires returns ipv6-flag-requires returns-2 returns-3)

@@ -1,13 +1,12 @@
 -- `refusals::port_refusal` meets its contract: past each check the rest of the list decides. Assumes nothing.
 use borrow.Author.Needs.{needs}
-use mathlib.Core.Path.{sym, _∙_}
-use lib.ListN.{drop}
+use mathlib.Core.Path.{refl, _∙_}
 use Rattle.checks.specs.Order.{Checks}
-use Rattle.checks.proofs.Laws.{passed-false}
-use Rattle.settings.proofs.Values.{place-taken}
+use Rattle.checks.proofs.Steps.{fails-here, passes, none-left}
 use Rattle.state.specs.Layout.{decode}
-use Rattle.ready.proofs.Chains.{Onward, stopped, past, none}
+use Rattle.ready.proofs.Chains.{Past}
 use Rattle.refusals.specs.Lists.{portChecks}
+use Rattle.refusals.proofs.Places.{tested-there}
 use Rattle.refusals.proofs.port_refusal.Statement.{statement}
 use Rattle.refusals.proofs.port_refusal.Tie as tie
 
@@ -16,43 +15,21 @@ use Rattle.refusals.proofs.port_refusal.Tie as tie
 abbrev tests : tie.Start → Checks
 tests s = portChecks (decode (s .args .state .now)) (s .args .port) (s .args .address) (s .args .mask) (s .args .mtu)
 
-abbrev at-place : tie.After-enum-told → tie.Start
-at-place c = c .before .before .before .before
+past-place : (c : tie.After-enum-told) → Past 1 (tests (c .before .before .before .before))
+past-place c = passes _ _ _ (c .before .before .check-place .ensures) (c .enum-told .given .1) refl
 
-abbrev at-class : tie.After-enum-told3 → tie.Start
-at-class c = at-place (c .before .before .before)
+past-class : (c : tie.After-enum-told3) → Past 2 (tests (c .before .before .before .before .before .before .before))
+past-class c =
+    passes _ _ _ (c .before .before .check-port-class .ensures) (c .enum-told3 .given .1) refl
+    ∙ past-place (c .before .before .before)
 
-abbrev at-mask : tie.After-enum-told5 → tie.Start
-at-mask c = at-class (c .before .before .before)
+past-mask : (c : tie.After-enum-told5) → Past 3 (tests (c .before .before .before .before .before .before .before .before .before .before))
+past-mask c =
+    passes _ _ _ (c .before .before .check-port-mask .ensures) (c .enum-told5 .given .1) refl
+    ∙ past-class (c .before .before .before)
 
-abbrev at-mtu : tie.After-enum-told7 → tie.Start
-at-mtu c = at-mask (c .before .before .before)
-
-abbrev at-idle : tie.After-enum-told9 → tie.Start
-at-idle c = at-mtu (c .before .before .before)
-
-past-place : (c : tie.After-enum-told) → Onward (drop 1 (tests (at-place c))) (tests (at-place c))
-past-place c = past _ _ _ _ (c .before .before .check-place .ensures) (c .enum-told .given .1)
-
-past-class : (c : tie.After-enum-told3) → Onward (drop 2 (tests (at-class c))) (tests (at-class c))
-past-class c r e =
-    past-place (c .before .before .before) r
-    (past _ _ _ _ (c .before .before .check-port-class .ensures) (c .enum-told3 .given .1) r e)
-
-past-mask : (c : tie.After-enum-told5) → Onward (drop 3 (tests (at-mask c))) (tests (at-mask c))
-past-mask c r e =
-    past-class (c .before .before .before) r
-    (past _ _ _ _ (c .before .before .check-port-mask .ensures) (c .enum-told5 .given .1) r e)
-
-past-mtu : (c : tie.After-enum-told7) → Onward (drop 4 (tests (at-mtu c))) (tests (at-mtu c))
-past-mtu c r e =
-    past-mask (c .before .before .before) r
-    (past _ _ _ _ (c .before .before .check-mtu .ensures) (c .enum-told7 .given .1) r e)
-
-past-idle : (c : tie.After-enum-told9) → Onward (drop 5 (tests (at-idle c))) (tests (at-idle c))
-past-idle c r e =
-    past-mtu (c .before .before .before) r
-    (past _ _ _ _ (c .before .before .check-idle .ensures) (c .enum-told9 .given .1) r e)
+past-mtu : (c : tie.After-enum-told7) → Past 4 (tests (c .before .before .before .before .before .before .before .before .before .before .before .before .before))
+past-mtu c = passes _ _ _ (c .before .before .check-mtu .ensures) (c .enum-told7 .given .1) refl ∙ past-mask (c .before .before .before)
 
 -- ---- the needs
 
@@ -66,7 +43,7 @@ enum-told-2 : tie.Need-enum-told-2
 enum-told-2 c = search needs
 
 returns : tie.Need-returns
-returns c = stopped _ _ _ _ (c .before .before .check-place .ensures) (c .enum-told2 .given .1)
+returns c = fails-here _ _ _ (c .before .before .check-place .ensures) (c .enum-told2 .given .1)
 
 check-port-class-requires : tie.Need-check-port-class-requires
 check-port-class-requires c κs = search needs
@@ -79,8 +56,8 @@ enum-told-4 c = search needs
 
 returns-2 : tie.Need-returns-2
 returns-2 c =
-    past-place (c .before .before .before) _
-    (stopped _ _ _ _ (c .before .before .check-port-class .ensures) (c .enum-told4 .given .1))
+    fails-here _ _ _ (c .before .before .check-port-class .ensures) (c .enum-told4 .given .1)
+    ∙ past-place (c .before .before .before)
 
 check-port-mask-requires : tie.Need-check-port-mask-requires
 check-port-mask-requires c κs = search needs
@@ -93,8 +70,8 @@ enum-told-6 c = search needs
 
 returns-3 : tie.Need-returns-3
 returns-3 c =
-    past-class (c .before .before .before) _
-    (stopped _ _ _ _ (c .before .before .check-port-mask .ensures) (c .enum-told6 .given .1))
+    fails-here _ _ _ (c .before .before .check-port-mask .ensures) (c .enum-told6 .given .1)
+    ∙ past-class (c .before .before .before)
 
 check-mtu-requires : tie.Need-check-mtu-requires
 check-mtu-requires c κs = search needs
@@ -106,16 +83,12 @@ enum-told-8 : tie.Need-enum-told-8
 enum-told-8 c = search needs
 
 returns-4 : tie.Need-returns-4
-returns-4 c =
-    past-mask (c .before .before .before) _
-    (stopped _ _ _ _ (c .before .before .check-mtu .ensures) (c .enum-told8 .given .1))
+returns-4 c = fails-here _ _ _ (c .before .before .check-mtu .ensures) (c .enum-told8 .given .1) ∙ past-mask (c .before .before .before)
 
 check-idle-requires : tie.Need-check-idle-requires
 check-idle-requires c κs =
-    let place = c .before .before .before .before .before .before .before .before .before in (
-      place .before .before .before .before .pre,
-      place-taken _ _ .0 (passed-false _ (sym (place .before .before .check-place .ensures) ∙ place .enum-told .given .1)),
-    )
+    let place = c .before .before .before .before .before .before .before .before .before in
+    (place .before .before .before .before .pre, tested-there _ _ _ (place .before .before .check-place .ensures) (place .enum-told .given .1))
 
 enum-told-9 : tie.Need-enum-told-9
 enum-told-9 c = search needs
@@ -124,12 +97,12 @@ enum-told-10 : tie.Need-enum-told-10
 enum-told-10 c = search needs
 
 returns-5 : tie.Need-returns-5
-returns-5 c =
-    past-mtu (c .before .before .before) _
-    (stopped _ _ _ _ (c .before .before .check-idle .ensures) (c .enum-told10 .given .1))
+returns-5 c = fails-here _ _ _ (c .before .before .check-idle .ensures) (c .enum-told10 .given .1) ∙ past-mtu (c .before .before .before)
 
 returns-6 : tie.Need-returns-6
-returns-6 c = past-idle c _ none
+returns-6 c =
+    passes _ _ _ (c .before .before .check-idle .ensures) (c .enum-told9 .given .1) none-left
+    ∙ past-mtu (c .before .before .before)
 
 pub port-refusal-spec : {M : Type 1} → statement M
 port-refusal-spec =

@@ -1,14 +1,14 @@
 -- `refusals::route_refusal` meets its contract: past each check the rest of the list decides. Assumes nothing.
 use borrow.Author.Needs.{needs}
 use Prim.Native.Nat.{ℕ}
-use mathlib.Core.Path.{_≡_, ap, _∙_}
-use lib.ListN.{drop}
+use mathlib.Core.Path.{_≡_, refl, ap, _∙_}
 use Rattle.checks.specs.Order.{Checks, firstOf}
+use Rattle.checks.proofs.Steps.{fails-here, passes, none-left}
 use Rattle.state.specs.Layout.{decode}
 use Rattle.ready.specs.Ready.{readySet}
 use Rattle.ready.specs.Record.{recordChecks}
-use Rattle.ready.proofs.Chains.{Onward, stopped, past, none}
 use Rattle.ready.proofs.Record.{record-stops, past-record}
+use Rattle.ready.proofs.Chains.{Past}
 use Rattle.refusals.specs.Lists.{routeChecks}
 use Rattle.refusals.proofs.route_refusal.Statement.{statement}
 use Rattle.refusals.proofs.route_refusal.Tie as tie
@@ -18,14 +18,11 @@ use Rattle.refusals.proofs.route_refusal.Tie as tie
 abbrev tests : tie.Start → Checks
 tests s = routeChecks (decode (s .args .state .now)) (s .args .place) (s .args .x)
 
-abbrev at-place : tie.After-enum-told → tie.Start
-at-place c = c .before .before .before .before
-
 abbrev at-record : tie.After-record-refusal → tie.Start
-at-record c = at-place (c .before .before)
+at-record c = c .before .before .before .before .before .before
 
-past-place : (c : tie.After-enum-told) → Onward (drop 1 (tests (at-place c))) (tests (at-place c))
-past-place c = past _ _ _ _ (c .before .before .check-place .ensures) (c .enum-told .given .1)
+past-place : (c : tie.After-enum-told) → Past 1 (tests (c .before .before .before .before))
+past-place c = passes _ _ _ (c .before .before .check-place .ensures) (c .enum-told .given .1) refl
 
 -- the record is tested against the ports that are set up
 tested : (c : tie.After-record-refusal)
@@ -34,11 +31,11 @@ tested c =
     c .record-refusal .ensures
     ∙ ap (λ (s : ℕ). firstOf (recordChecks s (at-record c .args .x))) (c .before .ready-ports .ensures)
 
-past-tested : (c : tie.Else1) → Onward (drop 4 (tests (at-record (c .before)))) (tests (at-record (c .before)))
-past-tested c r e =
+past-tested : (c : tie.Else1) → Past 4 (tests (at-record (c .before)))
+past-tested c =
     let s = at-record (c .before) in
-    past-place (c .before .before .before) r
-    (past-record (readySet (decode (s .args .state .now))) (s .args .x) _ _ (tested (c .before)) (c .if1 .left) r e)
+    past-record (readySet (decode (s .args .state .now))) (s .args .x) _ _ (tested (c .before)) (c .if1 .left)
+    ∙ past-place (c .before .before .before)
 
 -- ---- the needs
 
@@ -52,7 +49,7 @@ enum-told-2 : tie.Need-enum-told-2
 enum-told-2 c = search needs
 
 returns : tie.Need-returns
-returns c = stopped _ _ _ _ (c .before .before .check-place .ensures) (c .enum-told2 .given .1)
+returns c = fails-here _ _ _ (c .before .before .check-place .ensures) (c .enum-told2 .given .1)
 
 ready-ports-requires : tie.Need-ready-ports-requires
 ready-ports-requires c κs = search needs
@@ -63,8 +60,8 @@ record-refusal-requires c κs = search needs
 returns-2 : tie.Need-returns-2
 returns-2 c =
     let s = at-record (c .before) in
-    past-place (c .before .before .before) _
-    (record-stops (readySet (decode (s .args .state .now))) (s .args .x) _ _ (tested (c .before)) (c .if1 .taken))
+    record-stops (readySet (decode (s .args .state .now))) (s .args .x) _ _ (tested (c .before)) (c .if1 .taken)
+    ∙ past-place (c .before .before .before)
 
 check-other-routes-requires : tie.Need-check-other-routes-requires
 check-other-routes-requires c κs = search needs
@@ -77,13 +74,13 @@ enum-told-4 c = search needs
 
 returns-3 : tie.Need-returns-3
 returns-3 c =
-    past-tested (c .before .before .before) _
-    (stopped _ _ _ _ (c .before .before .check-other-routes .ensures) (c .enum-told4 .given .1))
+    fails-here _ _ _ (c .before .before .check-other-routes .ensures) (c .enum-told4 .given .1)
+    ∙ past-tested (c .before .before .before)
 
 returns-4 : tie.Need-returns-4
 returns-4 c =
-    past-tested (c .before .before .before) _
-    (past _ _ _ _ (c .before .before .check-other-routes .ensures) (c .enum-told3 .given .1) _ none)
+    passes _ _ _ (c .before .before .check-other-routes .ensures) (c .enum-told3 .given .1) none-left
+    ∙ past-tested (c .before .before .before)
 
 pub route-refusal-spec : {M : Type 1} → statement M
 route-refusal-spec =
