@@ -25,7 +25,7 @@ pub fn set_group(state: &mut [u32], place: u32, address: Address, send: u32, sub
     ensures answer { λ r. ⌜ r ≡ firstOf (groupChecks (decode (now (state .entry))) place address send subscribed) ⌝ }
     ensures left { λ _. ⌜ decode (now (state .exit)) ≡ settledGroup (decode (now (state .entry))) place address send subscribed ⌝ }
 {
-    let refusal = refusals::group_refusal(state, place, address, send, subscribed);
+    let refusal = refusals_places::group_refusal(state, place, address, send, subscribed);
     if refusal != 0 {
         return refusal;
     }
@@ -45,7 +45,7 @@ pub fn set_path(state: &mut [u32], place: u32, path: PathAddress, send: u32, her
     ensures answer { λ r. ⌜ r ≡ firstOf (pathChecks (decode (now (state .entry))) place path send here) ⌝ }
     ensures left { λ _. ⌜ decode (now (state .exit)) ≡ settledPath (decode (now (state .entry))) place path send here ⌝ }
 {
-    let refusal = refusals::path_refusal(state, place, path, send, here);
+    let refusal = refusals_places::path_refusal(state, place, path, send, here);
     if refusal != 0 {
         return refusal;
     }

@@ -1,4 +1,4 @@
-// The number that a setting is refused by.
+// The number that the setting of a port or a route is refused by. Groups and paths have a crate of their own, `refusals_places`.
 //
 // Page 01 tests a setting in the order 21, 25, 22, 24, 23, 35, and the first test that refuses gives the number; 0 means that none
 // does. Here the tests of values (crate `settings`), of ports that are set up (`ready`) and of same entries (`elsewhere`) stand in that
@@ -7,28 +7,19 @@
 // used as a place.
 use address::Address;
 use address::Mask;
-use address::PathAddress;
 use checks::Check;
 use routes::Route;
 ghost use mathlib.Core.Path.{_≡_};
-ghost use mathlib.Core.Bool.{_||_};
 ghost use Prim.Native.Nat.{_<_};
 ghost use lib.ListN.{length};
 ghost use Rattle.checks.specs.Order.{checkOf, firstOf};
-ghost use Rattle.settings.specs.Refusals.{placeRefused};
-ghost use Rattle.settings.specs.Sets.{setRefused};
 ghost use Rattle.state.specs.Layout.{stateWords, decode};
-ghost use Rattle.ready.specs.Ready.{readySet};
-ghost use Rattle.refusals.specs.Lists.{entriesWait, portChecks, routeChecks, groupChecks, pathChecks};
+ghost use Rattle.refusals.specs.Lists.{entriesWait, portChecks, routeChecks};
 
-// How many ports and places there are.
+// How many ports and places of routes there are.
 const PORTS: u32 = 8;
 
 const ROUTES: u32 = 64;
-
-const GROUPS: u32 = 16;
-
-const PATHS: u32 = 16;
 
 // Refusal 35 of a port: nothing waits on it.
 fn check_idle(state: &[u32], p: usize) -> Check
@@ -77,57 +68,6 @@ pub fn route_refusal(state: &[u32], place: u32, x: Route) -> u32
         return refused;
     }
     let Check::Passed = elsewhere::check_other_routes(state, place as usize, x) else {
-        return 23;
-    };
-    0
-}
-
-// Refusal 21 of a group or a path: the place is one of so many, and the set to send to has ports that are set up.
-fn check_target(state: &[u32], place: u32, places: u32, send: u32) -> Check
-    requires { ⌜ length (now state) ≡ stateWords ⌝ }
-    ensures { λ r. ⌜ r ≡ checkOf (placeRefused place places || setRefused send (readySet (decode (now (state .entry))))) ⌝ }
-{
-    let Check::Passed = settings::check_place(place, places) else {
-        return Check::Failed;
-    };
-    settings::check_set(send, ready::ready_ports(state))
-}
-
-// Why this group may not stand in that place, or 0.
-pub fn group_refusal(state: &[u32], place: u32, address: Address, send: u32, subscribed: u32) -> u32
-    requires { ⌜ length (now state) ≡ stateWords ⌝ }
-    ensures { λ r. ⌜ r ≡ firstOf (groupChecks (decode (now (state .entry))) place address send subscribed) ⌝ }
-{
-    let Check::Passed = check_target(state, place, GROUPS, send) else {
-        return 21;
-    };
-    let Check::Passed = settings::check_set(subscribed, ready::ready_ports(state)) else {
-        return 21;
-    };
-    let Check::Passed = settings::check_group_class(address) else {
-        return 25;
-    };
-    let Check::Passed = elsewhere::check_other_groups(state, place as usize, address) else {
-        return 23;
-    };
-    0
-}
-
-// Why this path may not stand in that place, or 0.
-pub fn path_refusal(state: &[u32], place: u32, path: PathAddress, send: u32, here: u32) -> u32
-    requires { ⌜ length (now state) ≡ stateWords ⌝ }
-    ensures { λ r. ⌜ r ≡ firstOf (pathChecks (decode (now (state .entry))) place path send here) ⌝ }
-{
-    let Check::Passed = check_target(state, place, PATHS, send) else {
-        return 21;
-    };
-    let Check::Passed = settings::check_path_class(path) else {
-        return 25;
-    };
-    let Check::Passed = settings::check_flag(here) else {
-        return 24;
-    };
-    let Check::Passed = elsewhere::check_other_paths(state, place as usize, path) else {
         return 23;
     };
     0

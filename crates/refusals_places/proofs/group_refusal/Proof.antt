@@ -1,14 +1,14 @@
--- `refusals::group_refusal` meets its contract: past each check the rest of the list decides. Assumes nothing.
+-- `refusals_places::group_refusal` meets its contract: past each check the rest of the list decides. Assumes nothing.
 use borrow.Author.Needs.{needs}
 use mathlib.Core.Path.{refl, _∙_}
 use Rattle.checks.specs.Order.{Checks}
 use Rattle.checks.proofs.Steps.{fails-here, passes, none-left, joined}
 use Rattle.state.specs.Layout.{decode}
 use Rattle.ready.proofs.Chains.{Past}
 use Rattle.refusals.specs.Lists.{groupChecks}
 use Rattle.refusals.proofs.Ready.{against}
-use Rattle.refusals.proofs.group_refusal.Statement.{statement}
-use Rattle.refusals.proofs.group_refusal.Tie as tie
+use Rattle.refusals_places.proofs.group_refusal.Statement.{statement}
+use Rattle.refusals_places.proofs.group_refusal.Tie as tie
 
 -- ---- past the checks
 

@@ -1,13 +1,13 @@
--- `refusals::path_refusal` meets its contract: past each check the rest of the list decides. Assumes nothing.
+-- `refusals_places::path_refusal` meets its contract: past each check the rest of the list decides. Assumes nothing.
 use borrow.Author.Needs.{needs}
 use mathlib.Core.Path.{refl, _∙_}
 use Rattle.checks.specs.Order.{Checks}
 use Rattle.checks.proofs.Steps.{fails-here, passes, none-left, joined}
 use Rattle.state.specs.Layout.{decode}
 use Rattle.ready.proofs.Chains.{Past}
 use Rattle.refusals.specs.Lists.{pathChecks}
-use Rattle.refusals.proofs.path_refusal.Statement.{statement}
-use Rattle.refusals.proofs.path_refusal.Tie as tie
+use Rattle.refusals_places.proofs.path_refusal.Statement.{statement}
+use Rattle.refusals_places.proofs.path_refusal.Tie as tie
 
 -- ---- past the checks
 

@@ -1,12 +1,12 @@
--- `refusals::check_target` meets its contract. Assumes nothing.
+-- `refusals_places::check_target` meets its contract. Assumes nothing.
 use borrow.Author.Needs.{needs}
 use mathlib.Core.Path.{_∙_}
 use mathlib.Core.Bool.{Bool}
 use Rattle.checks.proofs.Steps.{or-fails, or-passes}
 use Rattle.settings.specs.Refusals.{placeRefused}
 use Rattle.refusals.proofs.Ready.{against}
-use Rattle.refusals.proofs.check_target.Statement.{statement}
-use Rattle.refusals.proofs.check_target.Tie as tie
+use Rattle.refusals_places.proofs.check_target.Statement.{statement}
+use Rattle.refusals_places.proofs.check_target.Tie as tie
 
 abbrev outside : tie.Start → Bool
 outside s = placeRefused (s .args .place) (s .args .places)
