@@ -1,5 +1,6 @@
 -- The demands over histories. To be read, each by itself with the definitions it cites:
--- Refusals, Listed and Onward (demand 1: what a refused call leaves; the numbers an answer can be; the TP-ID refuses local delivery alone);
+-- Refusals, Listed, ReadBack and Onward (demand 1: what a refused call leaves; the numbers an answer can be; that C reads back the parts of an ending;
+-- the TP-ID refuses local delivery alone);
 -- Meaning, Search, Copies, Wanted, Reach and Keys (demand 2: what addresses name on every copy granted, no one-octet address leaves its domain; the
 -- route taken; which ports are wanted and granted; what holds of the settings in every state that a history reaches);
 -- Counters, Named, Sums, Ledger and Oldest (demand 3: every counter, the four that the customer names, by datagram and over a history, the ledger of a
@@ -19,6 +20,7 @@ pub mod Named
 pub mod Listed
 pub mod Small
 pub mod Sums
+pub mod ReadBack
 pub mod Marked
 pub mod Reach
 pub mod Keys
