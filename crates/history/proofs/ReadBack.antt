@@ -3,8 +3,8 @@
 use native.Mathlib.Omega.{arith}
 use native.Mathlib.Nat.{mod-eq-of-lt}
 use Prim.Native.Nat.{ℕ, _/_, _%_, _^_, _<_, _≤_}
-use mathlib.Core.Path.{_≡_, refl, ap, _∙_}
-use mathlib.Core.Bool.{Bool, true, false, _&&_, _||_}
+use mathlib.Core.Path.{_≡_, refl, _∙_}
+use mathlib.Core.Bool.{Bool, true, false, _&&_}
 use mathlib.Core.List.{List, [], _∷_}
 use mathlib.Core.Logic.{⊎-elim}
 use lib.Dec.{eqb, ltb}
@@ -22,7 +22,7 @@ use Rattle.judge.specs.Ending.{callChecks, headerEnding, octetsEnding, arrivalA
 use Rattle.judge.specs.declared.Ending.{Ending}
 use Rattle.answers.specs.Answers.{partsOf, receiveNumber}
 use Rattle.answers.proofs.Digits.{partAt, six}
-use Rattle.history.specs.Answers.{Row, numbers, endings, entries, ended, endedBy, receiveRows, listed, suits, stands}
+use Rattle.history.specs.Answers.{Row, numbers, endings, entries, ended, receiveRows, listed, suits, stands}
 use Rattle.history.proofs.Refusals.{refused-grants-nothing}
 use Rattle.history.proofs.Listed.{every-ending-is-listed}
 use Rattle.history.proofs.Small.{sets-small}
