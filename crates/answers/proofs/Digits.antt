@@ -1,7 +1,7 @@
 -- What the accessors of include/harpjuniper.h read out of a number that was put together of parts: each part itself, where it fits its place.
 -- Assumes nothing.
 use native.Mathlib.Omega.{arith}
-use native.Mathlib.Nat.{div-eq-of-lt}
+use native.Mathlib.Nat.{div-eq-of-lt, mod-eq-of-lt}
 use Prim.Native.Nat.{ℕ, _+_, _*_, _/_, _%_, _^_, _<_}
 use mathlib.Core.Path.{_≡_, ap, _∙_}
 use lib.Arith.{digits-div, digits-mod}
@@ -72,3 +72,17 @@ refusal-parts m h =
       slot = omega arith;
       precedence = digit n m 0 0 (omega arith) (omega arith) (omega arith);
     }
+
+-- ---- a value, or a refusal above it: hj_refusal and hj_value
+abbrev pub valueIn : ℕ → ℕ
+valueIn n = n % 2 ^ 32
+
+pub record Two (n a b : ℕ) : Type 0 where
+  pub refusal : refusalIn n ≡ a
+  pub value : valueIn n ≡ b
+
+pub value-parts : (n : ℕ) → n < 2 ^ 32 → Two n 0 n
+value-parts n h = record { refusal = digit n 0 0 n (omega arith) h (omega arith); value = mod-eq-of-lt h }
+
+pub refusal-above : (m : ℕ) → m < 2 ^ 32 → Two (refusalNumber m) m 0
+refusal-above m h = record { refusal = refusal-parts m h .refusal; value = omega arith }
