@@ -1,4 +1,3 @@
--- The parts of an answer put together, that each fits its place, and that C reads each back.
+-- The parts of an answer put together, and that C reads each back where it fits its place.
 pub mod Joined
-pub mod Fits
-pub mod ReadBack
+pub mod Digits

@@ -1,2 +1,3 @@
--- What the reads hand together.
+-- What the reads hand together, and that C reads back what is answered.
 mod Calls
+pub mod ReadBack

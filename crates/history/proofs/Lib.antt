@@ -1,9 +1,11 @@
 -- The demands over histories. To be read, each by itself with the definitions it cites:
--- Refusals, Listed and Onward (demand 1: what a refused call leaves; the numbers an answer can be; the TP-ID refuses local delivery alone);
--- Meaning, Search, Copies, Wanted, Reach and Keys (demand 2: what addresses name on every copy granted, no one-octet address leaves its domain; the
--- route taken; which ports are wanted and granted; what holds of the settings in every state that a history reaches);
--- Counters, Named, Sums, Ledger and Oldest (demand 3: every counter, the four that the customer names, by datagram and over a history, the ledger of a
--- port, the order of taking);
+-- Refusals, Listed, ReadBack and Onward (demand 1: what a refused call leaves; the numbers an answer can be; that C reads back the parts of an ending;
+-- the TP-ID refuses local delivery alone);
+-- Meaning, Search, Copies, Wanted, Reach, Keys and Holds (demand 2: what addresses name on every copy granted, no one-octet address leaves its domain;
+-- the route taken; which ports are wanted and granted; what holds of the settings in every state that a history reaches; that a setting holds until it
+-- is changed);
+-- Counters, Named, Sums, Ledger, Oldest and Takes (demand 3: every counter, the four that the customer names, by datagram and over a history, the
+-- ledger of a port, the order of a queue and of taking);
 -- Marked (page 01's marked cases, one table), WrongRelays and Wrong (its wrong relays and its slips, each shown wrong).
 -- The others serve these: Boards, that no rule reads a counter; Small, that a set of ports is one of the eight; Bits, Fair and Queues.
 pub mod Boards
@@ -15,12 +17,15 @@ pub mod Ledger
 pub mod Refusals
 pub mod Meaning
 pub mod Oldest
+pub mod Takes
 pub mod Named
 pub mod Listed
 pub mod Small
 pub mod Sums
+pub mod ReadBack
 pub mod Marked
 pub mod Reach
+pub mod Holds
 pub mod Keys
 pub mod Search
 pub mod Onward

@@ -338,6 +338,10 @@ ended-case r port octets room false z =
     ap (λ (x : Ruling). stands receiveRows (ended (e .refusal) (x .local) (x .onward) (x .took))) none
     ∙ refused-row (e .refusal) z (end-listed r port octets room)
 
+-- Every ending stands in the table's rows of a receive.
+pub every-ending-is-listed : (r : Relay) (port : ℕ) (octets : List ℕ) (room : ℕ) → stands receiveRows (endedBy (endingOf r port octets room)) ≡ true
+every-ending-is-listed r port octets room = ended-case r port octets room _ refl
+
 -- ---- taking
 taken-case : (t : Bool) (h : Head) → stands (numbers (16 ∷ 18 ∷ []) ∷ entries ∷ []) (takenBy (pick t (taking.Refused 16) (handed h))) ≡ true
 taken-case true h = refl
@@ -360,7 +364,7 @@ every-answer-is-listed r (setPath i path send here) = number-row (0 ∷ 21 ∷ 2
 every-answer-is-listed r (clearRoute i) = number-row (0 ∷ 21 ∷ []) (clearChecks i 64) refl refl
 every-answer-is-listed r (clearGroup i) = number-row (0 ∷ 21 ∷ []) (clearChecks i 16) refl refl
 every-answer-is-listed r (clearPath i) = number-row (0 ∷ 21 ∷ []) (clearChecks i 16) refl refl
-every-answer-is-listed r (receives port slot octets output) = ended-case r port octets (length output) _ refl
+every-answer-is-listed r (receives port slot octets output) = every-ending-is-listed r port octets (length output)
 every-answer-is-listed r (takes port) = taken-case (notSetUp r port) (takeOf (queueIn r port) .head)
 
 -- "No" with "not asked" never occurs: no row has it.

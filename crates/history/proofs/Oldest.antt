@@ -1,6 +1,5 @@
--- Demand 3, the order: after any history a take hands out the oldest of the highest precedence waiting, stated over entries that bear the number of
--- their entering; and the queue is sound. The theorems are `hands-out-oldest` and `queue-sound`, at the end. Assumes nothing.
-use native.Mathlib.Omega.{arith}
+-- Demand 3, the order: after any history the head of a port's queue is the oldest of the highest precedence waiting, stated over entries that bear the
+-- number of their entering; and the queue is sound. The theorems are `hands-out-oldest` and `queue-sound`, at the end. Assumes nothing.
 use Prim.Native.Nat.{ℕ, _<_}
 use mathlib.Core.Path.{_≡_, refl, sym, ap, _∙_}
 use mathlib.Core.Bool.{Bool, true, false}
@@ -33,7 +32,7 @@ use Rattle.refusals.specs.Lists.{portChecks, routeChecks, groupChecks, pathChec
 use Rattle.adjust.specs.Settled.{newPort, newRoute, newGroup, newPath}
 use Rattle.history.specs.Calls.{Call, setRouter, setPort, setRoute, setGroup, setPath, clearRoute, clearGroup, clearPath, receives, takes, done, run, after}
 use Rattle.history.specs.Board.{Board, boardOf, freshBoard, next}
-use Rattle.history.specs.Deeds.{putsAt, deedsBy, deeds, worked}
+use Rattle.history.specs.Deeds.{putsAt, deedsBy, deeds, lineAt, worked}
 use Rattle.history.proofs.Boards.{ending-bare, done-board}
 use Rattle.history.proofs.Queues.{Eight, putIf, entered-queue}
 use Rattle.history.proofs.Ledger.{queues-of, settled-queues, counted-queues, one-call, fresh-eight}
@@ -147,18 +146,14 @@ module _ (p : ℕ) (inside : p < 8) where
   unfolding freshRelay
   fresh-queue = getD-replicate {A = Queue} 8 p freshQueue freshQueue inside
 
-  -- the queue of port p after a history, with the turns in which its entries came
-  abbrev pub lineAt : List Call → turns.History
-  lineAt cs = turns.run turns.started (deeds p freshBoard cs)
-
-  pub queue-follows : (cs : List Call) → queueIn (after cs) p ≡ lineAt cs .queue
+  pub queue-follows : (cs : List Call) → queueIn (after cs) p ≡ lineAt p cs .queue
   queue-follows cs =
       calls-work cs freshRelay (fresh-eight p inside)
       ∙ ap (λ (q : Queue). worked q (deeds p freshBoard cs)) fresh-queue
       ∙ sym (followed-queue (deeds p freshBoard cs) turns.started)
 
-  -- What a take at port p hands out after any history is the oldest of the highest precedence that waits there.
-  pub hands-out-oldest : (cs : List Call) (first : turns.Entered) (rest : List turns.Entered) → lineAt cs .line ≡ first ∷ rest
+  -- The head of port p's queue after any history is the oldest of the highest precedence that waits there.
+  pub hands-out-oldest : (cs : List Call) (first : turns.Entered) (rest : List turns.Entered) → lineAt p cs .line ≡ first ∷ rest
       → (takeOf (queueIn (after cs) p) .head ≡ First (first .entry)) × Each (turns.Before first) rest
   hands-out-oldest cs first rest is = rw (queue-follows cs) (oldest-of-highest (deeds p freshBoard cs) first rest is)
 

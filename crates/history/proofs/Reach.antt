@@ -313,38 +313,48 @@ settingsOf r = (r .ports, (r .mission .groups, (r .mission .paths, r .routes)))
 by-settings : (r s : Relay) → Kept r → settingsOf s ≡ settingsOf r → Kept s
 by-settings r s k e = same-kept r s k (ap (λ x. x .0) e) (ap (λ x. x .1 .0) e) (ap (λ x. x .1 .1 .0) e) (ap (λ x. x .1 .1 .1) e)
 
-counted-case : (t : Bool) (r : Relay) (i n : ℕ) → settingsOf (pick t (added r i n) r) ≡ settingsOf r
+-- and router or host with them
+abbrev pub madeOf : Relay → ℕ × (List Port × (List Group × (List PathPlace × List Route)))
+madeOf r = (r .router, settingsOf r)
+
+counted-case : (t : Bool) (r : Relay) (i n : ℕ) → madeOf (pick t (added r i n) r) ≡ madeOf r
 counted-case true r i n = refl
 counted-case false r i n = refl
 
-counted-settings : (rows : List Row) (r : Relay) → settingsOf (countedAll r rows) ≡ settingsOf r
+counted-made : (rows : List Row) (r : Relay) → madeOf (countedAll r rows) ≡ madeOf r
 unfolding countedAt
-counted-settings [] r = refl
-counted-settings (row ∷ rows) r =
-    counted-settings rows (countedAt r (row .0) (row .1)) ∙ counted-case (ltb (row .0) 15) r (row .0) (row .1)
+counted-made [] r = refl
+counted-made (row ∷ rows) r =
+    counted-made rows (countedAt r (row .0) (row .1)) ∙ counted-case (ltb (row .0) 15) r (row .0) (row .1)
 
-entered-case : (t : Bool) (r : Relay) (p : ℕ) (e : Entry) → settingsOf (pick t r (entered r p e)) ≡ settingsOf r
+entered-case : (t : Bool) (r : Relay) (p : ℕ) (e : Entry) → madeOf (pick t r (entered r p e)) ≡ madeOf r
 entered-case true r p e = refl
 entered-case false r p e = refl
 
-entered-settings : (took : ℕ) (e : Entry) (n : ℕ) (r : Relay) → settingsOf (enteredAll r took e n) ≡ settingsOf r
+entered-made : (took : ℕ) (e : Entry) (n : ℕ) (r : Relay) → madeOf (enteredAll r took e n) ≡ madeOf r
 unfolding enteredAll enteredIf
-entered-settings took e zero r = refl
-entered-settings took e (suc p) r =
-    entered-case (eqb (bitAnd took (onlyPort p)) 0) (enteredAll r took e p) p e ∙ entered-settings took e p r
+entered-made took e zero r = refl
+entered-made took e (suc p) r =
+    entered-case (eqb (bitAnd took (onlyPort p)) 0) (enteredAll r took e p) p e ∙ entered-made took e p r
 
-pub received-settings : (r : Relay) (slot : Slot) (e : Ending) → settingsOf (receivedState r slot e) ≡ settingsOf r
+pub received-made : (r : Relay) (slot : Slot) (e : Ending) → madeOf (receivedState r slot e) ≡ madeOf r
 unfolding receivedState
-received-settings r slot e = entered-settings (e .ruling .took) (entryOf slot e) 8 (countedAll r (movesOf e)) ∙ counted-settings (movesOf e) r
+received-made r slot e = entered-made (e .ruling .took) (entryOf slot e) 8 (countedAll r (movesOf e)) ∙ counted-made (movesOf e) r
 
-taken-case : (t : Bool) (r : Relay) (port : ℕ) (q : Queue) (h : Head) → settingsOf (pick t r (without r port q h)) ≡ settingsOf r
+taken-case : (t : Bool) (r : Relay) (port : ℕ) (q : Queue) (h : Head) → madeOf (pick t r (without r port q h)) ≡ madeOf r
 taken-case true r port q h = refl
 taken-case false r port q (First e) = refl
 taken-case false r port q Nothing = refl
 
-pub taken-settings : (r : Relay) (port : ℕ) → settingsOf (takenState r port) ≡ settingsOf r
+pub taken-made : (r : Relay) (port : ℕ) → madeOf (takenState r port) ≡ madeOf r
 unfolding takenState
-taken-settings r port = taken-case (notSetUp r port) r port (takeOf (queueIn r port) .queue) (takeOf (queueIn r port) .head)
+taken-made r port = taken-case (notSetUp r port) r port (takeOf (queueIn r port) .queue) (takeOf (queueIn r port) .head)
+
+pub received-settings : (r : Relay) (slot : Slot) (e : Ending) → settingsOf (receivedState r slot e) ≡ settingsOf r
+received-settings r slot e = ap (λ x. x .1) (received-made r slot e)
+
+pub taken-settings : (r : Relay) (port : ℕ) → settingsOf (takenState r port) ≡ settingsOf r
+taken-settings r port = ap (λ x. x .1) (taken-made r port)
 
 -- ---- each call, and then all
 pub one-kept : (r : Relay) (c : Call) → Kept r → Kept (done r c)

@@ -23,7 +23,7 @@ use Rattle.history.specs.Sums.{receipt, delivery, sentOn, portsIn, drops
 use Rattle.history.specs.Answers.{ended, receiveRows, stands}
 use Rattle.history.proofs.Counters.{counters}
 use Rattle.history.proofs.Named.{receives-counted, delivers-counted, forwards-counted, discards-counted}
-use Rattle.history.proofs.Listed.{every-answer-is-listed}
+use Rattle.history.proofs.Listed.{every-ending-is-listed}
 use Rattle.history.proofs.Small.{sets-small}
 
 -- ---- a counter that each ending gives f of it is the total of f
@@ -83,7 +83,7 @@ forwards r port octets output =
     let x = e .ruling in
     forwards-counted e
     ∙ ap one (sent-case (e .refusal) (x .local) (x .onward) (x .took) (eqb (x .took) 0) (eqb (x .onward) 1) refl refl
-    (every-answer-is-listed r (receives port (record { 0 = 0 }) octets output)))
+    (every-ending-is-listed r port octets (length output)))
 
 -- npForwDatagrams is the number of datagrams that some port took, not of their copies.
 pub forwards-sum : (cs : List Call) → counterIn (after cs) 10 ≡ total sentOn cs % 2 ^ 32

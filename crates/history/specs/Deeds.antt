@@ -15,7 +15,7 @@ use Rattle.judge.specs.Ending.{endingOf}
 use Rattle.judge.specs.declared.Ending.{Ending}
 use Rattle.relay.specs.Received.{entryOf}
 use Rattle.history.specs.Calls.{Call, setRouter, setPort, setRoute, setGroup, setPath, clearRoute, clearGroup, clearPath, receives, takes}
-use Rattle.history.specs.Board.{Board, onBoard, next}
+use Rattle.history.specs.Board.{Board, onBoard, freshBoard, next}
 
 -- an entry is put at port p where p took a copy
 abbrev pub putsAt : ℕ → Slot → Ending → List turns.Deed
@@ -37,6 +37,10 @@ deedsBy p b (takes port) = pick (eqb port p) (pick (notSetUp (onBoard b) port) [
 abbrev pub deeds : ℕ → Board → List Call → List turns.Deed
 deeds p b [] = []
 deeds p b (c ∷ cs) = deedsBy p b c ++ deeds p (next b c) cs
+
+-- the queue of port p after a history, with the turns in which its entries came
+abbrev pub lineAt : ℕ → List Call → turns.History
+lineAt p cs = turns.run turns.started (deeds p freshBoard cs)
 
 -- a queue that is put to and taken from
 abbrev pub worked : Queue → List turns.Deed → Queue

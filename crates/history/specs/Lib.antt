@@ -7,3 +7,4 @@ pub mod Ledger
 pub mod Sums
 pub mod Deeds
 pub mod Reach
+pub mod Parts

@@ -1,0 +1,88 @@
+-- What the accessors of include/harpjuniper.h read out of a number that was put together of parts: each part itself, where it fits its place.
+-- Assumes nothing.
+use native.Mathlib.Omega.{arith}
+use native.Mathlib.Nat.{div-eq-of-lt, mod-eq-of-lt}
+use Prim.Native.Nat.{ℕ, _+_, _*_, _/_, _%_, _^_, _<_}
+use mathlib.Core.Path.{_≡_, ap, _∙_}
+use lib.Arith.{digits-div, digits-mod}
+use Rattle.answers.specs.Answers.{partsOf, refusalNumber}
+
+digit : (n q x r : ℕ) {m k : ℕ} → n ≡ (q * k + x) * m + r → r < m → x < k → n / m % k ≡ x
+digit n q x r {m} {k} e h l = ap (λ y. y / m % k) e ∙ ap (λ y. y % k) (digits-div (q * k + x) h) ∙ digits-mod q l
+
+-- ---- receiving
+-- eight bits, from this one up: hj_ended_by, hj_local, hj_onward, hj_took, hj_dropped and hj_header_octets read at 0, 8, 16, 24, 32 and 40
+abbrev pub partAt : ℕ → ℕ → ℕ
+partAt low n = n / 2 ^ low % 256
+
+-- six parts, each of eight bits
+pub record Six (n a b c d f g : ℕ) : Type 0 where
+  pub at-0 : partAt 0 n ≡ a
+  pub at-8 : partAt 8 n ≡ b
+  pub at-16 : partAt 16 n ≡ c
+  pub at-24 : partAt 24 n ≡ d
+  pub at-32 : partAt 32 n ≡ f
+  pub at-40 : partAt 40 n ≡ g
+  pub above : n / 2 ^ 48 ≡ 0
+
+pub six : (a b c d f g : ℕ) → a < 256 → b < 256 → c < 256 → d < 256 → f < 256 → g < 256 → Six (partsOf a b c d f g) a b c d f g
+unfolding partsOf
+six a b c d f g a-low b-low c-low d-low f-low g-low =
+    let n = partsOf a b c d f g in
+    record {
+      at-0 = digit n (b + c * 2 ^ 8 + d * 2 ^ 16 + f * 2 ^ 24 + g * 2 ^ 32) a 0 (omega arith) (omega arith) a-low;
+      at-8 = digit n (c + d * 2 ^ 8 + f * 2 ^ 16 + g * 2 ^ 24) b a (omega arith) (omega arith) b-low;
+      at-16 = digit n (d + f * 2 ^ 8 + g * 2 ^ 16) c (a + b * 2 ^ 8) (omega arith) (omega arith) c-low;
+      at-24 = digit n (f + g * 2 ^ 8) d (a + b * 2 ^ 8 + c * 2 ^ 16) (omega arith) (omega arith) d-low;
+      at-32 = digit n g f (a + b * 2 ^ 8 + c * 2 ^ 16 + d * 2 ^ 24) (omega arith) (omega arith) f-low;
+      at-40 = digit n 0 g (a + b * 2 ^ 8 + c * 2 ^ 16 + d * 2 ^ 24 + f * 2 ^ 32) (omega arith) (omega arith) g-low;
+      above = div-eq-of-lt (omega arith);
+    }
+
+-- ---- taking: hj_refusal, hj_slot and hj_precedence
+abbrev pub refusalIn : ℕ → ℕ
+refusalIn n = n / 2 ^ 32 % 2 ^ 32
+
+abbrev pub slotIn : ℕ → ℕ
+slotIn n = n % 65536
+
+abbrev pub precedenceIn : ℕ → ℕ
+precedenceIn n = n / 65536 % 65536
+
+pub record Three (n a b c : ℕ) : Type 0 where
+  pub refusal : refusalIn n ≡ a
+  pub slot : slotIn n ≡ b
+  pub precedence : precedenceIn n ≡ c
+
+-- the precedence above the slot
+pub entry-parts : (slot precedence : ℕ) → slot < 65536 → precedence < 65536 → Three (precedence * 2 ^ 16 + slot) 0 slot precedence
+entry-parts slot precedence s p =
+    let n = precedence * 2 ^ 16 + slot in
+    record {
+      refusal = digit n 0 0 n (omega arith) (omega arith) (omega arith);
+      slot = digits-mod precedence s;
+      precedence = digit n 0 precedence slot (omega arith) s p;
+    }
+
+pub refusal-parts : (m : ℕ) → m < 2 ^ 32 → Three (refusalNumber m) m 0 0
+refusal-parts m h =
+    let n = refusalNumber m in
+    record {
+      refusal = digit n 0 m 0 (omega arith) (omega arith) h;
+      slot = omega arith;
+      precedence = digit n m 0 0 (omega arith) (omega arith) (omega arith);
+    }
+
+-- ---- a value, or a refusal above it: hj_refusal and hj_value
+abbrev pub valueIn : ℕ → ℕ
+valueIn n = n % 2 ^ 32
+
+pub record Two (n a b : ℕ) : Type 0 where
+  pub refusal : refusalIn n ≡ a
+  pub value : valueIn n ≡ b
+
+pub value-parts : (n : ℕ) → n < 2 ^ 32 → Two n 0 n
+value-parts n h = record { refusal = digit n 0 0 n (omega arith) h (omega arith); value = mod-eq-of-lt h }
+
+pub refusal-above : (m : ℕ) → m < 2 ^ 32 → Two (refusalNumber m) m 0
+refusal-above m h = record { refusal = refusal-parts m h .refusal; value = omega arith }

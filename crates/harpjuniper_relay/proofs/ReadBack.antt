@@ -1,0 +1,133 @@
+-- The accessors of include/harpjuniper.h read out of the answers of hj_take, hj_waiting and hj_counter the very entry, number or refusal, whatever words
+-- are lent: an entry is a word of the state, so that its slot and its precedence fit the sixteen bits that each has, and a number is a word itself.
+-- Assumes nothing.
+use native.Mathlib.Omega.{arith}
+use Prim.Native.Nat.{ℕ, zero, suc, _+_, _-_, _*_, _^_, _<_}
+use mathlib.Core.Path.{_≡_, refl, ap}
+use mathlib.Core.Bool.{Bool, true, false}
+use mathlib.Core.List.{List, [], _∷_, map}
+use lib.Dec.{eqb, ltb}
+use lib.ListN.{length, take, drop, getD}
+use lib.Seq.{getD-take, getD-drop}
+use borrow.Author.Tests.{ltb-true}
+use Rattle.checks.specs.Order.{pick, checkOf}
+use Rattle.checks.proofs.Laws.{either}
+use Rattle.queue.specs.Queue.{takenFrom, takeOf}
+use Rattle.queue.specs.declared.Queue.{Queue}
+use Rattle.queue.specs.declared.Taken.{Taken}
+use Rattle.queue.specs.declared.Head.{Head}
+use Rattle.queue.specs.declared.Head.the-variants.{First, Nothing}
+use Rattle.state.specs.Relay.{Relay, queueIn, counterIn}
+use Rattle.state.specs.Layout.{stateWords, decode, entryOf, queueOf}
+use Rattle.state.proofs.Reading.{taken, queue-read, counter-read}
+use Rattle.taking.specs.Taking.{notSetUp, handed, takeOutcome}
+use Rattle.taking.specs.declared.Taking.{Taking}
+use Rattle.taking.specs.declared.Taking.the-variants.{Handed, Refused}
+use Rattle.taking.proofs.Port.{is-port}
+use Rattle.answers.specs.Answers.{refusalNumber, takingNumber}
+use Rattle.answers.proofs.Digits.{Three, entry-parts, refusal-parts, Two, value-parts, refusal-above}
+use Rattle.lent.specs.View.{Held, Other, lent, byLent, told}
+use Rattle.harpjuniper_relay.specs.Face.{takeAnswer, counterAnswer, waitingAnswer}
+
+-- words as C lends them
+abbrev pub Words : List ℕ → Type 0
+Words w = (i : ℕ) → getD w i 0 < 2 ^ 32
+
+-- what is read of the answer n: the entry's slot and precedence and no refusal, or the refusal alone
+abbrev pub TakeRead : ℕ → Taking → Type 0
+TakeRead n (Handed e) = Three n 0 (e .slot .0) (e .precedence)
+TakeRead n (Refused m) = Three n m 0 0
+
+-- ---- an entry that waits fits
+abbrev Fits : Head → Type 0
+Fits (First e) = (e .slot .0 < 65536) × (e .precedence < 65536)
+Fits Nothing = Unit
+
+first-fits : (n : ℕ) (q : Queue) (l : List ℕ) → getD l 0 0 < 2 ^ 32 → Fits (takenFrom q (take n (map entryOf l)) .head)
+first-fits zero q l h = tt
+first-fits (suc n) q [] h = tt
+first-fits (suc n) q (x ∷ l) h = (omega arith, omega arith)
+
+queue-fits : (l : List ℕ) → getD l 0 0 < 2 ^ 32 → Fits (takeOf (queueOf l) .head)
+unfolding takeOf queueOf
+queue-fits l h =
+    let n = getD l 32 0 in
+    let first : getD (take 32 l) 0 0 < 2 ^ 32 = rw (getD-take 32 l 0 0 (omega arith)) h in
+    either (λ (x : Taken). Fits (x .head)) (ltb 32 n) tt (first-fits n (queueOf l) (take 32 l) first)
+
+-- ---- so the parts are read back
+outcome-read : (t : Bool) (h : Head) → (t ≡ false → Fits h) → TakeRead (takingNumber (pick t (Refused 16) (handed h))) (pick t (Refused 16) (handed h))
+outcome-read true h f = refusal-parts 16 (omega arith)
+outcome-read false (First e) f = entry-parts (e .slot .0) (e .precedence) (f refl .0) (f refl .1)
+outcome-read false Nothing f = refusal-parts 18 (omega arith)
+
+-- a value below 2^32 where there is one to answer, else 21
+module _ (w : List ℕ) (value : Relay → ℕ) where
+  value-case : (there t : Bool) → (there ≡ true → value (decode w) < 2 ^ 32)
+      → Two
+      (byLent (λ (x : Relay). pick there (value x) (refusalNumber 21)) (refusalNumber 21) (pick t (Held (decode w)) (Other w)))
+      (byLent (λ (x : Relay). pick there 0 21) 21 (pick t (Held (decode w)) (Other w)))
+      (byLent (λ (x : Relay). pick there (value x) 0) 0 (pick t (Held (decode w)) (Other w)))
+  value-case true true h = value-parts (value (decode w)) (h refl)
+  value-case false true h = refusal-above 21 (omega arith)
+  value-case there false h = refusal-above 21 (omega arith)
+
+  value-read : (there : Bool) → (there ≡ true → value (decode w) < 2 ^ 32)
+      → Two
+      (told (λ (x : Relay). pick there (value x) (refusalNumber 21)) (refusalNumber 21) w)
+      (told (λ (x : Relay). pick there 0 21) 21 w)
+      (told (λ (x : Relay). pick there (value x) 0) 0 w)
+  unfolding told lent
+  value-read there h = value-case there (eqb (length w) stateWords) h
+
+module _ (w : List ℕ) (words : Words w) (port : ℕ) where
+  -- the words of a queue
+  abbrev piece : List ℕ
+  piece = taken 161 33 port w
+
+  piece-word : (i : ℕ) → i < 33 → getD piece i 0 < 2 ^ 32
+  piece-word i h =
+      let at = 161 + port * 33 in
+      rw (getD-take (at + 33 - at) (drop at w) i 0 (omega arith), getD-drop at w i 0) (words (at + i))
+
+  head-fits : notSetUp (decode w) port ≡ false → Fits (takeOf (queueIn (decode w) port) .head)
+  head-fits ready =
+      let inside : port < 8 = is-port (decode w) port refl (ap checkOf ready) in
+      rw (← queue-read w port (queueOf piece) inside refl) (queue-fits piece (piece-word 0 (omega arith)))
+
+  held-read : TakeRead (takeAnswer (decode w) port) (takeOutcome (decode w) port)
+  unfolding takeOutcome
+  held-read = outcome-read (notSetUp (decode w) port) (takeOf (queueIn (decode w) port) .head) head-fits
+
+  lent-read : (t : Bool)
+      → TakeRead
+      (byLent (λ (x : Relay). takeAnswer x port) (refusalNumber 16) (pick t (Held (decode w)) (Other w)))
+      (byLent (λ (x : Relay). takeOutcome x port) (Refused 16) (pick t (Held (decode w)) (Other w)))
+  lent-read true = held-read
+  lent-read false = refusal-parts 16 (omega arith)
+
+  -- What the accessors read of hj_take's answer is what a take is said to hand out or to be refused by.
+  pub take-read-back : TakeRead (told (λ (x : Relay). takeAnswer x port) (refusalNumber 16) w) (told (λ (x : Relay). takeOutcome x port) (Refused 16) w)
+  unfolding told lent
+  take-read-back = lent-read (eqb (length w) stateWords)
+
+  -- What they read of hj_waiting's answer is how many entries wait, or 21 where there is no such port.
+  pub waiting-read-back :
+      Two
+      (told (λ (x : Relay). waitingAnswer x port) (refusalNumber 21) w)
+      (told (λ (x : Relay). pick (ltb port 8) 0 21) 21 w)
+      (told (λ (x : Relay). pick (ltb port 8) (queueIn x port .count) 0) 0 w)
+  unfolding waitingAnswer queueOf
+  waiting-read-back =
+      value-read w (λ (x : Relay). queueIn x port .count) (ltb port 8)
+      (λ h. rw (← queue-read w port (queueOf piece) (ltb-true port 8 h) refl) (piece-word 32 (omega arith)))
+
+  -- And of hj_counter's the counter, or 21 where there is no such counter.
+  pub counter-read-back : (i : ℕ)
+      → Two
+      (told (λ (x : Relay). counterAnswer x i) (refusalNumber 21) w)
+      (told (λ (x : Relay). pick (ltb i 15) 0 21) 21 w)
+      (told (λ (x : Relay). pick (ltb i 15) (counterIn x i) 0) 0 w)
+  unfolding counterAnswer
+  counter-read-back i =
+      value-read w (λ (x : Relay). counterIn x i) (ltb i 15) (λ h. rw (← counter-read w i (ltb-true i 15 h)) (words (425 + i)))
