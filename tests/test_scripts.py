@@ -97,7 +97,7 @@ class Promises(Tree):
 
     def test_sections_and_rows_are_taken(self):
         status, output = self.check(PAGE)
-        self.assertEqual((status, output), (0, "promises: 3 statements are quoted as they stand\n"))
+        self.assertEqual((status, output), (0, "promises: 3 statements are quoted as they stand, 0 wrong programs are there\n"))
 
     def test_another_statement(self):
         self.refused(PAGE.replace("< 7", "< 8"), "PROMISES.md:3: one-class is quoted as", "< 8", "< 7")
@@ -120,6 +120,14 @@ class Promises(Tree):
 
     def test_a_quotation_without_theorem(self):
         self.refused(PAGE + "```antt\nother : ℕ\n```\n", "belongs to no theorem")
+
+    def test_wrong_programs(self):
+        page = PAGE + "| a slip | `crates/address/must-fail/slip.edit` |\n"
+        self.refused(page, "there is no crates/address/must-fail/slip.edit")
+        self.write("crates/address/must-fail/slip.edit", "")
+        status, output = self.check(page)
+        self.assertEqual(status, 0, output)
+        self.assertIn("1 wrong programs", output)
 
     def test_a_page_without_theorems(self):
         self.refused("# Promises\n", "names no theorem")

@@ -4,7 +4,7 @@ use native.Mathlib.Omega.{arith}
 use Prim.Native.Nat.{ℕ}
 use mathlib.Core.Path.{_≡_, refl}
 use mathlib.Core.Bool.{true, false}
-use mathlib.Core.List.{List}
+use mathlib.Core.List.{List, [], _∷_}
 use borrow.Author.Tests.{le-ltb}
 use Rattle.checks.specs.Order.{firstOf}
 use Rattle.address.specs.Octets.{dotted}
@@ -17,7 +17,11 @@ use Rattle.routes.specs.Refusals.{codesRefused}
 use Rattle.routes.specs.Routes.{matched, candidate}
 use Rattle.routes.specs.Search.{beaten, betterOf, searchFrom, searchOf}
 use Rattle.routes.specs.declared.Found.the-variants.{At}
+use Rattle.routes.specs.declared.Route.{Route}
 use Rattle.routes.proofs.Marked as marked
+use Rattle.verdict.specs.Rule.{routeLine}
+use Rattle.verdict.specs.declared.Line.the-variants.{Refused}
+use Rattle.ways.specs.Ways.{wayOf}
 use Rattle.state.specs.Relay.{Relay}
 use Rattle.survey.specs.Survey.{isWide}
 use Rattle.survey.specs.declared.Sought.{Sought}
@@ -39,6 +43,23 @@ flag-is-low = (refl, refl)
 pub not-the-first-match : searchOf (record { 0 = dotted 10 4 9 16 }) marked.all ≡ At 2 24 marked.C
 unfolding searchOf searchFrom betterOf beaten candidate matched onesOf onesBelow
 not-the-first-match = refl
+
+-- a route that is not up passed over for a shorter one: case a with D not up takes D all the same, and the answer is 12
+abbrev notUp : Route
+notUp =
+    record {
+      filled = 1;
+      prefix = marked.D .prefix;
+      mask = marked.D .mask;
+      port = 3;
+      availability = 2;
+      capabilities = 0;
+    }
+
+pub taken-though-not-up :
+    routeLine (wayOf (searchOf (record { 0 = dotted 10 4 9 14 }) (marked.A ∷ marked.B ∷ marked.C ∷ notUp ∷ []))) ≡ Refused 12
+unfolding searchOf searchFrom betterOf beaten candidate matched onesOf onesBelow routeLine
+taken-though-not-up = refl
 
 -- capability 3 taken for both: both is 4
 pub three-is-refused : (codesRefused 1 3 ≡ true) × (codesRefused 1 4 ≡ false)
