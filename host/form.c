@@ -51,6 +51,15 @@ void form_choose(struct form *form, struct random *random)
     form->control_octets = form_shortest_control(form);
 }
 
+void form_put_address(const struct form *form, uint8_t *octets,
+                      uint32_t address)
+{
+    unsigned count = form->address_octets;
+
+    for (unsigned i = 0; i < count && count < 16; i++)
+        octets[i] = (uint8_t)(address >> 8 * (count - 1 - i));
+}
+
 unsigned form_time_octets(const struct form *form)
 {
     switch (form->stamp_format) {

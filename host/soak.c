@@ -28,7 +28,6 @@
 #include <string.h>
 #include <unistd.h>
 
-#include "history_ways.h"
 #include "options.h"
 #include "settings.h"
 #include "soak.h"
