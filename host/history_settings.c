@@ -67,6 +67,19 @@ static uint32_t same_elsewhere(const uint32_t *entries, uint32_t count,
     return entry->address;
 }
 
+/* The ways that groups and paths share: 1, 2 and 4 of those chosen. */
+static void spoil_entry(const struct world *world, const uint32_t *entries,
+                        uint32_t count, uint32_t chosen, struct entry *entry,
+                        struct random *random)
+{
+    if (chosen & 1)
+        entry->address = same_elsewhere(entries, count, entry, random);
+    if (chosen & 2)
+        entry->place = beyond(count, random);
+    if (chosen & 4)
+        entry->send = bad_set(world, random);
+}
+
 static struct entry choose_group(const struct world *world, uint32_t place,
                                  struct random *random)
 {
@@ -93,13 +106,7 @@ static void refused_group(struct world *world, struct random *random)
     struct entry group =
         choose_group(world, random_below(random, WORLD_GROUPS), random);
 
-    if (chosen & 1)
-        group.address =
-            same_elsewhere(world->groups, WORLD_GROUPS, &group, random);
-    if (chosen & 2)
-        group.place = beyond(WORLD_GROUPS, random);
-    if (chosen & 4)
-        group.send = bad_set(world, random);
+    spoil_entry(world, world->groups, WORLD_GROUPS, chosen, &group, random);
     if (chosen & 8)
         group.last = bad_set(world, random);
     if (chosen & 16)
@@ -135,13 +142,7 @@ static void refused_path(struct world *world, struct random *random)
     struct entry path =
         choose_path(world, random_below(random, WORLD_PATHS), random);
 
-    if (chosen & 1)
-        path.address =
-            same_elsewhere(world->paths, WORLD_PATHS, &path, random);
-    if (chosen & 2)
-        path.place = beyond(WORLD_PATHS, random);
-    if (chosen & 4)
-        path.send = bad_set(world, random);
+    spoil_entry(world, world->paths, WORLD_PATHS, chosen, &path, random);
     if (chosen & 8)
         path.address = random_one_in(random, 2) ? 0x0a0409fe : 0xac100402;
     if (chosen & 16)
