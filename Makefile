@@ -36,7 +36,7 @@ BENCH := $(addprefix host/,bench.c bench_ours.c bench_plain.c painted.c trace.c 
 	options.c)
 REHEARSAL := $(addprefix host/,rehearsal.c rehearsal_line.c rehearsal_settings.c \
 	rehearsal_events.c rehearsal_net.c rehearsal_told.c rehearsal_expect.c \
-	rehearsal_books.c)
+	rehearsal_books.c options.c)
 SOAK := $(addprefix host/,soak.c soak_ours.c soak_plain.c soak_rules.c soak_lent.c \
 	soak_draw.c soak_octets.c soak_table.c world.c datagram.c form.c settings.c \
 	options.c)

@@ -192,7 +192,7 @@ static const char HELP[] =
     "    state  the octets of the two states\n"
     "\n"
     "Status: 0 done; 1 the two answered a call differently, or a line is not\n"
-    "understood, or the input or the output failed; 2 bad usage.\n";
+    "understood, or the input failed; 2 bad usage, or the output failed.\n";
 
 int main(int count, char **arguments)
 {
@@ -205,7 +205,7 @@ int main(int count, char **arguments)
     if (count == 2 && strcmp(arguments[1], "state") == 0) {
         printf("ours\t%zu\nplain\t%zu\n", bench_our_state(),
                bench_plain_state());
-        return 0;
+        return options_end(&PROGRAM, 0);
     }
     if (count != 2 || (strcmp(arguments[1], "count") != 0 &&
                        strcmp(arguments[1], "stack") != 0)) {
@@ -216,5 +216,5 @@ int main(int count, char **arguments)
     }
     mode = arguments[1][0] == 'c' ? COUNT : STACK;
     say(mode, "nothing", "nothing", run(mode, nothing));
-    return make_lines(mode) && fflush(stdout) == 0 ? 0 : 1;
+    return options_end(&PROGRAM, make_lines(mode) ? 0 : 1);
 }

@@ -309,7 +309,7 @@ static const char HELP[] =
     "trace (docs/TRACE.md). The numbers are those that `generate` was given.\n"
     "\n"
     "Status: 0 all was reached often enough; 1 something was not, or a line\n"
-    "has no good answer; 2 bad usage.\n";
+    "has no good answer; 2 bad usage, or the output failed.\n";
 
 static void say_calls(const struct setting *stated)
 {
@@ -335,10 +335,11 @@ int main(int count, char **arguments)
 
     if (status != OPTIONS_GO_ON)
         return status;
-    if (count != 1 + SETTINGS ||
-        !settings_take(stated, SETTINGS, arguments + 1)) {
-        fputs("coverage: headers=N builds=N addresses=N checksums=N "
-              "histories=N\n"
+    if (!settings_take(&PROGRAM, stated, SETTINGS, arguments + 1))
+        return 2;
+    if (count != 1 + SETTINGS) {
+        fputs("coverage: say each of headers, builds, addresses, checksums and "
+              "histories\n"
               "coverage: try --help\n",
               stderr);
         return 2;
@@ -352,5 +353,5 @@ int main(int count, char **arguments)
     say_relay();
     if (failed)
         puts("coverage: FAILED: something above is TOO FEW or has no answer");
-    return failed ? 1 : 0;
+    return options_end(&PROGRAM, failed ? 1 : 0);
 }

@@ -283,7 +283,7 @@ static const char HELP[] =
     "of what is handed out, and each counter.\n"
     "\n"
     "Status: 0 the books balance; 1 they do not, or a line has no good\n"
-    "answer; 2 bad usage.\n";
+    "answer; 2 bad usage, or the output failed.\n";
 
 int main(int count, char **arguments)
 {
@@ -301,5 +301,5 @@ int main(int count, char **arguments)
            seen.exact);
     if (!good || !balanced)
         puts("ledger: FAILED: the books do not balance");
-    return good && balanced ? 0 : 1;
+    return options_end(&PROGRAM, good && balanced ? 0 : 1);
 }
