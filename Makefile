@@ -128,9 +128,11 @@ build/readme.c: README.md scripts/readme-program | prepare
 
 # ---- Programs for this machine
 
+plain_version := -DPLAIN_VERSION='"$(VERSION)"'
+
 build/plain: host/plain/plain.c $(PLAIN) $(HEADERS) VERSION | prepare
 	@mkdir -p build
-	gcc $(CFLAGS) -DPLAIN_VERSION='"$(VERSION)"' -o $@ host/plain/plain.c $(PLAIN)
+	gcc $(CFLAGS) $(plain_version) -o $@ host/plain/plain.c $(PLAIN)
 
 build/test_%: host/plain/test_%.c $(PLAIN) $(HEADERS) | prepare
 	@mkdir -p build
@@ -143,10 +145,10 @@ build/generate build/coverage build/ledger: $(HEADERS) | prepare
 	@mkdir -p build
 	gcc $(CFLAGS) -Iinclude -o $@ $(filter %.c,$^)
 
-build/coverage-plain/plain: host/plain/plain.c $(PLAIN) $(HEADERS) | prepare
+build/coverage-plain/plain: host/plain/plain.c $(PLAIN) $(HEADERS) VERSION | prepare
 	@mkdir -p $(@D)
 	rm -f $(@D)/*
-	gcc -std=c99 -O0 --coverage $(STRICT) -o $@ host/plain/plain.c $(PLAIN)
+	gcc -std=c99 -O0 --coverage $(STRICT) $(plain_version) -o $@ host/plain/plain.c $(PLAIN)
 
 # ---- Tests
 
