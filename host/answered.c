@@ -1,4 +1,8 @@
-/* answered.c: reading an answered trace. */
+/*
+ * answered.c: reading an answered trace. The awkward case is a line that looks
+ * answered and is not: all but `new` need something after ` = `, and an answer
+ * that ends in `!` is one that the program itself found wrong.
+ */
 #define _POSIX_C_SOURCE 200809L
 
 #include "answered.h"

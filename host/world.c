@@ -1,4 +1,8 @@
-/* world.c: drawing addresses, ports and masks. */
+/*
+ * world.c: drawing addresses and ports of the small world, and masks. Three
+ * domains of net 10 and four other networks are enough for an address to be in
+ * a port's own network, in another that a route leads to, or in none.
+ */
 #include "world.h"
 
 static const uint32_t DOMAIN[] = {0x0a040900, 0x0a040800, 0x0a070100};
