@@ -166,7 +166,7 @@ readme: build/readme
 host-tests: build/calls build/relay_calls build/test_plain build/test_relay \
 	build/replay build/plain build/ledger build/generate build/coverage \
 	build/bench build/flight_loop build/settings_batch build/rehearsal \
-	build/rehearsal_wrong build/soak build/soak_faulty
+	build/rehearsal_wrong build/soak build/soak_faulty build/coverage-plain/plain
 	build/calls
 	build/relay_calls
 	build/test_plain

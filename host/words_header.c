@@ -17,24 +17,25 @@
 #include "harpjuniper.h"
 #include "lent.h"
 
-bool answer_class(const struct trace_word *arguments, struct text *answer)
+static bool answer_of_four_octets(const struct trace_word *arguments,
+                                  struct text *answer, uint32_t of(uint32_t))
 {
     uint32_t address;
 
     if (!trace_address(arguments[0], &address))
         return false;
-    text_number(answer, hj_class(address));
+    text_number(answer, of(address));
     return true;
+}
+
+bool answer_class(const struct trace_word *arguments, struct text *answer)
+{
+    return answer_of_four_octets(arguments, answer, hj_class);
 }
 
 bool answer_path(const struct trace_word *arguments, struct text *answer)
 {
-    uint32_t path;
-
-    if (!trace_address(arguments[0], &path))
-        return false;
-    text_number(answer, hj_path(path));
-    return true;
+    return answer_of_four_octets(arguments, answer, hj_path);
 }
 
 static uint8_t octets[TRACE_MOST_OCTETS];

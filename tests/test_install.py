@@ -184,7 +184,7 @@ class Version(unittest.TestCase):
         self.assertIn(f"| Implementation version | {VERSION} (", read("docs/PICS.md"))
 
     def test_the_news(self):
-        self.assertIn(f": {VERSION}, ", read("NEWS.md").split("\n## ")[1].split("\n")[0])
+        self.assertRegex(read("NEWS.md"), rf"(?m)^## [0-9-]+: {re.escape(VERSION)}, ")
 
 
 class Pages(unittest.TestCase):
