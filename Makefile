@@ -36,12 +36,12 @@ BENCH := $(addprefix host/,bench.c bench_ours.c bench_plain.c painted.c trace.c 
 	options.c)
 REHEARSAL := $(addprefix host/,rehearsal.c rehearsal_line.c rehearsal_settings.c \
 	rehearsal_events.c rehearsal_net.c rehearsal_told.c rehearsal_expect.c \
-	rehearsal_books.c)
+	rehearsal_books.c options.c)
 SOAK := $(addprefix host/,soak.c soak_ours.c soak_plain.c soak_rules.c soak_lent.c \
 	soak_draw.c soak_octets.c soak_table.c world.c datagram.c form.c settings.c \
 	options.c)
 PLAIN := $(wildcard host/plain/plain_*.c)
-HEADERS := $(wildcard include/*.h host/*.h host/plain/*.h)
+HEADERS := $(wildcard include/*.h host/*.h host/plain/*.h tests/*.h)
 
 # `make test` goes through its parts in this order, whatever -j says.
 .NOTPARALLEL:
@@ -101,86 +101,56 @@ link = x86_64-linux-gnu-gcc $(CFLAGS) -Iinclude -Ihost -static -o $@.x86-64
 emulate = @cp scripts/emulated $@
 endif
 
-build/replay: $(REPLAY) $(ARCHIVE) $(HEADERS) scripts/emulated | prepare
-	$(link) $(REPLAY) $(ARCHIVE)
-	$(emulate)
+build/replay: $(REPLAY)
+build/rehearsal: $(REHEARSAL)
+build/calls: tests/calls.c
+build/relay_calls: tests/relay_calls.c
+build/bench: $(BENCH) $(PLAIN)
+build/flight_loop: examples/flight_loop.c
+build/settings_batch: examples/settings_batch.c
+build/soak: $(SOAK) $(PLAIN)
+build/readme: build/readme.c
 
-build/rehearsal: $(REHEARSAL) $(ARCHIVE) $(HEADERS) scripts/emulated | prepare
-	$(link) $(REHEARSAL) $(ARCHIVE)
-	$(emulate)
+# The rehearsal on a relay that loses entries: its ledger must not close. The soak
+# with faults put between it and the library, which it has to find.
+build/rehearsal_wrong: $(REHEARSAL) tests/wrong_take.c
+build/soak_faulty: $(SOAK) $(PLAIN) tests/soak_faults.c
+build/rehearsal_wrong: wrapped := take
+build/soak_faulty: wrapped := class take counter waiting set_port receive
 
-# The same on a relay that loses entries: its ledger must not close.
-build/rehearsal_wrong: $(REHEARSAL) tests/wrong_take.c $(ARCHIVE) $(HEADERS) \
-	scripts/emulated | prepare
-	$(link) -Wl,--wrap=hj_take $(REHEARSAL) tests/wrong_take.c $(ARCHIVE)
-	$(emulate)
-
-build/calls: tests/calls.c $(ARCHIVE) $(HEADERS) scripts/emulated | prepare
-	$(link) tests/calls.c $(ARCHIVE)
-	$(emulate)
-
-build/relay_calls: tests/relay_calls.c $(ARCHIVE) $(HEADERS) scripts/emulated | prepare
-	$(link) tests/relay_calls.c $(ARCHIVE)
-	$(emulate)
-
-build/bench: $(BENCH) $(PLAIN) $(ARCHIVE) $(HEADERS) scripts/emulated | prepare
-	$(link) $(BENCH) $(PLAIN) $(ARCHIVE)
-	$(emulate)
-
-build/flight_loop: examples/flight_loop.c $(ARCHIVE) $(HEADERS) scripts/emulated | prepare
-	$(link) examples/flight_loop.c $(ARCHIVE)
-	$(emulate)
-
-build/settings_batch: examples/settings_batch.c $(ARCHIVE) $(HEADERS) scripts/emulated | prepare
-	$(link) examples/settings_batch.c $(ARCHIVE)
-	$(emulate)
-
-build/soak: $(SOAK) $(PLAIN) $(ARCHIVE) $(HEADERS) scripts/emulated | prepare
-	$(link) $(SOAK) $(PLAIN) $(ARCHIVE)
-	$(emulate)
-
-# The soak with faults put between it and the library, which it has to find.
-FAULTY := class take counter waiting set_port receive
-build/soak_faulty: tests/soak_faults.c $(SOAK) $(PLAIN) $(ARCHIVE) $(HEADERS) \
-	scripts/emulated | prepare
-	$(link) $(FAULTY:%=-Wl,--wrap=hj_%) tests/soak_faults.c $(SOAK) $(PLAIN) \
-	    $(ARCHIVE)
+LINKED := $(addprefix build/,replay rehearsal rehearsal_wrong calls relay_calls bench \
+	flight_loop settings_batch soak soak_faulty readme)
+$(LINKED): $(ARCHIVE) $(HEADERS) scripts/emulated | prepare
+	$(link) $(wrapped:%=-Wl,--wrap=hj_%) $(filter %.c,$^) $(ARCHIVE)
 	$(emulate)
 
 build/readme.c: README.md scripts/readme-program | prepare
 	@mkdir -p build
 	scripts/readme-program $@ build/readme.expected
 
-build/readme: build/readme.c $(ARCHIVE) $(HEADERS) scripts/emulated | prepare
-	$(link) build/readme.c $(ARCHIVE)
-	$(emulate)
-
 # ---- Programs for this machine
+
+plain_version := -DPLAIN_VERSION='"$(VERSION)"'
 
 build/plain: host/plain/plain.c $(PLAIN) $(HEADERS) VERSION | prepare
 	@mkdir -p build
-	gcc $(CFLAGS) -DPLAIN_VERSION='"$(VERSION)"' -o $@ host/plain/plain.c $(PLAIN)
+	gcc $(CFLAGS) $(plain_version) -o $@ host/plain/plain.c $(PLAIN)
 
 build/test_%: host/plain/test_%.c $(PLAIN) $(HEADERS) | prepare
 	@mkdir -p build
 	gcc $(CFLAGS) -o $@ $< $(PLAIN)
 
-build/generate: $(GENERATE) $(HEADERS) | prepare
+build/generate: $(GENERATE)
+build/coverage: $(COVERAGE)
+build/ledger: $(LEDGER)
+build/generate build/coverage build/ledger: $(HEADERS) | prepare
 	@mkdir -p build
-	gcc $(CFLAGS) -Iinclude -o $@ $(GENERATE)
+	gcc $(CFLAGS) -Iinclude -o $@ $(filter %.c,$^)
 
-build/coverage: $(COVERAGE) $(HEADERS) | prepare
-	@mkdir -p build
-	gcc $(CFLAGS) -Iinclude -o $@ $(COVERAGE)
-
-build/ledger: $(LEDGER) $(HEADERS) | prepare
-	@mkdir -p build
-	gcc $(CFLAGS) -Iinclude -o $@ $(LEDGER)
-
-build/coverage-plain/plain: host/plain/plain.c $(PLAIN) $(HEADERS) | prepare
+build/coverage-plain/plain: host/plain/plain.c $(PLAIN) $(HEADERS) VERSION | prepare
 	@mkdir -p $(@D)
 	rm -f $(@D)/*
-	gcc -std=c99 -O0 --coverage $(STRICT) -o $@ host/plain/plain.c $(PLAIN)
+	gcc -std=c99 -O0 --coverage $(STRICT) $(plain_version) -o $@ host/plain/plain.c $(PLAIN)
 
 # ---- Tests
 
@@ -198,7 +168,7 @@ readme: build/readme
 host-tests: build/calls build/relay_calls build/test_plain build/test_relay \
 	build/replay build/plain build/ledger build/generate build/coverage \
 	build/bench build/flight_loop build/settings_batch build/rehearsal \
-	build/rehearsal_wrong build/soak build/soak_faulty
+	build/rehearsal_wrong build/soak build/soak_faulty build/coverage-plain/plain
 	build/calls
 	build/relay_calls
 	build/test_plain

@@ -1,6 +1,7 @@
 /*
  * answered.h: the lines of an answered trace, each a call and its answer. The
- * answer of `new` is nothing, and has no words.
+ * answer of `new` is nothing, and has no words. Every word that docs/TRACE.md
+ * has for a call and its answer is there in a line that is handed on.
  */
 #ifndef ANSWERED_H
 #define ANSWERED_H
@@ -16,9 +17,9 @@ typedef bool answered_line(const struct trace_call *call,
                            const struct trace_call *answer);
 
 /*
- * Hands on each line of standard input. Prints each that holds no answer, or
- * one that is marked by `!`, or that is not known, and answers false if there
- * was one.
+ * Hands on each line of standard input. Prints each that holds no whole call or
+ * answer, or one that is marked by `!`, or that is not known, and answers false
+ * if there was one.
  */
 bool answered_lines(answered_line *line);
 

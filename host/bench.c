@@ -107,36 +107,41 @@ static bool measure(enum mode mode)
 
 /* ---- Lines --------------------------------------------------------------- */
 
-static bool take_argument(char form, struct trace_word word, uint32_t *number)
-{
-    uint64_t wide;
+/* The forms of a word's numbers; those that are measured. Octets stand behind
+ * the numbers. */
+static const struct bench_word {
+    const char *name;
+    const char *forms;
+    bool octets;
+    bool measured;
+} WORDS[BENCH_WORDS] = {
+    [BENCH_RECEIVE] = {"receive", "ddd", true, true},
+    [BENCH_TAKE] = {"take", "d", false, true},
+    [BENCH_READ] = {"read", "", true, true},
+    [BENCH_NEW] = {"new", "", false, false},
+    [BENCH_SET_ROUTER] = {"set_router", "d", false, false},
+    [BENCH_SET_PORT] = {"set_port", "dxxd", false, false},
+    [BENCH_SET_ROUTE] = {"set_route", "dxxddd", false, false},
+    [BENCH_SET_GROUP] = {"set_group", "dxdd", false, false},
+    [BENCH_SET_PATH] = {"set_path", "dxdd", false, false},
+};
 
-    if (form == 'o')
-        return trace_octets(word, bench_call.octets, &bench_call.count);
-    if (form == 'x')
-        return trace_address(word, number);
-    if (!trace_number(word, UINT32_MAX, &wide))
-        return false;
-    *number = (uint32_t)wide;
-    return true;
-}
-
-static bool take_arguments(const char *forms, const struct trace_call *call)
+static bool take_arguments(const struct bench_word *word,
+                           const struct trace_call *call)
 {
-    if (call->count - 1 != strlen(forms))
+    const struct trace_word *last = &call->words[call->count - 1];
+
+    if (call->count != 1 + strlen(word->forms) + word->octets ||
+        !trace_numbers(call->words + 1, word->forms, bench_call.numbers))
         return false;
-    for (size_t i = 0; forms[i] != '\0'; i++) {
-        if (!take_argument(forms[i], call->words[i + 1],
-                           &bench_call.numbers[i]))
-            return false;
-    }
-    return true;
+    return !word->octets ||
+           trace_octets(*last, bench_call.octets, &bench_call.count);
 }
 
 static bool make_call(enum mode mode, enum bench_kind word)
 {
     bench_call.word = word;
-    if (bench_words[word].measured)
+    if (WORDS[word].measured)
         return measure(mode);
     bench_plain[word]();
     bench_ours[word]();
@@ -146,8 +151,8 @@ static bool make_call(enum mode mode, enum bench_kind word)
 static bool make_line(enum mode mode, const struct trace_call *call)
 {
     for (int word = 0; word < BENCH_WORDS; word++) {
-        if (trace_is(call->words[0], bench_words[word].name))
-            return take_arguments(bench_words[word].forms, call) &&
+        if (trace_is(call->words[0], WORDS[word].name))
+            return take_arguments(&WORDS[word], call) &&
                    make_call(mode, (enum bench_kind)word);
     }
     return false;
@@ -192,7 +197,7 @@ static const char HELP[] =
     "    state  the octets of the two states\n"
     "\n"
     "Status: 0 done; 1 the two answered a call differently, or a line is not\n"
-    "understood, or the input or the output failed; 2 bad usage.\n";
+    "understood, or the input failed; 2 bad usage, or the output failed.\n";
 
 int main(int count, char **arguments)
 {
@@ -205,7 +210,7 @@ int main(int count, char **arguments)
     if (count == 2 && strcmp(arguments[1], "state") == 0) {
         printf("ours\t%zu\nplain\t%zu\n", bench_our_state(),
                bench_plain_state());
-        return 0;
+        return options_end(&PROGRAM, 0);
     }
     if (count != 2 || (strcmp(arguments[1], "count") != 0 &&
                        strcmp(arguments[1], "stack") != 0)) {
@@ -216,5 +221,5 @@ int main(int count, char **arguments)
     }
     mode = arguments[1][0] == 'c' ? COUNT : STACK;
     say(mode, "nothing", "nothing", run(mode, nothing));
-    return make_lines(mode) && fflush(stdout) == 0 ? 0 : 1;
+    return options_end(&PROGRAM, make_lines(mode) ? 0 : 1);
 }

@@ -1,4 +1,8 @@
-/* bench_plain.c: the calls of the bench on host/plain. */
+/*
+ * bench_plain.c: the calls of the bench on host/plain, as bench_ours.c makes
+ * them on the library. The awkward case is a refusal: plain then writes nothing
+ * to its result, which is therefore cleared too.
+ */
 #include "bench_sides.h"
 
 #include <string.h>

@@ -27,14 +27,6 @@ enum bench_kind {
     BENCH_WORDS
 };
 
-/* The forms of a word's arguments, d a number, x an address, o octets; and
- * whether the call is measured. */
-struct bench_word {
-    const char *name;
-    const char *forms;
-    bool measured;
-};
-
 /* What both sides must answer alike, the numbers of each other call 0. */
 struct bench_answer {
     uint32_t refusal, local, onward, ports, header;
@@ -52,7 +44,6 @@ struct bench_call {
 };
 
 extern struct bench_call bench_call;
-extern const struct bench_word bench_words[BENCH_WORDS];
 extern void (*const bench_ours[BENCH_WORDS])(void);
 extern void (*const bench_plain[BENCH_WORDS])(void);
 

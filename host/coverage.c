@@ -73,7 +73,7 @@ static uint32_t element_of(struct trace_word word)
 /* The fourteen fields, as they stand in a read's answer and a build's call. */
 static struct fields fields_of(const struct trace_word *words)
 {
-    struct trace_word first_octet = {words[10].text, 2};
+    struct trace_word first_octet = words[10];
     struct fields fields = {0};
     uint64_t high;
 
@@ -91,6 +91,8 @@ static struct fields fields_of(const struct trace_word *words)
     fields.has_hop_count = is_present(words[8]);
     fields.hop_count = element_of(words[8]);
     fields.stamp_format = element_of(words[9]);
+    if (first_octet.length > 2)
+        first_octet.length = 2;
     if (is_present(words[10]))
         trace_wide(first_octet, &high, &fields.p_field);
     fields.has_expanded = is_present(words[11]);
@@ -124,22 +126,25 @@ static struct {
     uint64_t of_build[LENGTH(BUILD_NAMES)];
 } tally;
 
-static void count_good(const struct lent *lent, const struct trace_call *answer)
+static bool count_good(const struct lent *lent, const struct trace_call *answer)
 {
     uint64_t *reached = tally.of_read;
     uint64_t length = number_of(answer->words[1]);
     uint64_t header = number_of(answer->words[2]);
     struct fields fields = fields_of(answer->words + 3);
 
+    if (header < 4 || header > length || length > lent->count)
+        return false;
     READ_LIST(COUNT)
     tally.tp_id[fields.tp_id % 16]++;
     if (fields.has_qos)
         tally.precedence[fields.precedence % 16]++;
     if (fields.stamp_format == 2)
         tally.p_field[fields.p_field]++;
+    return true;
 }
 
-static void count_read(const struct trace_call *call,
+static bool count_read(const struct trace_call *call,
                        const struct trace_call *answer)
 {
     static uint8_t octets[TRACE_MOST_OCTETS];
@@ -148,16 +153,16 @@ static void count_read(const struct trace_call *call,
     uint64_t *reached = tally.of_refused;
 
     memset(octets, 0, 5);
-    trace_octets(call->words[1], octets, &lent.count);
+    if (!trace_octets(call->words[1], octets, &lent.count))
+        return false;
     tally.read[refusal]++;
     if (refusal == 0)
-        count_good(&lent, answer);
-    else {
-        REFUSED_LIST(COUNT)
-    }
+        return count_good(&lent, answer);
+    REFUSED_LIST(COUNT)
+    return true;
 }
 
-static void count_build(const struct trace_call *call,
+static bool count_build(const struct trace_call *call,
                         const struct trace_call *answer)
 {
     uint64_t refusal = answered_number(20, answer->words[0]);
@@ -169,23 +174,26 @@ static void count_build(const struct trace_call *call,
 
     tally.build[refusal]++;
     BUILD_LIST(COUNT)
+    return true;
 }
 
-static void count_class(const struct trace_call *call,
+static bool count_class(const struct trace_call *call,
                         const struct trace_call *answer)
 {
     (void)call;
     tally.class[answered_number(6, answer->words[0])]++;
+    return true;
 }
 
-static void count_path(const struct trace_call *call,
+static bool count_path(const struct trace_call *call,
                        const struct trace_call *answer)
 {
     (void)call;
     tally.path[answered_number(1, answer->words[0])]++;
+    return true;
 }
 
-static void count_checksum(const struct trace_call *call,
+static bool count_checksum(const struct trace_call *call,
                            const struct trace_call *answer)
 {
     size_t octets =
@@ -198,13 +206,14 @@ static void count_checksum(const struct trace_call *call,
     tally.even += octets % 2 == 0;
     tally.none += octets == 0;
     tally.longer += octets > 200;
+    return true;
 }
 
 /* ---- Lines --------------------------------------------------------------- */
 
 static const struct {
     const char *word;
-    void (*count)(const struct trace_call *, const struct trace_call *);
+    answered_line *count;
 } WORDS[] = {{"read", count_read},   {"build", count_build},
              {"class", count_class}, {"path", count_path},
              {"checksum", count_checksum}};
@@ -213,10 +222,8 @@ static bool count_line(const struct trace_call *call,
                        const struct trace_call *answer)
 {
     for (size_t i = 0; i < LENGTH(WORDS); i++) {
-        if (trace_is(call->words[0], WORDS[i].word)) {
-            WORDS[i].count(call, answer);
-            return true;
-        }
+        if (trace_is(call->words[0], WORDS[i].word))
+            return WORDS[i].count(call, answer);
     }
     return count_relay_line(call, answer);
 }
@@ -309,7 +316,7 @@ static const char HELP[] =
     "trace (docs/TRACE.md). The numbers are those that `generate` was given.\n"
     "\n"
     "Status: 0 all was reached often enough; 1 something was not, or a line\n"
-    "has no good answer; 2 bad usage.\n";
+    "has no good answer; 2 bad usage, or the output failed.\n";
 
 static void say_calls(const struct setting *stated)
 {
@@ -335,10 +342,11 @@ int main(int count, char **arguments)
 
     if (status != OPTIONS_GO_ON)
         return status;
-    if (count != 1 + SETTINGS ||
-        !settings_take(stated, SETTINGS, arguments + 1)) {
-        fputs("coverage: headers=N builds=N addresses=N checksums=N "
-              "histories=N\n"
+    if (!settings_take(&PROGRAM, stated, SETTINGS, arguments + 1))
+        return 2;
+    if (count != 1 + SETTINGS) {
+        fputs("coverage: say each of headers, builds, addresses, checksums and "
+              "histories\n"
               "coverage: try --help\n",
               stderr);
         return 2;
@@ -352,5 +360,5 @@ int main(int count, char **arguments)
     say_relay();
     if (failed)
         puts("coverage: FAILED: something above is TOO FEW or has no answer");
-    return failed ? 1 : 0;
+    return options_end(&PROGRAM, failed ? 1 : 0);
 }

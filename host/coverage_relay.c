@@ -183,8 +183,7 @@ static bool read_receipt(const struct trace_call *call,
     static uint8_t octets[TRACE_MOST_OCTETS];
     struct receipt r = {0};
 
-    if (call->count != 5 || answer->count != 5 ||
-        !trace_octets(call->words[4], octets, &r.lent))
+    if (!trace_octets(call->words[4], octets, &r.lent))
         return false;
     r.arrival = number(call->words[1]);
     r.room = number(call->words[3]);
@@ -202,21 +201,6 @@ static bool read_receipt(const struct trace_call *call,
 }
 
 /* ---- Other calls --------------------------------------------------------- */
-
-static struct asked read_asked(const struct trace_call *call,
-                               const struct trace_call *answer,
-                               const char *forms)
-{
-    struct asked asked = {number(answer->words[0]), {0}};
-
-    for (size_t i = 0; forms[i] != '\0' && i + 1 < call->count; i++) {
-        if (forms[i] == 'd')
-            asked.n[i] = number(call->words[i + 1]);
-        else
-            trace_address(call->words[i + 1], &asked.n[i]);
-    }
-    return asked;
-}
 
 static void count_setting(enum word word, const struct asked *s)
 {
@@ -239,11 +223,10 @@ static void count_setting(enum word word, const struct asked *s)
 static bool count_number(enum word word, const struct trace_call *call,
                          const struct trace_call *answer)
 {
-    struct asked asked;
+    struct asked asked = {number(answer->words[0]), {0}};
 
-    if (answer->count == 0)
+    if (!trace_numbers(call->words + 1, WORD[word].forms, asked.n))
         return false;
-    asked = read_asked(call, answer, WORD[word].forms);
     tally.numbers[word][asked.number % NUMBERS]++;
     count_setting(word, &asked);
     if (word == TAKE && asked.number == 0)

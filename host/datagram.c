@@ -69,7 +69,7 @@ void add_after(struct datagram *datagram, struct random *random)
 void change_length(struct datagram *datagram, struct random *random)
 {
     size_t around[] = {datagram->header, datagram->count, 4};
-    size_t length = around[random_below(random, 3)];
+    size_t length = PICK(around);
 
     length += random_below(random, 5); /* up to two below or above it */
     length = length < 2 ? 0 : (length - 2) % (DATAGRAM_MOST_LENGTH + 1);
@@ -88,11 +88,22 @@ void change_control(struct datagram *datagram, struct random *random)
     datagram->octets[bit / 8] ^= (uint8_t)(128 >> bit % 8);
 }
 
+static treat *const WAYS[] = {flip_bits, replace_octets, truncate_lent,
+                              add_after, change_length,  change_control};
+
 void spoil_twice(struct datagram *datagram, struct random *random)
 {
-    static treat *const WAYS[] = {flip_bits, replace_octets, truncate_lent,
-                                  add_after, change_length,  change_control};
+    PICK(WAYS)(datagram, random);
+    PICK(WAYS)(datagram, random);
+}
 
-    WAYS[random_below(random, 6)](datagram, random);
-    WAYS[random_below(random, 6)](datagram, random);
+/* Two of eight draws are for two ways. */
+void spoil_somehow(struct datagram *datagram, struct random *random)
+{
+    uint32_t way = random_below(random, LENGTH(WAYS) + 2);
+
+    if (way < LENGTH(WAYS))
+        WAYS[way](datagram, random);
+    else
+        spoil_twice(datagram, random);
 }

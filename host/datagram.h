@@ -40,5 +40,7 @@ treat change_length;
 treat change_control;
 /* Two of them at once, which tries the order of the reader's checks. */
 treat spoil_twice;
+/* One of the six, or two. */
+treat spoil_somehow;
 
 #endif

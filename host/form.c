@@ -51,13 +51,22 @@ void form_choose(struct form *form, struct random *random)
     form->control_octets = form_shortest_control(form);
 }
 
+void form_put_address(const struct form *form, uint8_t *octets,
+                      uint32_t address)
+{
+    unsigned count = form->address_octets;
+
+    for (unsigned i = 0; i < count && count < 16; i++)
+        octets[i] = (uint8_t)(address >> 8 * (count - 1 - i));
+}
+
 unsigned form_time_octets(const struct form *form)
 {
     switch (form->stamp_format) {
     case 1:
         return 3;
     case 2:
-        return 1 + form->p_field / 4 % 4 + form->p_field % 4;
+        return 1u + form->p_field / 4u % 4u + form->p_field % 4u;
     case 3:
         return 4;
     default:
@@ -65,18 +74,25 @@ unsigned form_time_octets(const struct form *form)
     }
 }
 
+static unsigned flag(bool is_set, unsigned bit)
+{
+    return is_set ? 1u << bit : 0;
+}
+
 static uint8_t *write_control(const struct form *form, uint8_t *at)
 {
-    *at++ = (uint8_t)(form->tp_id << 4 | (form->control_octets > 1) << 3 |
-                      1 << 1 | form->has_checksum);
+    *at++ = (uint8_t)(form->tp_id << 4 | flag(form->control_octets > 1, 3) |
+                      flag(true, 1) | flag(form->has_checksum, 0));
     if (form->control_octets > 1)
-        *at++ = (uint8_t)((form->control_octets > 2) << 7 |
-                          form->has_source << 6 | form->has_hop_count << 5 |
-                          form->stamp_format << 3 | form->has_qos << 1 |
-                          (form->address_octets == 4));
+        *at++ = (uint8_t)(flag(form->control_octets > 2, 7) |
+                          flag(form->has_source, 6) |
+                          flag(form->has_hop_count, 5) |
+                          form->stamp_format << 3 | flag(form->has_qos, 1) |
+                          flag(form->address_octets == 4, 0));
     if (form->control_octets > 2)
-        *at++ = (uint8_t)((form->address_octets == 16) << 6 |
-                          form->has_expanded << 5 | form->intermediate << 4);
+        *at++ = (uint8_t)(flag(form->address_octets == 16, 6) |
+                          flag(form->has_expanded, 5) |
+                          flag(form->intermediate, 4));
     return at;
 }
 

@@ -43,6 +43,11 @@ void form_choose(struct form *form, struct random *random);
 /* The fewest control octets that these elements can be said in. */
 unsigned form_shortest_control(const struct form *form);
 
+/* Puts the last octets of an address, as many as the form has, into its
+ * destination or source. An IPv6 address stays what it is. */
+void form_put_address(const struct form *form, uint8_t *octets,
+                      uint32_t address);
+
 /* Octets of the time field; the P-field octet is not among them. */
 unsigned form_time_octets(const struct form *form);
 

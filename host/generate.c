@@ -163,7 +163,7 @@ int main(int count, char **arguments)
 
     if (status != OPTIONS_GO_ON)
         return status;
-    if (!settings_take(settings, SETTINGS, arguments + 1))
+    if (!settings_take(&PROGRAM, settings, SETTINGS, arguments + 1))
         return 2;
     random.state = settings[SEED].value;
     write_headers(settings[HEADERS].value, &random);
@@ -171,9 +171,5 @@ int main(int count, char **arguments)
     write_addresses(settings[ADDRESSES].value, &random);
     write_checksums(settings[CHECKSUMS].value, &random);
     write_histories(settings[HISTORIES].value, &random);
-    if (fflush(stdout) != 0 || ferror(stdout)) {
-        fputs("generate: the output failed\n", stderr);
-        return 2;
-    }
-    return 0;
+    return options_end(&PROGRAM, 0);
 }

@@ -108,7 +108,7 @@ static void say_too_large(struct build *build, enum argument argument,
                           uint32_t least, struct random *random)
 {
     static const uint32_t ABOVE[] = {0, 1, 0xffffffff};
-    uint32_t above = ABOVE[random_below(random, 3)];
+    uint32_t above = PICK(ABOVE);
 
     say_number(build, argument, above > 1 ? above : least + above);
 }
@@ -123,10 +123,10 @@ static void spoil_addresses(struct build *build, struct random *random)
 
     switch (random_below(random, 4)) {
     case 0:
-        say(build, DESTINATION, LARGE[random_below(random, 6)]);
+        say(build, DESTINATION, PICK(LARGE));
         break;
     case 1:
-        say(build, SOURCE, LARGE[random_below(random, 6)]);
+        say(build, SOURCE, PICK(LARGE));
         break;
     case 2:
         say(build, SOURCE, "-");
@@ -193,7 +193,7 @@ static uint32_t choose_data(struct random *random)
                                      8187, 8191, 65535, 65536, 0xffffffff};
 
     if (random_one_in(random, 3))
-        return EDGES[random_below(random, 11)];
+        return PICK(EDGES);
     return random_below(random, 8192);
 }
 
@@ -201,7 +201,7 @@ static uint32_t choose_room(struct random *random)
 {
     static const uint32_t EDGES[] = {0, 1, 48, 49, 51, 52, 400};
 
-    return random_one_in(random, 8) ? EDGES[random_below(random, 7)] : 50;
+    return random_one_in(random, 8) ? PICK(EDGES) : 50;
 }
 
 void write_builds(uint64_t count, struct random *random)

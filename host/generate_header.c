@@ -65,7 +65,7 @@ static void make_wrong_checksum(struct datagram *datagram,
     form_choose(&datagram->form, random);
     datagram->form.has_checksum = true;
     datagram_write(datagram, choose_data(random), random);
-    datagram_carry_checksum(datagram, CARRIED[random_below(random, 4)]);
+    datagram_carry_checksum(datagram, PICK(CARRIED));
 }
 
 /* A header whose checksum is due to be 0000, and 0000 or FFFF carried: two

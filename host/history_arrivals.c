@@ -17,7 +17,6 @@
 
 #include "datagram.h"
 #include "generate_parts.h"
-#include "history_ways.h"
 
 /* ---- What a datagram is aimed at ----------------------------------------- */
 
@@ -136,13 +135,6 @@ static uint32_t choose_source(const struct world *world, struct random *random)
 
 /* ---- Its header ---------------------------------------------------------- */
 
-/* The address's last octets, as many as the form has. */
-static void put_address(uint8_t *octets, unsigned count, uint32_t address)
-{
-    for (unsigned i = 0; i < count && count < 16; i++)
-        octets[i] = (uint8_t)(address >> 8 * (count - 1 - i));
-}
-
 static void aim_form(const struct world *world, struct form *form,
                      struct random *random)
 {
@@ -157,9 +149,8 @@ static void aim_form(const struct world *world, struct form *form,
     }
     destination = form->has_source ? choose_destination(world, random)
                                    : choose_path(world, random);
-    put_address(form->destination, form->address_octets, destination);
-    put_address(form->source, form->address_octets,
-                choose_source(world, random));
+    form_put_address(form, form->destination, destination);
+    form_put_address(form, form->source, choose_source(world, random));
 }
 
 static void choose_form(const struct world *world, struct form *form,
@@ -189,24 +180,14 @@ static size_t choose_data(const struct world *world, const struct form *form,
 {
     uint8_t header[FORM_MOST_HEADER];
     size_t octets = form_write(form, 0, header);
-    size_t length = world->ports[world_port(world, random)].mtu +
-                    random_below(random, 3);
+    size_t length = world->ports[world_port(world, random)].mtu;
 
+    length += random_below(random, 3);
     if (length > DATAGRAM_MOST_LENGTH + 1)
         length = DATAGRAM_MOST_LENGTH + 1;
     if (!random_one_in(random, length > 1000 ? 160 : 2) || length <= octets)
         return random_below(random, 6);
     return length - 1 - octets;
-}
-
-static void spoil(struct datagram *datagram, struct random *random)
-{
-    static treat *const WAYS[] = {flip_bits,     replace_octets,
-                                  truncate_lent, add_after,
-                                  change_length, change_control,
-                                  spoil_twice,   spoil_twice};
-
-    PICK(WAYS)(datagram, random);
 }
 
 /* ---- The line ------------------------------------------------------------ */
@@ -242,7 +223,7 @@ void history_receive(const struct world *world, struct random *random)
     datagram_write(&datagram, choose_data(world, &datagram.form, random),
                    random);
     if (random_one_in(random, 8))
-        spoil(&datagram, random);
+        spoil_somehow(&datagram, random);
     snprintf(word, sizeof word,
              "receive %" PRIu32 " %" PRIu32 " %" PRIu32, arrival, slot, room);
     write_octets_line(word, datagram.octets, datagram.count);

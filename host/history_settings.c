@@ -67,12 +67,34 @@ static uint32_t same_elsewhere(const uint32_t *entries, uint32_t count,
     return entry->address;
 }
 
+/* The ways that groups and paths share: 1, 2 and 4 of those chosen. */
+static void spoil_entry(const struct world *world, const uint32_t *entries,
+                        uint32_t count, uint32_t chosen, struct entry *entry,
+                        struct random *random)
+{
+    if (chosen & 1)
+        entry->address = same_elsewhere(entries, count, entry, random);
+    if (chosen & 2)
+        entry->place = beyond(count, random);
+    if (chosen & 4)
+        entry->send = bad_set(world, random);
+}
+
+static struct entry choose_group(const struct world *world, uint32_t place,
+                                 struct random *random)
+{
+    struct entry group = {.place = place};
+
+    group.address = world_multicast(world, random);
+    group.send = choose_set(world, random);
+    group.last = choose_set(world, random);
+    return group;
+}
+
 void history_set_group(struct world *world, uint32_t place,
                        struct random *random)
 {
-    struct entry group = {place, world_multicast(world, random),
-                          choose_set(world, random),
-                          choose_set(world, random)};
+    struct entry group = choose_group(world, place, random);
 
     world->groups[place] = group.address;
     write_entry("set_group", &group);
@@ -81,18 +103,10 @@ void history_set_group(struct world *world, uint32_t place,
 static void refused_group(struct world *world, struct random *random)
 {
     uint32_t chosen = ways(5, random);
-    struct entry group = {random_below(random, WORLD_GROUPS),
-                          world_multicast(world, random),
-                          choose_set(world, random),
-                          choose_set(world, random)};
+    struct entry group =
+        choose_group(world, random_below(random, WORLD_GROUPS), random);
 
-    if (chosen & 1)
-        group.address =
-            same_elsewhere(world->groups, WORLD_GROUPS, &group, random);
-    if (chosen & 2)
-        group.place = beyond(WORLD_GROUPS, random);
-    if (chosen & 4)
-        group.send = bad_set(world, random);
+    spoil_entry(world, world->groups, WORLD_GROUPS, chosen, &group, random);
     if (chosen & 8)
         group.last = bad_set(world, random);
     if (chosen & 16)
@@ -102,11 +116,21 @@ static void refused_group(struct world *world, struct random *random)
     write_entry("set_group", &group);
 }
 
+static struct entry choose_path(const struct world *world, uint32_t place,
+                                struct random *random)
+{
+    struct entry path = {.place = place};
+
+    path.address = world_path(random);
+    path.send = choose_set(world, random);
+    path.last = random_below(random, 2);
+    return path;
+}
+
 void history_set_path(struct world *world, uint32_t place,
                       struct random *random)
 {
-    struct entry path = {place, world_path(random), choose_set(world, random),
-                         random_below(random, 2)};
+    struct entry path = choose_path(world, place, random);
 
     world->paths[place] = path.address;
     write_entry("set_path", &path);
@@ -115,16 +139,10 @@ void history_set_path(struct world *world, uint32_t place,
 static void refused_path(struct world *world, struct random *random)
 {
     uint32_t chosen = ways(5, random);
-    struct entry path = {random_below(random, WORLD_PATHS), world_path(random),
-                         choose_set(world, random), random_below(random, 2)};
+    struct entry path =
+        choose_path(world, random_below(random, WORLD_PATHS), random);
 
-    if (chosen & 1)
-        path.address =
-            same_elsewhere(world->paths, WORLD_PATHS, &path, random);
-    if (chosen & 2)
-        path.place = beyond(WORLD_PATHS, random);
-    if (chosen & 4)
-        path.send = bad_set(world, random);
+    spoil_entry(world, world->paths, WORLD_PATHS, chosen, &path, random);
     if (chosen & 8)
         path.address = random_one_in(random, 2) ? 0x0a0409fe : 0xac100402;
     if (chosen & 16)
@@ -169,28 +187,35 @@ static void any_port(struct world *world, struct random *random)
         history_refused_port(world, random);
 }
 
-static void any_route(struct world *world, struct random *random)
+typedef void good_setting(struct world *world, uint32_t place,
+                          struct random *random);
+typedef void any_setting(struct world *world, struct random *random);
+
+/* One of so many places is set, or a setting is to be refused. */
+static void any_place(good_setting *good, uint32_t places,
+                      any_setting *refused, struct world *world,
+                      struct random *random)
 {
     if (random_one_in(random, 2))
-        history_set_route(world, random_below(random, WORLD_ROUTES), random);
+        good(world, random_below(random, places), random);
     else
-        history_refused_route(world, random);
+        refused(world, random);
+}
+
+static void any_route(struct world *world, struct random *random)
+{
+    any_place(history_set_route, WORLD_ROUTES, history_refused_route, world,
+              random);
 }
 
 static void any_group(struct world *world, struct random *random)
 {
-    if (random_one_in(random, 2))
-        history_set_group(world, random_below(random, WORLD_GROUPS), random);
-    else
-        refused_group(world, random);
+    any_place(history_set_group, WORLD_GROUPS, refused_group, world, random);
 }
 
 static void any_path(struct world *world, struct random *random)
 {
-    if (random_one_in(random, 2))
-        history_set_path(world, random_below(random, WORLD_PATHS), random);
-    else
-        refused_path(world, random);
+    any_place(history_set_path, WORLD_PATHS, refused_path, world, random);
 }
 
 static void any_clear(struct world *world, struct random *random)
@@ -209,7 +234,7 @@ static void any_clear(struct world *world, struct random *random)
 
 void history_setting(struct world *world, struct random *random)
 {
-    static void (*const KINDS[])(struct world *, struct random *) = {
+    static any_setting *const KINDS[] = {
         any_router, any_port,  any_port, any_route,
         any_route,  any_group, any_path, any_clear};
 

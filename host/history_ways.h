@@ -1,13 +1,13 @@
-/* history_ways.h: choosing one of several, and how a setting is spoiled. */
+/*
+ * history_ways.h: how a setting is spoiled: in which of its ways, each a bit of
+ * a set, and by a number beyond those that there are.
+ */
 #ifndef HISTORY_WAYS_H
 #define HISTORY_WAYS_H
 
 #include <stdint.h>
 
 #include "random.h"
-
-#define LENGTH(array) ((uint32_t)(sizeof(array) / sizeof *(array)))
-#define PICK(array) (array)[random_below(random, LENGTH(array))]
 
 /* One or two of so many ways, as a set. */
 static inline uint32_t ways(uint32_t count, struct random *random)

@@ -228,8 +228,6 @@ static bool book_counters(const struct trace_call *call,
 
     (void)call;
     seen.counters++;
-    if (answer->count < COUNTERS)
-        return false;
     for (int i = 0; i < COUNTERS; i++) {
         uint32_t found = number(answer->words[i]);
 
@@ -259,18 +257,16 @@ static bool book_line(const struct trace_call *call,
 {
     static const struct {
         const char *word;
-        size_t answers;
         answered_line *book;
-    } WORDS[] = {{"receive", 5, book_receive},
-                 {"take", 3, book_take},
-                 {"waiting", 1, book_waiting},
-                 {"counters", COUNTERS, book_counters},
-                 {"new", 0, book_new}};
+    } WORDS[] = {{"receive", book_receive},
+                 {"take", book_take},
+                 {"waiting", book_waiting},
+                 {"counters", book_counters},
+                 {"new", book_new}};
 
     for (size_t i = 0; i < sizeof WORDS / sizeof *WORDS; i++) {
         if (trace_is(call->words[0], WORDS[i].word))
-            return answer->count >= WORDS[i].answers &&
-                   WORDS[i].book(call, answer);
+            return WORDS[i].book(call, answer);
     }
     return true;
 }
@@ -283,7 +279,7 @@ static const char HELP[] =
     "of what is handed out, and each counter.\n"
     "\n"
     "Status: 0 the books balance; 1 they do not, or a line has no good\n"
-    "answer; 2 bad usage.\n";
+    "answer; 2 bad usage, or the output failed.\n";
 
 int main(int count, char **arguments)
 {
@@ -301,5 +297,5 @@ int main(int count, char **arguments)
            seen.exact);
     if (!good || !balanced)
         puts("ledger: FAILED: the books do not balance");
-    return good && balanced ? 0 : 1;
+    return options_end(&PROGRAM, good && balanced ? 0 : 1);
 }

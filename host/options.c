@@ -13,16 +13,16 @@
 
 #include "harpjuniper.h"
 
-static int ended_well(const struct program *program)
+int options_end(const struct program *program, int status)
 {
     if (fflush(stdout) == 0 && !ferror(stdout))
-        return 0;
+        return status;
     fprintf(stderr, "%s: the output failed\n", program->name);
     return 2;
 }
 
-static int refuse(const struct program *program, const char *what,
-                  const char *argument)
+int options_refuse(const struct program *program, const char *what,
+                   const char *argument)
 {
     fprintf(stderr, "%s: %s: %s\n%s: try --help\n", program->name, what,
             argument, program->name);
@@ -33,16 +33,16 @@ static int status_of(const struct program *program, const char *argument)
 {
     if (strcmp(argument, "--help") == 0) {
         fputs(program->help, stdout);
-        return ended_well(program);
+        return options_end(program, 0);
     }
     if (strcmp(argument, "--version") == 0) {
         printf("%s (Harpjuniper) %s\n", program->name, HJ_VERSION);
-        return ended_well(program);
+        return options_end(program, 0);
     }
     if (argument[0] == '-')
-        return refuse(program, "unknown option", argument);
+        return options_refuse(program, "unknown option", argument);
     if (!program->takes_arguments)
-        return refuse(program, "unexpected argument", argument);
+        return options_refuse(program, "unexpected argument", argument);
     return OPTIONS_GO_ON;
 }
 

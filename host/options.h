@@ -1,6 +1,6 @@
 /*
- * options.h: the arguments that every host program treats alike: --help,
- * --version, and what is neither an option nor something the program takes.
+ * options.h: what every host program does alike: --help, --version, an argument
+ * that it does not know, and an output that fails at the end.
  */
 #ifndef OPTIONS_H
 #define OPTIONS_H
@@ -22,5 +22,13 @@ struct program {
  * is not known, or an argument too many, was named on standard error: 2.
  */
 int options_status(const struct program *program, char *const *arguments);
+
+/* Names on standard error what is wrong with an argument; answers 2. */
+int options_refuse(const struct program *program, const char *what,
+                   const char *argument);
+
+/* The status given, where all that was printed was taken; else says that the
+ * output failed, and answers 2. */
+int options_end(const struct program *program, int status);
 
 #endif

@@ -1,6 +1,10 @@
 /*
  * random.h: a stream of numbers from a seed (splitmix64), the same on every
  * machine, so that a trace can be made again anywhere.
+ *
+ * The awkward case is two draws in one expression, whose order C leaves open,
+ * or in one list of initial values: each draw is a statement of its own, or the
+ * argument of a call that draws, so that no compiler changes what a seed means.
  */
 #ifndef RANDOM_H
 #define RANDOM_H
@@ -38,5 +42,9 @@ static inline void random_octets(struct random *random, uint8_t *octets,
     for (uint32_t i = 0; i < count; i++)
         octets[i] = (uint8_t)random_below(random, 256);
 }
+
+/* How many an array has, and one of them, drawn from `random`. */
+#define LENGTH(array) ((uint32_t)(sizeof(array) / sizeof *(array)))
+#define PICK(array) (array)[random_below(random, LENGTH(array))]
 
 #endif

@@ -13,7 +13,7 @@
 #include <stdio.h>
 #include <string.h>
 
-#include "harpjuniper.h"
+#include "options.h"
 #include "rehearsal.h"
 
 /* Characters of a line, its end not counted. */
@@ -93,7 +93,7 @@ static int rehearse(const char *name)
 }
 
 static const char HELP[] =
-    "usage: rehearsal FILE\n"
+    "usage: rehearsal [--help | --version] FILE\n"
     "\n"
     "Flies the scenario in FILE on relays of the library, linked in memory,\n"
     "and prints what was sent, what each relay answered, and the time on the\n"
@@ -102,28 +102,20 @@ static const char HELP[] =
     "scenarios/biocide.txt.\n"
     "\n"
     "Status: 0 all went as expected and every ledger closes; 1 not so; 2 bad\n"
-    "usage, a line that is not understood, or the input or output failed.\n";
+    "usage, a line that is not understood, or the file or the output failed.\n";
 
 int main(int count, char **arguments)
 {
-    int status;
+    static const struct program PROGRAM = {"rehearsal", HELP, true};
+    int status = options_status(&PROGRAM, arguments + (count > 0));
 
-    if (count == 2 && strcmp(arguments[1], "--help") == 0) {
-        fputs(HELP, stdout);
-        return 0;
-    }
-    if (count == 2 && strcmp(arguments[1], "--version") == 0) {
-        puts("rehearsal (Harpjuniper) " HJ_VERSION);
-        return 0;
-    }
-    if (count != 2 || arguments[1][0] == '-') {
-        fputs(HELP, stderr);
+    if (status != OPTIONS_GO_ON)
+        return status;
+    if (count != 2) {
+        fputs("rehearsal: say one scenario, such as scenarios/biocide.txt\n"
+              "rehearsal: try --help\n",
+              stderr);
         return 2;
     }
-    status = rehearse(arguments[1]);
-    if (fflush(stdout) != 0 || ferror(stdout)) {
-        fputs("rehearsal: the output failed\n", stderr);
-        return 2;
-    }
-    return status;
+    return options_end(&PROGRAM, rehearse(arguments[1]));
 }

@@ -129,9 +129,9 @@ int main(int count, char **arguments)
     if (status != OPTIONS_GO_ON)
         return status;
     understood = replay();
-    if (ferror(stdin) || fflush(stdout) != 0 || ferror(stdout)) {
-        fputs("replay: the input or the output failed\n", stderr);
+    if (ferror(stdin)) {
+        fputs("replay: the input failed\n", stderr);
         return 2;
     }
-    return understood ? 0 : 1;
+    return options_end(&PROGRAM, understood ? 0 : 1);
 }

@@ -1,7 +1,10 @@
-/* settings.c: each argument is looked up by its name, the last one counts. */
+/*
+ * settings.c: each argument is looked up by its name, the last one counts. The
+ * awkward case is a number over 64 bits, which is not understood either.
+ */
 #include "settings.h"
 
-#include <stdio.h>
+#include <errno.h>
 #include <stdlib.h>
 #include <string.h>
 
@@ -14,11 +17,13 @@ static bool take(struct setting *setting, const char *argument)
         argument[length] != '=' || *number == '\0' ||
         strspn(number, "0123456789") != strlen(number))
         return false;
+    errno = 0;
     setting->value = strtoull(number, NULL, 10);
-    return true;
+    return errno == 0;
 }
 
-bool settings_take(struct setting *settings, size_t count, char **arguments)
+bool settings_take(const struct program *program, struct setting *settings,
+                   size_t count, char **arguments)
 {
     for (; *arguments != NULL; arguments++) {
         size_t i = 0;
@@ -26,7 +31,7 @@ bool settings_take(struct setting *settings, size_t count, char **arguments)
         while (i < count && !take(&settings[i], *arguments))
             i++;
         if (i == count) {
-            fprintf(stderr, "not understood: %s\n", *arguments);
+            options_refuse(program, "not understood", *arguments);
             return false;
         }
     }

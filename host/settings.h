@@ -6,13 +6,16 @@
 #include <stddef.h>
 #include <stdint.h>
 
+#include "options.h"
+
 struct setting {
     const char *name;
     uint64_t value;
 };
 
-/* Takes every argument; says on standard error which one it cannot, and
+/* Takes every argument; names on standard error one that it cannot, and
  * answers false. */
-bool settings_take(struct setting *settings, size_t count, char **arguments);
+bool settings_take(const struct program *program, struct setting *settings,
+                   size_t count, char **arguments);
 
 #endif

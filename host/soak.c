@@ -28,7 +28,6 @@
 #include <string.h>
 #include <unistd.h>
 
-#include "history_ways.h"
 #include "options.h"
 #include "settings.h"
 #include "soak.h"
@@ -406,9 +405,10 @@ static const struct program PROGRAM = {
     "\n"
     "Makes random calls of the library, 5000000 where no number is given, with\n"
     "good states and garbage, and looks at each from outside (docs/SOAK.md).\n"
+    "The seed, 1 where none is given, begins the random numbers.\n"
     "\n"
     "Status: 0 not one failure; 1 a call failed, or too little was met; 2 bad\n"
-    "usage.\n",
+    "usage, no memory, or the output failed.\n",
     true,
 };
 
@@ -420,7 +420,7 @@ int main(int count, char **arguments)
 
     if (status != OPTIONS_GO_ON)
         return status;
-    if (!settings_take(settings, LENGTH(settings), arguments + 1))
+    if (!settings_take(&PROGRAM, settings, LENGTH(settings), arguments + 1))
         return 2;
     if (!prepare()) {
         fputs("soak: no memory\n", stderr);
@@ -439,5 +439,5 @@ int main(int count, char **arguments)
         return 1;
     }
     printf("soak: %" PRIu64 " calls, not one failure\n", tally.calls);
-    return fflush(stdout) == 0 ? 0 : 1;
+    return options_end(&PROGRAM, 0);
 }

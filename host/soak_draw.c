@@ -3,14 +3,9 @@
  * it stands, and one in four has then a number or two of it replaced by one
  * that means something elsewhere: a place just beyond the last, an address, a
  * mask, a number of all ones.
- *
- * The awkward case is two draws in one expression, whose order C leaves open:
- * each draw here is a statement of its own, so that no compiler changes what a
- * seed means.
  */
 #include <string.h>
 
-#include "history_ways.h"
 #include "soak.h"
 
 uint32_t soak_odd_number(const struct world *world, struct random *random)

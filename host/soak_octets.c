@@ -9,7 +9,6 @@
  */
 #include <string.h>
 
-#include "history_ways.h"
 #include "soak.h"
 
 #define MOST_OCTETS 300
@@ -87,12 +86,6 @@ uint32_t soak_draw_edge(struct random *random)
     return address;
 }
 
-static void put_address(uint8_t *octets, unsigned count, uint32_t address)
-{
-    for (unsigned i = 0; i < count && count < 16; i++)
-        octets[i] = (uint8_t)(address >> 8 * (count - 1 - i));
-}
-
 static void draw_form(struct form *form, const struct world *world,
                       struct random *random)
 {
@@ -109,25 +102,15 @@ static void draw_form(struct form *form, const struct world *world,
     if (!random_one_in(random, 16))
         form->routing = 0;
     form->hop_count = PICK(HOPS);
-    put_address(form->destination, form->address_octets,
-                form->has_source ? draw_address(world, random)
-                                 : draw_path(world, random));
-    put_address(form->source, form->address_octets,
-                random_one_in(random, 16) ? draw_address(world, random)
-                                          : world_unicast(world, random));
+    form_put_address(form, form->destination,
+                     form->has_source ? draw_address(world, random)
+                                      : draw_path(world, random));
+    form_put_address(form, form->source,
+                     random_one_in(random, 16) ? draw_address(world, random)
+                                               : world_unicast(world, random));
     form->control_octets = form_shortest_control(form);
     if (random_one_in(random, 8))
         form->control_octets = 3;
-}
-
-static void spoil(struct datagram *datagram, struct random *random)
-{
-    static treat *const WAYS[] = {flip_bits,     replace_octets,
-                                  truncate_lent, add_after,
-                                  change_length, change_control,
-                                  spoil_twice,   spoil_twice};
-
-    PICK(WAYS)(datagram, random);
 }
 
 static void draw_random(struct soak_call *call, struct random *random)
@@ -166,7 +149,7 @@ void soak_draw_octets(struct soak_call *call, const struct world *world,
     draw_form(&datagram.form, world, random);
     datagram_write(&datagram, draw_data(&datagram.form, random), random);
     if (random_one_in(random, 5))
-        spoil(&datagram, random);
+        spoil_somehow(&datagram, random);
     call->count = datagram.count;
     memcpy(call->octets, datagram.octets, datagram.count);
 }

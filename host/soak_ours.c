@@ -6,22 +6,23 @@
 
 #include "soak.h"
 
+/* A row of uint32_t, as the library's structures are. */
+static void put_row(uint64_t *parts, const void *row, size_t octets)
+{
+    const uint32_t *numbers = (const uint32_t *)row;
+
+    for (size_t i = 0; i < octets / sizeof *numbers; i++)
+        parts[i] = numbers[i];
+}
+
+/* The fields alone begin with wider numbers, up to the TP-ID. */
 static void put_fields(uint64_t *parts, const hj_fields *fields)
 {
-    const uint64_t all[] = {
-        fields->destination_high, fields->destination_low,
-        fields->source_high,      fields->source_low,
-        fields->time,             fields->tp_id,
-        fields->has_source,       fields->extended,
-        fields->ipv6,             fields->has_qos,
-        fields->precedence,       fields->routing,
-        fields->program,          fields->has_hop_count,
-        fields->hop_count,        fields->stamp_format,
-        fields->p_field,          fields->has_expanded,
-        fields->expanded,         fields->has_checksum,
-        fields->intermediate};
+    size_t wide = offsetof(hj_fields, tp_id);
 
-    memcpy(parts, all, sizeof all);
+    memcpy(parts, fields, wide);
+    put_row(parts + wide / sizeof *parts, (const uint8_t *)fields + wide,
+            sizeof *fields - wide);
 }
 
 static void read_header(const struct soak_call *call, const uint8_t *octets,
@@ -42,7 +43,7 @@ static void put_answer(uint64_t *parts, hj_answer answer)
 }
 
 static void stateless(const struct soak_call *call, const uint8_t *octets,
-                        uint8_t *output, uint64_t *parts)
+                      uint8_t *output, uint64_t *parts)
 {
     switch (call->kind) {
     case SOAK_READ:
@@ -120,15 +121,6 @@ static void take(const struct soak_call *call, uint32_t *state,
     parts[0] = hj_refusal(taken);
     parts[1] = hj_slot(taken);
     parts[2] = hj_precedence(taken);
-}
-
-/* The structures are rows of uint32_t, the refusal first. */
-static void put_row(uint64_t *parts, const void *row, size_t octets)
-{
-    const uint32_t *numbers = (const uint32_t *)row;
-
-    for (size_t i = 0; i < octets / sizeof *numbers; i++)
-        parts[i] = numbers[i];
 }
 
 static void get_setting(const struct soak_call *call, const uint32_t *state,

@@ -14,6 +14,7 @@
 
 static plain_relay relay;
 
+/* In the order of hj_fields. */
 static void put_fields(uint64_t *parts, const plain_fields *fields)
 {
     const uint64_t all[] = {

@@ -73,6 +73,16 @@ bool trace_number(struct trace_word word, uint64_t most, uint64_t *number)
     return word.length > 0;
 }
 
+bool trace_number_32(struct trace_word word, uint32_t *number)
+{
+    uint64_t wide;
+
+    if (!trace_number(word, UINT32_MAX, &wide))
+        return false;
+    *number = (uint32_t)wide;
+    return true;
+}
+
 /* 16 where the character is no hexadecimal digit. */
 static unsigned digit_value(char digit)
 {
@@ -107,6 +117,17 @@ bool trace_address(struct trace_word word, uint32_t *address)
     if (word.length != 8 || !trace_wide(word, &high, &low))
         return false;
     *address = (uint32_t)low;
+    return true;
+}
+
+bool trace_numbers(const struct trace_word *words, const char *forms,
+                   uint32_t *numbers)
+{
+    for (; *forms != '\0'; forms++, words++, numbers++) {
+        if (*forms == 'd' ? !trace_number_32(*words, numbers)
+                          : !trace_address(*words, numbers))
+            return false;
+    }
     return true;
 }
 

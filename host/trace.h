@@ -41,7 +41,11 @@ bool trace_is(struct trace_word word, const char *text);
 
 /* What a word stands for; false where it is not of that form. */
 bool trace_number(struct trace_word word, uint64_t most, uint64_t *number);
+bool trace_number_32(struct trace_word word, uint32_t *number);
 bool trace_address(struct trace_word word, uint32_t *address);
+/* Several words as numbers, each by its letter: d decimal, x an address. */
+bool trace_numbers(const struct trace_word *words, const char *forms,
+                   uint32_t *numbers);
 /* A hexadecimal number of 1 to 32 digits, as its upper and lower 64 bits. */
 bool trace_wide(struct trace_word word, uint64_t *high, uint64_t *low);
 /* Octets, `-` for none; never more than half as many as the word is long. */

@@ -1,4 +1,7 @@
-/* view.c: noting answered calls, and what a destination names. */
+/*
+ * view.c: noting answered calls, and what a destination names. A setting or a
+ * take counts where its answer is 0; a receipt, by the ports that took.
+ */
 #include "view.h"
 
 #include <string.h>

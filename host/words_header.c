@@ -17,24 +17,25 @@
 #include "harpjuniper.h"
 #include "lent.h"
 
-bool answer_class(const struct trace_word *arguments, struct text *answer)
+static bool answer_of_four_octets(const struct trace_word *arguments,
+                                  struct text *answer, uint32_t of(uint32_t))
 {
     uint32_t address;
 
     if (!trace_address(arguments[0], &address))
         return false;
-    text_number(answer, hj_class(address));
+    text_number(answer, of(address));
     return true;
+}
+
+bool answer_class(const struct trace_word *arguments, struct text *answer)
+{
+    return answer_of_four_octets(arguments, answer, hj_class);
 }
 
 bool answer_path(const struct trace_word *arguments, struct text *answer)
 {
-    uint32_t path;
-
-    if (!trace_address(arguments[0], &path))
-        return false;
-    text_number(answer, hj_path(path));
-    return true;
+    return answer_of_four_octets(arguments, answer, hj_path);
 }
 
 static uint8_t octets[TRACE_MOST_OCTETS];
@@ -192,22 +193,12 @@ bool answer_read(const struct trace_word *arguments, struct text *answer)
 
 /* ---- build ------------------------------------------------------------- */
 
-static bool take_number(struct trace_word word, uint32_t *number)
-{
-    uint64_t wide;
-
-    if (!trace_number(word, UINT32_MAX, &wide))
-        return false;
-    *number = (uint32_t)wide;
-    return true;
-}
-
 /* An element that may be absent, `-`. */
 static bool take_element(struct trace_word word, uint32_t *present,
                          uint32_t *number)
 {
     *present = !trace_is(word, "-");
-    return !*present || take_number(word, number);
+    return !*present || trace_number_32(word, number);
 }
 
 /* Destination, source, extended, ipv6. */
@@ -219,8 +210,8 @@ static bool take_addresses(const struct trace_word *words, hj_fields *fields)
         return false;
     return trace_wide(words[0], &fields->destination_high,
                       &fields->destination_low) &&
-           take_number(words[2], &fields->extended) &&
-           take_number(words[3], &fields->ipv6);
+           trace_number_32(words[2], &fields->extended) &&
+           trace_number_32(words[3], &fields->ipv6);
 }
 
 /* Precedence, routing, program: all present or none. */
@@ -239,7 +230,7 @@ static bool take_stamp(const struct trace_word *words, hj_fields *fields)
 {
     size_t count, at = 0;
 
-    if (!take_number(words[0], &fields->stamp_format) ||
+    if (!trace_number_32(words[0], &fields->stamp_format) ||
         !trace_octets(words[1], octets, &count))
         return false;
     if (fields->stamp_format == HJ_STAMP_EXPLICIT && count > 0)
@@ -253,14 +244,14 @@ static bool take_stamp(const struct trace_word *words, hj_fields *fields)
 
 static bool take_fields(const struct trace_word *words, hj_fields *fields)
 {
-    return take_number(words[0], &fields->tp_id) &&
+    return trace_number_32(words[0], &fields->tp_id) &&
            take_addresses(words + 1, fields) && take_qos(words + 5, fields) &&
            take_element(words[8], &fields->has_hop_count,
                         &fields->hop_count) &&
            take_stamp(words + 9, fields) &&
            take_element(words[11], &fields->has_expanded, &fields->expanded) &&
-           take_number(words[12], &fields->has_checksum) &&
-           take_number(words[13], &fields->intermediate);
+           trace_number_32(words[12], &fields->has_checksum) &&
+           trace_number_32(words[13], &fields->intermediate);
 }
 
 bool answer_build(const struct trace_word *arguments, struct text *answer)

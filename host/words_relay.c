@@ -28,28 +28,6 @@ static void add_number(struct text *answer, uint32_t number)
     text_number(answer, number);
 }
 
-static bool take_number(struct trace_word word, uint32_t *number)
-{
-    uint64_t wide;
-
-    if (!trace_number(word, UINT32_MAX, &wide))
-        return false;
-    *number = (uint32_t)wide;
-    return true;
-}
-
-/* The arguments as numbers: each by its letter, d decimal, x an address. */
-static bool take_numbers(const struct trace_word *words, const char *forms,
-                         uint32_t *numbers)
-{
-    for (; *forms != '\0'; forms++, words++, numbers++) {
-        if (*forms == 'd' ? !take_number(*words, numbers)
-                          : !trace_address(*words, numbers))
-            return false;
-    }
-    return true;
-}
-
 /* ---- The state and its settings ------------------------------------------ */
 
 bool answer_new(const struct trace_word *arguments, struct text *answer)
@@ -73,7 +51,7 @@ bool answer_set_router(const struct trace_word *arguments, struct text *answer)
 {
     uint32_t n[MOST_ARGUMENTS];
 
-    if (!take_numbers(arguments, "d", n))
+    if (!trace_numbers(arguments, "d", n))
         return false;
     return answer_setting(answer,
                           hj_set_router(lent_state(), HJ_STATE_WORDS, n[0]));
@@ -83,7 +61,7 @@ bool answer_set_port(const struct trace_word *arguments, struct text *answer)
 {
     uint32_t n[MOST_ARGUMENTS];
 
-    if (!take_numbers(arguments, "dxxd", n))
+    if (!trace_numbers(arguments, "dxxd", n))
         return false;
     return answer_setting(answer, hj_set_port(lent_state(), HJ_STATE_WORDS,
                                               n[0], n[1], n[2], n[3]));
@@ -93,7 +71,7 @@ bool answer_set_route(const struct trace_word *arguments, struct text *answer)
 {
     uint32_t n[MOST_ARGUMENTS];
 
-    if (!take_numbers(arguments, "dxxddd", n))
+    if (!trace_numbers(arguments, "dxxddd", n))
         return false;
     return answer_setting(answer,
                           hj_set_route(lent_state(), HJ_STATE_WORDS, n[0],
@@ -104,7 +82,7 @@ bool answer_set_group(const struct trace_word *arguments, struct text *answer)
 {
     uint32_t n[MOST_ARGUMENTS];
 
-    if (!take_numbers(arguments, "dxdd", n))
+    if (!trace_numbers(arguments, "dxdd", n))
         return false;
     return answer_setting(answer, hj_set_group(lent_state(), HJ_STATE_WORDS,
                                                n[0], n[1], n[2], n[3]));
@@ -114,7 +92,7 @@ bool answer_set_path(const struct trace_word *arguments, struct text *answer)
 {
     uint32_t n[MOST_ARGUMENTS];
 
-    if (!take_numbers(arguments, "dxdd", n))
+    if (!trace_numbers(arguments, "dxdd", n))
         return false;
     return answer_setting(answer, hj_set_path(lent_state(), HJ_STATE_WORDS,
                                               n[0], n[1], n[2], n[3]));
@@ -126,7 +104,7 @@ static bool answer_clear(const struct trace_word *arguments,
 {
     uint32_t place;
 
-    if (!take_number(arguments[0], &place))
+    if (!trace_number_32(arguments[0], &place))
         return false;
     return answer_setting(answer, clear(lent_state(), HJ_STATE_WORDS, place));
 }
@@ -163,7 +141,7 @@ static bool take_arrival(const struct trace_word *words,
 {
     uint64_t slot, room;
 
-    if (!take_number(words[0], &arrival->port) ||
+    if (!trace_number_32(words[0], &arrival->port) ||
         !trace_number(words[1], UINT16_MAX, &slot) ||
         !trace_number(words[2], LENT_MOST_ROOM, &room))
         return false;
@@ -221,7 +199,7 @@ bool answer_take(const struct trace_word *arguments, struct text *answer)
     uint32_t port;
     hj_answer taken;
 
-    if (!take_number(arguments[0], &port))
+    if (!trace_number_32(arguments[0], &port))
         return false;
     taken = hj_take(lent_state(), HJ_STATE_WORDS, port);
     text_number(answer, hj_refusal(taken));
@@ -258,7 +236,7 @@ bool answer_waiting(const struct trace_word *arguments, struct text *answer)
     uint32_t port;
     hj_answer waiting;
 
-    if (!take_number(arguments[0], &port))
+    if (!trace_number_32(arguments[0], &port))
         return false;
     waiting = hj_waiting(lent_state(), HJ_STATE_WORDS, port);
     if (hj_refusal(waiting) != HJ_DONE)

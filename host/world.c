@@ -1,7 +1,9 @@
-/* world.c: drawing addresses, ports and masks. */
+/*
+ * world.c: drawing addresses and ports of the small world, and masks. Three
+ * domains of net 10 and four other networks are enough for an address to be in
+ * a port's own network, in another that a route leads to, or in none.
+ */
 #include "world.h"
-
-#define LENGTH(array) ((uint32_t)(sizeof(array) / sizeof *(array)))
 
 static const uint32_t DOMAIN[] = {0x0a040900, 0x0a040800, 0x0a070100};
 static const uint32_t NETWORK[] = {0xac100400, 0xac100500, 0xc0000200,
@@ -9,8 +11,7 @@ static const uint32_t NETWORK[] = {0xac100400, 0xac100500, 0xc0000200,
 
 static uint32_t domain(const struct world *world, struct random *random)
 {
-    return world->nets == ONE_DOMAIN ? DOMAIN[0]
-                                     : DOMAIN[random_below(random, 3)];
+    return world->nets == ONE_DOMAIN ? DOMAIN[0] : PICK(DOMAIN);
 }
 
 static bool in_net_10(const struct world *world, struct random *random)
@@ -24,27 +25,34 @@ uint32_t world_unicast(const struct world *world, struct random *random)
 {
     /* 3, 7 and 15 are broadcasts of small subnets, and addresses elsewhere. */
     static const uint8_t LAST[] = {1, 2, 3, 7, 13, 14, 15, 15, 15, 20};
+    uint32_t network;
 
-    if (in_net_10(world, random))
-        return domain(world, random) | 2 * random_below(random, 10);
-    return NETWORK[random_below(random, LENGTH(NETWORK))] |
-           LAST[random_below(random, LENGTH(LAST))];
+    if (in_net_10(world, random)) {
+        network = domain(world, random);
+        return network | 2 * random_below(random, 10);
+    }
+    network = PICK(NETWORK);
+    return network | PICK(LAST);
 }
 
 uint32_t world_multicast(const struct world *world, struct random *random)
 {
-    if (in_net_10(world, random))
-        return domain(world, random) | (2 * random_below(random, 10) + 1);
-    return 0xe0000000u + (random_below(random, 16) << 24) +
-           random_below(random, 2);
+    uint32_t network;
+
+    if (in_net_10(world, random)) {
+        network = domain(world, random);
+        return network | (2 * random_below(random, 10) + 1);
+    }
+    network = 0xe0000000u + (random_below(random, 16) << 24);
+    return network + random_below(random, 2);
 }
 
 uint32_t world_path(struct random *random)
 {
     static const uint8_t LAST[] = {0, 1, 2, 14, 15, 253, 255};
+    uint32_t network = PICK(DOMAIN);
 
-    return DOMAIN[random_below(random, 3)] |
-           LAST[random_below(random, LENGTH(LAST))];
+    return network | PICK(LAST);
 }
 
 uint32_t world_invalid(struct random *random)
@@ -52,7 +60,7 @@ uint32_t world_invalid(struct random *random)
     static const uint32_t INVALID[] = {0x0a0409fe, 0x00000000, 0x7f000001,
                                        0xf0000001, 0xfffffffe, 0x0afffffe};
 
-    return INVALID[random_below(random, LENGTH(INVALID))];
+    return PICK(INVALID);
 }
 
 uint32_t world_port(const struct world *world, struct random *random)

@@ -7,23 +7,12 @@
  * a count of 0 are good.
  */
 #include <stdbool.h>
-#include <stdio.h>
 #include <string.h>
 
+#include "expect.h"
 #include "harpjuniper.h"
 
 #define UNTOUCHED 0xa5
-
-static unsigned checks, failures;
-
-static void expect(bool holds, const char *what)
-{
-    checks++;
-    if (!holds) {
-        failures++;
-        printf("calls: FAILED: %s\n", what);
-    }
-}
 
 /* A header with every element, addresses of four octets. */
 static hj_fields full(void)
@@ -211,6 +200,5 @@ int main(void)
     check_times();
     check_order();
     check_null();
-    printf("calls: %u of %u checks passed\n", checks - failures, checks);
-    return failures == 0 ? 0 : 1;
+    return expect_end("calls");
 }

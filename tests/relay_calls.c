@@ -4,25 +4,14 @@
  * stand, the ports that dropped a copy, states compared word for word.
  */
 #include <stdbool.h>
-#include <stdio.h>
 #include <string.h>
 
+#include "expect.h"
 #include "harpjuniper.h"
 
 #define WORDS HJ_STATE_WORDS
 #define UNTOUCHED 0xa5a5a5a5u
 #define MASK_24 0xffffff00u
-
-static unsigned checks, failures;
-
-static void expect(bool holds, const char *what)
-{
-    checks++;
-    if (!holds) {
-        failures++;
-        printf("relay_calls: FAILED: %s\n", what);
-    }
-}
 
 /* A good datagram to 192.0.9.1, and one to the group 224.0.0.1. */
 static const uint8_t routed[] = {0x20, 12, 0x1a, 0x41, 192, 0, 9, 1,
@@ -297,6 +286,5 @@ int main(void)
     check_null();
     check_dropped();
     check_taken();
-    printf("relay_calls: %u of %u checks passed\n", checks - failures, checks);
-    return failures == 0 ? 0 : 1;
+    return expect_end("relay_calls");
 }

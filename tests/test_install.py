@@ -180,6 +180,12 @@ class Version(unittest.TestCase):
         for page in PAGES:
             self.assertEqual(re.findall(r'^\.TH .*"Harpjuniper ([0-9.]+)"', read(page), re.M), [VERSION])
 
+    def test_the_conformance_statement(self):
+        self.assertIn(f"| Implementation version | {VERSION} (", read("docs/PICS.md"))
+
+    def test_the_news(self):
+        self.assertRegex(read("NEWS.md"), rf"(?m)^## [0-9-]+: {re.escape(VERSION)}, ")
+
 
 class Pages(unittest.TestCase):
     PAGE = read("man/harpjuniper.3")

@@ -1,6 +1,7 @@
 #!/usr/bin/env python3
 """build/ledger on the stored histories: their books balance, and no longer do
-once a single answer is another one.
+once a single answer is another one. And a line that lacks a word, for build/coverage
+too, which reads answered traces by the same code.
 """
 import glob
 import os
@@ -18,10 +19,14 @@ def stored(name):
     return [line for line in lines if line]
 
 
-def ledger(lines):
-    words = [os.path.join(ROOT, "build/ledger")]
-    ended = subprocess.run(words, input="\n".join(lines) + "\n", capture_output=True, text=True, check=False)
+def run(lines, program, *words):
+    ended = subprocess.run([os.path.join(ROOT, program), *words], input="\n".join(lines) + "\n",
+                           capture_output=True, text=True, check=False)
     return ended.returncode, ended.stdout + ended.stderr
+
+
+def ledger(lines):
+    return run(lines, "build/ledger")
 
 
 class Ledger(unittest.TestCase):
@@ -73,6 +78,38 @@ class Ledger(unittest.TestCase):
 
     def test_a_mark(self):
         self.refused("relay-queues.trace", "waiting 1 = 32", "waiting 1 = 32 !", "no good answer")
+
+
+class Whole(unittest.TestCase):
+    """Every word of the trace form, its line cut short by a word."""
+
+    LINES = ["read 200f5b610a04090e0a0a0a04401d6f = 0 15 15 5 0a04090e 0a0a0a04 1 0 - - - 64 0 - - 1 0",
+             "read 20 = 1", "class 0a04090f = 2", "path 0a0409fe = 0", "checksum 0001f203f4f5f6f7 = 220d",
+             "build 0 49 5 0a04090e 0a0a0a04 1 0 - - - 64 0 - - 1 0 = 17 -",
+             "set_router 1 = 0", "set_port 0 0a0a0a02 ffffff00 8191 = 0", "set_route 0 0a040900 ffffff00 0 1 0 = 0",
+             "set_group 0 e0000105 1 1 = 0", "set_path 0 0a000007 1 1 = 0",
+             "receive 0 7 50 - = 1 0 0 0 -", "take 0 = 18 0 0", "waiting 0 = 0",
+             "counters = 1 1 0 0 0 0 0 0 0 0 0 0 0 0 0", "clear_route 0 = 0", "clear_group 0 = 0", "clear_path 0 = 0"]
+    COVERAGE = ("build/coverage", "headers=0", "builds=0", "addresses=0", "checksums=0", "histories=0")
+
+    def test_whole_lines(self):
+        self.assertNotIn("no good answer", ledger(self.LINES)[1])
+        self.assertNotIn("no good answer", run(self.LINES, *self.COVERAGE)[1])
+
+    def test_a_word_is_missing(self):
+        for line in self.LINES:
+            call, answer = line.split(" = ")
+            shorts = {line.rsplit(" ", 1)[0], call.rsplit(" ", 1)[0] + " = " + answer, call}
+            for short in shorts - {line}:
+                for program in (("build/ledger",), self.COVERAGE):
+                    status, output = run([short], *program)
+                    self.assertEqual(status, 1, f"{program[0]}: {short}: {output}")
+                    self.assertIn(f"no good answer: {short}\n", output)
+
+    def test_lengths_that_no_header_has(self):
+        for numbers in ("15 16", "16 15", "15 3", "15 4294967295"):
+            line = self.LINES[0].replace("15 15", numbers)
+            self.assertIn(f"no good answer: {line}\n", run([line], *self.COVERAGE)[1])
 
 
 if __name__ == "__main__":

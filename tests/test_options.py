@@ -7,7 +7,8 @@ import subprocess
 import unittest
 
 ROOT = os.path.dirname(os.path.dirname(os.path.abspath(__file__)))
-PROGRAMS = [f"build/{name}" for name in ("replay", "plain", "generate", "coverage", "ledger", "bench", "soak")]
+PROGRAMS = [f"build/{name}" for name in ("replay", "plain", "generate", "coverage", "ledger", "bench", "soak",
+                                         "rehearsal")]
 PROGRAMS.append("scripts/bench")
 # Those that take no argument but the options.
 WITHOUT_ARGUMENTS = ("build/replay", "build/plain", "build/ledger")
@@ -35,10 +36,6 @@ class Options(unittest.TestCase):
             says = f"{os.path.basename(program)} (Harpjuniper) {VERSION}\n"
             self.assertEqual(run(program, "--version"), (0, says, ""))
 
-    def test_the_rehearsal_has_the_version_too(self):
-        says = f"rehearsal (Harpjuniper) {VERSION}\n"
-        self.assertEqual(run("build/rehearsal", "--version"), (0, says, ""))
-
     def test_the_first_option_decides(self):
         for program in PROGRAMS:
             status, output, _ = run(program, "--version", "--nonsense")
@@ -57,12 +54,25 @@ class Options(unittest.TestCase):
             says = f"{name}: unexpected argument: trace\n{name}: try --help\n"
             self.assertEqual(run(program, "trace"), (2, "", says))
 
+    def test_a_setting_that_is_not_understood(self):
+        for name in ("generate", "coverage", "soak"):
+            for word in ("trace", "seeds=1", "seed=", "seed=x", "seed=-1", "seed=18446744073709551616"):
+                says = f"{name}: not understood: {word}\n{name}: try --help\n"
+                self.assertEqual(run("build/" + name, word), (2, "", says))
+
     def test_output_that_fails(self):
-        for program in PROGRAMS[:-1]:
+        runs = [(program, "--help") for program in PROGRAMS[:-1]]
+        runs += [("build/replay",), ("build/plain",), ("build/ledger",), ("build/bench", "stack"),
+                 ("build/rehearsal", "scenarios/biocide.txt"),
+                 ("build/generate", "headers=1", "builds=0", "addresses=0", "checksums=0", "histories=0"),
+                 ("build/coverage", "headers=0", "builds=0", "addresses=0", "checksums=0", "histories=0")]
+        for program, *words in runs:
             with open("/dev/full", "w", encoding="ascii") as full:
-                ended = subprocess.run([os.path.join(ROOT, program), "--help"], stdout=full,
-                                       stderr=subprocess.PIPE, check=False)
+                ended = subprocess.run([os.path.join(ROOT, program), *words], input="class 0a04090f = 2\n",
+                                       stdout=full, stderr=subprocess.PIPE, cwd=ROOT, text=True, check=False)
             self.assertEqual(ended.returncode, 2, program)
+            if program != "build/plain":
+                self.assertTrue(ended.stderr.endswith(": the output failed\n"), program)
 
     def test_standard_input_is_read_without_options(self):
         for program in ("build/replay", "build/plain"):

@@ -201,12 +201,10 @@ class Small(unittest.TestCase):
         self.assertIn("the ledger DOES NOT CLOSE.", output)
 
     def test_arguments(self):
-        self.assertEqual(fly("--version")[0], 0)  # tests/test_options.py compares the version
-        self.assertTrue(fly("--help")[1].startswith("usage: rehearsal FILE\n"))
-        for words in ((), ("--no-such",), (STORY, STORY)):
+        for words in ((), (STORY, STORY)):
             status, output, complaints = fly(*words)
             self.assertEqual((status, output), (2, ""))
-            self.assertTrue(complaints.startswith("usage: "))
+            self.assertTrue(complaints.startswith("rehearsal: say one scenario"))
         status, _, complaints = fly(os.path.join(ROOT, "scenarios/none.txt"))
         self.assertEqual(status, 2)
         self.assertIn("none.txt: No such file", complaints)

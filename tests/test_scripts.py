@@ -480,6 +480,40 @@ esac
         self.assertIn("bench: FAILED: take 1", output)
 
 
+class Emulated(Tree):
+    """scripts/emulated with stand-ins for rt and the emulators."""
+
+    def emulated(self, *emulators):
+        with open(os.path.join(ROOT, "scripts/emulated"), encoding="utf-8") as file:
+            self.write("replay", file.read(), 0o755)
+        self.write("bin/uname", "#!/bin/sh\necho aarch64\n", 0o755)
+        for tool in ("sh", "dirname"):
+            os.symlink(shutil.which(tool), os.path.join(self.root, "bin", tool))
+        for place in emulators:
+            self.write(place, f'#!/bin/sh\necho {place} "$@"\nexit 7\n', 0o755)
+        return self.run_script(os.path.join(self.root, "replay"), "--help", path=os.path.join(self.root, "bin"))
+
+    def ran(self, place):
+        return 7, f"{place} {self.root}/replay.x86-64 --help\n"
+
+    def test_the_emulator_of_the_kit(self):
+        self.write("bin/rt", f"#!/bin/sh\necho {self.root}/kit/doc/guide.md\n", 0o755)
+        place = "kit/on/aarch64/toolchain/bin/qemu-x86_64"
+        self.assertEqual(self.emulated(place, "bin/qemu-x86_64"), self.ran(place))
+
+    def test_a_kit_without_one(self):
+        self.write("bin/rt", f"#!/bin/sh\necho {self.root}/kit/doc/guide.md\n", 0o755)
+        self.assertEqual(self.emulated("bin/qemu-x86_64"), self.ran("bin/qemu-x86_64"))
+
+    def test_no_kit(self):
+        self.assertEqual(self.emulated("bin/qemu-x86_64"), self.ran("bin/qemu-x86_64"))
+
+    def test_no_emulator(self):
+        status, output = self.emulated()
+        self.assertEqual(status, 2)
+        self.assertIn("replay: there is no qemu-x86_64: apt-get install qemu-user", output)
+
+
 class Prepare(Tree):
     """scripts/prepare on machines that lack something."""
 
