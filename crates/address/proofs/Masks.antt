@@ -11,7 +11,7 @@ use lib.Pow.{pow-pos, pow-mono, pow-lt, high-ones, shr-mod}
 use lib.Bits.{bitAnd, and-high}
 use lib.Count.{ones, ones-cat, ones-ones}
 use borrow.Author.Tests.{eq-eqb, eqb-true}
-use Rattle.address.specs.Octets.{pick}
+use Rattle.checks.specs.Order.{pick}
 use Rattle.address.specs.Mask.{maskOf, onesOf, maskForm}
 use Rattle.address.specs.declared.MaskForm.the-variants.{Ones, Mixed}
 use Rattle.address.proofs.Clash.{clash}

@@ -11,24 +11,13 @@ use Rattle.checks.specs.declared.Check.the-variants.{Passed, Failed}
 use Rattle.sets.specs.Sets.{anyBelow}
 use Rattle.sets.proofs.Anywhere.{any-none, any-found}
 
--- ---- one place: two numbers that must differ, and a test besides (a place and the one that is written, a flag and 0)
+-- ---- one place: the one that is written, or another whose record was read
+pub written : (i place : ℕ) (t : Bool) → i ≡ place → false ≡ (not (eqb i place) && t)
+written i place t e = rw (eq-eqb i place e)
 
-module _ (m n : ℕ) (t : Bool) where
-  pub same : m ≡ n → false ≡ (not (eqb m n) && t)
-  same e = rw (eq-eqb m n e)
-
-  pub differ : (b : Bool) → m ≢ n → b ≡ t → b ≡ (not (eqb m n) && t)
-  differ b ne e = rw (ne-eqb m n ne) e
-
--- a record that was read at another place: an empty one holds nothing, a filled one is compared
-module _ {A : Type 0} (filled entry : A → ℕ) (x y : A) (is : x ≡ y) (m n v : ℕ) (other : m ≢ n) where
-  pub empty : filled x ≡ 0 → false ≡ (not (eqb m n) && (not (eqb (filled y) 0) && eqb (entry y) v))
-  empty e = differ m n _ false other (same (filled y) 0 (eqb (entry y) v) (ap filled (sym is) ∙ e))
-
-  pub compared : filled x ≢ 0 → eqb (entry x) v ≡ (not (eqb m n) && (not (eqb (filled y) 0) && eqb (entry y) v))
-  compared ne =
-      differ m n _ _ other
-      (differ (filled y) 0 (eqb (entry y) v) _ (λ e. ne (ap filled is ∙ e)) (ap (λ (z : A). eqb (entry z) v) is))
+pub compared : {A B : Type 0} (holds : A → B → Bool) (i place : ℕ) (x y : A) (b : B) (t : Bool)
+    → i ≢ place → t ≡ holds x b → x ≡ y → t ≡ (not (eqb i place) && holds y b)
+compared {A} {B} holds i place x y b t ne told same = rw (ne-eqb i place ne) (told ∙ ap (λ (z : A). holds z b) same)
 
 -- ---- all places: a loop that is at place i, and what was answered of it
 -- the test holds at none of the places before i

@@ -55,11 +55,7 @@ fn other_group(state: &[u32], place: usize, a: Address, i: usize) -> bool
     if i == place {
         return false;
     }
-    let g = places::group_of(state, i);
-    if g.filled == 0 {
-        return false;
-    }
-    g.address.0 == a.0
+    records::holds_group(places::group_of(state, i), a)
 }
 
 // Refusal 23 of a group.
@@ -85,11 +81,7 @@ fn other_path(state: &[u32], place: usize, p: PathAddress, i: usize) -> bool
     if i == place {
         return false;
     }
-    let x = places::path_of(state, i);
-    if x.filled == 0 {
-        return false;
-    }
-    x.path.0 == p.0
+    records::holds_path(places::path_of(state, i), p)
 }
 
 // Refusal 23 of a path.

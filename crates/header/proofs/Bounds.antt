@@ -6,6 +6,7 @@ use mathlib.Core.Bool.{Bool, true, false, not, _&&_, _||_}
 use lib.Dec.{eqb}
 use native.Mathlib.Nat.{mul-le-mul-right, one-mul}
 use native.Mathlib.Omega.{arith}
+use borrow.Author.Needs.{needs}
 use borrow.Author.Tests.{eqb-true, eqb-false}
 use Rattle.checks.proofs.Bools.{or-false, not-false}
 use Rattle.checks.proofs.Laws.{either}
@@ -59,16 +60,7 @@ placed s k e =
     let b = addressSize-ge k in
     let g = gate (k .second / 64) (addressSize k) in
     let t = stampSize-le (stampFormat k) (octet s (layoutOf s k .stamp)) in
-    record {
-      stamp = omega arith;
-      hops = omega arith;
-      qos = omega arith;
-      first = omega arith;
-      expanded = omega arith;
-      checksum = omega arith;
-      most = omega arith;
-      size = refl;
-    }
+    search needs
 
 -- the octets of a header itself
 pub header-size : (s : List ℕ) → (4 ≤ placesOf s .size) × (placesOf s .size ≤ 50)

@@ -84,7 +84,8 @@ wrongIpv6 ipv6 extended sourced = eqb ipv6 1 && (eqb extended 1 || eqb sourced 0
 
 unfoldable pub forbidden : Control → Bool
 forbidden k =
-    eqb (bit21 k) 1 || (eqb (hasDestination k) 0 || (eqb (bit29 k) 1 || (eqb (bit32 k) 1 || (not (eqb (bits36to39 k) 0) || wrongIpv6 (isIpv6 k) (isExtended k) (hasSource k)))))
+    eqb (bit21 k) 1 || (eqb (hasDestination k) 0 || (eqb (bit29 k) 1 || (eqb (bit32 k) 1
+    || (not (eqb (bits36to39 k) 0) || wrongIpv6 (isIpv6 k) (isExtended k) (hasSource k)))))
 
 -- octets of one address (table 3-5)
 unfoldable pub addressSize : Control → ℕ

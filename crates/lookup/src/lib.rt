@@ -5,37 +5,14 @@
 // history leaves, with one address in two places: the lower place holds.
 use address::Address;
 use address::PathAddress;
-use records::Group;
-use records::PathPlace;
 use verdict::Place;
 ghost use mathlib.Core.Path.{_≡_};
 ghost use lib.ListN.{length};
 ghost use Rattle.state.specs.Layout.{stateWords, decode};
-ghost use Rattle.records.specs.Held.{holdsGroup, holdsPath};
 ghost use Rattle.lookup.specs.Lookup.{groupFound, pathFound, groupPlace, pathPlace};
 
 // How many places there are of each kind; as a place, none of them.
 const PLACES: usize = 16;
-
-// Whether a place is a group's.
-pub fn holds_group(g: Group, a: Address) -> bool
-    ensures { λ r. ⌜ r ≡ holdsGroup g a ⌝ }
-{
-    if g.filled == 0 {
-        return false;
-    }
-    g.address.0 == a.0
-}
-
-// Whether a place is a path's.
-pub fn holds_path(x: PathPlace, p: PathAddress) -> bool
-    ensures { λ r. ⌜ r ≡ holdsPath x p ⌝ }
-{
-    if x.filled == 0 {
-        return false;
-    }
-    x.path.0 == p.0
-}
 
 // The place of a group.
 fn find_group(state: &[u32], a: Address) -> usize
@@ -45,7 +22,7 @@ fn find_group(state: &[u32], a: Address) -> usize
     let mut i = 0;
     while i < PLACES {
         let g = places::group_of(state, i);
-        if holds_group(g, a) {
+        if records::holds_group(g, a) {
             return i;
         }
         i += 1;
@@ -61,7 +38,7 @@ fn find_path(state: &[u32], p: PathAddress) -> usize
     let mut i = 0;
     while i < PLACES {
         let x = places::path_of(state, i);
-        if holds_path(x, p) {
+        if records::holds_path(x, p) {
             return i;
         }
         i += 1;

@@ -7,7 +7,8 @@ use mathlib.Core.Logic.{_≢_}
 use lib.Dec.{eqb}
 use lib.Bits.{bitOr}
 use borrow.Author.Tests.{eq-eqb, ne-eqb}
-use Rattle.address.specs.Octets.{dotted, Octet, pick}
+use Rattle.checks.specs.Order.{pick}
+use Rattle.address.specs.Octets.{dotted, Octet}
 use Rattle.address.specs.Class.{between, familyOf, classOf}
 use Rattle.address.specs.Mask.{maskOf}
 use Rattle.address.specs.declared.Address.{Address}

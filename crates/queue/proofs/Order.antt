@@ -8,7 +8,7 @@ use native.Mathlib.Nat.{le-trans, le-of-lt, lt-of-le-of-lt}
 use lib.ListN.{length}
 use lib.Dec.{ltb}
 use borrow.Author.Tests.{lt-ltb, le-ltb}
-use Rattle.address.specs.Octets.{pick}
+use Rattle.checks.specs.Order.{pick}
 use Rattle.queue.specs.Order.{Each, InOrder, insertBy, Sorted, StartsLower, Placed}
 use Rattle.queue.proofs.Compare.{by-order}
 use Rattle.queue.proofs.Each.{each, each-so, order-rest, order-front}

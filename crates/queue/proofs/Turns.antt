@@ -8,7 +8,7 @@ use native.Mathlib.Nat.{le-of-lt, lt-of-lt-of-le}
 use native.Mathlib.Omega.{arith}
 use lib.Dec.{ltb}
 use lib.ListN.{length, drop, length-map}
-use Rattle.address.specs.Octets.{pick}
+use Rattle.checks.specs.Order.{pick}
 use Rattle.queue.specs.Order.{Each, InOrder}
 use Rattle.queue.specs.Queue.{fresh, precedenceOf, putOf, takeOf}
 use Rattle.queue.specs.Turns.{Entered, entryOf, rankOf, Before, entering, leaving, Follows, Deed, puts, takes, History, started, after, Followed, run}

@@ -12,7 +12,7 @@ use lib.Dec.{ltb}
 use lib.ListN.{length, take, drop, length-append, length-drop}
 use lib.Seq.{length-take-le, take-at, drop-at, drop-drop, take-append-le, drop-append-le}
 use borrow.Author.Tests.{lt-ltb, le-ltb, ltb-false}
-use Rattle.address.specs.Octets.{pick}
+use Rattle.checks.specs.Order.{pick}
 use Rattle.queue.specs.Queue.{free, waiting, behind, precedenceOf, insert, putOf, takenFrom, takeOf, headOf, Bounded}
 use Rattle.queue.specs.declared.Entry.{Entry}
 use Rattle.queue.specs.declared.Queue.{Queue}

@@ -5,7 +5,7 @@ use Prim.Native.Nat.{ℕ, _≤_, _<_}
 use mathlib.Core.Path.{_≡_}
 use mathlib.Core.List.{List, [], _∷_, _++_}
 use lib.Dec.{ltb}
-use Rattle.address.specs.Octets.{pick}
+use Rattle.checks.specs.Order.{pick}
 
 module _ {A : Type 0} where
   abbrev pub Each : (A → Type 0) → List A → Type 0

@@ -5,7 +5,7 @@ use mathlib.Core.Path.{_≡_}
 use mathlib.Core.List.{List, [], _∷_, map}
 use lib.ListN.{length, drop}
 use lib.Dec.{ltb}
-use Rattle.address.specs.Octets.{pick}
+use Rattle.checks.specs.Order.{pick}
 use Rattle.queue.specs.Order.{Each, InOrder, insertBy}
 use Rattle.queue.specs.Queue.{fresh, waiting, precedenceOf, putOf, takeOf, Sound}
 use Rattle.queue.specs.declared.Entry.{Entry}

@@ -1,4 +1,4 @@
-// The records of the relay's settings: a port, a group place, a path place.
+// The records of the relay's settings: a port, a group place, a path place, and whose place it is.
 //
 // Each field is a whole word, and the flags are numbers: a state that C lends may hold any words, and each of them must be some
 // record. A flag says no by 0 and yes by anything else; settings write only 0 and 1. A set of ports has port p as 2^p. The record of
@@ -6,6 +6,8 @@
 use address::Address;
 use address::Mask;
 use address::PathAddress;
+ghost use mathlib.Core.Path.{_≡_};
+ghost use Rattle.records.specs.Held.{holdsGroup, holdsPath};
 
 // `ready` is 0 where the port is not set up.
 #[repr(C)]
@@ -32,4 +34,24 @@ pub struct PathPlace {
     pub path: PathAddress,
     pub send: u32,
     pub here: u32,
+}
+
+// Whether a place is a group's.
+pub fn holds_group(g: Group, a: Address) -> bool
+    ensures { λ r. ⌜ r ≡ holdsGroup g a ⌝ }
+{
+    if g.filled == 0 {
+        return false;
+    }
+    g.address.0 == a.0
+}
+
+// Whether a place is a path's.
+pub fn holds_path(x: PathPlace, p: PathAddress) -> bool
+    ensures { λ r. ⌜ r ≡ holdsPath x p ⌝ }
+{
+    if x.filled == 0 {
+        return false;
+    }
+    x.path.0 == p.0
 }

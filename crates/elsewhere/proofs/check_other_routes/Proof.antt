@@ -21,7 +21,8 @@ other-route-requires c κs = search needs
 
 returns : tie.Need-returns Inv-loop μ-loop
 unfolding routeElsewhere
-returns c = found _ _ (c .before .before .before .loop .inv .1) _ (c .before .other-route .ensures) _ (c .before .before .loop-test .taken) (c .if1 .taken)
+returns c =
+    found _ _ (c .before .before .before .loop .inv .1) _ (c .before .other-route .ensures) _ (c .before .before .loop-test .taken) (c .if1 .taken)
 
 add-i : tie.Need-add-i Inv-loop μ-loop
 add-i c = search needs

@@ -1,14 +1,12 @@
 -- `elsewhere::other_route` meets its contract. Assumes nothing.
 use borrow.Author.Needs.{needs}
-use mathlib.Core.Path.{ap, _∙_}
-use Rattle.routes.specs.declared.Route.{Route}
 use Rattle.routes.specs.Routes.{sameEntry}
-use Rattle.elsewhere.proofs.Others.{same, differ}
+use Rattle.elsewhere.proofs.Others.{written, compared}
 use Rattle.elsewhere.proofs.other_route.Statement.{statement}
 use Rattle.elsewhere.proofs.other_route.Tie as tie
 
 returns : tie.Need-returns
-returns c = same _ _ _ (c .if1 .taken)
+returns c = written _ _ _ (c .if1 .taken)
 
 route-of-requires : tie.Need-route-of-requires
 route-of-requires c κs = search needs
@@ -17,11 +15,7 @@ same-entry-requires : tie.Need-same-entry-requires
 same-entry-requires c κs = search needs
 
 returns-2 : tie.Need-returns-2
-returns-2 c =
-    let route = c .before in
-    let start = route .before .before .before in
-    differ _ _ _ _ (route .before .if1 .left)
-    (c .same-entry .ensures ∙ ap (λ (r : Route). sameEntry r (start .args .x)) (route .route-of .ensures))
+returns-2 c = compared sameEntry _ _ _ _ _ _ (c .before .before .if1 .left) (c .same-entry .ensures) (c .before .route-of .ensures)
 
 pub other-route-spec : {M : Type 1} → statement M
 other-route-spec = tie.close (tie.spec returns route-of-requires same-entry-requires returns-2)

@@ -71,21 +71,15 @@ mul-result-5 c = omega (arith, qos-le c)
 
 add-result-4 : tie.Need-add-result-4
 add-result-4 c =
-    let stamp = c .before in
-    let hops = stamp .before in
-    let source = hops .before in
-    omega (arith, more-le (source .before), source-le source, hops-le hops, stamp-le stamp, qos-le c)
+    omega (arith, more-le (c .before .before .before .before), source-le (c .before .before .before), hops-le (c .before .before), stamp-le (c .before), qos-le c)
 
 extended-flag-requires : tie.Need-extended-flag-requires
 extended-flag-requires c κs = search needs
 
 add-result-5 : tie.Need-add-result-5
 add-result-5 c =
-    let qos = c .before in
-    let stamp = qos .before in
-    let hops = stamp .before in
-    let source = hops .before in
-    omega (arith, more-le (source .before), source-le source, hops-le hops, stamp-le stamp, qos-le qos, extended-le c)
+    omega
+    (arith, more-le (c .before .before .before .before .before), source-le (c .before .before .before .before), hops-le (c .before .before .before), stamp-le (c .before .before), qos-le (c .before), extended-le c)
 
 returns : tie.Need-returns
 unfolding secondOctet

@@ -2,6 +2,7 @@
 use borrow.Author.Needs.{needs}
 use mathlib.Core.Path.{sym, _∙_}
 use native.Mathlib.Omega.{arith}
+use Prim.Native.Nat.{_<_}
 use Rattle.harpjuniper.proofs.Laws.{refused-reading, good-reading, reading-fits}
 use Rattle.harpjuniper.proofs.hj_read.Statement.{statement}
 use Rattle.harpjuniper.proofs.hj_read.Tie as tie
@@ -24,19 +25,17 @@ enum-known-h c = search needs
 numbers-of-requires : tie.Need-numbers-of-requires
 numbers-of-requires c κs = search needs
 
+-- a header that was read has lengths of 32 bits
+fits : (c : tie.After-h) → (c .h .given .0 .0 .length < 4294967296) × (c .h .given .0 .0 .size < 4294967296)
+fits c =
+    let read = c .before .before in
+    reading-fits _ _ (λ i. read .before .shared-slice-known .given i .fits) (sym (read .read-header .ensures) ∙ c .h .given .1)
+
 cast-t10 : tie.Need-cast-t10
-cast-t10 c =
-    let told = c .before .before .before .before in
-    let read = told .before .before in
-    let fits = reading-fits _ _ (λ i. read .before .shared-slice-known .given i .fits) (sym (read .read-header .ensures) ∙ told .h .given .1) in
-    omega arith
+cast-t10 c = omega (arith, fits (c .before .before .before .before))
 
 cast-t11 : tie.Need-cast-t11
-cast-t11 c =
-    let told = c .before .before .before .before .before in
-    let read = told .before .before in
-    let fits = reading-fits _ _ (λ i. read .before .shared-slice-known .given i .fits) (sym (read .read-header .ensures) ∙ told .h .given .1) in
-    omega arith
+cast-t11 c = omega (arith, fits (c .before .before .before .before .before))
 
 returns : tie.Need-returns
 returns c =

@@ -80,7 +80,9 @@ check-stamp-requires c κs = search needs
 
 returns-4 : tie.Need-returns-4
 unfolding elementsOut
-returns-4 c = simp (qos-in (c .before .before .before .before .before .before .before), hops-in (c .before .before .before .before), expanded-in (c .before)) (c .check-stamp .ensures)
+returns-4 c =
+    simp (qos-in (c .before .before .before .before .before .before .before), hops-in (c .before .before .before .before), expanded-in (c .before))
+    (c .check-stamp .ensures)
 
 pub check-elements-spec : {M : Type 1} → statement M
 check-elements-spec =

@@ -74,7 +74,9 @@ check-elements-requires c κs = search needs
 
 returns-4 : tie.Need-returns-4
 unfolding numbersOut
-returns-4 c = simp (octets-in (c .before .before .before .before .before .before .before), flags-in (c .before .before .before .before), widths-in (c .before)) (c .check-elements .ensures)
+returns-4 c =
+    simp (octets-in (c .before .before .before .before .before .before .before), flags-in (c .before .before .before .before), widths-in (c .before))
+    (c .check-elements .ensures)
 
 pub check-numbers-spec : {M : Type 1} → statement M
 check-numbers-spec =

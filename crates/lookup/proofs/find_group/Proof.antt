@@ -25,7 +25,7 @@ group-of-requires : tie.Need-group-of-requires Inv-loop μ-loop
 group-of-requires c κs = search needs
 
 holds-group-requires : tie.Need-holds-group-requires Inv-loop μ-loop
-holds-group-requires c κs = tt
+holds-group-requires c κs = search needs
 
 returns : tie.Need-returns Inv-loop μ-loop
 returns c =

@@ -25,7 +25,7 @@ path-of-requires : tie.Need-path-of-requires Inv-loop μ-loop
 path-of-requires c κs = search needs
 
 holds-path-requires : tie.Need-holds-path-requires Inv-loop μ-loop
-holds-path-requires c κs = tt
+holds-path-requires c κs = search needs
 
 returns : tie.Need-returns Inv-loop μ-loop
 returns c =

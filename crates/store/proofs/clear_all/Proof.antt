@@ -22,13 +22,13 @@ loop-holds c = (search needs, refl)
 mul-state : tie.Need-mul-state Inv-loop μ-loop
 mul-state c = search needs
 
+-- no turn is past the lent words, nor past the fresh ones
+within : (k : tie.At-loop Inv-loop μ-loop) → (k .loop .i ≤ length (k .before .args .state .now)) × (k .loop .i ≤ length freshWords)
+within k = (omega (arith, k .before .pre), omega (arith, fresh-length))
+
 -- the words keep their number
 kept : (k : tie.At-loop Inv-loop μ-loop) → length (k .loop .state) ≡ stateWords
-kept k =
-    let start = k .before in
-    let n = fresh-length in
-    let m = start .pre in
-    fill-length (start .args .state .now) freshWords (k .loop .state) (k .loop .i) (omega arith) (omega arith) (k .loop .inv .1) ∙ m
+kept k = fill-length _ freshWords _ (k .loop .i) (within k .0) (within k .1) (k .loop .inv .1) ∙ k .before .pre
 
 slice-write-state : tie.Need-slice-write-state Inv-loop μ-loop
 slice-write-state c = omega (arith, kept (c .before))
@@ -41,12 +41,10 @@ loop-less c = search needs
 
 loop-again : tie.Need-loop-again Inv-loop μ-loop
 loop-again c =
-    let k = c .before in
-    let start = k .before in
-    let n = fresh-length in
-    let m = start .pre in (
+    let k = c .before in (
       search needs,
-      fill-turn (start .args .state .now) freshWords (k .loop .state) (k .loop .i) 0 0 (omega arith) (omega arith)
+      fill-turn (k .before .args .state .now) freshWords (k .loop .state) (k .loop .i) 0 0
+          (omega (arith, k .before .pre)) (omega (arith, fresh-length))
           (sym (fresh-word (k .loop .i) (c .loop-test .taken))) (k .loop .inv .1),
     )
 
@@ -56,10 +54,9 @@ same-length c = omega (arith, kept (c .before), c .before .before .pre)
 returns : tie.Need-returns Inv-loop μ-loop
 returns c =
     let k = c .before in
-    let start = k .before in
-    let n = fresh-length in
-    let m = start .pre in
-    ap decode (fill-end (start .args .state .now) freshWords (k .loop .state) (k .loop .i) (omega arith) (omega arith) (k .loop .inv .1))
+    ap decode
+    (fill-end (k .before .args .state .now) freshWords (k .loop .state) (k .loop .i)
+    (omega (arith, k .before .pre)) (omega (arith, fresh-length)) (k .loop .inv .1))
     ∙ fresh
 
 pub clear-all-spec : {M : Type 1} → statement M
