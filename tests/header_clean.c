@@ -9,7 +9,8 @@ int header_calls(void);
 int relay_calls(void);
 int setting_calls(void);
 int accessors(void);
-int numbers_are_ordered(void);
+int constants(void);
+int numbers(void);
 
 int header_calls(void)
 {
@@ -69,7 +70,7 @@ int accessors(void)
     return of_answer[0] && slot && of_verdict[0];
 }
 
-int numbers_are_ordered(void)
+int constants(void)
 {
     const char version[] = HJ_VERSION;
     const int versions[] = {HJ_VERSION_MAJOR, HJ_VERSION_MINOR,
@@ -77,17 +78,6 @@ int numbers_are_ordered(void)
     const int limits[] = {HJ_STATE_WORDS, HJ_OUTPUT_ROOM, HJ_MOST_DATA,
                           HJ_MOST_LENGTH, HJ_PORTS,       HJ_ROUTES,
                           HJ_GROUPS,      HJ_PATHS,       HJ_QUEUE};
-    const int refusals[] = {
-        HJ_DONE,          HJ_SHORT,         HJ_BAD_VERSION,
-        HJ_BAD_LENGTH,    HJ_BAD_FORM,      HJ_BAD_CHECKSUM,
-        HJ_BAD_ADDRESS,   HJ_NO_DOMAIN,     HJ_NOT_CARRIED,
-        HJ_NOT_FOR_US,    HJ_HOPS_USED_UP,  HJ_NO_ROUTE,
-        HJ_NOT_UP,        HJ_LEAVES_DOMAIN, HJ_TOO_BIG,
-        HJ_QUEUES_FULL,   HJ_NO_PORT,       HJ_SHORT_OUTPUT,
-        HJ_NOTHING_WAITING, HJ_FIELD_RANGE, HJ_DATA_TOO_LONG,
-        HJ_BAD_NUMBER,    HJ_BAD_MASK,      HJ_SAME_ENTRY,
-        HJ_BAD_CODE,      HJ_WRONG_CLASS,   HJ_UNKNOWN_TP_ID,
-        HJ_ENTRIES_WAIT};
     const int classes[] = {HJ_INVALID,        HJ_UNICAST,
                            HJ_MULTICAST,      HJ_NET_BROADCAST,
                            HJ_DOMAIN_BROADCAST, HJ_SCPS_BROADCAST,
@@ -100,6 +90,23 @@ int numbers_are_ordered(void)
                          HJ_CAPABLE_HOP_COUNT, HJ_CAPABLE_BOTH,
                          HJ_LOCAL_NO,     HJ_DELIVERED,
                          HJ_NOT_ASKED,    HJ_SENT_ON};
+
+    return version[0] + versions[0] + limits[0] + classes[0] + codes[0];
+}
+
+int numbers(void)
+{
+    const int refusals[] = {
+        HJ_DONE,          HJ_SHORT,         HJ_BAD_VERSION,
+        HJ_BAD_LENGTH,    HJ_BAD_FORM,      HJ_BAD_CHECKSUM,
+        HJ_BAD_ADDRESS,   HJ_NO_DOMAIN,     HJ_NOT_CARRIED,
+        HJ_NOT_FOR_US,    HJ_HOPS_USED_UP,  HJ_NO_ROUTE,
+        HJ_NOT_UP,        HJ_LEAVES_DOMAIN, HJ_TOO_BIG,
+        HJ_QUEUES_FULL,   HJ_NO_PORT,       HJ_SHORT_OUTPUT,
+        HJ_NOTHING_WAITING, HJ_FIELD_RANGE, HJ_DATA_TOO_LONG,
+        HJ_BAD_NUMBER,    HJ_BAD_MASK,      HJ_SAME_ENTRY,
+        HJ_BAD_CODE,      HJ_WRONG_CLASS,   HJ_UNKNOWN_TP_ID,
+        HJ_ENTRIES_WAIT};
     const int counters[HJ_COUNTERS] = {
         HJ_IN_RECEIVES,       HJ_IN_BAD_LENGTH,  HJ_IN_BAD_VERSION,
         HJ_IN_BAD_ADDRESS,    HJ_IN_BAD_CHECKSUM, HJ_UNSUPPORTED,
@@ -107,6 +114,5 @@ int numbers_are_ordered(void)
         HJ_FORW_HOP_DISCARD,  HJ_FORW_DATAGRAMS, HJ_OUT_NO_ROUTES,
         HJ_OUT_DISCARDS,      HJ_LEFT_DOMAIN,    HJ_TOO_BIG_COUNT};
 
-    return version[0] + versions[0] + limits[0] + refusals[0] + classes[0] +
-           codes[0] + counters[14];
+    return refusals[0] + counters[14];
 }

@@ -1,1 +1,2 @@
+-- What the contracts of reading and building cite.
 pub mod Face

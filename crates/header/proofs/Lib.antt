@@ -1,3 +1,4 @@
+-- The laws of headers. To be read: Refusals, Answers, Trip, Again, SentOn, BuiltLaws, Promises; the others serve them and the code's proofs.
 pub mod Bounds
 pub mod Passed
 pub mod Bits

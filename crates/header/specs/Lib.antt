@@ -1,3 +1,4 @@
+-- What the contracts cite: a header's form, reading it, building it, sending it on, and the ranges of its fields.
 pub mod Form
 pub mod Read
 pub mod Build

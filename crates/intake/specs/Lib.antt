@@ -1,1 +1,2 @@
+-- What the contracts cite: numbers that stand for no fields.
 pub mod Out

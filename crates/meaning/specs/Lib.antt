@@ -1,1 +1,2 @@
+-- What the contracts cite: what the addresses of a header name, by the arrival port.
 pub mod Names
