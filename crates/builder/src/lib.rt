@@ -19,14 +19,14 @@ fn put_rest(out: &mut [u8], place: usize, f: Fields) -> usize
     ensures { λ _. ⌜ now (out .exit) ≡ pasted (now (out .entry)) place (restOctets f) ⌝ }
 {
     let addresses = f.addresses;
-    let qos = f.qos;
-    let hops = f.hops;
-    let stamp = f.stamp;
-    let expanded = f.expanded;
     let a = addresses::put_addresses(out, place, addresses);
+    let qos = f.qos;
     let b = elements::put_qos(out, a, qos);
+    let hops = f.hops;
     let c = elements::put_octet(out, b, hops);
+    let stamp = f.stamp;
     let d = elements::put_stamp(out, c, stamp);
+    let expanded = f.expanded;
     elements::put_octet(out, d, expanded)
 }
 

@@ -1,9 +1,8 @@
 -- `intake::check_numbers` meets its contract, check by check: what each answers tells its condition. Assumes nothing.
 use borrow.Author.Needs.{needs}
 use mathlib.Core.Path.{_≡_, sym, _∙_}
-use mathlib.Core.Bool.{Bool, false}
+use mathlib.Core.Bool.{false}
 use Rattle.checks.proofs.Laws.{passed-false, failed-true}
-use Rattle.numbers.specs.declared.Numbers.{Numbers}
 use Rattle.intake.specs.Out.{octetsOut, addressFlagsOut, addressWidthsOut, numbersOut}
 use Rattle.intake.proofs.check_numbers.Statement.{statement}
 use Rattle.intake.proofs.check_numbers.Tie as tie

@@ -1,7 +1,7 @@
 -- `lookup::find_path` meets its contract: no place below i is the path's. Assumes nothing.
 use native.Mathlib.Omega.{arith}
 use Prim.Native.Nat.{ℕ, _-_, _≤_}
-use mathlib.Core.Path.{_≡_, refl, sym, ap, _∙_}
+use mathlib.Core.Path.{_≡_, refl, sym}
 use borrow.Author.Needs.{needs}
 use Rattle.sets.specs.Sets.{firstBelow}
 use Rattle.sets.proofs.Loops.{firstBelow-none, firstBelow-found, firstBelow-end}
