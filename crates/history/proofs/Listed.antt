@@ -349,23 +349,23 @@ taken-case false (First x) = refl
 taken-case false Nothing = refl
 
 -- ---- settings
-number-row : (ns : List ℕ) (cs : Checks) → listed ns 0 ≡ true → allListed ns cs ≡ true → stands (numbers ns ∷ []) (number (firstOf cs)) ≡ true
+pub number-row : (ns : List ℕ) (cs : Checks) → listed ns 0 ≡ true → allListed ns cs ≡ true → stands (numbers ns ∷ []) (number (firstOf cs)) ≡ true
 number-row ns cs z h = rw (first-listed ns cs z h) refl
 
--- Every call's answer stands in the table's rows for that call, whatever the relay.
-pub every-answer-is-listed : (r : Relay) (c : Call) → stands (answersOf c) (answerOf r c) ≡ true
+-- The answer of every call that can change a relay stands in the table's rows for that call, whatever the relay.
+pub call-listed : (r : Relay) (c : Call) → stands (answersOf c) (answerOf r c) ≡ true
 unfolding takeOutcome
-every-answer-is-listed r (setRouter x) = number-row (0 ∷ 24 ∷ []) (routerChecks x) refl refl
-every-answer-is-listed r (setPort p address mask mtu) = number-row (0 ∷ 21 ∷ 25 ∷ 22 ∷ 24 ∷ 35 ∷ []) (portChecks r p address mask mtu) refl refl
-every-answer-is-listed r (setRoute i prefix mask port availability capabilities) =
+call-listed r (setRouter x) = number-row (0 ∷ 24 ∷ []) (routerChecks x) refl refl
+call-listed r (setPort p address mask mtu) = number-row (0 ∷ 21 ∷ 25 ∷ 22 ∷ 24 ∷ 35 ∷ []) (portChecks r p address mask mtu) refl refl
+call-listed r (setRoute i prefix mask port availability capabilities) =
     number-row (0 ∷ 21 ∷ 22 ∷ 24 ∷ 23 ∷ []) (routeChecks r i (newRoute prefix mask port availability capabilities)) refl refl
-every-answer-is-listed r (setGroup i address send subscribed) = number-row (0 ∷ 21 ∷ 25 ∷ 23 ∷ []) (groupChecks r i address send subscribed) refl refl
-every-answer-is-listed r (setPath i path send here) = number-row (0 ∷ 21 ∷ 25 ∷ 24 ∷ 23 ∷ []) (pathChecks r i path send here) refl refl
-every-answer-is-listed r (clearRoute i) = number-row (0 ∷ 21 ∷ []) (clearChecks i 64) refl refl
-every-answer-is-listed r (clearGroup i) = number-row (0 ∷ 21 ∷ []) (clearChecks i 16) refl refl
-every-answer-is-listed r (clearPath i) = number-row (0 ∷ 21 ∷ []) (clearChecks i 16) refl refl
-every-answer-is-listed r (receives port slot octets output) = every-ending-is-listed r port octets (length output)
-every-answer-is-listed r (takes port) = taken-case (notSetUp r port) (takeOf (queueIn r port) .head)
+call-listed r (setGroup i address send subscribed) = number-row (0 ∷ 21 ∷ 25 ∷ 23 ∷ []) (groupChecks r i address send subscribed) refl refl
+call-listed r (setPath i path send here) = number-row (0 ∷ 21 ∷ 25 ∷ 24 ∷ 23 ∷ []) (pathChecks r i path send here) refl refl
+call-listed r (clearRoute i) = number-row (0 ∷ 21 ∷ []) (clearChecks i 64) refl refl
+call-listed r (clearGroup i) = number-row (0 ∷ 21 ∷ []) (clearChecks i 16) refl refl
+call-listed r (clearPath i) = number-row (0 ∷ 21 ∷ []) (clearChecks i 16) refl refl
+call-listed r (receives port slot octets output) = every-ending-is-listed r port octets (length output)
+call-listed r (takes port) = taken-case (notSetUp r port) (takeOf (queueIn r port) .head)
 
 -- "No" with "not asked" never occurs: no row has it.
 unsaid : (x : Ruling) → Judged x → x .local ≡ 0 → x .onward ≡ 0 → ⊥

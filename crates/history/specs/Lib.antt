@@ -2,6 +2,7 @@
 pub mod Calls
 pub mod Board
 pub mod Answers
+pub mod Looks
 pub mod Tally
 pub mod Ledger
 pub mod Sums
