@@ -34,7 +34,8 @@ use Rattle.refusals.specs.Lists.{portChecks, routeChecks, groupChecks, pathChec
 use Rattle.adjust.specs.Settled.{settled, newPort, newRoute, newGroup, newPath}
 use Rattle.history.specs.Calls.{Call, setRouter, setPort, setRoute, setGroup, setPath, clearRoute, clearGroup, clearPath, receives, takes, done, run, after}
 use Rattle.history.specs.Board.{Board, boardOf, freshBoard, next}
-use Rattle.history.specs.Ledger.{one, granted, dropped, byRuling, isHanded, handedOut, sumOver}
+use Rattle.history.specs.Over.{sumOver}
+use Rattle.history.specs.Ledger.{one, granted, dropped, byRuling, isHanded, handedOut}
 use Rattle.history.proofs.Boards.{ending-bare, outcome-bare, counted-board, done-board}
 use Rattle.history.proofs.Fair.{Fair, fair}
 use Rattle.history.proofs.Queues.{Eight, eight-entered, putIf, entered-queue, put-count, take-count}

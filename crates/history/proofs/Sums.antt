@@ -17,9 +17,10 @@ use Rattle.judge.specs.Ending.{endingOf}
 use Rattle.judge.specs.declared.Ending.{Ending}
 use Rattle.history.specs.Calls.{Call, setRouter, setPort, setRoute, setGroup, setPath, clearRoute, clearGroup, clearPath, receives, takes, after}
 use Rattle.history.specs.Board.{Board, onBoard, freshBoard, next}
+use Rattle.history.specs.Over.{byEnding, sumOver}
 use Rattle.history.specs.Tally.{given, givenBy, tallyFrom}
-use Rattle.history.specs.Ledger.{one, sumOver}
-use Rattle.history.specs.Sums.{receipt, delivery, sentOn, portsIn, drops, byEnding, total}
+use Rattle.history.specs.Ledger.{one}
+use Rattle.history.specs.Sums.{receipt, delivery, sentOn, portsIn, drops, total}
 use Rattle.history.specs.Answers.{ended, receiveRows, stands}
 use Rattle.history.proofs.Counters.{counters}
 use Rattle.history.proofs.Named.{receives-counted, delivers-counted, forwards-counted, discards-counted}

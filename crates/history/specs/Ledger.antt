@@ -1,18 +1,17 @@
 -- The ledger of a port over a history, from the calls alone: copies granted, handed out and dropped (page 01, demand 3). Assumes nothing.
-use Prim.Native.Nat.{ℕ, _+_}
-use mathlib.Core.Bool.{Bool, _&&_}
-use mathlib.Core.List.{List, [], _∷_}
-use lib.ListN.{length}
+use Prim.Native.Nat.{ℕ}
+use mathlib.Core.Bool.{Bool}
 use lib.Dec.{eqb}
 use Rattle.checks.specs.Order.{pick}
 use Rattle.sets.specs.Sets.{inSet}
 use Rattle.verdict.specs.declared.Ruling.{Ruling}
-use Rattle.judge.specs.Ending.{endingOf}
+use Rattle.judge.specs.declared.Ending.{Ending}
 use Rattle.taking.specs.Taking.{takeOutcome}
 use Rattle.taking.specs.declared.Taking.{Taking}
 use Rattle.taking.specs.declared.Taking.the-variants.{Handed, Refused}
 use Rattle.history.specs.Calls.{Call, setRouter, setPort, setRoute, setGroup, setPath, clearRoute, clearGroup, clearPath, receives, takes}
-use Rattle.history.specs.Board.{Board, onBoard, next}
+use Rattle.history.specs.Board.{Board, onBoard}
+use Rattle.history.specs.Over.{byEnding}
 
 -- one where a test holds
 abbrev pub one : Bool → ℕ
@@ -27,16 +26,7 @@ dropped p x = one (inSet p (x .dropped))
 
 -- of one call: receiving grants and drops copies, by its ruling
 abbrev pub byRuling : (Ruling → ℕ) → Board → Call → ℕ
-byRuling f b (setRouter x) = 0
-byRuling f b (setPort p address mask mtu) = 0
-byRuling f b (setRoute place prefix mask port availability capabilities) = 0
-byRuling f b (setGroup place address send subscribed) = 0
-byRuling f b (setPath place path send here) = 0
-byRuling f b (clearRoute place) = 0
-byRuling f b (clearGroup place) = 0
-byRuling f b (clearPath place) = 0
-byRuling f b (receives port slot octets output) = f (endingOf (onBoard b) port octets (length output) .ruling)
-byRuling f b (takes port) = 0
+byRuling f b c = byEnding (λ (e : Ending). f (e .ruling)) b c
 
 -- taking hands out one, or none
 abbrev pub isHanded : Taking → ℕ
@@ -54,8 +44,3 @@ handedOut p b (clearGroup place) = 0
 handedOut p b (clearPath place) = 0
 handedOut p b (receives port slot octets output) = 0
 handedOut p b (takes port) = pick (eqb port p) (isHanded (takeOutcome (onBoard b) port)) 0
-
--- over the calls, from a board on
-abbrev pub sumOver : (Board → Call → ℕ) → Board → List Call → ℕ
-sumOver f b [] = 0
-sumOver f b (c ∷ cs) = f b c + sumOver f (next b c) cs

@@ -1,6 +1,7 @@
 -- Histories, what calls leave, and what the rules give over a history.
 pub mod Calls
 pub mod Board
+pub mod Over
 pub mod Answers
 pub mod Looks
 pub mod Tally

@@ -4,14 +4,13 @@
 use Prim.Native.Nat.{ℕ, zero, suc, _+_}
 use mathlib.Core.Bool.{not, _||_}
 use mathlib.Core.List.{List}
-use lib.ListN.{length}
 use lib.Dec.{eqb}
 use Rattle.sets.specs.Sets.{inSet}
-use Rattle.judge.specs.Ending.{endingOf}
 use Rattle.judge.specs.declared.Ending.{Ending}
-use Rattle.history.specs.Calls.{Call, setRouter, setPort, setRoute, setGroup, setPath, clearRoute, clearGroup, clearPath, receives, takes}
-use Rattle.history.specs.Board.{Board, onBoard, freshBoard}
-use Rattle.history.specs.Ledger.{one, sumOver}
+use Rattle.history.specs.Calls.{Call}
+use Rattle.history.specs.Board.{freshBoard}
+use Rattle.history.specs.Over.{byEnding, sumOver}
+use Rattle.history.specs.Ledger.{one}
 
 -- ---- what is counted of one received datagram
 -- it did not end in 16 or 17
@@ -34,18 +33,6 @@ portsIn (suc p) set = portsIn p set + one (inSet p set)
 abbrev pub drops : Ending → ℕ
 drops e = portsIn 8 (e .ruling .dropped)
 
--- ---- over the calls, from a fresh relay on: only receiving is counted
-abbrev pub byEnding : (Ending → ℕ) → Board → Call → ℕ
-byEnding f b (setRouter x) = 0
-byEnding f b (setPort p address mask mtu) = 0
-byEnding f b (setRoute place prefix mask port availability capabilities) = 0
-byEnding f b (setGroup place address send subscribed) = 0
-byEnding f b (setPath place path send here) = 0
-byEnding f b (clearRoute place) = 0
-byEnding f b (clearGroup place) = 0
-byEnding f b (clearPath place) = 0
-byEnding f b (receives port slot octets output) = f (endingOf (onBoard b) port octets (length output))
-byEnding f b (takes port) = 0
-
+-- ---- over the calls, from a fresh relay on
 abbrev pub total : (Ending → ℕ) → List Call → ℕ
 total f cs = sumOver (byEnding f) freshBoard cs

@@ -2,14 +2,13 @@
 -- No counter of any state is read here. Assumes nothing.
 use Prim.Native.Nat.{ℕ, _+_}
 use mathlib.Core.List.{List, [], _∷_}
-use lib.ListN.{length}
 use lib.Dec.{eqb}
 use Rattle.checks.specs.Order.{pick}
-use Rattle.judge.specs.Ending.{endingOf}
 use Rattle.judge.specs.declared.Ending.{Ending}
 use Rattle.tally.specs.Tally.{Row, movesOf}
-use Rattle.history.specs.Calls.{Call, setRouter, setPort, setRoute, setGroup, setPath, clearRoute, clearGroup, clearPath, receives, takes}
-use Rattle.history.specs.Board.{Board, onBoard, freshBoard, next}
+use Rattle.history.specs.Calls.{Call}
+use Rattle.history.specs.Board.{Board, freshBoard}
+use Rattle.history.specs.Over.{byEnding, sumOver}
 
 -- how much the rows give counter i
 abbrev pub sumAt : List Row → ℕ → ℕ
@@ -22,21 +21,11 @@ given e i = sumAt (movesOf e) i
 
 -- how much one call gives counter i: only receiving counts
 abbrev pub givenBy : Board → Call → ℕ → ℕ
-givenBy b (setRouter x) i = 0
-givenBy b (setPort p address mask mtu) i = 0
-givenBy b (setRoute place prefix mask port availability capabilities) i = 0
-givenBy b (setGroup place address send subscribed) i = 0
-givenBy b (setPath place path send here) i = 0
-givenBy b (clearRoute place) i = 0
-givenBy b (clearGroup place) i = 0
-givenBy b (clearPath place) i = 0
-givenBy b (receives port slot octets output) i = given (endingOf (onBoard b) port octets (length output)) i
-givenBy b (takes port) i = 0
+givenBy b c i = byEnding (λ (e : Ending). given e i) b c
 
 -- how much the calls give counter i, from a board on
 abbrev pub tallyFrom : Board → List Call → ℕ → ℕ
-tallyFrom b [] i = 0
-tallyFrom b (c ∷ cs) i = givenBy b c i + tallyFrom (next b c) cs i
+tallyFrom b cs i = sumOver (λ (b : Board) (c : Call). givenBy b c i) b cs
 
 abbrev pub tally : List Call → ℕ → ℕ
 tally cs i = tallyFrom freshBoard cs i
