@@ -201,6 +201,7 @@ coverage-plain: build/generate build/coverage-plain/plain
 
 promises: | prepare
 	scripts/check-promises
+	scripts/check-documents
 
 gate: | prepare
 	@scripts/gate

@@ -317,6 +317,34 @@ class Gate(Tree):
             self.assertIn("gate: FAILED", lines[-1])
 
 
+class Documents(Tree):
+    """scripts/check-documents on a page and a file that it speaks of."""
+
+    def check(self, page):
+        self.write("README.md", "# Read me\n")
+        self.write("docs/PAGE.md", page)
+        self.write("crates/address/proofs/Laws.antt", LAWS)
+        return self.run_script(os.path.join(ROOT, "scripts/check-documents"), self.root)
+
+    def refused(self, page, words):
+        status, output = self.check(page)
+        self.assertEqual((status, output), (1, words + "\n"))
+
+    def test_what_is_there(self):
+        page = "`one-class` and `twice`, in\n`crates/address/proofs/Laws.antt`; `within`, in `address/proofs/Laws.antt`.\n"
+        page += "Of any crate: `crates/NAME/src/lib.rt`, `crates/*/must-fail/`, `docs/`; `tests/..`.\n"
+        status, output = self.check(page)
+        self.assertEqual((status, output), (0, "documents: 2 name what is there\n"))
+
+    def test_a_file_that_is_gone(self):
+        self.refused("One.\nSee `docs/OTHER.md`.\n", "docs/PAGE.md:2: there is no docs/OTHER.md")
+        self.refused("`one-class`, in `address/specs/Laws.antt`\n", "docs/PAGE.md:1: there is no address/specs/Laws.antt")
+
+    def test_a_definition_that_is_gone(self):
+        page = "`twice`, `thrice`, in `crates/address/proofs/Laws.antt`\n"
+        self.refused(page, "docs/PAGE.md:1: crates/address/proofs/Laws.antt declares no thrice")
+
+
 class InMemory(Tree):
     """scripts/in-memory with a stand-in for df, which says what room there is."""
 
