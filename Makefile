@@ -81,13 +81,13 @@ endif
 
 # The folders are named too, since a file that is gone changes its folder only.
 # `rt ci` removes target/, so the objects are taken out of it. `rt check` before that
-# proves on every core, and leaves nothing to two `rt staticlib` that both would prove.
+# proves on every core; `rt staticlib` alone would prove one crate after the other, and
+# two of them at once write to the same files of target/.
 $(ARCHIVE): crates.txt $(shell find crates 2>/dev/null) | prepare
 	@mkdir -p build/objects
 	rm -f $@ $(OBJECTS)
 	scripts/in-memory rt check $(EXPORTING)
-	printf '%s\n' $(EXPORTING) | xargs -P "$$(nproc)" -n 1 scripts/in-memory rt staticlib
-	for crate in $(EXPORTING); do \
+	for crate in $(EXPORTING); do scripts/in-memory rt staticlib $$crate && \
 	    ar x --output build/objects target/staticlib/lib$$crate.a || exit 1; done
 	$(archiver) rcs $@ $(OBJECTS)
 
