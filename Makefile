@@ -1,22 +1,27 @@
 # Harpjuniper: the library's archive, the host programs, and the gate.
 #
-#   make test      everything, ending with `rt ci`; its last line is rt's own
-#   make archive   build/libharpjuniper.a, which C links (x86-64)
+#   make test      everything; its last line is that of `rt ci`
+#   make archive   build/libharpjuniper.a, made anew of crates/ (x86-64)
+#   make release   dist/, the archive and the header that the tree holds, made anew
 #   make replay    build/replay, which answers a trace by the library
 #   make plain     build/plain, which answers it by the independent C program
 #   make compare   the two of them on a generated trace
 #   make rehearsal scenarios/biocide.txt, flown on relays that are linked in memory
 #   make bench     instructions per call and stack, of the two of them
-#   make install   the library, its manual and replay, once `make replay` made them;
-#                  PREFIX says where (/usr/local), DESTDIR what stands before it
+#   make install   the library, its manual and replay; PREFIX says where (/usr/local),
+#                  DESTDIR what stands before it
 #   make uninstall removes what install put there
 #   make soak      5,000,000 random calls, each looked at from outside
 #   make coverage-plain   what of host/plain the generated trace reaches
+#   make costs     puts what the last `make test` cost into docs/COSTS.md
 #   make clean     removes build/ and target/
 #
-# Everything that is made stands in build/. The archive is x86-64 code, and so is
-# each program that links it. On another machine such a program NAME is linked as
-# NAME.x86-64, and NAME is scripts/emulated, which runs it.
+# Programs are linked with the release in dist/, which needs no rt. With FROM=build
+# they are linked with what `make archive` makes of crates/, as the tests are.
+#
+# What is made stands in build/. The archive is x86-64 code, and so is each program
+# that links it. On another machine such a program NAME is linked as NAME.x86-64, and
+# NAME is scripts/emulated, which runs it.
 
 MACHINE := $(shell uname -m)
 STRICT := -Wall -Wextra -Wpedantic -Werror
@@ -24,6 +29,18 @@ CFLAGS := -std=c99 -O2 $(STRICT)
 VERSION := $(shell cat VERSION)
 
 ARCHIVE := build/libharpjuniper.a
+
+FROM := dist
+ifeq ($(FROM),dist)
+LIBRARY := dist/x86-64/libharpjuniper.a
+INCLUDE := dist/include
+else ifeq ($(FROM),build)
+LIBRARY := $(ARCHIVE)
+INCLUDE := include
+else
+$(error FROM is dist or build, and not "$(FROM)")
+endif
+
 REPLAY := $(addprefix host/,replay.c words_header.c words_relay.c \
 	lent.c lent_state.c trace.c text.c options.c)
 GENERATE := $(addprefix host/,generate.c generate_header.c generate_build.c \
@@ -41,16 +58,19 @@ SOAK := $(addprefix host/,soak.c soak_ours.c soak_plain.c soak_rules.c soak_lent
 	soak_draw.c soak_octets.c soak_table.c world.c datagram.c form.c settings.c \
 	options.c)
 PLAIN := $(wildcard host/plain/plain_*.c)
-HEADERS := $(wildcard include/*.h host/*.h host/plain/*.h tests/*.h)
+HEADERS := $(wildcard $(INCLUDE)/*.h host/*.h host/plain/*.h tests/*.h)
 
 # `make test` goes through its parts in this order, whatever -j says.
 .NOTPARALLEL:
 .DELETE_ON_ERROR:
-.PHONY: test archive replay plain rehearsal compare bench soak coverage-plain clean \
-	prepare format exports header readme host-tests promises gate install uninstall
+.PHONY: test archive release replay plain rehearsal compare bench soak coverage-plain \
+	costs clean prepare tools format exports released header readme host-tests promises \
+	install uninstall always
 
-test: prepare format archive exports header readme host-tests compare promises \
-	gate
+# What can be said without a proof comes first. The gate then proves everything, makes
+# the archive of what was proved and runs the tests below on it (scripts/gate).
+test: prepare format header promises
+	@MAKE="$(MAKE)" scripts/gate
 
 archive: $(ARCHIVE)
 replay: build/replay
@@ -59,8 +79,12 @@ plain: build/plain
 rehearsal: build/rehearsal
 	@build/rehearsal scenarios/biocide.txt
 
+# What `make test` needs, and what the host programs need, which is no rt.
 prepare:
 	@scripts/prepare
+
+tools:
+	@scripts/prepare hosts
 
 format: | prepare
 	rt fmt --check
@@ -80,24 +104,28 @@ archiver = x86_64-linux-gnu-ar
 endif
 
 # The folders are named too, since a file that is gone changes its folder only.
-# `rt ci` removes target/, so the objects are taken out of it. `rt check` before that
-# proves on every core; `rt staticlib` alone would prove one crate after the other, and
-# two of them at once write to the same files of target/.
+# `rt check` proves what is not proved yet, on every core, and nothing after `rt ci`.
+# `rt staticlib` alone would prove one crate after the other, and two of them at once
+# write to the same files of target/. The archive has no dates and no owners, so that
+# it is the same to the octet wherever it is made.
 $(ARCHIVE): crates.txt $(shell find crates 2>/dev/null) | prepare
 	@mkdir -p build/objects
 	rm -f $@ $(OBJECTS)
 	scripts/in-memory rt check $(EXPORTING)
 	for crate in $(EXPORTING); do scripts/in-memory rt staticlib $$crate && \
 	    ar x --output build/objects target/staticlib/lib$$crate.a || exit 1; done
-	$(archiver) rcs $@ $(OBJECTS)
+	$(archiver) rcsD $@ $(OBJECTS)
+
+release: $(ARCHIVE)
+	scripts/release renew
 
 # ---- Programs for the archive's machine
 
 ifeq ($(MACHINE),x86_64)
-link = gcc $(CFLAGS) -Iinclude -Ihost -static -o $@
+link = gcc $(CFLAGS) -I$(INCLUDE) -Ihost -static -o $@
 emulate =
 else
-link = x86_64-linux-gnu-gcc $(CFLAGS) -Iinclude -Ihost -static -o $@.x86-64
+link = x86_64-linux-gnu-gcc $(CFLAGS) -I$(INCLUDE) -Ihost -static -o $@.x86-64
 emulate = @cp scripts/emulated $@
 endif
 
@@ -120,11 +148,16 @@ build/soak_faulty: wrapped := class take counter waiting set_port receive
 
 LINKED := $(addprefix build/,replay rehearsal rehearsal_wrong calls relay_calls bench \
 	flight_loop settings_batch soak soak_faulty readme)
-$(LINKED): $(ARCHIVE) $(HEADERS) scripts/emulated | prepare
-	$(link) $(wrapped:%=-Wl,--wrap=hj_%) $(filter %.c,$^) $(ARCHIVE)
+$(LINKED): $(LIBRARY) $(HEADERS) scripts/emulated build/from | tools
+	$(link) $(wrapped:%=-Wl,--wrap=hj_%) $(filter %.c,$^) $(LIBRARY)
 	$(emulate)
 
-build/readme.c: README.md scripts/readme-program | prepare
+# What the programs were linked with: they are linked anew where it is another.
+build/from: always
+	@mkdir -p build
+	@echo $(FROM) | cmp -s - $@ || echo $(FROM) > $@
+
+build/readme.c: README.md scripts/readme-program | tools
 	@mkdir -p build
 	scripts/readme-program $@ build/readme.expected
 
@@ -132,32 +165,36 @@ build/readme.c: README.md scripts/readme-program | prepare
 
 plain_version := -DPLAIN_VERSION='"$(VERSION)"'
 
-build/plain: host/plain/plain.c $(PLAIN) $(HEADERS) VERSION | prepare
+build/plain: host/plain/plain.c $(PLAIN) $(HEADERS) VERSION | tools
 	@mkdir -p build
 	gcc $(CFLAGS) $(plain_version) -o $@ host/plain/plain.c $(PLAIN)
 
-build/test_%: host/plain/test_%.c $(PLAIN) $(HEADERS) | prepare
+build/test_%: host/plain/test_%.c $(PLAIN) $(HEADERS) | tools
 	@mkdir -p build
 	gcc $(CFLAGS) -o $@ $< $(PLAIN)
 
 build/generate: $(GENERATE)
 build/coverage: $(COVERAGE)
 build/ledger: $(LEDGER)
-build/generate build/coverage build/ledger: $(HEADERS) | prepare
+build/generate build/coverage build/ledger: $(HEADERS) | tools
 	@mkdir -p build
-	gcc $(CFLAGS) -Iinclude -o $@ $(filter %.c,$^)
+	gcc $(CFLAGS) -I$(INCLUDE) -o $@ $(filter %.c,$^)
 
-build/coverage-plain/plain: host/plain/plain.c $(PLAIN) $(HEADERS) VERSION | prepare
+build/coverage-plain/plain: host/plain/plain.c $(PLAIN) $(HEADERS) VERSION | tools
 	@mkdir -p $(@D)
 	rm -f $(@D)/*
 	gcc -std=c99 -O0 --coverage $(STRICT) $(plain_version) -o $@ host/plain/plain.c $(PLAIN)
 
 # ---- Tests
 
-exports: $(ARCHIVE) | prepare
-	scripts/check-exports $(ARCHIVE)
+exports: $(LIBRARY) | tools
+	scripts/check-exports $(LIBRARY)
 
-header: | prepare
+# Whether dist/ is what was built.
+released: $(ARCHIVE)
+	scripts/release check
+
+header: | tools
 	gcc -std=c99 $(STRICT) -Iinclude -fsyntax-only tests/header_clean.c
 	g++ -std=c++11 $(STRICT) -Iinclude -fsyntax-only -x c++ tests/header_clean.c
 
@@ -181,6 +218,7 @@ host-tests: build/calls build/relay_calls build/test_plain build/test_relay \
 	python3 tests/test_ledger.py
 	python3 tests/test_rehearsal.py
 	python3 tests/test_scripts.py
+	python3 tests/test_gate.py
 	python3 tests/test_options.py
 	python3 tests/test_install.py
 	build/soak calls=60000
@@ -199,16 +237,15 @@ soak: build/soak
 coverage-plain: build/generate build/coverage-plain/plain
 	scripts/coverage-plain
 
-promises: | prepare
+promises: | tools
 	scripts/check-promises
 	scripts/check-documents
 
-gate: | prepare
-	@scripts/gate
+costs:
+	scripts/costs-page
 
 # ---- Installing
 
-# What stands in build/ is installed and nothing is built, so that root needs no rt.
 # All of it is for x86-64; elsewhere the program is the one that the stand-in runs.
 DESTDIR ?=
 PREFIX ?= /usr/local
@@ -222,13 +259,11 @@ else
 installed_replay = build/replay.x86-64
 endif
 
-install:
-	@for file in $(ARCHIVE) $(installed_replay); do [ -f $$file ] || \
-	    { echo "install: there is no $$file: make replay first" >&2; exit 1; }; done
+install: build/replay
 	install -d $(addprefix "$(into)"/,$(sort $(dir $(INSTALLED))))
 	install -m 755 $(installed_replay) "$(into)"/bin/replay
-	install -m 644 include/harpjuniper.h "$(into)"/include
-	install -m 644 $(ARCHIVE) "$(into)"/lib
+	install -m 644 $(INCLUDE)/harpjuniper.h "$(into)"/include
+	install -m 644 $(LIBRARY) "$(into)"/lib
 	sed 's|@PREFIX@|$(PREFIX)|; s|@VERSION@|$(VERSION)|' harpjuniper.pc.in \
 	    > "$(into)"/lib/pkgconfig/harpjuniper.pc
 	chmod 644 "$(into)"/lib/pkgconfig/harpjuniper.pc

@@ -35,10 +35,11 @@ def read(path):
 VERSION = read("VERSION").strip()
 
 
-def make(*words, folder=ROOT):
+def make(*words, folder=ROOT, path=os.environ["PATH"]):
     """make without what a make that runs this test has put into the environment."""
     kept = {name: value for name, value in os.environ.items()
             if name not in ("MAKEFLAGS", "MFLAGS", "MAKELEVEL", "MAKEOVERRIDES", "DESTDIR", "PREFIX")}
+    kept["PATH"] = path
     return subprocess.run(["make", *words], cwd=folder, env=kept, capture_output=True, text=True, check=False)
 
 
@@ -62,8 +63,9 @@ PAGES = sorted(os.path.join("man", name) for name in os.listdir(os.path.join(ROO
 
 
 class Install(unittest.TestCase):
+    """Of what was just built, as all tests are."""
     PREFIX = "/usr/local"
-    WORDS = ()
+    WORDS = ("FROM=build",)
 
     def setUp(self):
         folder = tempfile.TemporaryDirectory()
@@ -162,7 +164,7 @@ class Install(unittest.TestCase):
 class OtherPrefix(Install):
     """The same with a prefix of one's own."""
     PREFIX = "/opt/harpjuniper"
-    WORDS = (f"PREFIX={PREFIX}",)
+    WORDS = ("FROM=build", f"PREFIX={PREFIX}")
 
 
 class Version(unittest.TestCase):
@@ -220,15 +222,51 @@ class Pages(unittest.TestCase):
             self.assertEqual((ended.returncode, ended.stderr), (0, ""))
 
 
-class NothingBuilt(unittest.TestCase):
-    def test_install_says_what_is_missing(self):
-        with tempfile.TemporaryDirectory() as folder:
-            for name in ("Makefile", "VERSION"):
-                shutil.copy(os.path.join(ROOT, name), folder)
-            ended = make("install", f"DESTDIR={folder}/image", folder=folder)
+class WithoutRt(unittest.TestCase):
+    """A copy of the tree as it is cloned, with no build/ and a PATH without rt."""
+
+    def setUp(self):
+        folder = tempfile.TemporaryDirectory()
+        self.addCleanup(folder.cleanup)
+        self.root = os.path.join(folder.name, "clone")
+        shutil.copytree(ROOT, self.root, ignore=shutil.ignore_patterns(".git", "build", "target", "crates"))
+        path = os.path.join(folder.name, "bin")
+        os.mkdir(path)
+        for place in reversed(os.environ["PATH"].split(os.pathsep)):
+            for name in os.listdir(place) if os.path.isdir(place) else ():
+                link = os.path.join(path, name)
+                if os.path.lexists(link):
+                    os.remove(link)
+                if name != "rt":
+                    os.symlink(os.path.join(place, name), link)
+        self.path = path
+
+    def make(self, *words):
+        return make(*words, folder=self.root, path=self.path)
+
+    def test_install(self):
+        image = os.path.join(self.root, "image")
+        ended = self.make("install", f"DESTDIR={image}")
+        self.assertEqual(ended.returncode, 0, ended.stderr)
+        with open(os.path.join(image, "usr/local/lib/libharpjuniper.a"), "rb") as ours, \
+                open(os.path.join(ROOT, "dist/x86-64/libharpjuniper.a"), "rb") as theirs:
+            self.assertEqual(ours.read(), theirs.read())
+
+    def test_rehearsal(self):
+        ended = self.make("rehearsal")
+        self.assertEqual(ended.returncode, 0, ended.stderr)
+        self.assertIn("ledger", ended.stdout)
+
+    def test_what_needs_rt_says_so(self):
+        for words in (["archive"], ["install", "FROM=build"]):
+            ended = self.make(*words)
             self.assertNotEqual(ended.returncode, 0)
-            self.assertIn("there is no build/libharpjuniper.a: make replay first", ended.stderr)
-            self.assertFalse(os.path.exists(os.path.join(folder, "image")))
+            self.assertIn("there is no rt", ended.stderr)
+
+    def test_from_elsewhere(self):
+        ended = self.make("install", "FROM=nowhere")
+        self.assertNotEqual(ended.returncode, 0)
+        self.assertIn("FROM is dist or build", ended.stderr)
 
 
 if __name__ == "__main__":

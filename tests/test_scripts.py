@@ -9,35 +9,9 @@ host programs, the tree has stand-ins for them.
 import os
 import shutil
 import subprocess
-import tempfile
 import unittest
 
-ROOT = os.path.dirname(os.path.dirname(os.path.abspath(__file__)))
-
-
-class Tree(unittest.TestCase):
-    """A temporary folder with files in it."""
-
-    def setUp(self):
-        folder = tempfile.TemporaryDirectory()
-        self.addCleanup(folder.cleanup)
-        self.root = folder.name
-
-    def write(self, path, text, mode=0o644):
-        path = os.path.join(self.root, path)
-        os.makedirs(os.path.dirname(path), exist_ok=True)
-        with open(path, "w", encoding="utf-8") as file:
-            file.write(text)
-        os.chmod(path, mode)
-
-    def copy_script(self, name):
-        with open(os.path.join(ROOT, "scripts", name), encoding="utf-8") as file:
-            self.write(f"scripts/{name}", file.read(), 0o755)
-
-    def run_script(self, *words, path=None):
-        environment = dict(os.environ, PATH=path or os.environ["PATH"])
-        ended = subprocess.run(words, capture_output=True, text=True, env=environment, check=False)
-        return ended.returncode, ended.stdout + ended.stderr
+from tree import ROOT, Tree
 
 
 LAWS = """-- Laws of the classes.
@@ -282,39 +256,6 @@ class MustFail(Tree):
         self.edit("third", FAILS)
         os.remove(os.path.join(self.root, "target/must-fail/pair/third/.log"))
         self.refused("rt left no log")
-
-
-class Gate(Tree):
-    """scripts/gate with a stand-in for rt and for the look at the logs."""
-
-    def gate(self, rt, logs="exit 0"):
-        self.copy_script("gate")
-        self.copy_script("in-memory")
-        self.write("scripts/check-must-fail", f"#!/bin/sh\necho looked at the logs\n{logs}\n", 0o755)
-        self.write("bin/rt", f"#!/bin/sh\n{rt}\n", 0o755)
-        path = os.path.join(self.root, "bin") + os.pathsep + os.environ["PATH"]
-        status, output = self.run_script(os.path.join(self.root, "scripts/gate"), path=path)
-        return status, output.strip().split("\n")
-
-    def test_rt_has_the_last_line(self):
-        status, lines = self.gate("echo proving >&2; echo rt: ok; echo 4 passed, 0 failed")
-        self.assertEqual((status, lines), (0, ["proving", "rt: ok", "looked at the logs", "4 passed, 0 failed"]))
-
-    def test_rt_fails(self):
-        status, lines = self.gate("echo rt: FAILED; echo 3 passed, 1 failed; exit 1")
-        self.assertEqual(status, 1)
-        self.assertEqual(lines[-2:], ["3 passed, 1 failed", "gate: FAILED: rt ci ended with status 1"])
-
-    def test_the_logs_fail(self):
-        status, lines = self.gate("echo 4 passed, 0 failed", logs="exit 1")
-        self.assertEqual(status, 1)
-        self.assertIn("gate: FAILED", lines[-1])
-
-    def test_rt_says_something_else(self):
-        for last in ("done", "0 passed, 0 failed", "4 passed, 1 failed"):
-            status, lines = self.gate(f"echo {last}")
-            self.assertEqual(status, 1, last)
-            self.assertIn("gate: FAILED", lines[-1])
 
 
 class Documents(Tree):
