@@ -407,15 +407,16 @@ class Bench(Tree):
     CALLS = r"nothing\tnothing\ntake\tplain\ntake\tours\n"
     STACK = r"nothing\tnothing\t100\ntake\tplain\t140\ntake\tours\t160\n"
 
-    def bench(self, log, count=CALLS, status=0):
+    def bench(self, log, count=CALLS, status=0, emulator="bin/qemu-x86_64"):
         """The log has the addresses of the instructions, b and e for the marks."""
         self.copy_script("bench")
+        self.copy_script("emulator")
         self.write("bench/mix.trace", "new\n")
         self.write("build/bench", "")
         places = {"b": "10", "e": "20"}
         lines = [f"Trace 0: 0x1 [0/{places.get(at, at)}/0/0] x" for at in log]
         self.write("log", "Linking\n" + "\n".join(lines) + "\n")
-        self.write("bin/qemu-x86_64", f"""#!/bin/sh
+        self.write(emulator, f"""#!/bin/sh
 case "$*" in
 -help) echo -one-insn-per-tb ;;
 --version) echo qemu 1 ;;
@@ -426,7 +427,7 @@ esac
 """, 0o755)
         for nm in ("nm", "x86_64-linux-gnu-nm"):
             self.write(f"bin/{nm}", "#!/bin/sh\necho 10 T bench_begin\necho 20 T bench_end\n", 0o755)
-        for tool in ("sh", "cat", "python3", "env"):
+        for tool in ("sh", "cat", "python3", "env", "mv"):
             os.symlink(shutil.which(tool), os.path.join(self.root, "bin", tool))
         return self.run_script(os.path.join(self.root, "scripts/bench"), path=os.path.join(self.root, "bin"))
 
@@ -447,6 +448,18 @@ esac
         status, output = self.bench("b1e", count=r"nothing\tnothing\nbench: FAILED: take 1\n", status=1)
         self.assertEqual(status, 1, output)
         self.assertIn("bench: FAILED: take 1", output)
+
+    def test_an_emulator_is_installed(self):
+        moves = f"mv {self.root}/package {self.root}/bin/qemu-x86_64"
+        self.write("scripts/prepare", f"#!/bin/sh\necho prepare $*\n{moves}\n", 0o755)
+        status, output = self.bench("b1eb1234eb123456789e", emulator="package")
+        self.assertEqual(status, 0, output)
+        self.assertTrue(output.startswith("prepare bench\nx86-64 instructions, counted by qemu 1"), output)
+
+    def test_no_emulator_is_to_be_had(self):
+        self.write("scripts/prepare", "#!/bin/sh\necho prepare: missing: qemu-user >&2\nexit 1\n", 0o755)
+        status, output = self.bench("b1e", emulator="package")
+        self.assertEqual((status, output), (1, "prepare: missing: qemu-user\nbench: FAILED: there is no qemu-x86_64\n"))
 
 
 class Emulated(Tree):
@@ -486,25 +499,36 @@ class Emulated(Tree):
 class Prepare(Tree):
     """scripts/prepare on machines that lack something."""
 
-    TOOLS = ("bash", "env", "uname", "make", "python3", "gcc", "g++", "x86_64-linux-gnu-gcc", "as", "ld", "apt-get")
+    TOOLS = ("bash", "sh", "env", "uname", "make", "python3", "gcc", "g++", "x86_64-linux-gnu-gcc", "as", "ld")
 
-    def prepare(self, without=(), user="0", machine=None):
-        stand_ins = {"id": f"echo {user}", "apt-get": "echo apt-get $*; exit 1", "rt": "exit 0"}
+    def prepare(self, *words, without=(), user="0", machine=None, emulator="bin/qemu-x86_64"):
+        """The kit's guide is in kit/doc; a compiler that this machine has not is stood in for."""
+        stand_ins = {"id": f"echo {user}", "apt-get": "echo apt-get $*; exit 1",
+                     "rt": f"echo {self.root}/kit/doc/guide.md"}
         if machine:
             stand_ins["uname"] = f"echo {machine}"
+        if not shutil.which("x86_64-linux-gnu-gcc"):
+            stand_ins["x86_64-linux-gnu-gcc"] = "exit 0"
         for name, body in stand_ins.items():
             self.write(f"bin/{name}", f"#!/bin/sh\n{body}\n", 0o755)
         for name in self.TOOLS:
-            found = shutil.which(name)
             target = os.path.join(self.root, "bin", name)
-            if found and not os.path.lexists(target):
-                os.symlink(found, target)
+            if shutil.which(name) and not os.path.lexists(target):
+                os.symlink(shutil.which(name), target)
+        if emulator:
+            self.write(emulator, "#!/bin/sh\n", 0o755)
         for name in without:
             os.remove(os.path.join(self.root, "bin", name))
-        return self.run_script(os.path.join(ROOT, "scripts/prepare"), path=os.path.join(self.root, "bin"))
+        return self.run_script(os.path.join(ROOT, "scripts/prepare"), *words, path=os.path.join(self.root, "bin"))
+
+    def missing(self, packages, *words, **lacks):
+        status, output = self.prepare(*words, user="1000", **lacks)
+        self.assertEqual(status, 1, output)
+        self.assertIn(f"missing: {packages}. Only root may install it: apt-get install", output)
 
     def test_everything_is_there(self):
-        self.assertEqual(self.prepare(), (0, ""))
+        for words in ((), ("test",), ("hosts",), ("bench",)):
+            self.assertEqual(self.prepare(*words), (0, ""), words)
 
     def test_no_rt(self):
         status, output = self.prepare(without=("rt",))
@@ -512,9 +536,7 @@ class Prepare(Tree):
         self.assertIn("there is no rt", output)
 
     def test_missing_and_not_root(self):
-        status, output = self.prepare(without=("g++",), user="1000")
-        self.assertEqual(status, 1)
-        self.assertIn("missing: g++. Only root may install it: apt-get install", output)
+        self.missing("g++", without=("g++",))
 
     def test_missing_and_not_to_be_had(self):
         status, output = self.prepare(without=("g++",))
@@ -525,6 +547,32 @@ class Prepare(Tree):
         status, output = self.prepare(machine="riscv64")
         self.assertEqual(status, 1)
         self.assertIn("this is a riscv64", output)
+
+    def test_hosts_need_little(self):
+        lacks = ("rt", "g++", "python3")
+        self.assertEqual(self.prepare("hosts", without=lacks, machine="x86_64", emulator=None), (0, ""))
+
+    def test_hosts_on_another_machine(self):
+        for machine in ("aarch64", "riscv64"):
+            self.assertEqual(self.prepare("hosts", without=("rt", "gcc"), machine=machine), (0, ""), machine)
+
+    def test_hosts_without_a_compiler(self):
+        self.missing("gcc libc6-dev", "hosts", without=("gcc",), machine="x86_64")
+        packages = "gcc-x86-64-linux-gnu libc6-dev-amd64-cross"
+        self.missing(packages, "hosts", without=("x86_64-linux-gnu-gcc",), machine="aarch64")
+
+    def test_an_emulator_where_one_is_needed(self):
+        for words, machine in (((), "aarch64"), (("hosts",), "aarch64"), (("bench",), "aarch64"), (("bench",), "x86_64")):
+            self.missing("qemu-user", *words, machine=machine, emulator=None)
+        self.assertEqual(self.prepare(machine="x86_64", emulator=None), (0, ""))
+
+    def test_the_emulator_of_the_kit(self):
+        place = "kit/on/aarch64/toolchain/bin/qemu-x86_64"
+        self.assertEqual(self.prepare("bench", machine="aarch64", emulator=place), (0, ""))
+
+    def test_another_word(self):
+        status, output = self.prepare("hostst")
+        self.assertEqual((status, output), (1, "prepare: not understood: hostst. Say test, hosts, bench or nothing\n"))
 
 
 if __name__ == "__main__":
