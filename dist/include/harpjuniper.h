@@ -1,0 +1,604 @@
+/*
+ * harpjuniper.h: what flight software calls.
+ *
+ * Harpjuniper is a relay for SCPS-NP datagrams (CCSDS 713.0-B-1). The library
+ * behind this header is written in Rattle, and every function of it is proved
+ * to give, for each input whatever, the answer that its definition states
+ * (docs/PROMISES.md). Nobody has to check an input first: bad input gets a
+ * number, and nothing that was lent has then changed, but for the counters of a
+ * relay that received it.
+ *
+ * What the caller keeps, since no proof can see across the call:
+ *   - a pointer is good for as many octets or words as the count that goes
+ *     with it (a null pointer with a count of 0 is good);
+ *   - the words of a state are aligned as uint32_t is;
+ *   - two pieces lent to one call do not overlap;
+ *   - one call at a time works on a state, in whatever thread;
+ *   - a state is given back as the last call left it. With other words in it
+ *     a call still ends in an answer, which docs/STATES.md lists; what is said
+ *     below of the range of an answer is said of the states that calls leave.
+ *
+ * The library allocates nothing, keeps nothing between calls, and never waits.
+ *
+ * A relay is HJ_STATE_WORDS words of the caller's, made fresh by hj_fresh:
+ *
+ *     static uint32_t relay[HJ_STATE_WORDS];
+ *     hj_fresh(relay, HJ_STATE_WORDS);
+ */
+#ifndef HARPJUNIPER_H
+#define HARPJUNIPER_H
+
+#include <stddef.h>
+#include <stdint.h>
+
+#ifdef __cplusplus
+extern "C" {
+#endif
+
+/* ---- The version -------------------------------------------------------- */
+
+/* Of this header, and of the library that it comes with. */
+#define HJ_VERSION "0.3.0"
+#define HJ_VERSION_MAJOR 0
+#define HJ_VERSION_MINOR 3
+#define HJ_VERSION_PATCH 0
+
+/* ---- Numbers that hold everywhere ------------------------------------- */
+
+/* The words of a relay's state. C allocates them. */
+#define HJ_STATE_WORDS 824u
+/* The least room of an output, in octets: the longest header. */
+#define HJ_OUTPUT_ROOM 50u
+/* The most octets of user data in a datagram that is built. */
+#define HJ_MOST_DATA 8141
+/* The largest length of a datagram, and the largest MTU of a port. */
+#define HJ_MOST_LENGTH 8191
+
+/* How many there are of each. They are numbered from 0. */
+#define HJ_PORTS 8
+#define HJ_ROUTES 64
+#define HJ_GROUPS 16
+#define HJ_PATHS 16
+/* Entries that may wait on one port. */
+#define HJ_QUEUE 32
+
+/* Refusal numbers. A call that can refuse says which of them it gives. */
+#define HJ_DONE 0             /* no refusal */
+#define HJ_SHORT 1            /* under 3 octets, or the control field is cut */
+#define HJ_BAD_VERSION 2      /* version/protocol identifier is not 001 */
+#define HJ_BAD_LENGTH 3       /* length field over the octets lent, or under
+                                 the header's own length */
+#define HJ_BAD_FORM 4         /* control bits that the standard forbids */
+#define HJ_BAD_CHECKSUM 5     /* header checksum present and wrong */
+#define HJ_BAD_ADDRESS 6      /* invalid destination or path, or a source that
+                                 is present and not unicast */
+#define HJ_NO_DOMAIN 7        /* one-octet address, and the arrival port has no
+                                 domain to supply */
+#define HJ_NOT_CARRIED 8      /* service not carried: routing requirements not
+                                 0, or IPv6 addresses */
+#define HJ_NOT_FOR_US 9       /* a host, and the datagram is not for it */
+#define HJ_HOPS_USED_UP 10    /* hop count present and 0 or 1 */
+#define HJ_NO_ROUTE 11        /* no route, no group, no path, or an empty set */
+#define HJ_NOT_UP 12          /* the route is not up */
+#define HJ_LEAVES_DOMAIN 13   /* a one-octet address would leave its domain */
+#define HJ_TOO_BIG 14         /* too big for every port */
+#define HJ_QUEUES_FULL 15     /* every queue is full */
+#define HJ_NO_PORT 16         /* the port is over 7 or not set up, or the state
+                                 has the wrong number of words */
+#define HJ_SHORT_OUTPUT 17    /* output under HJ_OUTPUT_ROOM octets */
+#define HJ_NOTHING_WAITING 18 /* no entry waits on the port */
+#define HJ_FIELD_RANGE 19     /* a field out of range, or a combination of
+                                 fields that the standard forbids */
+#define HJ_DATA_TOO_LONG 20   /* user data over HJ_MOST_DATA octets */
+#define HJ_BAD_NUMBER 21      /* place or port number, or a port not set up; or
+                                 the state has the wrong number of words */
+#define HJ_BAD_MASK 22        /* mask or prefix bits */
+#define HJ_SAME_ENTRY 23      /* the same entry stands in another place */
+#define HJ_BAD_CODE 24        /* code or size out of range */
+#define HJ_WRONG_CLASS 25     /* wrong address class */
+#define HJ_UNKNOWN_TP_ID 26   /* the transport protocol is not assigned; said
+                                 of the local half alone */
+#define HJ_ENTRIES_WAIT 35    /* entries wait on the port */
+
+/* The local half of a verdict: one of these, or HJ_UNKNOWN_TP_ID. */
+#define HJ_LOCAL_NO 0
+#define HJ_DELIVERED 1
+
+/* The onward half of a verdict: one of these, or 9 to 15. */
+#define HJ_NOT_ASKED 0
+#define HJ_SENT_ON 1
+
+/* Availability of a route. Only a route that is up is used. */
+#define HJ_UP 1
+#define HJ_DOWN 2
+#define HJ_TESTING 3
+#define HJ_OUT 4
+
+/* Capabilities of a route. They are stored; nothing else is done with them. */
+#define HJ_CAPABLE_NONE 0
+#define HJ_CAPABLE_CHECKSUM 1
+#define HJ_CAPABLE_HOP_COUNT 2
+#define HJ_CAPABLE_BOTH 4 /* not 3, which is refused */
+
+/* Counters, each modulo 2^32. Later ones are appended. */
+#define HJ_IN_RECEIVES 0       /* npInReceives: every call but 16 and 17 */
+#define HJ_IN_BAD_LENGTH 1     /* npInBadLength: refusals 1 and 3 */
+#define HJ_IN_BAD_VERSION 2    /* npInBadVersion: 2 */
+#define HJ_IN_BAD_ADDRESS 3    /* npInBadAddress: 4, 6 and 7 */
+#define HJ_IN_BAD_CHECKSUM 4   /* npInBadChecksum: 5 */
+#define HJ_UNSUPPORTED 5       /* unsupported: 8 */
+#define HJ_IN_ADDR_ERRORS 6    /* npInAddrErrors: 9 */
+#define HJ_IN_UNKNOWN_PROTOS 7 /* npInUnknownProtos: 26 */
+#define HJ_IN_DELIVERS 8       /* npInDelivers: deliveries */
+#define HJ_FORW_HOP_DISCARD 9  /* npForwHopDiscard: 10 */
+#define HJ_FORW_DATAGRAMS 10   /* npForwDatagrams: datagrams sent on, one each
+                                  however many ports took it */
+#define HJ_OUT_NO_ROUTES 11    /* npOutNoRoutes: 11 and 12 */
+#define HJ_OUT_DISCARDS 12     /* npOutDiscards: dropped copies */
+#define HJ_LEFT_DOMAIN 13      /* left domain: 13 */
+#define HJ_TOO_BIG_COUNT 14    /* too big: 14 */
+#define HJ_COUNTERS 15
+
+/* Classes of a four-octet address. */
+#define HJ_INVALID 0
+#define HJ_UNICAST 1
+#define HJ_MULTICAST 2
+#define HJ_NET_BROADCAST 3
+#define HJ_DOMAIN_BROADCAST 4
+#define HJ_SCPS_BROADCAST 5    /* 10.255.255.255, all SCPS */
+#define HJ_LIMITED_BROADCAST 6 /* 255.255.255.255 */
+
+/* Timestamp formats, as bits 27 and 28 of a header have them. */
+#define HJ_STAMP_NONE 0
+#define HJ_STAMP_IMPLICIT 1 /* three octets of time, P-field implied */
+#define HJ_STAMP_EXPLICIT 2 /* a P-field octet, then one to seven octets */
+#define HJ_STAMP_BINARY 3   /* four octets of time */
+
+/* ---- Answers ----------------------------------------------------------- */
+
+/*
+ * An answer that is a refusal or a value: the refusal number above, the value
+ * in the lower 32 bits. With a refusal the value is 0.
+ */
+typedef uint64_t hj_answer;
+
+static inline uint32_t hj_refusal(hj_answer answer)
+{
+    return (uint32_t)(answer >> 32);
+}
+
+static inline uint32_t hj_value(hj_answer answer)
+{
+    return (uint32_t)(answer & 0xffffffffu);
+}
+
+/*
+ * The fields of a header, as numbers. An element is absent where its flag, or
+ * the timestamp's format, is 0; all that belongs to it is then 0.
+ *
+ * An address of one octet or of four is in the lower half, with 0 above it;
+ * an IPv6 address has its first eight octets in the upper half. A header
+ * without a source carries a path, and its destination is a path address.
+ */
+typedef struct hj_fields {
+    uint64_t destination_high;
+    uint64_t destination_low;
+    uint64_t source_high;
+    uint64_t source_low;
+    uint64_t time;             /* the timestamp's time field */
+    uint32_t tp_id;            /* 0 to 15 */
+    uint32_t has_source;       /* 0 or 1, so too for the other flags */
+    uint32_t extended;         /* addresses of four octets */
+    uint32_t ipv6;             /* addresses of sixteen octets */
+    uint32_t has_qos;          /* basic QOS */
+    uint32_t precedence;       /* 0 to 15 */
+    uint32_t routing;          /* routing requirements, 0 to 3 */
+    uint32_t program;          /* program specific, 0 to 3 */
+    uint32_t has_hop_count;
+    uint32_t hop_count;        /* 0 to 255 */
+    uint32_t stamp_format;     /* HJ_STAMP_NONE to HJ_STAMP_BINARY */
+    uint32_t p_field;          /* 0 to 255, with HJ_STAMP_EXPLICIT alone */
+    uint32_t has_expanded;     /* expanded QOS */
+    uint32_t expanded;         /* 0 to 255 */
+    uint32_t has_checksum;
+    uint32_t intermediate;     /* intermediate delivery is asked for */
+} hj_fields;
+
+/* What reading found. With a refusal, every other number is 0. */
+typedef struct hj_reading {
+    uint32_t refusal;
+    uint32_t length;  /* the length field: octets of the whole datagram */
+    uint32_t header;  /* the header's own length in octets, 4 to 50 */
+    hj_fields fields;
+} hj_reading;
+
+/*
+ * The answer of hj_receive, eight bits for each part; the sixteen bits above
+ * them are 0. With a refusal all other parts are 0.
+ */
+typedef uint64_t hj_verdict;
+
+/* What ended the call, or HJ_DONE. */
+static inline uint32_t hj_ended_by(hj_verdict verdict)
+{
+    return (uint32_t)(verdict & 0xffu);
+}
+
+/* HJ_LOCAL_NO, HJ_DELIVERED or HJ_UNKNOWN_TP_ID. */
+static inline uint32_t hj_local(hj_verdict verdict)
+{
+    return (uint32_t)(verdict >> 8 & 0xffu);
+}
+
+/* HJ_NOT_ASKED, HJ_SENT_ON or what ended the onward half. */
+static inline uint32_t hj_onward(hj_verdict verdict)
+{
+    return (uint32_t)(verdict >> 16 & 0xffu);
+}
+
+/* The set of ports that took an entry, port p as 2^p. */
+static inline uint32_t hj_took(hj_verdict verdict)
+{
+    return (uint32_t)(verdict >> 24 & 0xffu);
+}
+
+/* The set of ports that dropped their copy, their queue being full. */
+static inline uint32_t hj_dropped(hj_verdict verdict)
+{
+    return (uint32_t)(verdict >> 32 & 0xffu);
+}
+
+/* Octets of the header sent on, at the front of the output; 0 for none. */
+static inline uint32_t hj_header_octets(hj_verdict verdict)
+{
+    return (uint32_t)(verdict >> 40 & 0xffu);
+}
+
+/*
+ * The parts of hj_take's answer: hj_refusal above is what refused it; these
+ * two are 0 with a refusal.
+ */
+static inline uint16_t hj_slot(hj_answer answer)
+{
+    return (uint16_t)(answer & 0xffffu);
+}
+
+static inline uint32_t hj_precedence(hj_answer answer)
+{
+    return (uint32_t)(answer >> 16 & 0xffffu);
+}
+
+/*
+ * The settings as they stand. With a refusal every other number is 0; so it is
+ * where the port is not set up or the place is empty.
+ */
+typedef struct hj_port {
+    uint32_t refusal;
+    uint32_t ready; /* 1 where the port is set up */
+    uint32_t address;
+    uint32_t mask;
+    uint32_t mtu;
+} hj_port;
+
+typedef struct hj_route {
+    uint32_t refusal;
+    uint32_t filled; /* 1 where the place is not empty, so too below */
+    uint32_t prefix;
+    uint32_t mask;
+    uint32_t port;
+    uint32_t availability; /* HJ_UP to HJ_OUT */
+    uint32_t capabilities; /* HJ_CAPABLE_NONE to HJ_CAPABLE_BOTH */
+} hj_route;
+
+typedef struct hj_group {
+    uint32_t refusal;
+    uint32_t filled;
+    uint32_t address;
+    uint32_t send;       /* a set of ports */
+    uint32_t subscribed; /* a set of ports */
+} hj_group;
+
+typedef struct hj_path_place {
+    uint32_t refusal;
+    uint32_t filled;
+    uint32_t path;
+    uint32_t send; /* a set of ports */
+    uint32_t here; /* 1 where it is delivered here */
+} hj_path_place;
+
+/* ---- Calls on headers and addresses ------------------------------------ */
+
+/*
+ * Reads the header that the octets begin with.
+ *
+ * Returns a hj_reading whose refusal is
+ *   HJ_DONE (0)          the header is good: length, header and fields say
+ *                        what it holds, and 4 <= header <= 50,
+ *                        header <= length <= count;
+ *   HJ_SHORT (1)         count is under 3, or the octets end inside the
+ *                        control field;
+ *   HJ_BAD_VERSION (2)   the version is not 001;
+ *   HJ_BAD_FORM (4)      bit 21, 29 or 32, or one of 36 to 39, is 1; bit 22
+ *                        is 0; IPv6 with extended or without a source;
+ *   HJ_BAD_LENGTH (3)    the length field is over count or under the header's
+ *                        own length;
+ *   HJ_BAD_CHECKSUM (5)  the checksum is present and wrong.
+ * The first that holds, in the order 1, 2, 1, 4, 3, 5, is given.
+ * The octets are not changed. The answer does not depend on octets beyond the
+ * length field, but for those of the control field.
+ */
+hj_reading hj_read(const uint8_t *octets, size_t count);
+
+/*
+ * Builds the header of a datagram with this many octets of user data, at the
+ * front of the output: the shortest control field, unused bits zero, the
+ * checksum computed where it is asked for.
+ *
+ * Returns an answer: hj_value is the header's length in octets, 4 to 50, or
+ * hj_refusal is
+ *   HJ_SHORT_OUTPUT (17)   room is under HJ_OUTPUT_ROOM;
+ *   HJ_FIELD_RANGE (19)    a field is out of range, an element that is absent
+ *                          has a number that is not 0, or IPv6 goes with
+ *                          extended or without a source;
+ *   HJ_DATA_TOO_LONG (20)  data is over HJ_MOST_DATA.
+ * The first that holds, in this order, is given, and nothing is written.
+ * Octets of the output beyond the header are never written.
+ */
+hj_answer hj_build(hj_fields fields, size_t data, uint8_t *output, size_t room);
+
+/*
+ * The class of a four-octet address, its first octet the most significant.
+ *
+ * Returns HJ_INVALID (0), HJ_UNICAST (1), HJ_MULTICAST (2),
+ * HJ_NET_BROADCAST (3), HJ_DOMAIN_BROADCAST (4), HJ_SCPS_BROADCAST (5) or
+ * HJ_LIMITED_BROADCAST (6).
+ */
+uint32_t hj_class(uint32_t address);
+
+/*
+ * Whether a path address is valid: its first octet is 10 and its last is not
+ * 254.
+ *
+ * Returns 1 where it is, else 0.
+ */
+uint32_t hj_path(uint32_t path);
+
+/*
+ * The checksum of RFC 1071: the complement of the ones' complement sum of the
+ * octets as 16-bit words, an odd last octet padded by a zero octet.
+ *
+ * Returns 0 to 65535; 65535 for no octets, and else exactly where every octet
+ * is 0.
+ */
+uint16_t hj_checksum(const uint8_t *octets, size_t count);
+
+/* ---- Calls on a relay: its state --------------------------------------- */
+
+/*
+ * In every call below, state and words are the relay: a pointer to words
+ * uint32_t, where words is to be HJ_STATE_WORDS. A call that refuses changes
+ * no word, but for what hj_receive says.
+ */
+
+/*
+ * How many words a state has, as the library was built.
+ *
+ * Returns HJ_STATE_WORDS (824); another number says that this header and the
+ * library do not belong together.
+ */
+uint32_t hj_state_words(void);
+
+/*
+ * Makes the state that of a fresh relay, whatever stood in it: a host, no port
+ * set up, every place empty, nothing waiting, every counter 0.
+ *
+ * Returns
+ *   HJ_DONE (0)         done;
+ *   HJ_BAD_NUMBER (21)  words is not HJ_STATE_WORDS.
+ */
+uint32_t hj_fresh(uint32_t *state, size_t words);
+
+/* ---- Calls on a relay: settings ----------------------------------------- */
+
+/*
+ * Makes the node a router (1) or a host (0). The queues stay.
+ *
+ * Returns the first of these that holds, in this order:
+ *   HJ_BAD_NUMBER (21)  words is not HJ_STATE_WORDS;
+ *   HJ_BAD_CODE (24)    router is neither 0 nor 1;
+ *   HJ_DONE (0)         done.
+ */
+uint32_t hj_set_router(uint32_t *state, size_t words, uint32_t router);
+
+/*
+ * Sets up a port, or writes it anew: its address, mask and MTU, and nothing
+ * else. A port is never emptied.
+ *
+ * Returns the first of these that holds, in this order:
+ *   HJ_BAD_NUMBER (21)   words is not HJ_STATE_WORDS, or port is over 7;
+ *   HJ_WRONG_CLASS (25)  the address is not unicast;
+ *   HJ_BAD_MASK (22)     the mask is not ones and then zeros, has under 8 or
+ *                        over 30 ones, or not 24 where the address begins with
+ *                        10; or the address's host bits are all ones;
+ *   HJ_BAD_CODE (24)     the MTU is 0 or over HJ_MOST_LENGTH;
+ *   HJ_ENTRIES_WAIT (35) entries wait on the port, even where the same values
+ *                        are written;
+ *   HJ_DONE (0)          done.
+ */
+uint32_t hj_set_port(uint32_t *state, size_t words, uint32_t port,
+                     uint32_t address, uint32_t mask, uint32_t mtu);
+
+/*
+ * Writes a route into a place, over what stood there.
+ *
+ * Returns the first of these that holds, in this order:
+ *   HJ_BAD_NUMBER (21)  words is not HJ_STATE_WORDS, place is over 63, or port
+ *                       is over 7 or not set up;
+ *   HJ_BAD_MASK (22)    the mask is not ones and then zeros, or the prefix has
+ *                       a one outside it;
+ *   HJ_BAD_CODE (24)    availability is not 1 to 4, or capabilities is not 0,
+ *                       1, 2 or 4;
+ *   HJ_SAME_ENTRY (23)  another place, not empty, has the same prefix and
+ *                       mask;
+ *   HJ_DONE (0)         done.
+ */
+uint32_t hj_set_route(uint32_t *state, size_t words, uint32_t place,
+                      uint32_t prefix, uint32_t mask, uint32_t port,
+                      uint32_t availability, uint32_t capabilities);
+
+/*
+ * Writes a group into a place, over what stood there. The sets may be empty.
+ *
+ * Returns the first of these that holds, in this order:
+ *   HJ_BAD_NUMBER (21)   words is not HJ_STATE_WORDS, place is over 15, or a
+ *                        set names a port that is over 7 or not set up;
+ *   HJ_WRONG_CLASS (25)  the address is not multicast;
+ *   HJ_SAME_ENTRY (23)   another place has the same address;
+ *   HJ_DONE (0)          done.
+ */
+uint32_t hj_set_group(uint32_t *state, size_t words, uint32_t place,
+                      uint32_t address, uint32_t send, uint32_t subscribed);
+
+/*
+ * Writes a path into a place, over what stood there. The set may be empty.
+ *
+ * Returns the first of these that holds, in this order:
+ *   HJ_BAD_NUMBER (21)   words is not HJ_STATE_WORDS, place is over 15, or the
+ *                        set names a port that is over 7 or not set up;
+ *   HJ_WRONG_CLASS (25)  the path address is invalid (hj_path);
+ *   HJ_BAD_CODE (24)     here is neither 0 nor 1;
+ *   HJ_SAME_ENTRY (23)   another place has the same path address;
+ *   HJ_DONE (0)          done.
+ */
+uint32_t hj_set_path(uint32_t *state, size_t words, uint32_t place,
+                     uint32_t path, uint32_t send, uint32_t here);
+
+/*
+ * Each of these empties a place; an empty one too. The place is then as in a
+ * fresh relay.
+ *
+ * Returns
+ *   HJ_DONE (0)         done;
+ *   HJ_BAD_NUMBER (21)  words is not HJ_STATE_WORDS, or there is no such
+ *                       place.
+ */
+uint32_t hj_clear_route(uint32_t *state, size_t words, uint32_t place);
+uint32_t hj_clear_group(uint32_t *state, size_t words, uint32_t place);
+uint32_t hj_clear_path(uint32_t *state, size_t words, uint32_t place);
+
+/* ---- Calls on a relay: datagrams ----------------------------------------- */
+
+/*
+ * The verdict on one datagram that arrived by a port. The slot is a number of
+ * the caller's for it, and may repeat: hj_take hands it out again. The octets
+ * begin with the datagram; those beyond its length field are ignored. The
+ * output is room octets.
+ *
+ * Returns a hj_verdict. hj_ended_by is the first of these that holds, in this
+ * order:
+ *   HJ_NO_PORT (16)       words is not HJ_STATE_WORDS, or port is over 7 or
+ *                         not set up;
+ *   HJ_SHORT_OUTPUT (17)  room is under HJ_OUTPUT_ROOM;
+ *   HJ_SHORT (1), HJ_BAD_VERSION (2), HJ_BAD_FORM (4), HJ_BAD_LENGTH (3),
+ *   HJ_BAD_CHECKSUM (5)   as hj_read gives them;
+ *   HJ_NOT_CARRIED (8)    routing requirements not 0, or IPv6 addresses;
+ *   HJ_NO_DOMAIN (7)      one-octet addresses, and the arrival port's address
+ *                         does not begin with 10;
+ *   HJ_BAD_ADDRESS (6)    the destination or the path is invalid, or a source
+ *                         is present and not unicast;
+ *   HJ_DONE (0)           no refusal.
+ * With 16 and 17 the state is as it was. All other ends count one in
+ * HJ_IN_RECEIVES, and a refusal one in its counter.
+ *
+ * With HJ_DONE, hj_local is
+ *   HJ_LOCAL_NO (0)        not delivered;
+ *   HJ_DELIVERED (1)       delivered: the caller hands it to its transport;
+ *   HJ_UNKNOWN_TP_ID (26)  it would be, but its transport is not assigned;
+ * and hj_onward is
+ *   HJ_NOT_ASKED (0)       it need not go on;
+ *   HJ_SENT_ON (1)         hj_took are the ports that took an entry, at least
+ *                          one, and hj_dropped those that dropped their copy;
+ *   HJ_NOT_FOR_US (9)      the node is a host, and it is not for it;
+ *   HJ_HOPS_USED_UP (10)   ports are wanted, and the hop count is 0 or 1;
+ *   HJ_NO_ROUTE (11)       no route, group or path for it; or no port in the
+ *                          set of the group or path but the arrival port, and
+ *                          HJ_NOT_ASKED does not hold (below);
+ *   HJ_NOT_UP (12)         the longest matching route is not up;
+ *   HJ_LEAVES_DOMAIN (13)  one-octet addresses, and every port wanted is in
+ *                          another domain;
+ *   HJ_TOO_BIG (14)        the MTU of every port left is under the length;
+ *   HJ_QUEUES_FULL (15)    every port left dropped its copy: hj_dropped.
+ * HJ_NOT_ASKED is given for a port's own address and the limited broadcast; on
+ * a host, where hj_local is not HJ_LOCAL_NO; for a broadcast of a port's
+ * network, or a group subscribed on the arrival port, where no other port is
+ * set up; and for a path that is delivered here and has no port in its set but
+ * the arrival port. Both HJ_LOCAL_NO and HJ_NOT_ASKED together are never given.
+ *
+ * With HJ_SENT_ON the output begins with the header sent on, hj_header_octets
+ * octets (4 to 50): the arriving one, hop count less one and checksum redone,
+ * where present. No other octet of the output is ever written.
+ */
+hj_verdict hj_receive(uint32_t *state, size_t words, uint32_t port,
+                      uint16_t slot, const uint8_t *octets, size_t length,
+                      uint8_t *output, size_t room);
+
+/*
+ * Takes the first entry that waits on a port: of the highest precedence, and
+ * among those the one that entered first.
+ *
+ * Returns an answer: hj_slot and hj_precedence (0 to 15) are the entry's, or
+ * hj_refusal is
+ *   HJ_NO_PORT (16)          words is not HJ_STATE_WORDS, or port is over 7 or
+ *                            not set up;
+ *   HJ_NOTHING_WAITING (18)  nothing waits on the port.
+ */
+hj_answer hj_take(uint32_t *state, size_t words, uint32_t port);
+
+/* ---- Calls on a relay: what stands in it --------------------------------- */
+
+/*
+ * The value of a counter, HJ_IN_RECEIVES to HJ_TOO_BIG_COUNT.
+ *
+ * Returns an answer: hj_value is the counter's value, 0 to 2^32 - 1, or
+ * hj_refusal is
+ *   HJ_BAD_NUMBER (21)  words is not HJ_STATE_WORDS, or counter is over 14.
+ */
+hj_answer hj_counter(const uint32_t *state, size_t words, uint32_t counter);
+
+/*
+ * How many entries wait on a port. On a port that is not set up nothing waits.
+ *
+ * Returns an answer: hj_value is that number, 0 to HJ_QUEUE, or hj_refusal is
+ *   HJ_BAD_NUMBER (21)  words is not HJ_STATE_WORDS, or port is over 7.
+ */
+hj_answer hj_waiting(const uint32_t *state, size_t words, uint32_t port);
+
+/*
+ * Whether the node is a router. This call and those below read what the
+ * settings left; none of them changes a word.
+ *
+ * Returns an answer: hj_value is 1 for a router, 0 for a host, or hj_refusal
+ * is
+ *   HJ_BAD_NUMBER (21)  words is not HJ_STATE_WORDS.
+ */
+hj_answer hj_get_router(const uint32_t *state, size_t words);
+
+/*
+ * Each of these gives a port or a place as it stands.
+ *
+ * Returns a structure whose refusal is
+ *   HJ_DONE (0)         the other numbers are the setting, all 0 where the
+ *                       port is not set up or the place is empty;
+ *   HJ_BAD_NUMBER (21)  words is not HJ_STATE_WORDS, or there is no such port
+ *                       or place.
+ */
+hj_port hj_get_port(const uint32_t *state, size_t words, uint32_t port);
+hj_route hj_get_route(const uint32_t *state, size_t words, uint32_t place);
+hj_group hj_get_group(const uint32_t *state, size_t words, uint32_t place);
+hj_path_place hj_get_path(const uint32_t *state, size_t words, uint32_t place);
+
+#ifdef __cplusplus
+}
+#endif
+
+#endif
