@@ -127,9 +127,12 @@ class Promises(Tree):
         self.write("crates/address/must-fail/first.edit", "# class_of_slip: another\n")
         self.refused(page, "there is no wrong program class_of_slips")
         self.write("crates/address/must-fail/second.edit", "# path_form_slips: one\n\n# class_of_slips: two\n")
+        self.write("docs/HOWTO.md", "As in `must-fail address/path_form_slip`.\n")
+        self.refused(page, "docs/HOWTO.md:1: there is no wrong program path_form_slip in crates/address/must-fail/")
+        self.write("docs/HOWTO.md", "As in `must-fail address/path_form_slips`.\n")
         status, output = self.check(page)
         self.assertEqual(status, 0, output)
-        self.assertIn("1 wrong programs", output)
+        self.assertIn("2 wrong programs", output)
 
     def test_a_page_without_theorems(self):
         self.refused("# Promises\n", "names no theorem")
