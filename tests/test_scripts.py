@@ -274,8 +274,10 @@ class MustFail(Tree):
         self.assertIn("lists no function", self.check()[1])
 
     def test_no_comment(self):
-        self.half(text="file: src/lib.rt\nold: x / 2\nnew: x / 3\n")
-        self.refused("a change has no comment `# NAME: what is wrong` of its own")
+        for comment in ("", "#\n", "# not the half\n", "# half_not_the_half a third\n"):
+            with self.subTest(comment=comment):
+                self.half(text=comment + "file: src/lib.rt\nold: x / 2\nnew: x / 3\n")
+                self.refused("a change has no comment `# NAME: what is wrong` of its own")
 
     def test_no_words(self):
         self.half(text="# half_not_the_half:\nfile: src/lib.rt\nold: x / 2\nnew: x / 3\n")
