@@ -96,12 +96,17 @@ class Promises(Tree):
         self.refused(PAGE + "```antt\nother : ℕ\n```\n", "belongs to no theorem")
 
     def test_wrong_programs(self):
-        page = PAGE + "| a slip | `crates/address/must-fail/slip.edit` |\n"
-        self.refused(page, "there is no crates/address/must-fail/slip.edit")
-        self.write("crates/address/must-fail/slip.edit", "")
+        page = PAGE + "| a slip | `must-fail address/class_of_slips` |\n"
+        self.refused(page, "there is no wrong program class_of_slips in crates/address/must-fail/")
+        self.write("crates/address/must-fail/first.edit", "# class_of_slip: another\n")
+        self.refused(page, "there is no wrong program class_of_slips")
+        self.write("crates/address/must-fail/second.edit", "# path_form_slips: one\n\n# class_of_slips: two\n")
+        self.write("docs/HOWTO.md", "As in `must-fail address/path_form_slip`.\n")
+        self.refused(page, "docs/HOWTO.md:1: there is no wrong program path_form_slip in crates/address/must-fail/")
+        self.write("docs/HOWTO.md", "As in `must-fail address/path_form_slips`.\n")
         status, output = self.check(page)
         self.assertEqual(status, 0, output)
-        self.assertIn("1 wrong programs", output)
+        self.assertIn("2 wrong programs", output)
 
     def test_a_page_without_theorems(self):
         self.refused("# Promises\n", "names no theorem")
@@ -130,6 +135,12 @@ impl Pair {
         self.0
     }
 }
+
+pub fn whole(x: [u8; 2]) -> u8
+    ensures { λ r. ⌜ r ≡ wholeOf x ⌝ }
+{
+    half(x) * 2
+}
 """
 
 PROOF = """returns : tie.Need-returns
@@ -147,115 +158,202 @@ FOLLOWS = "`half-spec`: `returns` was not admitted (it has holes or undetermined
 
 
 class MustFail(Tree):
+    HALF = ("half_not_the_half: a third is given", "x / 2", "x / 3")
+    FIRST = ("first_gives_the_second: the second is given", "        self.0", "        self.1")
+    WHOLE = ("whole_of_nothing: the whole is left out", "half(x) * 2", "half(x) * 0")
+
+    FAILED = "fn pair::half: not proved"
+    FIRST_FAILED = "fn pair::Pair::first: no proof: expected `first-spec` in Proof.antt; `search` does not close `returns`"
+    WHOLE_FOLLOWS = "fn pair::whole: no proof: expected `whole-spec` in Proof.antt; it calls `pair::half`, which is not proved"
+    WHOLE_FAILED = WHOLE_FOLLOWS.replace("; it", "; `search` does not close `mul-result`, `returns`; it")
+
     def setUp(self):
         super().setUp()
         self.write("crates/pair/src/lib.rt", SOURCE)
         self.write("must-fail.txt", "# those that C calls\npair::half  # twice\n")
 
-    def edit(self, label, *errors, text=None, lines=("fn pair::half: not proved",), old="x / 2", new="x / 3"):
-        """An edit and the log that rt left of it."""
+    def edit(self, label, *changes, errors=(), lines=(FAILED,), text=None):
+        """An edit file, and what rt left of it: the edited source and the log."""
         folder = f"target/must-fail/pair/{label}"
-        text = text or f"# not the half\nfile: src/lib.rt\nold: {old}\nnew: {new}\n"
-        self.write(f"crates/pair/must-fail/{label}.edit", text)
+        heads = [f"# {head}\nfile: src/lib.rt\nold: {old}\nnew: {new}\n" for head, old, new in changes]
+        self.write(f"crates/pair/must-fail/{label}.edit", text or "\n".join(heads))
+        source = SOURCE
+        for _, old, new in changes:
+            source = source.replace(old, new)
+        self.write(f"{folder}/src/lib.rt", source)
         self.write(f"{folder}/proofs/half/Proof.antt", PROOF)
         where = f"{os.path.join(self.root, folder)}/proofs/half/Proof.antt"
         log = [f"{where}:2:9: error: {error}" for error in errors] + list(lines) + ["logic=not-proved"]
         self.write(f"{folder}/.log", "\n".join(log) + "\n")
 
+    def half(self, new="x / 3", name="half_not_the_half", errors=(FAILS, FOLLOWS), **more):
+        """An edit file with one wrong program of half."""
+        self.edit("first", (f"{name}: not the half", "x / 2", new), errors=errors, **more)
+
     def check(self):
         return self.run_script(os.path.join(ROOT, "scripts/check-must-fail"), self.root)
 
-    def refused(self, says):
-        self.edit("other", FAILS, FOLLOWS)
+    def refused(self, *says):
+        """Refuses first.edit, and takes another."""
+        self.edit("second", ("half_of_another: a quarter is given", "x / 2", "x / 4"), errors=(FAILS, FOLLOWS))
         status, output = self.check()
         self.assertEqual(status, 1, output)
-        self.assertIn(says, output)
-        self.assertIn("pair::half has 1 good edits, and needs 2", output)
+        for words in says:
+            self.assertIn(words, output)
+        self.assertIn("pair::half has 1 good wrong programs, and needs 2", output)
 
-    def test_two_good_edits(self):
-        caller = "fn pair::whole: not proved; it calls `pair::half`, which is not proved"
-        callers = "fn pair::both: not proved; it calls `pair::half` and `pair::whole`, which are not proved"
-        self.edit("third", FAILS, FOLLOWS, lines=("fn pair::half: not proved", caller, callers))
+    def test_two_files(self):
+        follows = "fn pair::both: not proved; it calls `pair::half` and `pair::whole`, which are not proved"
+        first = (self.FIRST_FAILED, self.FAILED, self.WHOLE_FOLLOWS, follows)
+        self.edit("first", self.HALF, self.FIRST, errors=(FAILS, FOLLOWS), lines=first)
         made = "fn pair::half: no proof: expected `half-spec` in Proof.antt; `search` does not close `div`, `returns`"
-        self.edit("fourth", lines=(made,), new="x / 4")
+        self.edit("second", ("half_of_another: a quarter", "x / 2", "x / 4"), lines=(made,))
         status, output = self.check()
         self.assertEqual(status, 0, output)
-        self.assertIn("must-fail pair/fourth: pair::half fails at div, returns\n", output)
-        self.assertIn("must-fail pair/third: pair::half fails at returns\n", output)
+        self.assertIn("must-fail pair/half_not_the_half: pair::half fails at returns\n", output)
+        self.assertIn("must-fail pair/first_gives_the_second: pair::Pair::first fails at returns\n", output)
+        self.assertIn("must-fail pair/half_of_another: pair::half fails at div, returns\n", output)
+        self.assertIn("must-fail: 3 wrong programs in 2 files, each refused", output)
 
-    def test_a_method(self):
-        line = "fn pair::Pair::first: no proof: expected `first-spec` in Proof.antt; `search` does not close `returns`"
-        self.edit("second", lines=(line,), old="        self.0", new="        self.1")
-        self.edit("third", FAILS)
-        self.edit("fourth", FAILS)
-        status, output = self.check()
-        self.assertEqual(status, 0, output)
-        self.assertIn("pair::Pair::first fails at returns", output)
+    def test_a_caller_fails_by_itself(self):
+        self.edit("first", self.HALF, self.WHOLE, errors=(FAILS,), lines=(self.FAILED, self.WHOLE_FAILED))
+        self.assertIn("must-fail pair/whole_of_nothing: pair::whole fails at mul-result, returns\n", self.check()[1])
+
+    def test_a_masked_function(self):
+        self.edit("first", self.HALF, self.WHOLE, errors=(FAILS,), lines=(self.FAILED, self.WHOLE_FOLLOWS))
+        self.refused("first.edit: pair::whole is masked: it calls pair::half, which fails here too")
+
+    def test_one_of_two_does_not_fail(self):
+        self.edit("first", self.HALF, self.FIRST, errors=(FAILS,), lines=(self.FAILED, "fn pair::Pair::first: proved"))
+        self.refused("pair::Pair::first is changed, and does not fail")
+
+    def test_two_changes_of_one_function(self):
+        brace = ("half_by_another_brace: another brace", "brace == 1", "brace == 2")
+        self.edit("first", self.HALF, brace, errors=(FAILS,))
+        self.refused("half_not_the_half and half_by_another_brace both change pair::half")
+
+    def test_a_name_twice(self):
+        self.half()
+        self.edit("second", self.HALF, errors=(FAILS,))
+        self.assertIn("pair/half_not_the_half is the name of 2 wrong programs", self.check()[1])
 
     def test_a_function_that_is_not_tried(self):
         self.write("must-fail.txt", "pair::whole\n")
-        self.edit("third", FAILS)
-        self.assertIn("pair::whole has 0 good edits", self.check()[1])
+        self.half()
+        self.assertIn("pair::whole has 0 good wrong programs", self.check()[1])
 
     def test_an_empty_list(self):
         self.write("must-fail.txt", "# none yet\n")
-        self.edit("third", FAILS)
+        self.half()
         self.assertIn("lists no function", self.check()[1])
 
     def test_no_comment(self):
-        self.edit("third", FAILS, text="#\nfile: src/lib.rt\nold: x / 2\nnew: x / 3\n")
-        self.refused("no comment that says what is wrong")
+        for comment in ("", "#\n", "# not the half\n", "# half_not_the_half a third\n"):
+            with self.subTest(comment=comment):
+                self.half(text=comment + "file: src/lib.rt\nold: x / 2\nnew: x / 3\n")
+                self.refused("a change has no comment `# NAME: what is wrong` of its own")
+
+    def test_no_words(self):
+        self.half(text="# half_not_the_half:\nfile: src/lib.rt\nold: x / 2\nnew: x / 3\n")
+        self.refused("half_not_the_half has no comment")
+
+    def test_one_comment_for_two_changes(self):
+        text = "# half_not_the_half: a third\nfile: src/lib.rt\nold: x / 2\nnew: x / 3\nold:         self.0\nnew: self.1\n"
+        self.half(text=text)
+        self.refused("a change has no comment")
+
+    def test_a_name_of_another_function(self):
+        self.half(name="whole_not_the_half")
+        self.refused("whole_not_the_half changes pair::half: its name is to begin with half_")
+
+    def test_no_change(self):
+        self.half(text="# half_not_the_half: a third\n")
+        self.refused("it has no 'old:' and 'new:' pair")
+
+    def test_a_change_that_is_none(self):
+        self.half(new="x / 2")
+        self.refused("it leaves 'x / 2' as it is")
+
+    def promise_changed(self, old, new):
+        self.edit("first", ("half_by_promise: another promise", old, new), errors=(FAILS,))
+        self.refused("stands in the body of no function")
 
     def test_a_change_of_the_promise(self):
-        self.edit("third", FAILS, old="halfOf x", new="halfOf 2")
-        self.refused("stands in the body of no function")
+        self.promise_changed("halfOf x", "halfOf 2")
 
     def test_a_change_of_a_record_in_the_promise(self):
-        self.edit("third", FAILS, old="record { 0 = r }", new="record { 0 = 0 }")
-        self.refused("stands in the body of no function")
+        self.promise_changed("record { 0 = r }", "record { 0 = 0 }")
 
     def test_a_change_within_a_record_in_the_promise(self):
-        self.edit("third", FAILS, old="0 = r", new="0 = 0")
-        self.refused("stands in the body of no function")
+        self.promise_changed("0 = r", "0 = 0")
 
     def test_a_change_of_a_definition(self):
-        self.edit("third", FAILS, text="# less\nfile: specs/Half.antt\nold: x / 2\nnew: x / 3\n")
+        self.half(text="# half_by_definition: less\nfile: specs/Half.antt\nold: x / 2\nnew: x / 3\n")
         self.refused("it changes specs/Half.antt, and not src/")
 
     def test_a_text_that_stands_twice(self):
-        self.edit("third", FAILS, old="x", new="y")
+        self.edit("first", ("half_of_y: another", "x", "y"), errors=(FAILS,))
         self.refused("times in src/lib.rt")
 
-    def test_two_functions(self):
-        text = "# both\nfile: src/lib.rt\nold: x / 2\nnew: x / 3\nold:         self.0\nnew: 1\n"
-        self.edit("third", FAILS, text=text)
-        self.refused("it changes 2 functions: pair::Pair::first, pair::half")
+    def test_what_adds_needs(self):
+        brought = {
+            "x / 2 + 1": "a sum, a difference or a product",
+            "x / brace": "a division or a shift by what is no number",
+            "x as u8": "a change of kind",
+            "x[0]": "an index or a part of a slice",
+            "if x == 0 { 1 } else { 2 }": "a branch or a return",
+            "0; 1": "a statement",
+            "whole(x)": "a call of whole",
+        }
+        for new, what in brought.items():
+            with self.subTest(new=new):
+                self.half(new=new)
+                self.refused(f"'{new}' adds {what}: that brings needs of its own")
+
+    def test_what_adds_none(self):
+        for new in ("x % 2", "x / HALVES", "x >> 2", "!x ^ 7 & x", "u8::count_ones(x)", "[7; 2]", "Pair(x)"):
+            with self.subTest(new=new):
+                self.half(new=new)
+                self.assertIn("must-fail pair/half_not_the_half: pair::half fails at returns", self.check()[1])
 
     def test_a_need_that_is_gone(self):
         gone = "`returns`: `tie.Need-returns`: module `Tie` has no `Need-returns` that can be named from here"
-        self.edit("third", FAILS, gone)
-        self.refused("the proof no longer fits, at returns")
+        self.half(errors=(FAILS, gone))
+        self.refused("the proof of pair::half no longer fits, at returns")
 
     def test_needs_that_have_changed(self):
-        self.edit("third", FAILS, "`half-spec`: the two types first differ")
-        self.refused("the proof no longer fits, at half-spec")
+        self.half(errors=(FAILS, "`half-spec`: the two types first differ"))
+        self.refused("the proof of pair::half no longer fits, at half-spec")
 
     def test_a_lemma_alone(self):
-        self.edit("third", "`small`: `omega`: the goal does not follow", FOLLOWS)
+        self.half(errors=("`small`: `omega`: the goal does not follow", FOLLOWS))
         self.refused("no need of pair::half fails")
 
     def test_another_function_fails_too(self):
-        self.edit("third", FAILS, lines=("fn pair::half: not proved", "fn pair::whole: not proved"))
-        self.refused("pair::half is changed, and pair::whole fails too")
+        self.half(lines=(self.FAILED, "fn pair::whole: not proved"))
+        self.refused("pair::whole fails too, and is not changed")
+
+    def test_a_caller_fails_too(self):
+        self.half(lines=(self.FAILED, self.WHOLE_FAILED))
+        self.refused("pair::whole fails too, and is not changed")
+
+    def test_an_error_elsewhere(self):
+        self.edit("first", self.FIRST, errors=(FAILS,), lines=(self.FIRST_FAILED,))
+        self.refused("an error stands in proofs/half/Proof.antt")
 
     def test_another_function_fails_instead(self):
-        self.edit("third", lines=("fn pair::half: proved", "fn pair::whole: not proved"))
+        self.half(lines=("fn pair::half: proved", "fn pair::whole: not proved"))
         self.refused("pair::half is changed, and does not fail")
 
     def test_no_log(self):
-        self.edit("third", FAILS)
-        os.remove(os.path.join(self.root, "target/must-fail/pair/third/.log"))
+        self.half()
+        os.remove(os.path.join(self.root, "target/must-fail/pair/first/.log"))
         self.refused("rt left no log")
+
+    def test_the_log_of_another_edit(self):
+        self.half()
+        self.write("target/must-fail/pair/first/src/lib.rt", SOURCE)
+        self.refused("its log is of other code, or of another edit")
 
 
 class Documents(Tree):
