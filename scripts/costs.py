@@ -19,7 +19,7 @@ TICK = os.sysconf("SC_CLK_TCK")
 INTERVAL = 0.1
 
 # Proof, wrong programs and static libraries together, in proofs of everything.
-BAR = 2.5
+BAR = 3
 # The host tests, in proofs of everything, where the archive's code needs no emulator.
 HOST_BAR = 0.5
 NATIVE = os.uname().machine == "x86_64"

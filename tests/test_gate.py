@@ -58,7 +58,7 @@ class Gate(Tree):
         self.assertTrue(0.2 < rows["wrong programs"] < 0.9, rows)
 
     def test_too_dear(self):
-        lines = self.failed("cost over 2.5 proofs", edits=480000)
+        lines = self.failed("cost over 3 proofs", edits=480000)
         self.assertNotIn("4 passed, 0 failed", lines)
 
     def test_rt_fails(self):

@@ -4,6 +4,8 @@
 // answers its number and changes nothing, a taken one answers 0 and its record stands in the place. A filled record has 1 as its flag,
 // an emptied place is the record of a fresh relay, so that equal settings are equal states. Any number is an argument and any 824
 // words are a state: a place that is none is refused by 21, and emptying an empty place is taken.
+pub mod groups_and_paths;
+
 use address::Address;
 use address::Mask;
 use checks::Check;
@@ -28,7 +30,7 @@ pub fn set_router(state: &mut [u32], router: u32) -> u32
     let Check::Passed = settings::check_flag(router) else {
         return 24;
     };
-    store::put_router(state, router);
+    state_ports::put_router(state, router);
     0
 }
 
@@ -48,7 +50,7 @@ pub fn set_port(state: &mut [u32], port: u32, address: Address, mask: Mask, mtu:
         mask,
         mtu,
     };
-    store::put_port(state, port as usize, x);
+    state_ports::put_port(state, port as usize, x);
     0
 }
 
@@ -62,7 +64,7 @@ fn fill_route(state: &mut [u32], place: u32, x: Route) -> u32
     if refusal != 0 {
         return refusal;
     }
-    table::put_route(state, place as usize, x);
+    state_routes::put_route(state, place as usize, x);
     0
 }
 
@@ -111,6 +113,6 @@ pub fn clear_route(state: &mut [u32], place: u32) -> u32
         availability: 0,
         capabilities: 0,
     };
-    table::put_route(state, place as usize, x);
+    state_routes::put_route(state, place as usize, x);
     0
 }

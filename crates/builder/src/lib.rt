@@ -1,8 +1,10 @@
 // The builder: fields to a header at the front of the output, or the number of the first check that fails.
 //
-// A header is its front (crate front), its addresses (crate addresses), its other elements and its checksum (crate elements), end to
+// A header is its front, its addresses, its other elements and its checksum (crate writer), end to
 // end. The elements are written before the front, since the length field counts them, and the checksum last, since it sums all. The
 // awkward case is a refusal: everything is tested before the first octet is written.
+pub mod range;
+
 use checks::Check;
 use header::Built;
 use header::Fields;
@@ -19,15 +21,15 @@ fn put_rest(out: &mut [u8], place: usize, f: Fields) -> usize
     ensures { λ _. ⌜ now (out .exit) ≡ pasted (now (out .entry)) place (restOctets f) ⌝ }
 {
     let addresses = f.addresses;
-    let a = addresses::put_addresses(out, place, addresses);
+    let a = writer::addresses::put_addresses(out, place, addresses);
     let qos = f.qos;
-    let b = elements::put_qos(out, a, qos);
+    let b = writer::put_qos(out, a, qos);
     let hops = f.hops;
-    let c = elements::put_octet(out, b, hops);
+    let c = writer::put_octet(out, b, hops);
     let stamp = f.stamp;
-    let d = elements::put_stamp(out, c, stamp);
+    let d = writer::put_stamp(out, c, stamp);
     let expanded = f.expanded;
-    elements::put_octet(out, d, expanded)
+    writer::put_octet(out, d, expanded)
 }
 
 // Writes the header of a datagram with n octets of user data.
@@ -37,15 +39,15 @@ fn write_header(f: Fields, n: usize, out: &mut [u8]) -> usize
     ensures { λ r. ⌜ r ≡ sizeOf f ⌝ }
     ensures { λ _. ⌜ now (out .exit) ≡ fronted (headerOctets f n) (now (out .entry)) ⌝ }
 {
-    let third = front::third_octet(f);
-    let second = front::second_octet(f, third);
-    let has_second = front::presence(second);
-    let has_third = front::presence(third);
+    let third = writer::front::third_octet(f);
+    let second = writer::front::second_octet(f, third);
+    let has_second = writer::front::presence(second);
+    let has_third = writer::front::presence(third);
     let shared = f.tpid * 16 + (8 * has_second + 2 + f.checksum);
     let place = put_rest(out, 3 + has_second as usize + has_third as usize, f);
     let size = place + 2 * f.checksum as usize;
-    front::put_front(out, size + n, shared, second, third);
-    elements::put_checksum(out, place, f.checksum);
+    writer::front::put_front(out, size + n, shared, second, third);
+    writer::put_checksum(out, place, f.checksum);
     size
 }
 
@@ -57,7 +59,7 @@ pub fn build_header(f: Fields, n: usize, out: &mut [u8]) -> Built
     if out.len() < 50 {
         return Built::Refused(17);
     }
-    let Check::Passed = range::check_fields(f) else {
+    let Check::Passed = crate::range::check_fields(f) else {
         return Built::Refused(19);
     };
     if 8141 < n {

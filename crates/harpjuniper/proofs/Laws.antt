@@ -22,8 +22,8 @@ use Rattle.header.specs.declared.Read.the-variants as read
 use Rattle.header.proofs.Answers.{read-bounds}
 use Rattle.numbers.specs.Numbers.{numbersOf}
 use Rattle.numbers.specs.declared.Numbers.{Numbers}
-use Rattle.gather.specs.Fields.{fieldsFrom}
-use Rattle.intake.specs.Out.{numbersOut}
+use Rattle.numbers.specs.Fields.{fieldsFrom}
+use Rattle.numbers.specs.Out.{numbersOut}
 use Rattle.harpjuniper.specs.Face.{nothing, readingOf, builtAnswer, buildChecks, buildAnswer, buildOutput}
 
 module _ (n : Numbers) (size : ℕ) (lent : List ℕ) where

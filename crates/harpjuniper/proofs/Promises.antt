@@ -18,10 +18,10 @@ use Rattle.header.specs.Build.{sizeOf, headerOctets}
 use Rattle.header.proofs.BuiltLaws.{header-length, built-size, in-range}
 use Rattle.header.proofs.Trip.{read-built}
 use Rattle.numbers.specs.declared.Numbers.{Numbers}
-use Rattle.gather.specs.Fields.{fieldsFrom}
-use Rattle.gather.proofs.Bounds.{Words, typed}
-use Rattle.intake.specs.Out.{numbersOut}
-use Rattle.intake.proofs.Inverse.{numbers-back}
+use Rattle.numbers.specs.Fields.{fieldsFrom}
+use Rattle.numbers.proofs.fields_from.Bounds.{Words, typed}
+use Rattle.numbers.specs.Out.{numbersOut}
+use Rattle.numbers.proofs.validity.Inverse.{numbers-back}
 use Rattle.harpjuniper.specs.Face.{readingOf, answerBy, buildChecks, buildAnswer, buildOutput}
 
 -- the numbers stand for no fields, or for fields out of range

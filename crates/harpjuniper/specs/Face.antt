@@ -14,8 +14,8 @@ use Rattle.header.specs.declared.Built.{Built}
 use Rattle.header.specs.declared.Built.the-variants as built
 use Rattle.numbers.specs.Numbers.{narrow, numbersOf}
 use Rattle.numbers.specs.declared.Numbers.{Numbers}
-use Rattle.gather.specs.Fields.{fieldsFrom}
-use Rattle.intake.specs.Out.{numbersOut}
+use Rattle.numbers.specs.Fields.{fieldsFrom}
+use Rattle.numbers.specs.Out.{numbersOut}
 use Rattle.harpjuniper.specs.declared.Reading.{Reading}
 
 -- ---- reading

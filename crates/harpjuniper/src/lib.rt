@@ -104,9 +104,9 @@ pub extern "C" fn hj_build(fields: Numbers, size: usize, output: &mut [u8]) -> u
     if output.len() < 50 {
         return refusal(17);
     }
-    let Check::Passed = intake::check_numbers(fields) else {
+    let Check::Passed = numbers::validity::check_numbers(fields) else {
         return refusal(19);
     };
-    let f = gather::fields_from(fields);
+    let f = numbers::fields_from::fields_from(fields);
     built_answer(builder::build_header(f, size, output))
 }

@@ -5,7 +5,7 @@
 // is not set up: it is read like any other, and its first field says so.
 ghost use mathlib.Core.Path.{_≡_};
 ghost use Rattle.state.specs.Relay.{Relay};
-ghost use Rattle.lent.specs.View.{told};
+ghost use Rattle.lent_state.specs.View.{told};
 ghost use Rattle.harpjuniper_reads.specs.Back.{
   refusedRouter,
   portBack,
@@ -61,10 +61,10 @@ pub struct PathBack {
 pub extern "C" fn hj_get_router(state: &[u32]) -> u64
     ensures { λ r. ⌜ r ≡ told (λ (x : Relay). x .router) refusedRouter (now (state .entry)) ⌝ }
 {
-    if state.len() != store::STATE_WORDS {
+    if state.len() != state_ports::STATE_WORDS {
         return 21 * 0x1_0000_0000;
     }
-    store::router_of(state) as u64
+    state_ports::router_of(state) as u64
 }
 
 fn no_port() -> PortBack
@@ -83,13 +83,13 @@ fn no_port() -> PortBack
 pub extern "C" fn hj_get_port(state: &[u32], port: u32) -> PortBack
     ensures { λ r. ⌜ r ≡ told (λ (x : Relay). portBack x port) noPortBack (now (state .entry)) ⌝ }
 {
-    if state.len() != store::STATE_WORDS {
+    if state.len() != state_ports::STATE_WORDS {
         return no_port();
     }
     if 8 <= port {
         return no_port();
     }
-    let p = store::port_of(state, port as usize);
+    let p = state_ports::port_of(state, port as usize);
     PortBack {
         refusal: 0,
         ready: p.ready,
@@ -117,13 +117,13 @@ fn no_route() -> RouteBack
 pub extern "C" fn hj_get_route(state: &[u32], place: u32) -> RouteBack
     ensures { λ r. ⌜ r ≡ told (λ (x : Relay). routeBack x place) noRouteBack (now (state .entry)) ⌝ }
 {
-    if state.len() != store::STATE_WORDS {
+    if state.len() != state_ports::STATE_WORDS {
         return no_route();
     }
     if 64 <= place {
         return no_route();
     }
-    let x = table::route_of(state, place as usize);
+    let x = state_routes::route_of(state, place as usize);
     RouteBack {
         refusal: 0,
         filled: x.filled,
@@ -151,13 +151,13 @@ fn no_group() -> GroupBack
 pub extern "C" fn hj_get_group(state: &[u32], place: u32) -> GroupBack
     ensures { λ r. ⌜ r ≡ told (λ (x : Relay). groupBack x place) noGroupBack (now (state .entry)) ⌝ }
 {
-    if state.len() != store::STATE_WORDS {
+    if state.len() != state_ports::STATE_WORDS {
         return no_group();
     }
     if 16 <= place {
         return no_group();
     }
-    let x = places::group_of(state, place as usize);
+    let x = state_places::group_of(state, place as usize);
     GroupBack {
         refusal: 0,
         filled: x.filled,
@@ -183,13 +183,13 @@ fn no_path() -> PathBack
 pub extern "C" fn hj_get_path(state: &[u32], place: u32) -> PathBack
     ensures { λ r. ⌜ r ≡ told (λ (x : Relay). pathBack x place) noPathBack (now (state .entry)) ⌝ }
 {
-    if state.len() != store::STATE_WORDS {
+    if state.len() != state_ports::STATE_WORDS {
         return no_path();
     }
     if 16 <= place {
         return no_path();
     }
-    let x = places::path_of(state, place as usize);
+    let x = state_places::path_of(state, place as usize);
     PathBack {
         refusal: 0,
         filled: x.filled,

@@ -8,7 +8,7 @@ use address::Slot;
 ghost use mathlib.Core.Path.{_≡_};
 ghost use lib.ListN.{length};
 ghost use Rattle.state.specs.Relay.{Relay};
-ghost use Rattle.lent.specs.View.{lent, told, changed};
+ghost use Rattle.lent_state.specs.View.{lent, told, changed};
 ghost use Rattle.harpjuniper_receive.specs.Face.{receiveAnswer, receiveState, receiveOutput};
 
 // The verdict on the octets that came in by a port, carried out.
@@ -37,7 +37,7 @@ pub extern "C" fn hj_receive(
         (now (state .entry))
         ⌝ }
 {
-    if state.len() != store::STATE_WORDS {
+    if state.len() != state_ports::STATE_WORDS {
         return 16;
     }
     answers::receive_number(relay::receive(state, port, Slot(slot), octets, output))

@@ -26,7 +26,7 @@ use Rattle.taking.specs.declared.Taking.the-variants.{Handed, Refused}
 use Rattle.taking.proofs.Port.{is-port}
 use Rattle.answers.specs.Answers.{refusalNumber, takingNumber}
 use Rattle.answers.proofs.Digits.{Three, entry-parts, refusal-parts, Two, value-parts, refusal-above}
-use Rattle.lent.specs.View.{Held, Other, lent, byLent, told}
+use Rattle.lent_state.specs.View.{Held, Other, lent, byLent, told}
 use Rattle.harpjuniper_relay.specs.Face.{takeAnswer, counterAnswer, waitingAnswer}
 
 -- words as C lends them

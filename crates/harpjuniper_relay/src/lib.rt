@@ -9,7 +9,7 @@ ghost use Rattle.state.specs.Relay.{Relay};
 ghost use Rattle.state.specs.Layout.{stateWords};
 ghost use Rattle.taking.specs.Taking.{takenState};
 ghost use Rattle.answers.specs.Answers.{refusalNumber};
-ghost use Rattle.lent.specs.View.{lent, told, changed};
+ghost use Rattle.lent_state.specs.View.{lent, told, changed};
 ghost use Rattle.harpjuniper_relay.specs.Face.{
   takeAnswer,
   counterAnswer,
@@ -21,7 +21,7 @@ ghost use Rattle.harpjuniper_relay.specs.Face.{
 pub extern "C" fn hj_state_words() -> u32
     ensures { λ r. ⌜ r ≡ stateWords ⌝ }
 {
-    store::STATE_WORDS as u32
+    state_ports::STATE_WORDS as u32
 }
 
 // The first entry that waits on a port, removed.
@@ -30,7 +30,7 @@ pub extern "C" fn hj_take(state: &mut [u32], port: u32) -> u64
     ensures { λ r. ⌜ r ≡ told (λ (x : Relay). takeAnswer x port) (refusalNumber 16) (now (state .entry)) ⌝ }
     ensures { λ _. ⌜ lent (now (state .exit)) ≡ changed (λ (x : Relay). takenState x port) (now (state .entry)) ⌝ }
 {
-    if state.len() != store::STATE_WORDS {
+    if state.len() != state_ports::STATE_WORDS {
         return answers::refusal_number(16);
     }
     answers::taking_number(taking::take(state, port))
@@ -41,13 +41,13 @@ pub extern "C" fn hj_take(state: &mut [u32], port: u32) -> u64
 pub extern "C" fn hj_counter(state: &[u32], counter: u32) -> u64
     ensures { λ r. ⌜ r ≡ told (λ (x : Relay). counterAnswer x counter) (refusalNumber 21) (now (state .entry)) ⌝ }
 {
-    if state.len() != store::STATE_WORDS {
+    if state.len() != state_ports::STATE_WORDS {
         return answers::refusal_number(21);
     }
     if 15 <= counter {
         return answers::refusal_number(21);
     }
-    store::counter_of(state, counter as usize) as u64
+    state_ports::counter_of(state, counter as usize) as u64
 }
 
 // How many entries wait on a port.
@@ -55,11 +55,11 @@ pub extern "C" fn hj_counter(state: &[u32], counter: u32) -> u64
 pub extern "C" fn hj_waiting(state: &[u32], port: u32) -> u64
     ensures { λ r. ⌜ r ≡ told (λ (x : Relay). waitingAnswer x port) (refusalNumber 21) (now (state .entry)) ⌝ }
 {
-    if state.len() != store::STATE_WORDS {
+    if state.len() != state_ports::STATE_WORDS {
         return answers::refusal_number(21);
     }
     if 8 <= port {
         return answers::refusal_number(21);
     }
-    waiting::count_of(state, port as usize) as u64
+    state_queues::count_of(state, port as usize) as u64
 }

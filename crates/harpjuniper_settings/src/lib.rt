@@ -3,12 +3,14 @@
 // Each function tests the number of words lent and then calls the setting. None requires anything: whatever words and numbers come, the
 // answer is 0 or the number of the first test that refuses, and a refused setting changes nothing. Where the words are not as many as
 // the state has, there is no port or place in them: 21.
+pub mod groups_and_paths;
+
 use address::Address;
 use address::Mask;
 ghost use mathlib.Core.Path.{_≡_};
 ghost use Rattle.checks.specs.Order.{firstOf};
 ghost use Rattle.state.specs.Relay.{Relay, freshRelay};
-ghost use Rattle.lent.specs.View.{lent, told, changed};
+ghost use Rattle.lent_state.specs.View.{lent, told, changed};
 ghost use Rattle.refusals.specs.Lists.{portChecks, routeChecks, routerChecks, clearChecks};
 ghost use Rattle.adjust.specs.Settled.{
   newRoute,
@@ -24,10 +26,10 @@ pub extern "C" fn hj_fresh(state: &mut [u32]) -> u32
     ensures { λ r. ⌜ r ≡ told (λ (x : Relay). 0) 21 (now (state .entry)) ⌝ }
     ensures { λ _. ⌜ lent (now (state .exit)) ≡ changed (λ (x : Relay). freshRelay) (now (state .entry)) ⌝ }
 {
-    if state.len() != store::STATE_WORDS {
+    if state.len() != state_ports::STATE_WORDS {
         return 21;
     }
-    store::clear_all(state);
+    state_ports::clear_all(state);
     0
 }
 
@@ -37,7 +39,7 @@ pub extern "C" fn hj_set_router(state: &mut [u32], router: u32) -> u32
     ensures { λ r. ⌜ r ≡ told (λ (x : Relay). firstOf (routerChecks router)) 21 (now (state .entry)) ⌝ }
     ensures { λ _. ⌜ lent (now (state .exit)) ≡ changed (λ (x : Relay). settledRouter x router) (now (state .entry)) ⌝ }
 {
-    if state.len() != store::STATE_WORDS {
+    if state.len() != state_ports::STATE_WORDS {
         return 21;
     }
     adjust::set_router(state, router)
@@ -55,7 +57,7 @@ pub extern "C" fn hj_set_port(
     ensures { λ r. ⌜ r ≡ told (λ (x : Relay). firstOf (portChecks x port (record { 0 = address }) (record { 0 = mask }) mtu)) 21 (now (state .entry)) ⌝ }
     ensures { λ _. ⌜ lent (now (state .exit)) ≡ changed (λ (x : Relay). settledPort x port (record { 0 = address }) (record { 0 = mask }) mtu) (now (state .entry)) ⌝ }
 {
-    if state.len() != store::STATE_WORDS {
+    if state.len() != state_ports::STATE_WORDS {
         return 21;
     }
     adjust::set_port(state, port, Address(address), Mask(mask), mtu)
@@ -75,7 +77,7 @@ pub extern "C" fn hj_set_route(
     ensures { λ r. ⌜ r ≡ told (λ (x : Relay). firstOf (routeChecks x place (newRoute (record { 0 = prefix }) (record { 0 = mask }) port availability capabilities))) 21 (now (state .entry)) ⌝ }
     ensures { λ _. ⌜ lent (now (state .exit)) ≡ changed (λ (x : Relay). settledRoute x place (newRoute (record { 0 = prefix }) (record { 0 = mask }) port availability capabilities)) (now (state .entry)) ⌝ }
 {
-    if state.len() != store::STATE_WORDS {
+    if state.len() != state_ports::STATE_WORDS {
         return 21;
     }
     adjust::set_route(
@@ -95,7 +97,7 @@ pub extern "C" fn hj_clear_route(state: &mut [u32], place: u32) -> u32
     ensures { λ r. ⌜ r ≡ told (λ (x : Relay). firstOf (clearChecks place 64)) 21 (now (state .entry)) ⌝ }
     ensures { λ _. ⌜ lent (now (state .exit)) ≡ changed (λ (x : Relay). clearedRoute x place) (now (state .entry)) ⌝ }
 {
-    if state.len() != store::STATE_WORDS {
+    if state.len() != state_ports::STATE_WORDS {
         return 21;
     }
     adjust::clear_route(state, place)

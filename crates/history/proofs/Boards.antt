@@ -21,7 +21,7 @@ use Rattle.networks.specs.Networks.{domainOf}
 use Rattle.meaning.specs.Names.{aimOf}
 use Rattle.meaning.specs.declared.Aim.{Aim}
 use Rattle.meaning.specs.declared.Aim.the-variants.{Node, Line}
-use Rattle.datagram.specs.Asked.{precedenceOf}
+use Rattle.meaning.specs.Asked.{precedenceOf}
 use Rattle.verdict.specs.Rule.{targetOf}
 use Rattle.verdict.specs.declared.Target.{Target}
 use Rattle.verdict.specs.declared.Target.the-variants as target
@@ -40,20 +40,20 @@ use Rattle.state.specs.Relay.{Relay, groupIn, pathIn, queueIn, withRouter, with
 use Rattle.survey.specs.Survey.{surveyBelow, surveyOf}
 use Rattle.records.specs.Held.{holdsGroup, holdsPath}
 use Rattle.lookup.specs.Lookup.{groupFound, pathFound, groupSays, pathSays, groupPlace, pathPlace}
-use Rattle.rule.specs.Ruling.{caseOf, soughtOf, ruledBy, ruleTarget, ruleAim, ruleOf}
-use Rattle.rule.specs.declared.Arrival.{Arrival}
-use Rattle.arrival.specs.Arrival.{arrivalChecks}
+use Rattle.judge.specs.Ruling.{caseOf, soughtOf, ruledBy, ruleTarget, ruleAim, ruleOf}
+use Rattle.judge.specs.declared.ruling.Arrival.{Arrival}
+use Rattle.meaning.specs.Arrival.{arrivalChecks}
 use Rattle.taking.specs.Taking.{notSetUp, without, takeOutcome, takenState}
 use Rattle.judge.specs.Ending.{orElse, callChecks, headerEnding, octetsEnding, arrivalAt, endingOf}
 use Rattle.judge.specs.declared.Ending.{Ending}
 use Rattle.tally.specs.Tally.{Row, movesOf, countedAt, countedAll}
-use Rattle.outgo.specs.Outgo.{entered, enteredIf, enteredAll}
+use Rattle.relay.specs.Outgo.{entered, enteredIf, enteredAll}
 use Rattle.relay.specs.Received.{entryOf, receivedState}
 use Rattle.records.specs.Fresh.{freshGroup, freshPath}
 use Rattle.routes.specs.Routes.{emptyRoute}
 use Rattle.routes.specs.declared.Route.{Route}
-use Rattle.ready.specs.Ready.{isSetUp, readySet}
-use Rattle.elsewhere.specs.Elsewhere.{otherRoute, otherGroup, otherPath, routeElsewhere, groupElsewhere, pathElsewhere}
+use Rattle.refusals.specs.Ready.{isSetUp, readySet}
+use Rattle.refusals.specs.Elsewhere.{otherRoute, otherGroup, otherPath, routeElsewhere, groupElsewhere, pathElsewhere}
 use Rattle.adjust.specs.Settled.{settled, newPort, newRoute, newGroup, newPath}
 use Rattle.refusals.specs.Lists.{routeChecks, groupChecks, pathChecks}
 use Rattle.history.specs.Calls.{Call, setRouter, setPort, setRoute, setGroup, setPath, clearRoute, clearGroup, clearPath, receives, takes, done, run}

@@ -27,7 +27,7 @@ use Rattle.taking.specs.Taking.{notSetUp, without, takenState}
 use Rattle.judge.specs.Ending.{endingOf}
 use Rattle.judge.specs.declared.Ending.{Ending}
 use Rattle.tally.specs.Tally.{Row, movesOf, countedAt, countedAll}
-use Rattle.outgo.specs.Outgo.{entered, enteredIf, enteredAll}
+use Rattle.relay.specs.Outgo.{entered, enteredIf, enteredAll}
 use Rattle.relay.specs.Received.{entryOf, receivedState}
 use Rattle.refusals.specs.Lists.{portChecks, routeChecks, groupChecks, pathChecks, routerChecks, clearChecks}
 use Rattle.adjust.specs.Settled.{settled, newPort, newRoute, newGroup, newPath}

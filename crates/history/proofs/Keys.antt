@@ -21,7 +21,7 @@ use Rattle.records.specs.declared.PathPlace.{PathPlace}
 use Rattle.routes.specs.Routes.{isFilled, sameEntry, emptyRoute}
 use Rattle.routes.specs.declared.Route.{Route}
 use Rattle.state.specs.Relay.{Relay, freshRelay, routeIn, groupIn, pathIn, withRouter, withPort, withRoute, withGroup, withPath}
-use Rattle.elsewhere.specs.Elsewhere.{otherRoute, otherGroup, otherPath, routeElsewhere, groupElsewhere, pathElsewhere}
+use Rattle.refusals.specs.Elsewhere.{otherRoute, otherGroup, otherPath, routeElsewhere, groupElsewhere, pathElsewhere}
 use Rattle.refusals.specs.Lists.{portChecks, routeChecks, groupChecks, pathChecks, routerChecks, clearChecks}
 use Rattle.adjust.specs.Settled.{settled, newPort, newRoute, newGroup, newPath}
 use Rattle.judge.specs.Ending.{endingOf}

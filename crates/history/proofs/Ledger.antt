@@ -26,7 +26,7 @@ use Rattle.taking.specs.Taking.{notSetUp, handed, without, takeOutcome, takenSt
 use Rattle.judge.specs.Ending.{endingOf}
 use Rattle.judge.specs.declared.Ending.{Ending}
 use Rattle.tally.specs.Tally.{movesOf, countedAll}
-use Rattle.outgo.specs.Outgo.{enteredAll}
+use Rattle.relay.specs.Outgo.{enteredAll}
 use Rattle.relay.specs.Received.{entryOf, receivedState}
 use Rattle.taking.specs.declared.Taking.{Taking}
 use Rattle.taking.specs.declared.Taking.the-variants.{Refused}

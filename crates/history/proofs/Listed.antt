@@ -41,10 +41,10 @@ use Rattle.survey.specs.Survey.{surveyOf}
 use Rattle.survey.specs.declared.Sought.{Sought}
 use Rattle.lookup.specs.Lookup.{pathPlace}
 use Rattle.header.proofs.Refusals.{never-zero}
-use Rattle.ways.specs.Ways.{placeFor, wayFor}
-use Rattle.rule.specs.Ruling.{caseOf, soughtOf, ruledBy, ruleTarget, ruleAim, ruleOf}
-use Rattle.rule.specs.declared.Arrival.{Arrival}
-use Rattle.arrival.specs.Arrival.{arrivalChecks}
+use Rattle.lookup.specs.Ways.{placeFor, wayFor}
+use Rattle.judge.specs.Ruling.{caseOf, soughtOf, ruledBy, ruleTarget, ruleAim, ruleOf}
+use Rattle.judge.specs.declared.ruling.Arrival.{Arrival}
+use Rattle.meaning.specs.Arrival.{arrivalChecks}
 use Rattle.taking.specs.Taking.{notSetUp, handed, takeOutcome}
 use Rattle.judge.specs.Ending.{noRuling, refusedBy, ruled, callChecks, headerEnding, octetsEnding, arrivalAt, endingOf}
 use Rattle.judge.specs.declared.Ending.{Ending}

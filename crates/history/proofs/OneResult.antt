@@ -2,7 +2,7 @@
 use mathlib.Core.Path.{_≡_, ap, sym, _∙_}
 use mathlib.Core.List.{List}
 use Prim.Native.Nat.{ℕ}
-use Rattle.lent.proofs.Same.{one-result}
+use Rattle.lent_state.proofs.Same.{one-result}
 use Rattle.history.specs.Promised.{Told, Result, Promise, Allows, Exported, promised}
 
 -- equal where all parts are

@@ -12,7 +12,7 @@ use Rattle.verdict.specs.declared.Line.the-variants.{Unasked, Refused, Wanted}
 use Rattle.verdict.specs.declared.Survey.{Survey}
 use Rattle.verdict.specs.declared.Ruling.{Ruling}
 use Rattle.verdict.proofs.Promises.{tpid-free}
-use Rattle.rule.specs.Ruling.{ruledBy}
+use Rattle.judge.specs.Ruling.{ruledBy}
 
 -- the onward half of a ruling
 abbrev pub onwardHalf : Ruling → ℕ × (ℕ × (ℕ × ℕ))

@@ -16,8 +16,8 @@ use Rattle.checks.proofs.Laws.{zero-none, none-zero}
 use Rattle.sets.specs.Sets.{inSet, onlyPort, portSet}
 use Rattle.settings.specs.Sets.{isReady, namesOther, setRefused}
 use Rattle.state.specs.Relay.{Relay, freshRelay, portIn, routeIn, groupIn, pathIn, queueIn, withRouter, withPort, withRoute, withGroup, withPath, added}
-use Rattle.ready.specs.Ready.{isSetUp, readySet}
-use Rattle.ready.specs.Record.{recordChecks}
+use Rattle.refusals.specs.Ready.{isSetUp, readySet}
+use Rattle.refusals.specs.Record.{recordChecks}
 use Rattle.settings.specs.Refusals.{portClassRefused, portMaskRefused, mtuRefused, groupClassRefused, pathClassRefused}
 use Rattle.records.specs.Fresh.{freshPort, freshGroup, freshPath}
 use Rattle.records.specs.declared.Port.{Port}
@@ -29,7 +29,7 @@ use Rattle.address.specs.declared.Address.{Address}
 use Rattle.address.specs.declared.Mask.{Mask}
 use Rattle.address.specs.declared.PathAddress.{PathAddress}
 use Rattle.settings.specs.Refusals.{placeRefused, flagRefused}
-use Rattle.elsewhere.specs.Elsewhere.{routeElsewhere, groupElsewhere, pathElsewhere}
+use Rattle.refusals.specs.Elsewhere.{routeElsewhere, groupElsewhere, pathElsewhere}
 use Rattle.refusals.specs.Lists.{entriesWait, portChecks, routeChecks, groupChecks, pathChecks, routerChecks, clearChecks}
 use Rattle.adjust.specs.Settled.{settled, newPort, newRoute, newGroup, newPath}
 use Rattle.address.specs.declared.Slot.{Slot}
@@ -42,7 +42,7 @@ use Rattle.taking.specs.Taking.{notSetUp, without, takenState}
 use Rattle.judge.specs.Ending.{endingOf}
 use Rattle.judge.specs.declared.Ending.{Ending}
 use Rattle.tally.specs.Tally.{Row, movesOf, countedAt, countedAll}
-use Rattle.outgo.specs.Outgo.{entered, enteredIf, enteredAll}
+use Rattle.relay.specs.Outgo.{entered, enteredIf, enteredAll}
 use Rattle.relay.specs.Received.{entryOf, receivedState}
 use Rattle.history.specs.Calls.{Call, setRouter, setPort, setRoute, setGroup, setPath, clearRoute, clearGroup, clearPath, receives, takes, done, run, after}
 use Rattle.history.specs.Reach.{Reached}

@@ -16,8 +16,8 @@ use Rattle.header.specs.Read.{readChecks, headerOf, readOf}
 use Rattle.header.proofs.Bounds.{header-size}
 use Rattle.state.specs.Relay.{Relay}
 use Rattle.verdict.specs.declared.Ruling.{Ruling}
-use Rattle.rule.specs.declared.Arrival.{Arrival}
-use Rattle.arrival.specs.Arrival.{arrivalChecks}
+use Rattle.judge.specs.declared.ruling.Arrival.{Arrival}
+use Rattle.meaning.specs.Arrival.{arrivalChecks}
 use Rattle.judge.specs.Ending.{callChecks, headerEnding, octetsEnding, arrivalAt, endingOf}
 use Rattle.judge.specs.declared.Ending.{Ending}
 use Rattle.answers.specs.Answers.{partsOf, receiveNumber}

@@ -22,13 +22,13 @@ use Rattle.queue.specs.declared.Head.{Head}
 use Rattle.queue.specs.declared.Head.the-variants.{First, Nothing}
 use Rattle.queue.specs.declared.Queue.{Queue}
 use Rattle.state.specs.Relay.{Relay, queueIn}
-use Rattle.rule.specs.declared.Arrival.{Arrival}
-use Rattle.arrival.specs.Arrival.{arrivalChecks}
+use Rattle.judge.specs.declared.ruling.Arrival.{Arrival}
+use Rattle.meaning.specs.Arrival.{arrivalChecks}
 use Rattle.taking.specs.Taking.{notSetUp, handed, without, takeOutcome, takenState}
 use Rattle.judge.specs.Ending.{noRuling, refusedBy, ruled, callChecks, headerEnding, octetsEnding, arrivalAt, endingOf}
 use Rattle.judge.specs.declared.Ending.{Ending}
 use Rattle.tally.specs.Tally.{movesOf, countedAll, counterFor}
-use Rattle.outgo.specs.Outgo.{entered, enteredIf, enteredAll, outputOf}
+use Rattle.relay.specs.Outgo.{entered, enteredIf, enteredAll, outputOf}
 use Rattle.relay.specs.Received.{entryOf, receivedState}
 use Rattle.taking.specs.declared.Taking.{Taking}
 use Rattle.taking.specs.declared.Taking.the-variants.{Handed, Refused}

@@ -23,8 +23,8 @@ use Rattle.routes.specs.declared.Found.{Found}
 use Rattle.routes.specs.declared.Found.the-variants.{At, No}
 use Rattle.routes.proofs.Longest.{Contiguous, Distinct, maskAt, CandidateAt, taken-contiguous, search-most-ones, search-only}
 use Rattle.state.specs.Relay.{Relay}
-use Rattle.ready.specs.Ready.{readySet}
-use Rattle.ready.specs.Record.{recordChecks}
+use Rattle.refusals.specs.Ready.{readySet}
+use Rattle.refusals.specs.Record.{recordChecks}
 use Rattle.history.specs.Calls.{Call, after}
 use Rattle.history.proofs.Reach.{Kept, kept-after}
 use Rattle.history.proofs.Keys.{keys-unique}

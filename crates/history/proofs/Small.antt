@@ -18,7 +18,7 @@ use Rattle.verdict.specs.declared.Case.{Case}
 use Rattle.verdict.specs.declared.Line.{Line}
 use Rattle.verdict.specs.declared.Line.the-variants.{Unasked, Refused, Wanted}
 use Rattle.verdict.specs.declared.Ruling.{Ruling}
-use Rattle.rule.specs.Ruling.{ruledBy}
+use Rattle.judge.specs.Ruling.{ruledBy}
 use Rattle.judge.specs.Ending.{endingOf}
 use Rattle.history.proofs.Listed.{of-any-ending}
 

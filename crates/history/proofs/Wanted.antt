@@ -24,9 +24,9 @@ use Rattle.routes.specs.declared.Found.{Found}
 use Rattle.routes.specs.declared.Found.the-variants.{At, No}
 use Rattle.routes.specs.declared.Route.{Route}
 use Rattle.routes.proofs.Longest.{search-found}
-use Rattle.ready.specs.Ready.{isSetUp, readySet}
-use Rattle.ready.specs.Record.{recordChecks}
-use Rattle.ways.specs.Ways.{wayOf, placeFor, wayFor}
+use Rattle.refusals.specs.Ready.{isSetUp, readySet}
+use Rattle.refusals.specs.Record.{recordChecks}
+use Rattle.lookup.specs.Ways.{wayOf, placeFor, wayFor}
 use Rattle.state.specs.Relay.{Relay, routeIn, groupIn, pathIn}
 use Rattle.survey.specs.Survey.{surveyBelow, surveyOf}
 use Rattle.survey.specs.declared.Sought.{Sought}

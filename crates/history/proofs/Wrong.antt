@@ -12,7 +12,7 @@ use Rattle.address.specs.Class.{familyOf, scpsClass, netClass, classIn, classOf
 use Rattle.address.specs.Mask.{onesBelow, onesOf}
 use Rattle.address.specs.declared.Class.the-variants as class
 use Rattle.header.specs.declared.Octet.the-variants as octet
-use Rattle.datagram.specs.Asked.{spentOf}
+use Rattle.meaning.specs.Asked.{spentOf}
 use Rattle.routes.specs.Refusals.{codesRefused}
 use Rattle.routes.specs.Routes.{matched, candidate}
 use Rattle.routes.specs.Search.{beaten, betterOf, searchFrom, searchOf}
@@ -21,7 +21,7 @@ use Rattle.routes.specs.declared.Route.{Route}
 use Rattle.routes.proofs.Marked as marked
 use Rattle.verdict.specs.Rule.{routeLine}
 use Rattle.verdict.specs.declared.Line.the-variants.{Refused}
-use Rattle.ways.specs.Ways.{wayOf}
+use Rattle.lookup.specs.Ways.{wayOf}
 use Rattle.state.specs.Relay.{Relay}
 use Rattle.survey.specs.Survey.{isWide}
 use Rattle.survey.specs.declared.Sought.{Sought}

@@ -20,20 +20,20 @@ use Rattle.meaning.specs.Names.{aimOf, sourceOf}
 use Rattle.networks.specs.Networks.{subnetBroadcast, broadcastIn, classBroadcast}
 use Rattle.survey.specs.Survey.{oursAt, surveyBelow}
 use Rattle.verdict.specs.Rule.{targetOf, localOf, routeLine, lineOf, grantedOf, copiesOf, rulingOf}
-use Rattle.rule.specs.Ruling.{ruledBy, ruleTarget, ruleOf}
+use Rattle.judge.specs.Ruling.{ruledBy, ruleTarget, ruleOf}
 use Rattle.taking.specs.Taking.{notSetUp}
 use Rattle.judge.specs.Ending.{callChecks, headerEnding, endingOf}
 use Rattle.judge.specs.declared.Ending.{Ending}
 use Rattle.settings.specs.Refusals.{otherClass, portMaskRefused, formRefused, onesRefused}
-use Rattle.ready.specs.Ready.{readySet}
-use Rattle.elsewhere.specs.Elsewhere.{routeElsewhere}
+use Rattle.refusals.specs.Ready.{readySet}
+use Rattle.refusals.specs.Elsewhere.{routeElsewhere}
 use Rattle.routes.specs.Refusals.{prefixRefused, codesRefused}
 use Rattle.routes.specs.Routes.{matched, candidate, sameEntry}
 use Rattle.routes.specs.Search.{beaten, betterOf, searchFrom, searchOf}
 use Rattle.queue.specs.Queue.{fresh, putOf}
 use Rattle.state.specs.Relay.{Relay, freshRelay, queueIn, counterIn}
 use Rattle.tally.specs.Tally.{counterFor, countedAt}
-use Rattle.outgo.specs.Outgo.{enteredIf, enteredAll}
+use Rattle.relay.specs.Outgo.{enteredIf, enteredAll}
 use Rattle.relay.specs.Received.{receivedState}
 use Rattle.history.specs.Calls.{Call, setRouter, setPort, setRoute, receives, done, after}
 use Rattle.history.specs.Tally.{tally}

@@ -17,7 +17,7 @@ use Rattle.refusals.specs.Lists.{portChecks, routeChecks, groupChecks, pathChec
 use Rattle.adjust.specs.Settled.{newRoute, settledRouter, settledPort, settledRoute, settledGroup, settledPath, clearedRoute, clearedGroup, clearedPath}
 use Rattle.taking.specs.Taking.{takenState}
 use Rattle.answers.specs.Answers.{refusalNumber}
-use Rattle.lent.specs.View.{Lent, lent, told, changed}
+use Rattle.lent_state.specs.View.{Lent, lent, told, changed}
 use Rattle.harpjuniper.specs.Face.{readingOf, buildAnswer, buildOutput}
 use Rattle.harpjuniper.specs.declared.Reading.{Reading}
 use Rattle.harpjuniper_reads.specs.Back.{refusedRouter, portBack, routeBack, groupBack, pathBack, noPortBack, noRouteBack, noGroupBack, noPathBack}

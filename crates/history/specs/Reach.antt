@@ -14,8 +14,8 @@ use Rattle.routes.specs.Routes.{isFilled, sameEntry, emptyRoute}
 use Rattle.settings.specs.Refusals.{portClassRefused, portMaskRefused, mtuRefused, groupClassRefused, pathClassRefused}
 use Rattle.settings.specs.Sets.{setRefused}
 use Rattle.state.specs.Relay.{Relay, portIn, routeIn, groupIn, pathIn}
-use Rattle.ready.specs.Ready.{isSetUp, readySet}
-use Rattle.ready.specs.Record.{recordChecks}
+use Rattle.refusals.specs.Ready.{isSetUp, readySet}
+use Rattle.refusals.specs.Record.{recordChecks}
 
 pub record Reached (r : Relay) : Type 0 where
   -- a port that is set up has a unicast address, a good mask and MTU

@@ -21,15 +21,15 @@ use Rattle.meaning.specs.Names.{aimOf, sourceOf, badAim, badSource}
 use Rattle.meaning.specs.declared.Origin.{Origin}
 use Rattle.header.specs.declared.Addresses.{Addresses}
 use Rattle.meaning.specs.declared.Aim.{Aim}
-use Rattle.datagram.specs.Asked.{precedenceOf}
+use Rattle.meaning.specs.Asked.{precedenceOf}
 use Rattle.records.specs.declared.Port.{Port}
 use Rattle.state.specs.Relay.{Relay, portIn}
 use Rattle.verdict.specs.declared.Ruling.{Ruling}
-use Rattle.rule.specs.Ruling.{ruleOf}
-use Rattle.rule.specs.declared.Arrival.{Arrival}
+use Rattle.judge.specs.Ruling.{ruleOf}
+use Rattle.judge.specs.declared.ruling.Arrival.{Arrival}
 use Rattle.judge.specs.declared.Ending.{Ending}
 use Rattle.taking.specs.Taking.{notSetUp}
-use Rattle.arrival.specs.Arrival.{arrivalChecks}
+use Rattle.meaning.specs.Arrival.{arrivalChecks}
 use Rattle.judge.specs.Ending.{refusedBy, orElse, callChecks, headerEnding, octetsEnding, arrivalAt, endingOf}
 
 -- ---- an ending by a number, or by what follows

@@ -15,7 +15,7 @@ use Rattle.header.specs.declared.Read.{Read}
 use Rattle.header.specs.declared.Read.the-variants.{Good, Refused}
 use Rattle.header.proofs.Passed.{passed}
 use Rattle.state.specs.Relay.{Relay}
-use Rattle.rule.specs.declared.Arrival.{Arrival}
+use Rattle.judge.specs.declared.ruling.Arrival.{Arrival}
 use Rattle.judge.specs.declared.Ending.{Ending}
 use Rattle.judge.specs.Ending.{refusedBy, callChecks, octetsEnding, arrivalAt, endingOf}
 

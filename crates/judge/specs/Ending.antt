@@ -10,12 +10,12 @@ use Rattle.header.specs.declared.Header.{Header}
 use Rattle.header.specs.declared.Read.{Read}
 use Rattle.header.specs.declared.Read.the-variants as read
 use Rattle.meaning.specs.Names.{aimOf}
-use Rattle.arrival.specs.Arrival.{arrivalChecks}
-use Rattle.datagram.specs.Asked.{precedenceOf}
+use Rattle.meaning.specs.Arrival.{arrivalChecks}
+use Rattle.meaning.specs.Asked.{precedenceOf}
 use Rattle.verdict.specs.declared.Ruling.{Ruling}
 use Rattle.state.specs.Relay.{Relay, portIn}
-use Rattle.rule.specs.Ruling.{ruleOf}
-use Rattle.rule.specs.declared.Arrival.{Arrival}
+use Rattle.judge.specs.Ruling.{ruleOf}
+use Rattle.judge.specs.declared.ruling.Arrival.{Arrival}
 use Rattle.taking.specs.Taking.{notSetUp}
 use Rattle.judge.specs.declared.Ending.{Ending}
 

@@ -6,10 +6,12 @@
 //
 // The awkward case is a refusal: it has a ruling too, one that delivers nothing, grants nothing and drops nothing, so that whoever carries
 // an ending out need not ask whether it is a refusal.
+pub mod ruling;
+
+use crate::ruling::Arrival;
 use checks::Check;
 use header::Header;
 use header::Read;
-use rule::Arrival;
 use verdict::Ruling;
 ghost use mathlib.Core.Path.{_≡_};
 ghost use Prim.Native.Nat.{_<_};
@@ -61,17 +63,17 @@ fn judge_header(state: &[u32], at: Arrival, h: Header) -> Ending
 {
     let f = h.fields;
     let port = at.address;
-    let refusal = arrival::check_arrival(port, f);
+    let refusal = meaning::arrival::check_arrival(port, f);
     if refusal != 0 {
         return refused(refusal);
     }
     let addresses = f.addresses;
     let qos = f.qos;
-    let ruling = rule::rule(state, at, meaning::aim_of(port, addresses), h);
+    let ruling = crate::ruling::rule(state, at, meaning::aim_of(port, addresses), h);
     Ending {
         refusal: 0,
         ruling,
-        precedence: datagram::precedence_of(qos),
+        precedence: meaning::asked::precedence_of(qos),
         size: h.size,
     }
 }
@@ -98,7 +100,7 @@ pub fn judge(state: &[u32], port: u32, octets: &[u8], room: usize) -> Ending
     if room < ROOM {
         return refused(17);
     }
-    let p = store::port_of(state, port as usize);
+    let p = state_ports::port_of(state, port as usize);
     let address = p.address;
     let at = Arrival {
         set: sets::only_port(port),

@@ -3,6 +3,8 @@
 // Group and path addresses are matched exactly and differ from place to place, so that at most one place holds an address; what is
 // found is told to the verdict as the ports to send to, and whether this node is meant too. The awkward case is a state that no
 // history leaves, with one address in two places: the lower place holds.
+pub mod for_target;
+
 use address::Address;
 use address::PathAddress;
 use verdict::Place;
@@ -21,7 +23,7 @@ fn find_group(state: &[u32], a: Address) -> usize
 {
     let mut i = 0;
     while i < PLACES {
-        let g = places::group_of(state, i);
+        let g = state_places::group_of(state, i);
         if records::holds_group(g, a) {
             return i;
         }
@@ -37,7 +39,7 @@ fn find_path(state: &[u32], p: PathAddress) -> usize
 {
     let mut i = 0;
     while i < PLACES {
-        let x = places::path_of(state, i);
+        let x = state_places::path_of(state, i);
         if records::holds_path(x, p) {
             return i;
         }
@@ -53,7 +55,7 @@ pub fn group_place(state: &[u32], a: Address, arrival: u32) -> Place
 {
     let i = find_group(state, a);
     if i < PLACES {
-        let g = places::group_of(state, i);
+        let g = state_places::group_of(state, i);
         return Place::Held(g.send, g.subscribed & arrival);
     }
     Place::Missing
@@ -66,7 +68,7 @@ pub fn path_place(state: &[u32], p: PathAddress) -> Place
 {
     let i = find_path(state, p);
     if i < PLACES {
-        let x = places::path_of(state, i);
+        let x = state_places::path_of(state, i);
         return Place::Held(x.send, x.here);
     }
     Place::Missing

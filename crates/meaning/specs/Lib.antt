@@ -1,2 +1,6 @@
 -- What the contracts cite: what the addresses of a header name, by the arrival port.
 pub mod Names
+-- What the contracts cite: what the verdict asks of a header.
+pub mod Asked
+-- What the contract cites: the checks of a good header.
+pub mod Arrival

@@ -5,6 +5,9 @@
 // once sent a dose to another domain). So what a header names is a function of the arrival port's address and the header, stated
 // once here; everything later compares names and never bare octets. The awkward case is an IPv6 header, which is not carried: it
 // names 0.0.0.0, which no check lets through.
+pub mod arrival;
+pub mod asked;
+
 use address::Address;
 use address::PathAddress;
 use checks::Check;
@@ -105,7 +108,7 @@ pub fn check_carried(f: Fields) -> Check
     if routing_of(qos) != 0 {
         return Check::Failed;
     }
-    if flags::ipv6_flag(addresses) != 0 {
+    if header::flags::ipv6_flag(addresses) != 0 {
         return Check::Failed;
     }
     Check::Passed

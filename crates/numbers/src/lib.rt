@@ -1,8 +1,11 @@
 // The fields of a header as numbers.
 //
 // C has neither enums with data nor kinds of address, so the fields travel as one struct of numbers (`hj_fields` in the C header has
-// the same members in the same order). Outward nothing can go wrong: what is absent is 0. The way back, where much can, is crate
-// gather, and crate intake tests it.
+// the same members in the same order). Outward nothing can go wrong: what is absent is 0. The way back, where much can, is module
+// `fields_from`, and module `validity` tests it.
+pub mod fields_from;
+pub mod validity;
+
 use header::Addresses;
 use header::Fields;
 use header::Octet;
@@ -162,18 +165,18 @@ pub fn numbers_of(f: Fields) -> Numbers
         source,
         time: time_of(stamp),
         tpid: f.tpid as u32,
-        sourced: flags::source_flag(addresses) as u32,
-        extended: flags::extended_flag(addresses) as u32,
-        ipv6: flags::ipv6_flag(addresses) as u32,
-        qualified: flags::qos_flag(qos) as u32,
+        sourced: header::flags::source_flag(addresses) as u32,
+        extended: header::flags::extended_flag(addresses) as u32,
+        ipv6: header::flags::ipv6_flag(addresses) as u32,
+        qualified: header::flags::qos_flag(qos) as u32,
         precedence: precedence_of(qos),
         routing: routing_of(qos),
         program: program_of(qos),
-        counted: flags::octet_flag(hops) as u32,
+        counted: header::flags::octet_flag(hops) as u32,
         hops: value_of(hops),
-        format: flags::stamp_format(stamp) as u32,
+        format: header::flags::stamp_format(stamp) as u32,
         pfield: pfield_of(stamp),
-        expands: flags::octet_flag(expanded) as u32,
+        expands: header::flags::octet_flag(expanded) as u32,
         expanded: value_of(expanded),
         checksum: f.checksum as u32,
         intermediate: f.intermediate as u32,

@@ -4,6 +4,8 @@
 // that the octets reach that far: an octet past the end reads as 0, and check 3 refuses every header whose own length passes the
 // length field, or whose length field passes the octets lent, before a field is made of it. The awkward case is a P-field that lies
 // past the end: it reads as 0, which only makes the header too long by less, and the answer is 3 all the same.
+pub mod fields;
+
 use checks::Check;
 use header::Control;
 use header::Header;
@@ -50,7 +52,7 @@ fn check_whole(s: &[u8], k: Control) -> Check
 fn check_length(s: &[u8], l: Layout) -> Check
     ensures { λ r. ⌜ r ≡ checkOf (misfit (now (s .entry)) l) ⌝ }
 {
-    let length = fields::length_at(s);
+    let length = crate::fields::length_at(s);
     if s.len() < length {
         return Check::Failed;
     }
@@ -100,10 +102,10 @@ pub fn read_header(s: &[u8]) -> Read
     let Check::Passed = check_sum(s, k, l) else {
         return Read::Refused(5);
     };
-    let fields = fields::fields_at(s, k, l);
+    let fields = crate::fields::fields_at(s, k, l);
     Read::Good(Header {
         fields,
-        length: fields::length_at(s),
+        length: crate::fields::length_at(s),
         size: l.size,
     })
 }

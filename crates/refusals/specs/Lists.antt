@@ -13,9 +13,9 @@ use Rattle.settings.specs.Refusals.{portClassRefused, groupClassRefused, pathCl
 use Rattle.settings.specs.Refusals.{mtuRefused, flagRefused, placeRefused}
 use Rattle.settings.specs.Sets.{setRefused}
 use Rattle.state.specs.Relay.{Relay, queueIn}
-use Rattle.ready.specs.Ready.{readySet}
-use Rattle.ready.specs.Record.{recordChecks}
-use Rattle.elsewhere.specs.Elsewhere.{routeElsewhere, groupElsewhere, pathElsewhere}
+use Rattle.refusals.specs.Ready.{readySet}
+use Rattle.refusals.specs.Record.{recordChecks}
+use Rattle.refusals.specs.Elsewhere.{routeElsewhere, groupElsewhere, pathElsewhere}
 
 -- "written only while nothing waits on it"
 abbrev pub entriesWait : Relay → ℕ → Bool

@@ -5,6 +5,10 @@
 // order, one function for each kind of setting. Nothing is written: a call asks here first and writes only where the answer is 0, so
 // that a refused setting changes nothing. Each function is total: a number out of range is refused by the first test, before it is
 // used as a place.
+pub mod groups_and_paths;
+pub mod same_entry;
+pub mod set_up;
+
 use address::Address;
 use address::Mask;
 use checks::Check;
@@ -26,7 +30,7 @@ fn check_idle(state: &[u32], p: usize) -> Check
     requires { ⌜ (length (now state) ≡ stateWords) × (p < 8) ⌝ }
     ensures { λ r. ⌜ r ≡ checkOf (entriesWait (decode (now (state .entry))) p) ⌝ }
 {
-    if waiting::queue_of(state, p).count == 0 {
+    if state_queues::queue_of(state, p).count == 0 {
         return Check::Passed;
     }
     Check::Failed
@@ -63,11 +67,11 @@ pub fn route_refusal(state: &[u32], place: u32, x: Route) -> u32
     let Check::Passed = settings::check_place(place, ROUTES) else {
         return 21;
     };
-    let refused = ready::record_refusal(x, ready::ready_ports(state));
+    let refused = crate::set_up::record_refusal(x, crate::set_up::ready_ports(state));
     if refused != 0 {
         return refused;
     }
-    let Check::Passed = elsewhere::check_other_routes(state, place as usize, x) else {
+    let Check::Passed = crate::same_entry::check_other_routes(state, place as usize, x) else {
         return 23;
     };
     0

@@ -5,6 +5,8 @@
 //
 // The awkward case is the output: it is written only where some port took an entry, and then the header was read and there was room,
 // which the verdict has tested.
+pub mod outgoing;
+
 use address::Slot;
 use judge::Ending;
 use queue::Entry;
@@ -12,7 +14,7 @@ ghost use mathlib.Core.Path.{_≡_};
 ghost use lib.ListN.{length};
 ghost use Rattle.state.specs.Layout.{stateWords, decode};
 ghost use Rattle.judge.specs.Ending.{endingOf};
-ghost use Rattle.outgo.specs.Outgo.{outputOf};
+ghost use Rattle.relay.specs.Outgo.{outputOf};
 ghost use Rattle.relay.specs.Received.{receivedState};
 
 // What becomes of the octets that came in by a port; they are known to the caller by the slot.
@@ -25,7 +27,7 @@ pub fn receive(state: &mut [u32], port: u32, slot: Slot, octets: &[u8], output: 
     let e = judge::judge(state, port, octets, output.len());
     let took = e.ruling.took;
     tally::count(state, e);
-    outgo::enter_all(
+    crate::outgoing::enter_all(
         state,
         took,
         Entry {
@@ -33,6 +35,6 @@ pub fn receive(state: &mut [u32], port: u32, slot: Slot, octets: &[u8], output: 
             precedence: e.precedence,
         },
     );
-    outgo::send(took, octets, output);
+    crate::outgoing::send(took, octets, output);
     e
 }

@@ -95,8 +95,8 @@ pub fn survey(state: &[u32], q: Sought) -> Survey
     };
     let mut i = 0;
     while i < PORTS {
-        let p = store::port_of(state, i);
-        let waiting = waiting::count_of(state, i);
+        let p = state_ports::port_of(state, i);
+        let waiting = state_queues::count_of(state, i);
         s = see(s, sets::only_port(i as u32), p, waiting, q);
         i += 1;
     }

@@ -24,7 +24,7 @@ pub fn check_port(state: &[u32], port: u32) -> Check
     if PORTS <= port {
         return Check::Failed;
     }
-    let p = store::port_of(state, port as usize);
+    let p = state_ports::port_of(state, port as usize);
     if p.ready == 0 {
         return Check::Failed;
     }
@@ -46,13 +46,13 @@ pub fn take(state: &mut [u32], port: u32) -> Taking
     let Check::Passed = check_port(state, port) else {
         return Taking::Refused(16);
     };
-    let q = waiting::queue_of(state, port as usize);
+    let q = state_queues::queue_of(state, port as usize);
     let taken = q.take();
     let head = taken.head;
     let Head::First(entry) = head else {
         return Taking::Refused(18);
     };
     let rest = taken.queue;
-    waiting::put_queue(state, port as usize, rest);
+    state_queues::put_queue(state, port as usize, rest);
     Taking::Handed(entry)
 }

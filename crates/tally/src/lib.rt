@@ -108,7 +108,7 @@ fn count_at(state: &mut [u32], place: u32, n: u32)
     if COUNTERS <= place {
         return;
     }
-    store::add_count(state, place as usize, n);
+    state_ports::add_count(state, place as usize, n);
 }
 
 // What a ruling counts.

@@ -2,9 +2,13 @@
 //
 // The rule is pure. It is handed what others looked up (which ports are set up, which have the destination's address, what the
 // places for groups and paths hold, which route was found, which queues are full) as small numbers. The kinds that it is told in, the
-// definitions of both halves and the laws between them stand here; crate local says what a destination is to this node, crate lines which
-// line of the onward half fits, crate copies which of the ports wanted are granted, took or drop a copy. Nothing is written; the relay
+// definitions of both halves and the laws between them stand here; module `local_half` says what a destination is to this node, module
+// `onward_half` which line of the onward half fits, module `copies` which of the ports wanted are granted, took or drop a copy. Nothing is written; the relay
 // applies the ruling. A set of ports is a number in which port p is 2 to the power of p.
+pub mod copies;
+pub mod local_half;
+pub mod onward_half;
+
 ghost use mathlib.Core.Path.{_≡_};
 ghost use Rattle.verdict.specs.Rule.{exceptBy};
 

@@ -1,5 +1,5 @@
 -- `harpjuniper_reads::hj_get_router` meets its contract. Assumes nothing.
-use Rattle.lent.proofs.Calls.{held-told, other-told}
+use Rattle.lent_state.proofs.Calls.{held-told, other-told}
 use borrow.Author.Needs.{needs}
 use Rattle.harpjuniper_reads.proofs.hj_get_router.Statement.{statement}
 use Rattle.harpjuniper_reads.proofs.hj_get_router.Tie as tie

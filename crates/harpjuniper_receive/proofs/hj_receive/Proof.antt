@@ -2,7 +2,7 @@
 use Rattle.harpjuniper_receive.proofs.Ended.{done-by, sent-by}
 use mathlib.Core.Path.{ap, _∙_}
 use Rattle.answers.specs.Answers.{receiveNumber}
-use Rattle.lent.proofs.Calls.{held-told, held-changed, other-told, other-changed}
+use Rattle.lent_state.proofs.Calls.{held-told, held-changed, other-told, other-changed}
 use borrow.Author.Needs.{needs}
 use Rattle.harpjuniper_receive.proofs.hj_receive.Statement.{statement}
 use Rattle.harpjuniper_receive.proofs.hj_receive.Tie as tie

@@ -1,7 +1,7 @@
 -- `harpjuniper_relay::hj_take` meets its contract. Assumes nothing.
 use mathlib.Core.Path.{ap, _∙_}
 use Rattle.answers.specs.Answers.{takingNumber}
-use Rattle.lent.proofs.Calls.{held-told, held-changed, other-told, other-changed}
+use Rattle.lent_state.proofs.Calls.{held-told, held-changed, other-told, other-changed}
 use borrow.Author.Needs.{needs}
 use Rattle.harpjuniper_relay.proofs.hj_take.Statement.{statement}
 use Rattle.harpjuniper_relay.proofs.hj_take.Tie as tie

@@ -1,6 +1,6 @@
 -- `harpjuniper_relay::hj_waiting` meets its contract. Assumes nothing.
 use mathlib.Core.Path.{_∙_}
-use Rattle.lent.proofs.Calls.{held-told, other-told}
+use Rattle.lent_state.proofs.Calls.{held-told, other-told}
 use Rattle.harpjuniper_relay.proofs.Calls.{no-queue, count}
 use borrow.Author.Needs.{needs}
 use Rattle.harpjuniper_relay.proofs.hj_waiting.Statement.{statement}

@@ -1,6 +1,6 @@
 -- `harpjuniper_settings::hj_fresh` meets its contract. Assumes nothing.
 use mathlib.Core.Path.{refl}
-use Rattle.lent.proofs.Calls.{held-told, held-changed, other-told, other-changed}
+use Rattle.lent_state.proofs.Calls.{held-told, held-changed, other-told, other-changed}
 use borrow.Author.Needs.{needs}
 use Rattle.harpjuniper_settings.proofs.hj_fresh.Statement.{statement}
 use Rattle.harpjuniper_settings.proofs.hj_fresh.Tie as tie

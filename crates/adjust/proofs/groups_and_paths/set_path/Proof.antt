@@ -1,0 +1,33 @@
+-- `adjust::groups_and_paths::set_path` meets its contract. Assumes nothing.
+use borrow.Author.Needs.{needs}
+use mathlib.Core.Path.{refl}
+use Rattle.refusals.proofs.Places.{place-there}
+use Rattle.adjust.proofs.Settled.{refused, taken}
+use Rattle.adjust.proofs.groups_and_paths.set_path.Statement.{statement}
+use Rattle.adjust.proofs.groups_and_paths.set_path.Tie as tie
+
+path-refusal-requires : tie.Need-path-refusal-requires
+path-refusal-requires c κs = search needs
+
+same-length : tie.Need-same-length
+same-length c = search needs
+
+returns : tie.Need-returns
+returns c = refused _ _ _ _ (c .before .path-refusal .ensures) (c .if1 .taken)
+
+put-path-requires : tie.Need-put-path-requires
+put-path-requires c κs =
+    let test = c .before in
+    (search needs, place-there _ 16 _ _ refl (test .before .path-refusal .ensures) (test .if1 .left))
+
+same-length-2 : tie.Need-same-length-2
+same-length-2 c = search needs
+
+returns-2 : tie.Need-returns-2
+returns-2 c =
+    let put = c .before .before in
+    let test = put .before .before in
+    taken _ _ _ _ (test .before .path-refusal .ensures) _ (test .if1 .left) (put .put-path .ensures)
+
+pub set-path-spec : {M : Type 1} → statement M
+set-path-spec = tie.close (tie.spec path-refusal-requires same-length returns put-path-requires same-length-2 returns-2)

@@ -1,0 +1,104 @@
+// The settings calls of group and path places: filling one and emptying one.
+//
+// As in the crate `adjust`: each call asks first what refuses it and writes one place only where nothing does. It stands apart to keep
+// the check of each crate short. A set names ports that are set up while it is written; a port is never emptied, so it stays so.
+use address::Address;
+use address::PathAddress;
+use checks::Check;
+use records::Group;
+use records::PathPlace;
+ghost use mathlib.Core.Path.{_≡_};
+ghost use lib.ListN.{length};
+ghost use Rattle.checks.specs.Order.{firstOf};
+ghost use Rattle.state.specs.Layout.{stateWords, decode};
+ghost use Rattle.refusals.specs.Lists.{groupChecks, pathChecks, clearChecks};
+ghost use Rattle.adjust.specs.Settled.{settledGroup, settledPath, clearedGroup, clearedPath};
+
+// How many places there are.
+const GROUPS: u32 = 16;
+
+const PATHS: u32 = 16;
+
+// Fills a group place.
+pub fn set_group(state: &mut [u32], place: u32, address: Address, send: u32, subscribed: u32) -> u32
+    requires { ⌜ length (now state) ≡ stateWords ⌝ }
+    ensures answer { λ r. ⌜ r ≡ firstOf (groupChecks (decode (now (state .entry))) place address send subscribed) ⌝ }
+    ensures left { λ _. ⌜ decode (now (state .exit)) ≡ settledGroup (decode (now (state .entry))) place address send subscribed ⌝ }
+{
+    let refusal = refusals::groups_and_paths::group_refusal(
+        state,
+        place,
+        address,
+        send,
+        subscribed,
+    );
+    if refusal != 0 {
+        return refusal;
+    }
+    let x = Group {
+        filled: 1,
+        address,
+        send,
+        subscribed,
+    };
+    state_places::put_group(state, place as usize, x);
+    0
+}
+
+// Fills a path place.
+pub fn set_path(state: &mut [u32], place: u32, path: PathAddress, send: u32, here: u32) -> u32
+    requires { ⌜ length (now state) ≡ stateWords ⌝ }
+    ensures answer { λ r. ⌜ r ≡ firstOf (pathChecks (decode (now (state .entry))) place path send here) ⌝ }
+    ensures left { λ _. ⌜ decode (now (state .exit)) ≡ settledPath (decode (now (state .entry))) place path send here ⌝ }
+{
+    let refusal = refusals::groups_and_paths::path_refusal(state, place, path, send, here);
+    if refusal != 0 {
+        return refusal;
+    }
+    let x = PathPlace {
+        filled: 1,
+        path,
+        send,
+        here,
+    };
+    state_places::put_path(state, place as usize, x);
+    0
+}
+
+// Empties a group place.
+pub fn clear_group(state: &mut [u32], place: u32) -> u32
+    requires { ⌜ length (now state) ≡ stateWords ⌝ }
+    ensures answer { λ r. ⌜ r ≡ firstOf (clearChecks place 16) ⌝ }
+    ensures left { λ _. ⌜ decode (now (state .exit)) ≡ clearedGroup (decode (now (state .entry))) place ⌝ }
+{
+    let Check::Passed = settings::check_place(place, GROUPS) else {
+        return 21;
+    };
+    let x = Group {
+        filled: 0,
+        address: Address(0),
+        send: 0,
+        subscribed: 0,
+    };
+    state_places::put_group(state, place as usize, x);
+    0
+}
+
+// Empties a path place.
+pub fn clear_path(state: &mut [u32], place: u32) -> u32
+    requires { ⌜ length (now state) ≡ stateWords ⌝ }
+    ensures answer { λ r. ⌜ r ≡ firstOf (clearChecks place 16) ⌝ }
+    ensures left { λ _. ⌜ decode (now (state .exit)) ≡ clearedPath (decode (now (state .entry))) place ⌝ }
+{
+    let Check::Passed = settings::check_place(place, PATHS) else {
+        return 21;
+    };
+    let x = PathPlace {
+        filled: 0,
+        path: PathAddress(0),
+        send: 0,
+        here: 0,
+    };
+    state_places::put_path(state, place as usize, x);
+    0
+}

@@ -1,2 +1,0 @@
--- What the contracts cite: what the verdict asks of a header.
-pub mod Asked

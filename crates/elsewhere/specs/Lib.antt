@@ -1,2 +1,0 @@
--- What the contracts cite: whether another place holds the same entry.
-pub mod Elsewhere

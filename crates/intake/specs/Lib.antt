@@ -1,2 +1,0 @@
--- What the contracts cite: numbers that stand for no fields.
-pub mod Out

@@ -1,0 +1,23 @@
+-- `judge::ruling::case_of` meets its contract. Assumes nothing.
+use borrow.Author.Needs.{needs}
+use Rattle.judge.proofs.ruling.case_of.Statement.{statement}
+use Rattle.judge.proofs.ruling.case_of.Tie as tie
+
+cast-t6 : tie.Need-cast-t6
+cast-t6 c = search needs
+
+assigned-of-requires : tie.Need-assigned-of-requires
+assigned-of-requires c κs = search needs
+
+is-basic-requires : tie.Need-is-basic-requires
+is-basic-requires c κs = search needs
+
+spent-of-requires : tie.Need-spent-of-requires
+spent-of-requires c κs = search needs
+
+returns : tie.Need-returns
+returns c = cc
+
+pub case-of-spec : {M : Type 1} → statement M
+case-of-spec =
+    tie.close (tie.spec cast-t6 assigned-of-requires is-basic-requires spent-of-requires returns)

@@ -1,0 +1,108 @@
+// The ruling on a datagram whose header is good, over the state.
+//
+// What the verdict is handed is looked up here: the survey of the ports, the place of the group or the path, the route. Nothing is
+// written, and what a line does not ask is not looked up; the definition says the same, line by line.
+//
+// The awkward case is a path: its number is never compared with a port's address, a broadcast or a route, even where they are equal, so
+// the ports are surveyed for the address 0.0.0.0 and what they say of it is not asked.
+use address::Address;
+use header::Fields;
+use header::Header;
+use meaning::Aim;
+use survey::Sought;
+use verdict::Case;
+use verdict::Place;
+use verdict::Ruling;
+use verdict::Survey;
+use verdict::Target;
+use verdict::Way;
+ghost use mathlib.Core.Path.{_≡_};
+ghost use Prim.Native.Nat.{_<_};
+ghost use lib.ListN.{length};
+ghost use Rattle.state.specs.Layout.{stateWords, decode};
+ghost use Rattle.judge.specs.Ruling.{ruledBy, ruleNode, caseOf, soughtOf, ruleAim, ruleOf};
+
+// Where a datagram came in: the port as a set, and its address.
+pub struct Arrival {
+    pub set: u32,
+    pub address: Address,
+}
+
+// Both halves, of what was looked up.
+fn ruled(t: Target, p: Place, w: Way, c: Case, s: Survey) -> Ruling
+    ensures { λ r. ⌜ r ≡ ruledBy t p w c s ⌝ }
+{
+    let local = verdict::local_half::local_of(t, p, c);
+    let line = verdict::onward_half::line_of(t, p, w, c, s.ready, local);
+    let granted = verdict::copies::granted_of(line, c, s);
+    verdict::copies::ruling_of(local, granted, s.full)
+}
+
+// The ruling where the destination is an end system's address or a group's.
+fn rule_node(state: &[u32], a: Address, c: Case, s: Survey) -> Ruling
+    requires { ⌜ length (now state) ≡ stateWords ⌝ }
+    ensures { λ r. ⌜ r ≡ ruleNode (decode (now (state .entry))) a c s ⌝ }
+{
+    let t = verdict::local_half::target_of(address::class_of(a), s);
+    let place = lookup::for_target::place_for(state, t, a, c.arrival);
+    let way = lookup::for_target::way_for(state, t, a);
+    ruled(t, place, way, c, s)
+}
+
+// What the rule asks of the node, the arrival port and the header.
+fn case_of(router: u32, arrival: u32, f: Fields) -> Case
+    ensures { λ r. ⌜ r ≡ caseOf router arrival f ⌝ }
+{
+    let addresses = f.addresses;
+    let hops = f.hops;
+    Case {
+        arrival,
+        router,
+        intermediate: f.intermediate as u32,
+        assigned: meaning::asked::assigned_of(f.tpid),
+        basic: meaning::is_basic(addresses),
+        spent: meaning::asked::spent_of(hops),
+    }
+}
+
+// What is asked of the ports.
+fn sought_of(aim: Aim, domain: u32, length: u32) -> Sought
+    ensures { λ r. ⌜ r ≡ soughtOf aim domain length ⌝ }
+{
+    match aim {
+        Aim::Node(destination) => Sought {
+            destination,
+            domain,
+            length,
+        },
+        Aim::Line(_) => Sought {
+            destination: Address(0),
+            domain,
+            length,
+        },
+    }
+}
+
+// The ruling by what the destination names.
+fn rule_aim(state: &[u32], aim: Aim, c: Case, s: Survey) -> Ruling
+    requires { ⌜ length (now state) ≡ stateWords ⌝ }
+    ensures { λ r. ⌜ r ≡ ruleAim (decode (now (state .entry))) aim c s ⌝ }
+{
+    match aim {
+        Aim::Node(a) => rule_node(state, a, c, s),
+        Aim::Line(p) => ruled(Target::Path, lookup::path_place(state, p), Way::Lost, c, s),
+    }
+}
+
+// The ruling on a good header.
+pub fn rule(state: &[u32], at: Arrival, aim: Aim, h: Header) -> Ruling
+    requires { ⌜ (length (now state) ≡ stateWords) × (h .length < 8192) ⌝ }
+    ensures { λ r. ⌜ r ≡ ruleOf (decode (now (state .entry))) at aim h ⌝ }
+{
+    let f = h.fields;
+    let from = at.address;
+    let c = case_of(state_ports::router_of(state), at.set, f);
+    let q = sought_of(aim, networks::domain_of(from), h.length as u32);
+    let s = survey::survey(state, q);
+    rule_aim(state, aim, c, s)
+}

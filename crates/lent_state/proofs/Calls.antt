@@ -1,0 +1,31 @@
+-- A call on a lent state, where there is a relay and where there is none. Assumes nothing.
+use Prim.Native.Nat.{ℕ}
+use mathlib.Core.Path.{_≡_, ap, _∙_}
+use mathlib.Core.List.{List}
+use lib.ListN.{length}
+use borrow.Author.Tests.{eq-eqb, ne-eqb}
+use Rattle.state.specs.Relay.{Relay}
+use Rattle.state.specs.Layout.{stateWords, decode}
+use Rattle.lent_state.specs.View.{Lent, Held, lent, byLent, told, onLent, changed}
+
+module _ (w : List ℕ) (right : length w ≡ stateWords) where
+  is-held : lent w ≡ Held (decode w)
+  unfolding lent
+  is-held = simp (eq-eqb (length w) stateWords right)
+
+  pub held-told : {A : Type 0} (f : Relay → A) (d : A) {x : A} → x ≡ f (decode w) → x ≡ told f d w
+  unfolding told
+  held-told f d e = rw (is-held) e
+
+  pub held-changed : (f : Relay → Relay) (v : List ℕ) → length v ≡ stateWords → decode v ≡ f (decode w) → lent v ≡ changed f w
+  unfolding changed lent
+  held-changed f v long e = rw (is-held) (simp (eq-eqb (length v) stateWords long) (ap Held e))
+
+module _ (w : List ℕ) (wrong : length w ≡ stateWords → ⊥) where
+  pub other-told : {A : Type 0} (f : Relay → A) (d : A) → d ≡ told f d w
+  unfolding told lent
+  other-told f d = simp (ne-eqb (length w) stateWords wrong)
+
+  pub other-changed : (f : Relay → Relay) → lent w ≡ changed f w
+  unfolding changed lent
+  other-changed f = simp (ne-eqb (length w) stateWords wrong)

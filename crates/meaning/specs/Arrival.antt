@@ -1,0 +1,15 @@
+-- Steps 4, 5 and 6, by the arrival port's address: page 01, "One received datagram, step by step". The first whose condition holds ends the call
+-- with its number. Assumes nothing.
+use mathlib.Core.List.{[], _∷_}
+use Rattle.checks.specs.Order.{Checks}
+use Rattle.address.specs.declared.Address.{Address}
+use Rattle.header.specs.declared.Fields.{Fields}
+use Rattle.meaning.specs.Names.{aimOf, sourceOf, notCarried, noDomain, badAim, badSource}
+
+abbrev pub arrivalChecks : Address → Fields → Checks
+arrivalChecks at f =
+    (notCarried f, 8)
+    ∷ (noDomain (at .0) (f .addresses), 7)
+    ∷ (badAim (aimOf (at .0) (f .addresses)), 6)
+    ∷ (badSource (sourceOf (at .0) (f .addresses)), 6)
+    ∷ []

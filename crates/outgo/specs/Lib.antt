@@ -1,2 +1,0 @@
--- What the contracts cite: what goes out.
-pub mod Outgo

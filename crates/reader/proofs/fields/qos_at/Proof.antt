@@ -1,0 +1,20 @@
+-- `reader::fields::qos_at` meets its contract, absent and present. Assumes nothing.
+use borrow.Author.Needs.{needs}
+use borrow.Author.Tests.{eq-eqb, ne-eqb}
+use Rattle.header.specs.Read.{qosOf}
+use Rattle.reader.proofs.fields.qos_at.Statement.{statement}
+use Rattle.reader.proofs.fields.qos_at.Tie as tie
+
+returns : tie.Need-returns
+unfolding qosOf
+returns c = simp (eq-eqb _ _ (c .if1 .taken))
+
+octet-at-requires : tie.Need-octet-at-requires
+octet-at-requires c κs = search needs
+
+returns-2 : tie.Need-returns-2
+unfolding qosOf
+returns-2 c = simp (ne-eqb _ _ (c .before .if1 .left), ← c .octet-at .ensures)
+
+pub qos-at-spec : {M : Type 1} → statement M
+qos-at-spec = tie.close (tie.spec returns octet-at-requires returns-2)

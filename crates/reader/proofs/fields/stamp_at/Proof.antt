@@ -1,0 +1,69 @@
+-- `reader::fields::stamp_at` meets its contract, format by format. Assumes nothing.
+use borrow.Author.Needs.{needs}
+use borrow.Author.Tests.{ne-eqb}
+use Rattle.header.specs.Read.{stampOf}
+use Rattle.reader.proofs.fields.stamp_at.Statement.{statement}
+use Rattle.reader.proofs.fields.stamp_at.Tie as tie
+
+number-at-requires : tie.Need-number-at-requires
+number-at-requires c κs = search needs
+
+octet-at-requires : tie.Need-octet-at-requires
+octet-at-requires c κs = search needs
+
+cast-time-size : tie.Need-cast-time-size
+cast-time-size c = search needs
+
+add-time-size : tie.Need-add-time-size
+add-time-size c = search needs
+
+cast-time-size-2 : tie.Need-cast-time-size-2
+cast-time-size-2 c = search needs
+
+add-time-size-2 : tie.Need-add-time-size-2
+add-time-size-2 c = search needs
+
+add-number-at : tie.Need-add-number-at
+add-number-at c = search needs
+
+number-at-requires-2 : tie.Need-number-at-requires-2
+number-at-requires-2 c κs = search needs
+
+number-at-requires-3 : tie.Need-number-at-requires-3
+number-at-requires-3 c κs = search needs
+
+returns : tie.Need-returns
+unfolding stampOf
+returns c = simp (c .match .keys1)
+
+returns-2 : tie.Need-returns-2
+unfolding stampOf
+returns-2 c = rw (c .number-at .ensures .0) (simp (c .before .match .keys2))
+
+returns-3 : tie.Need-returns-3
+unfolding stampOf
+returns-3 c = rw (c .number-at2 .ensures .0, c .before .octet-at .ensures) (simp (c .before .before .match .keys3))
+
+returns-4 : tie.Need-returns-4
+unfolding stampOf
+returns-4 c =
+    let r = c .before .match .rest in
+    rw (c .number-at3 .ensures .0) (simp (ne-eqb _ _ (r .0 .0 .1), ne-eqb _ _ (r .0 .1), ne-eqb _ _ (r .1)))
+
+pub stamp-at-spec : {M : Type 1} → statement M
+stamp-at-spec =
+    tie.close
+    (tie.spec
+    number-at-requires
+    octet-at-requires
+    cast-time-size
+    add-time-size
+    cast-time-size-2
+    add-time-size-2
+    add-number-at
+    number-at-requires-2
+    number-at-requires-3
+    returns
+    returns-2
+    returns-3
+    returns-4)

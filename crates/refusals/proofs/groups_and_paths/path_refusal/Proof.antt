@@ -1,0 +1,107 @@
+-- `refusals::groups_and_paths::path_refusal` meets its contract: past each check the rest of the list decides. Assumes nothing.
+use borrow.Author.Needs.{needs}
+use mathlib.Core.Path.{refl, _∙_}
+use Rattle.checks.specs.Order.{Checks}
+use Rattle.checks.proofs.Steps.{fails-here, passes, none-left, joined}
+use Rattle.state.specs.Layout.{decode}
+use Rattle.refusals.proofs.set_up.Chains.{Past}
+use Rattle.refusals.specs.Lists.{pathChecks}
+use Rattle.refusals.proofs.groups_and_paths.path_refusal.Statement.{statement}
+use Rattle.refusals.proofs.groups_and_paths.path_refusal.Tie as tie
+
+-- ---- past the checks
+
+abbrev tests : tie.Start → Checks
+tests s = pathChecks (decode (s .args .state .now)) (s .args .place) (s .args .path) (s .args .send) (s .args .here)
+
+past-target : (c : tie.After-enum-told) → Past 2 (tests (c .before .before .before .before))
+past-target c = passes _ _ _ (c .before .before .check-target .ensures) (c .enum-told .given .1) refl ∙ joined _ _ _ _
+
+past-class : (c : tie.After-enum-told3) → Past 3 (tests (c .before .before .before .before .before .before .before))
+past-class c =
+    passes _ _ _ (c .before .before .check-path-class .ensures) (c .enum-told3 .given .1) refl
+    ∙ past-target (c .before .before .before)
+
+past-flag : (c : tie.After-enum-told5) → Past 4 (tests (c .before .before .before .before .before .before .before .before .before .before))
+past-flag c = passes _ _ _ (c .before .before .check-flag .ensures) (c .enum-told5 .given .1) refl ∙ past-class (c .before .before .before)
+
+-- ---- the needs
+
+check-target-requires : tie.Need-check-target-requires
+check-target-requires c κs = search needs
+
+enum-told : tie.Need-enum-told
+enum-told c = search needs
+
+enum-told-2 : tie.Need-enum-told-2
+enum-told-2 c = search needs
+
+returns : tie.Need-returns
+returns c = fails-here _ _ _ (c .before .before .check-target .ensures) (c .enum-told2 .given .1) ∙ joined _ _ _ _
+
+check-path-class-requires : tie.Need-check-path-class-requires
+check-path-class-requires c κs = search needs
+
+enum-told-3 : tie.Need-enum-told-3
+enum-told-3 c = search needs
+
+enum-told-4 : tie.Need-enum-told-4
+enum-told-4 c = search needs
+
+returns-2 : tie.Need-returns-2
+returns-2 c =
+    fails-here _ _ _ (c .before .before .check-path-class .ensures) (c .enum-told4 .given .1)
+    ∙ past-target (c .before .before .before)
+
+check-flag-requires : tie.Need-check-flag-requires
+check-flag-requires c κs = search needs
+
+enum-told-5 : tie.Need-enum-told-5
+enum-told-5 c = search needs
+
+enum-told-6 : tie.Need-enum-told-6
+enum-told-6 c = search needs
+
+returns-3 : tie.Need-returns-3
+returns-3 c = fails-here _ _ _ (c .before .before .check-flag .ensures) (c .enum-told6 .given .1) ∙ past-class (c .before .before .before)
+
+check-other-paths-requires : tie.Need-check-other-paths-requires
+check-other-paths-requires c κs = search needs
+
+enum-told-7 : tie.Need-enum-told-7
+enum-told-7 c = search needs
+
+enum-told-8 : tie.Need-enum-told-8
+enum-told-8 c = search needs
+
+returns-4 : tie.Need-returns-4
+returns-4 c =
+    fails-here _ _ _ (c .before .before .check-other-paths .ensures) (c .enum-told8 .given .1)
+    ∙ past-flag (c .before .before .before)
+
+returns-5 : tie.Need-returns-5
+returns-5 c =
+    passes _ _ _ (c .before .before .check-other-paths .ensures) (c .enum-told7 .given .1) none-left
+    ∙ past-flag (c .before .before .before)
+
+pub path-refusal-spec : {M : Type 1} → statement M
+path-refusal-spec =
+    tie.close
+    (tie.spec
+    check-target-requires
+    enum-told
+    enum-told-2
+    returns
+    check-path-class-requires
+    enum-told-3
+    enum-told-4
+    returns-2
+    check-flag-requires
+    enum-told-5
+    enum-told-6
+    returns-3
+    check-other-paths-requires
+    enum-told-7
+    enum-told-8
+    returns-4
+    returns-5)

@@ -1,0 +1,73 @@
+// The number that the setting of a group or a path is refused by: the tests in page 01's order, as in crate `refusals`, which has the
+// lists of both.
+//
+// The awkward case is 21: the place, the set to send to and a group's subscribed ports are all refused by it, before the class of the
+// address is looked at.
+use address::Address;
+use address::PathAddress;
+use checks::Check;
+ghost use mathlib.Core.Path.{_≡_};
+ghost use mathlib.Core.Bool.{_||_};
+ghost use lib.ListN.{length};
+ghost use Rattle.checks.specs.Order.{checkOf, firstOf};
+ghost use Rattle.settings.specs.Refusals.{placeRefused};
+ghost use Rattle.settings.specs.Sets.{setRefused};
+ghost use Rattle.state.specs.Layout.{stateWords, decode};
+ghost use Rattle.refusals.specs.Ready.{readySet};
+ghost use Rattle.refusals.specs.Lists.{groupChecks, pathChecks};
+
+// How many places there are.
+const GROUPS: u32 = 16;
+
+const PATHS: u32 = 16;
+
+// Refusal 21 of a group or a path: the place is one of so many, and the set to send to has ports that are set up.
+fn check_target(state: &[u32], place: u32, places: u32, send: u32) -> Check
+    requires { ⌜ length (now state) ≡ stateWords ⌝ }
+    ensures { λ r. ⌜ r ≡ checkOf (placeRefused place places || setRefused send (readySet (decode (now (state .entry))))) ⌝ }
+{
+    let Check::Passed = settings::check_place(place, places) else {
+        return Check::Failed;
+    };
+    settings::check_set(send, crate::set_up::ready_ports(state))
+}
+
+// Why this group may not stand in that place, or 0.
+pub fn group_refusal(state: &[u32], place: u32, address: Address, send: u32, subscribed: u32) -> u32
+    requires { ⌜ length (now state) ≡ stateWords ⌝ }
+    ensures { λ r. ⌜ r ≡ firstOf (groupChecks (decode (now (state .entry))) place address send subscribed) ⌝ }
+{
+    let Check::Passed = check_target(state, place, GROUPS, send) else {
+        return 21;
+    };
+    let Check::Passed = settings::check_set(subscribed, crate::set_up::ready_ports(state)) else {
+        return 21;
+    };
+    let Check::Passed = settings::check_group_class(address) else {
+        return 25;
+    };
+    let Check::Passed = crate::same_entry::check_other_groups(state, place as usize, address) else {
+        return 23;
+    };
+    0
+}
+
+// Why this path may not stand in that place, or 0.
+pub fn path_refusal(state: &[u32], place: u32, path: PathAddress, send: u32, here: u32) -> u32
+    requires { ⌜ length (now state) ≡ stateWords ⌝ }
+    ensures { λ r. ⌜ r ≡ firstOf (pathChecks (decode (now (state .entry))) place path send here) ⌝ }
+{
+    let Check::Passed = check_target(state, place, PATHS, send) else {
+        return 21;
+    };
+    let Check::Passed = settings::check_path_class(path) else {
+        return 25;
+    };
+    let Check::Passed = settings::check_flag(here) else {
+        return 24;
+    };
+    let Check::Passed = crate::same_entry::check_other_paths(state, place as usize, path) else {
+        return 23;
+    };
+    0
+}

@@ -1,0 +1,60 @@
+// What goes out: an entry in the queue of each port that took one, and the header sent on.
+//
+// Both are done by the ruling's set of ports that took. Fullness is as it was before the call, and the ruling has counted on it: each
+// queue that is put to here has room. The awkward case is a set that is empty, where nothing is put and no octet of the output is
+// touched; it is also every refusal's.
+use queue::Entry;
+ghost use mathlib.Core.Path.{_≡_};
+ghost use Prim.Native.Nat.{_≤_, _<_};
+ghost use lib.ListN.{length};
+ghost use Rattle.header.specs.Form.{placesOf};
+ghost use Rattle.state.specs.Layout.{stateWords, decode};
+ghost use Rattle.relay.specs.Outgo.{entered, enteredIf, enteredAll, outputOf};
+
+// How many ports there are.
+const PORTS: usize = 8;
+
+// The entry in the queue of a port.
+fn enter(state: &mut [u32], p: usize, e: Entry)
+    requires { ⌜ (length (now state) ≡ stateWords) × (p < 8) ⌝ }
+    ensures { λ _. ⌜ decode (now (state .exit)) ≡ entered (decode (now (state .entry))) p e ⌝ }
+{
+    let q = state_queues::queue_of(state, p);
+    let put = q.put(e);
+    let next = put.queue;
+    state_queues::put_queue(state, p, next);
+}
+
+// The entry in the queue of a port, where the port is in the set.
+fn enter_if(state: &mut [u32], p: usize, took: u32, e: Entry)
+    requires { ⌜ (length (now state) ≡ stateWords) × (p < 8) ⌝ }
+    ensures { λ _. ⌜ decode (now (state .exit)) ≡ enteredIf (decode (now (state .entry))) took e p ⌝ }
+{
+    if took & sets::only_port(p as u32) == 0 {
+        return;
+    }
+    enter(state, p, e);
+}
+
+// The entry in the queue of each port of the set.
+pub fn enter_all(state: &mut [u32], took: u32, e: Entry)
+    requires { ⌜ length (now state) ≡ stateWords ⌝ }
+    ensures { λ _. ⌜ decode (now (state .exit)) ≡ enteredAll (decode (now (state .entry))) took e 8 ⌝ }
+{
+    let mut p = 0;
+    while p < PORTS {
+        enter_if(state, p, took, e);
+        p += 1;
+    }
+}
+
+// The header sent on at the front of the output, where a port took an entry.
+pub fn send(took: u32, octets: &[u8], output: &mut [u8])
+    requires { ⌜ ((took ≡ 0 → ⊥) → (50 ≤ length (now output)) × (placesOf (now octets) .size ≤ length (now octets))) ⌝ }
+    ensures { λ _. ⌜ now (output .exit) ≡ outputOf took (now (octets .entry)) (now (output .entry)) ⌝ }
+{
+    if took == 0 {
+        return;
+    }
+    sent_on::send_on(octets, output);
+}

@@ -1,0 +1,101 @@
+-- The search by candidates is the search by places: places that hold no candidate change nothing, and the best place stands for what
+-- is found. Assumes nothing.
+use native.Mathlib.Omega.{arith}
+use Prim.Native.Nat.{ℕ, zero, suc, _+_, _-_, _≤_, _<_}
+use native.Mathlib.Nat.{le-of-lt}
+use mathlib.Core.Path.{_≡_, refl, sym, ap, _∙_}
+use mathlib.Core.Logic.{_≢_}
+use mathlib.Core.Bool.{Bool, true, false}
+use mathlib.Core.List.{List}
+use lib.Dec.{eqb, ltb}
+use lib.ListN.{length, drop}
+use borrow.Author.Tests.{eq-eqb, ne-eqb, lt-ltb, le-ltb}
+use Rattle.checks.specs.Order.{pick}
+use Rattle.checks.proofs.Laws.{either}
+use Rattle.address.specs.Mask.{onesOf}
+use Rattle.address.specs.declared.Address.{Address}
+use Rattle.routes.specs.declared.Route.{Route}
+use Rattle.routes.specs.declared.Found.{Found}
+use Rattle.routes.specs.declared.Found.the-variants.{At, No}
+use Rattle.routes.specs.Routes.{emptyRoute, candidate, routeAt}
+use Rattle.routes.specs.Search.{beaten, betterOf, searchFrom}
+use Rattle.routes.proofs.Turns.{search-turn}
+use Rattle.state_routes.specs.Best.{NextCandidate, betterPlace}
+
+module _ (rs : List Route) where
+  -- what is found by the best place
+  unfoldable pub foundAt : ℕ → Found
+  foundAt best = pick (eqb best 64) No (At best (onesOf (routeAt rs best .mask .0)) (routeAt rs best))
+
+  pub found-none : (best : ℕ) → best ≡ 64 → No ≡ foundAt best
+  unfolding foundAt
+  found-none best h = simp (eq-eqb best 64 h)
+
+  pub found-place : (best : ℕ) → best ≢ 64 → At best (onesOf (routeAt rs best .mask .0)) (routeAt rs best) ≡ foundAt best
+  unfolding foundAt
+  found-place best h = simp (ne-eqb best 64 h)
+
+  -- The better place, as the code finds it: held is the route at the best place, r the one at place i.
+  pub place-first : (best i : ℕ) → best ≡ 64 → i ≡ betterPlace rs best i
+  unfolding betterPlace
+  place-first best i h = simp (eq-eqb best 64 h)
+
+  module _ (best i : ℕ) (there : best ≢ 64) (held r : Route) (e : held ≡ routeAt rs best) (f : r ≡ routeAt rs i) where
+    pub place-greater : held .mask .0 < r .mask .0 → i ≡ betterPlace rs best i
+    unfolding betterPlace
+    place-greater m = simp (ne-eqb best 64 there, lt-ltb _ _ (rw (e, f) at m))
+
+    pub place-kept : r .mask .0 ≤ held .mask .0 → best ≡ betterPlace rs best i
+    unfolding betterPlace
+    place-kept m = simp (ne-eqb best 64 there, le-ltb _ _ (rw (e, f) at m))
+
+  pub place-within : (best i : ℕ) → best ≤ 64 → i < 64 → betterPlace rs best i ≤ 64
+  unfolding betterPlace
+  place-within best i b l = either (λ n. n ≤ 64) (eqb best 64) (le-of-lt l) (either (λ n. n ≤ 64) (ltb (routeAt rs best .mask .0) (routeAt rs i .mask .0)) (le-of-lt l) b)
+
+  module _ (a : Address) where
+    -- A candidate makes the better place the best.
+    pub found-better : (best i : ℕ) → i < 64 → candidate (routeAt rs i) a ≡ true
+        → foundAt (betterPlace rs best i) ≡ betterOf a (foundAt best) i (routeAt rs i)
+    unfolding betterPlace betterOf beaten foundAt
+    found-better best i l h = simp h (by-tests (eqb best 64) refl)
+      where
+        newer : foundAt i ≡ At i (onesOf (routeAt rs i .mask .0)) (routeAt rs i)
+        newer = sym (found-place i (λ z. omega arith))
+
+        by-mask : (t : Bool) → eqb best 64 ≡ false
+            → foundAt (pick t i best) ≡ pick t (At i (onesOf (routeAt rs i .mask .0)) (routeAt rs i)) (foundAt best)
+        by-mask true e = newer
+        by-mask false e = refl
+
+        by-tests : (t : Bool) → eqb best 64 ≡ t
+            → foundAt (pick t i (pick (ltb (routeAt rs best .mask .0) (routeAt rs i .mask .0)) i best))
+            ≡ pick (beaten (pick t No (At best (onesOf (routeAt rs best .mask .0)) (routeAt rs best))) (routeAt rs i))
+            (At i (onesOf (routeAt rs i .mask .0)) (routeAt rs i)) (foundAt best)
+        by-tests true e = newer
+        by-tests false e = by-mask (ltb (routeAt rs best .mask .0) (routeAt rs i .mask .0)) e
+
+    module _ (many : length rs ≡ 64) (found : Found) where
+      -- A place without a candidate changes nothing.
+      pass-one : (i : ℕ) → i < 64 → candidate (routeAt rs i) a ≡ false
+          → searchFrom a found i (drop i rs) ≡ searchFrom a found (i + 1) (drop (i + 1) rs)
+      unfolding betterOf
+      pass-one i l h = search-turn a rs i found _ refl found (routeAt rs i) emptyRoute (omega arith) refl (simp h)
+
+      pass-some : (n i : ℕ) → i + n ≤ 64 → ((j : ℕ) → i ≤ j → j < i + n → candidate (routeAt rs j) a ≡ false)
+          → searchFrom a found i (drop i rs) ≡ searchFrom a found (i + n) (drop (i + n) rs)
+      pass-some zero i l none = let e : i + 0 ≡ i = omega arith in rw e
+      pass-some (suc n) i l none =
+          let e : i + 1 + n ≡ i + suc n = omega arith in
+          pass-one i (omega arith) (none i (omega arith) (omega arith))
+          ∙ pass-some n (i + 1) (omega arith) (λ j p q. none j (omega arith) (omega arith))
+          ∙ ap (λ (k : ℕ). searchFrom a found k (drop k rs)) e
+
+      pub skipped : (from next : ℕ) → NextCandidate a rs from next
+          → searchFrom a found from (drop from rs) ≡ searchFrom a found next (drop next rs)
+      skipped from next c =
+          let low = c .onward in
+          let high = c .within in
+          let e : from + (next - from) ≡ next = omega arith in
+          pass-some (next - from) from (omega arith) (λ j p q. c .passed j p (omega arith))
+          ∙ ap (λ (k : ℕ). searchFrom a found k (drop k rs)) e

@@ -1,0 +1,45 @@
+-- `state_routes::write_route` leaves the words of the record. Assumes nothing.
+use native.Mathlib.Omega.{arith}
+use lib.ListN.{length-set}
+use Rattle.words.proofs.Parts.{all-stored}
+use Rattle.state.specs.Layout.{routeWords}
+use borrow.Author.Needs.{needs}
+use Rattle.state_routes.proofs.write_route.Statement.{statement}
+use Rattle.state_routes.proofs.write_route.Tie as tie
+
+slice-write-s : tie.Need-slice-write-s
+slice-write-s c = search needs
+
+slice-write-s-2 : tie.Need-slice-write-s-2
+slice-write-s-2 c = search needs
+
+slice-write-s-3 : tie.Need-slice-write-s-3
+slice-write-s-3 c = search needs
+
+slice-write-s-4 : tie.Need-slice-write-s-4
+slice-write-s-4 c = search needs
+
+slice-write-s-5 : tie.Need-slice-write-s-5
+slice-write-s-5 c = simp length-set (omega (arith, c .pre))
+
+slice-write-s-6 : tie.Need-slice-write-s-6
+slice-write-s-6 c = simp length-set (omega (arith, c .pre))
+
+same-length : tie.Need-same-length
+same-length c = search needs
+
+returns : tie.Need-returns
+returns c = all-stored (c .args .s .now) (routeWords (c .args .x)) (c .pre)
+
+pub write-route-spec : {M : Type 1} → statement M
+write-route-spec =
+    tie.close
+    (tie.spec
+    slice-write-s
+    slice-write-s-2
+    slice-write-s-3
+    slice-write-s-4
+    slice-write-s-5
+    slice-write-s-6
+    same-length
+    returns)

@@ -1,2 +1,0 @@
--- What the contracts cite: the place of a group, the route of an address.
-pub mod Ways
