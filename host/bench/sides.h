@@ -1,0 +1,57 @@
+/*
+ * sides.h: the calls of the trace on the two sides, each a function that
+ * finds its arguments in bench_call, and leaves the answer there. The measured
+ * ones call bench_begin and bench_end just around the implementation's call,
+ * which is made directly, so that what is counted is what a C program pays:
+ * the passing of arguments, the call and its return.
+ */
+#ifndef BENCH_SIDES_H
+#define BENCH_SIDES_H
+
+#include <stdbool.h>
+#include <stddef.h>
+#include <stdint.h>
+
+#include "shared/trace.h"
+
+enum bench_kind {
+    BENCH_RECEIVE,
+    BENCH_TAKE,
+    BENCH_READ,
+    BENCH_NEW,
+    BENCH_SET_ROUTER,
+    BENCH_SET_PORT,
+    BENCH_SET_ROUTE,
+    BENCH_SET_GROUP,
+    BENCH_SET_PATH,
+    BENCH_WORDS
+};
+
+/* What both sides must answer alike, the numbers of each other call 0. */
+struct bench_answer {
+    uint32_t refusal, local, onward, ports, header;
+    uint32_t slot, precedence;
+    uint32_t length;
+    uint8_t output[50];
+};
+
+struct bench_call {
+    enum bench_kind word;
+    uint32_t numbers[6];
+    size_t count;
+    uint8_t octets[TRACE_MOST_OCTETS];
+    struct bench_answer answer;
+};
+
+extern struct bench_call bench_call;
+extern void (*const bench_ours[BENCH_WORDS])(void);
+extern void (*const bench_plain[BENCH_WORDS])(void);
+
+/* The octets of a state. */
+size_t bench_our_state(void);
+size_t bench_plain_state(void);
+
+void bench_begin(void);
+void bench_end(void);
+
+#endif

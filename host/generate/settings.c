@@ -1,0 +1,242 @@
+/*
+ * settings.c: `set_group`, `set_path` and `clear_` lines, and any
+ * setting.
+ *
+ * A setting is chosen good. Where it is to be refused, one field or two are
+ * spoiled, each in a way that has its own number, so that every number comes
+ * at every call that has it, and two at once try the order 21, 25, 22, 24, 23,
+ * 35.
+ */
+#include "history.h"
+
+#include <inttypes.h>
+#include <stdio.h>
+
+#include "ways.h"
+
+/* A set that names a port not set up, or one over 7. */
+static uint32_t bad_set(const struct world *world, struct random *random)
+{
+    uint32_t port = random_below(random, WORLD_PORTS);
+    uint32_t set = world->set_up & random_below(random, 256);
+
+    if (world_has(world->set_up, port))
+        return set | 256u << random_below(random, 24);
+    return set | 1u << port;
+}
+
+void history_set_router(uint32_t router)
+{
+    printf("set_router %" PRIu32 "\n", router);
+}
+
+/* ---- Groups and paths ---------------------------------------------------- */
+
+/* A group, or a path, which has a yes or no in place of a second set. */
+struct entry {
+    uint32_t place, address, send, last;
+};
+
+static void write_entry(const char *word, const struct entry *entry)
+{
+    printf("%s %" PRIu32 " %08" PRIx32 " %" PRIu32 " %" PRIu32 "\n", word,
+           entry->place, entry->address, entry->send, entry->last);
+}
+
+/* Often no port, or the port of one number alone. */
+static uint32_t choose_set(const struct world *world, struct random *random)
+{
+    static const uint32_t SMALL[] = {0, 1, 2, 4, 8};
+
+    return world->set_up & (random_one_in(random, 4)
+                                ? PICK(SMALL)
+                                : random_below(random, 256));
+}
+
+/* An entry of another place, or its address unchanged where there is none. */
+static uint32_t same_elsewhere(const uint32_t *entries, uint32_t count,
+                               const struct entry *entry,
+                               struct random *random)
+{
+    for (uint32_t tries = 0; tries < 3 * count; tries++) {
+        uint32_t other = random_below(random, count);
+
+        if (entries[other] != 0 && other != entry->place)
+            return entries[other];
+    }
+    return entry->address;
+}
+
+/* The ways that groups and paths share: 1, 2 and 4 of those chosen. */
+static void spoil_entry(const struct world *world, const uint32_t *entries,
+                        uint32_t count, uint32_t chosen, struct entry *entry,
+                        struct random *random)
+{
+    if (chosen & 1)
+        entry->address = same_elsewhere(entries, count, entry, random);
+    if (chosen & 2)
+        entry->place = beyond(count, random);
+    if (chosen & 4)
+        entry->send = bad_set(world, random);
+}
+
+static struct entry choose_group(const struct world *world, uint32_t place,
+                                 struct random *random)
+{
+    struct entry group = {.place = place};
+
+    group.address = world_multicast(world, random);
+    group.send = choose_set(world, random);
+    group.last = choose_set(world, random);
+    return group;
+}
+
+void history_set_group(struct world *world, uint32_t place,
+                       struct random *random)
+{
+    struct entry group = choose_group(world, place, random);
+
+    world->groups[place] = group.address;
+    write_entry("set_group", &group);
+}
+
+static void refused_group(struct world *world, struct random *random)
+{
+    uint32_t chosen = ways(5, random);
+    struct entry group =
+        choose_group(world, random_below(random, WORLD_GROUPS), random);
+
+    spoil_entry(world, world->groups, WORLD_GROUPS, chosen, &group, random);
+    if (chosen & 8)
+        group.last = bad_set(world, random);
+    if (chosen & 16)
+        group.address = random_one_in(random, 2)
+                            ? world_unicast(world, random)
+                            : world_invalid(random);
+    write_entry("set_group", &group);
+}
+
+static struct entry choose_path(const struct world *world, uint32_t place,
+                                struct random *random)
+{
+    struct entry path = {.place = place};
+
+    path.address = world_path(random);
+    path.send = choose_set(world, random);
+    path.last = random_below(random, 2);
+    return path;
+}
+
+void history_set_path(struct world *world, uint32_t place,
+                      struct random *random)
+{
+    struct entry path = choose_path(world, place, random);
+
+    world->paths[place] = path.address;
+    write_entry("set_path", &path);
+}
+
+static void refused_path(struct world *world, struct random *random)
+{
+    uint32_t chosen = ways(5, random);
+    struct entry path =
+        choose_path(world, random_below(random, WORLD_PATHS), random);
+
+    spoil_entry(world, world->paths, WORLD_PATHS, chosen, &path, random);
+    if (chosen & 8)
+        path.address = random_one_in(random, 2) ? 0x0a0409fe : 0xac100402;
+    if (chosen & 16)
+        path.last = beyond(2, random);
+    write_entry("set_path", &path);
+}
+
+/* ---- Clearing, and any of them ------------------------------------------- */
+
+static void clear_route(struct world *world, struct random *random)
+{
+    uint32_t place = random_below(random, WORLD_ROUTES + 4);
+
+    if (place < WORLD_ROUTES)
+        world->routes[place].filled = false;
+    printf("clear_route %" PRIu32 "\n", place);
+}
+
+static void clear_entry(const char *word, uint32_t *entries, uint32_t count,
+                        struct random *random)
+{
+    uint32_t place = random_below(random, count + 4);
+
+    if (place < count)
+        entries[place] = 0;
+    printf("%s %" PRIu32 "\n", word, place);
+}
+
+static void any_router(struct world *world, struct random *random)
+{
+    static const uint32_t ROUTER[] = {0, 1, 1, 1, 2, 0xffffffff};
+
+    (void)world;
+    history_set_router(PICK(ROUTER));
+}
+
+static void any_port(struct world *world, struct random *random)
+{
+    if (random_one_in(random, 2))
+        history_set_port(world, world_port(world, random), random);
+    else
+        history_refused_port(world, random);
+}
+
+typedef void good_setting(struct world *world, uint32_t place,
+                          struct random *random);
+typedef void any_setting(struct world *world, struct random *random);
+
+/* One of so many places is set, or a setting is to be refused. */
+static void any_place(good_setting *good, uint32_t places,
+                      any_setting *refused, struct world *world,
+                      struct random *random)
+{
+    if (random_one_in(random, 2))
+        good(world, random_below(random, places), random);
+    else
+        refused(world, random);
+}
+
+static void any_route(struct world *world, struct random *random)
+{
+    any_place(history_set_route, WORLD_ROUTES, history_refused_route, world,
+              random);
+}
+
+static void any_group(struct world *world, struct random *random)
+{
+    any_place(history_set_group, WORLD_GROUPS, refused_group, world, random);
+}
+
+static void any_path(struct world *world, struct random *random)
+{
+    any_place(history_set_path, WORLD_PATHS, refused_path, world, random);
+}
+
+static void any_clear(struct world *world, struct random *random)
+{
+    switch (random_below(random, 4)) {
+    case 0:
+        clear_entry("clear_group", world->groups, WORLD_GROUPS, random);
+        break;
+    case 1:
+        clear_entry("clear_path", world->paths, WORLD_PATHS, random);
+        break;
+    default:
+        clear_route(world, random);
+    }
+}
+
+void history_setting(struct world *world, struct random *random)
+{
+    static any_setting *const KINDS[] = {
+        any_router, any_port,  any_port, any_route,
+        any_route,  any_group, any_path, any_clear};
+
+    PICK(KINDS)(world, random);
+}

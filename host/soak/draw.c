@@ -1,0 +1,187 @@
+/*
+ * draw.c: calls drawn at random. A setting is drawn good for the world as
+ * it stands, and one in four has then a number or two of it replaced by one
+ * that means something elsewhere: a place just beyond the last, an address, a
+ * mask, a number of all ones.
+ */
+#include <string.h>
+
+#include "soak.h"
+
+uint32_t soak_odd_number(const struct world *world, struct random *random)
+{
+    static const uint32_t EDGES[] = {0,  1,   2,   3,    4,    5,     7,
+                                     8,  9,   15,  16,   31,   32,    33,
+                                     63, 64,  255, 256,  8190, 8191,  8192,
+                                     0x80000000, 0xfffffffe, 0xffffffff};
+
+    switch (random_below(random, 5)) {
+    case 0:
+        return (uint32_t)random_number(random);
+    case 1:
+        return world_unicast(world, random);
+    case 2:
+        return world_mask(random_below(random, 33));
+    case 3:
+        return random_one_in(random, 2) ? world_multicast(world, random)
+                                        : world_path(random);
+    default:
+        return PICK(EDGES);
+    }
+}
+
+static uint32_t draw_set(const struct world *world, struct random *random)
+{
+    return world->set_up & random_below(random, 256);
+}
+
+static void draw_port(uint32_t *n, const struct world *world,
+                      struct random *random)
+{
+    static const uint32_t ONES[] = {8, 16, 22, 24, 24, 28, 30};
+    static const uint32_t MTU[] = {8191, 8191, 8191, 8190, 300, 64, 24, 1};
+
+    n[0] = random_below(random, HJ_PORTS);
+    n[1] = world_unicast(world, random);
+    n[2] = world_mask(n[1] >> 24 == 10 ? 24 : PICK(ONES));
+    n[3] = PICK(MTU);
+}
+
+static void draw_route(uint32_t *n, const struct world *world,
+                       struct random *random)
+{
+    static const uint32_t ONES[] = {0, 8, 16, 22, 24, 24, 28, 31, 32, 32};
+    static const uint32_t AVAILABLE[] = {1, 1, 1, 1, 1, 1, 2, 3, 4};
+    static const uint32_t CAPABLE[] = {0, 1, 2, 4};
+
+    n[0] = random_below(random, HJ_ROUTES);
+    n[2] = world_mask(PICK(ONES));
+    n[1] = world_unicast(world, random) & n[2];
+    n[3] = world_port(world, random);
+    n[4] = PICK(AVAILABLE);
+    n[5] = PICK(CAPABLE);
+}
+
+static void spoil(struct soak_call *call, const struct world *world,
+                  struct random *random)
+{
+    uint32_t times = 1 + random_below(random, 2);
+
+    while (times-- > 0) {
+        uint32_t *number = call->numbers + random_below(random, SOAK_NUMBERS);
+
+        *number = soak_odd_number(world, random);
+    }
+}
+
+void soak_draw_setting(struct soak_call *call, enum soak_kind kind,
+                       const struct world *world, struct random *random)
+{
+    uint32_t *n = call->numbers;
+
+    call->kind = kind;
+    n[0] = random_below(random, kind == SOAK_CLEAR_ROUTE ? HJ_ROUTES
+                                                         : HJ_GROUPS);
+    if (kind == SOAK_SET_ROUTER) {
+        n[0] = !random_one_in(random, 8);
+    } else if (kind == SOAK_SET_PORT) {
+        draw_port(n, world, random);
+    } else if (kind == SOAK_SET_ROUTE) {
+        draw_route(n, world, random);
+    } else if (kind == SOAK_SET_GROUP || kind == SOAK_SET_PATH) {
+        n[1] = kind == SOAK_SET_GROUP ? world_multicast(world, random)
+                                      : world_path(random);
+        n[2] = draw_set(world, random);
+        n[3] = kind == SOAK_SET_GROUP ? draw_set(world, random)
+                                      : random_below(random, 2);
+    }
+}
+
+static void draw_receive(struct soak_call *call, const struct world *world,
+                         struct random *random)
+{
+    call->numbers[0] = random_one_in(random, 24)
+                           ? soak_odd_number(world, random)
+                           : world_port(world, random);
+    call->numbers[1] = random_below(random, 65536);
+    call->room = random_one_in(random, 6)
+                     ? random_below(random, SOAK_MOST_ROOM + 1)
+                     : HJ_OUTPUT_ROOM;
+    soak_draw_octets(call, world, random);
+}
+
+/* A port, a place or a counter; some are beyond the last. */
+static void draw_look(struct soak_call *call, const struct world *world,
+                      struct random *random)
+{
+    uint32_t most = call->kind == SOAK_GET_ROUTE ? HJ_ROUTES : HJ_GROUPS;
+
+    if (call->kind <= SOAK_WAITING || call->kind == SOAK_GET_PORT)
+        most = call->kind == SOAK_COUNTER ? HJ_COUNTERS : HJ_PORTS;
+    call->numbers[0] = random_below(random, most + 1);
+    if (call->kind == SOAK_TAKE && !random_one_in(random, 12))
+        call->numbers[0] = world_port(world, random);
+    if (random_one_in(random, 24))
+        call->numbers[0] = soak_odd_number(world, random);
+}
+
+void soak_draw_kind(struct soak_call *call, enum soak_kind kind,
+                    const struct world *world, struct random *random)
+{
+    call->kind = kind;
+    call->count = 0;
+    call->room = 0;
+    memset(call->numbers, 0, sizeof call->numbers);
+    if (kind == SOAK_RECEIVE) {
+        draw_receive(call, world, random);
+    } else if (kind > SOAK_RECEIVE) {
+        draw_look(call, world, random);
+    } else if (kind >= SOAK_FRESH) {
+        soak_draw_setting(call, kind, world, random);
+        if (random_one_in(random, 4))
+            spoil(call, world, random);
+    } else {
+        call->numbers[0] = random_one_in(random, 2)
+                               ? soak_draw_edge(random)
+                               : soak_odd_number(world, random);
+        call->room = random_below(random, SOAK_MOST_ROOM + 1);
+        if (kind == SOAK_BUILD)
+            soak_draw_fields(call, world, random);
+        else
+            soak_draw_octets(call, world, random);
+    }
+}
+
+static void note_place(const struct soak_call *call, struct world *world)
+{
+    const uint32_t *n = call->numbers;
+
+    if (call->kind == SOAK_SET_GROUP || call->kind == SOAK_CLEAR_GROUP) {
+        world->groups[n[0]] = call->kind == SOAK_SET_GROUP ? n[1] : 0;
+    } else if (call->kind == SOAK_SET_PATH || call->kind == SOAK_CLEAR_PATH) {
+        world->paths[n[0]] = call->kind == SOAK_SET_PATH ? n[1] : 0;
+    } else {
+        world->routes[n[0]].filled = call->kind == SOAK_SET_ROUTE;
+        world->routes[n[0]].prefix = n[1];
+        world->routes[n[0]].mask = n[2];
+    }
+}
+
+void soak_note(const struct soak_call *call, struct world *world)
+{
+    const uint32_t *n = call->numbers;
+
+    if (call->kind == SOAK_FRESH) {
+        enum nets nets = world->nets;
+
+        memset(world, 0, sizeof *world);
+        world->nets = nets;
+    } else if (call->kind == SOAK_SET_PORT) {
+        world->set_up |= 1u << n[0];
+        world->ports[n[0]].address = n[1];
+        world->ports[n[0]].mask = n[2];
+        world->ports[n[0]].mtu = n[3];
+    } else if (call->kind > SOAK_SET_PORT && call->kind < SOAK_RECEIVE) {
+        note_place(call, world);
+    }
+}
