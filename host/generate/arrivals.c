@@ -10,13 +10,13 @@
  * long where the MTU is, so such long ones are rare, and yet each line of the
  * rules about lengths has to be reached.
  */
-#include "history.h"
+#include "arrivals.h"
 
 #include <inttypes.h>
 #include <stdio.h>
 
+#include "line.h"
 #include "shared/datagram.h"
-#include "parts.h"
 
 /* ---- What a datagram is aimed at ----------------------------------------- */
 
@@ -226,5 +226,5 @@ void history_receive(const struct world *world, struct random *random)
         spoil_somehow(&datagram, random);
     snprintf(word, sizeof word,
              "receive %" PRIu32 " %" PRIu32 " %" PRIu32, arrival, slot, room);
-    write_octets_line(word, datagram.octets, datagram.count);
+    line_octets(word, datagram.octets, datagram.count);
 }

@@ -7,7 +7,7 @@
  * A line must stay understood, so what spoils one part of a timestamp or of the
  * basic QOS sets its other parts too.
  */
-#include "parts.h"
+#include "builds.h"
 
 #include <inttypes.h>
 #include <stdio.h>

@@ -4,10 +4,11 @@
  * stay small. The awkward case is a checksum of 0000, which chance would hardly
  * ever hit: two octets of the address are chosen for it.
  */
-#include "parts.h"
+#include "headers.h"
 
 #include <string.h>
 
+#include "line.h"
 #include "shared/datagram.h"
 
 #define MOST_BUILT_DATA 8141
@@ -125,6 +126,6 @@ void write_headers(uint64_t count, struct random *random)
     for (uint64_t i = 0; i < count; i++) {
         KINDS[i % 16].make(&datagram, random);
         KINDS[i % 16].spoil(&datagram, random);
-        write_octets_line("read", datagram.octets, datagram.count);
+        line_octets("read", datagram.octets, datagram.count);
     }
 }

@@ -13,7 +13,11 @@
 #include <inttypes.h>
 #include <stdio.h>
 
-#include "parts.h"
+#include "arrivals.h"
+#include "entries.h"
+#include "ports.h"
+#include "setting.h"
+#include "shared/world.h"
 
 #define QUEUE 32
 #define CALLS 240

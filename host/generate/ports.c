@@ -2,7 +2,7 @@
  * ports.c: `set_port` and `set_route` lines. The number 35 comes by
  * itself: ports are written while entries wait.
  */
-#include "history.h"
+#include "ports.h"
 
 #include <inttypes.h>
 #include <stdio.h>

@@ -1,13 +1,13 @@
 /*
- * settings.c: `set_group`, `set_path` and `clear_` lines, and any
- * setting.
+ * entries.c: `set_group` and `set_path` lines, which differ in their last
+ * number alone: a second set of ports, or a yes or no.
  *
  * A setting is chosen good. Where it is to be refused, one field or two are
  * spoiled, each in a way that has its own number, so that every number comes
  * at every call that has it, and two at once try the order 21, 25, 22, 24, 23,
  * 35.
  */
-#include "history.h"
+#include "entries.h"
 
 #include <inttypes.h>
 #include <stdio.h>
@@ -24,13 +24,6 @@ static uint32_t bad_set(const struct world *world, struct random *random)
         return set | 256u << random_below(random, 24);
     return set | 1u << port;
 }
-
-void history_set_router(uint32_t router)
-{
-    printf("set_router %" PRIu32 "\n", router);
-}
-
-/* ---- Groups and paths ---------------------------------------------------- */
 
 /* A group, or a path, which has a yes or no in place of a second set. */
 struct entry {
@@ -100,7 +93,7 @@ void history_set_group(struct world *world, uint32_t place,
     write_entry("set_group", &group);
 }
 
-static void refused_group(struct world *world, struct random *random)
+void history_refused_group(struct world *world, struct random *random)
 {
     uint32_t chosen = ways(5, random);
     struct entry group =
@@ -136,7 +129,7 @@ void history_set_path(struct world *world, uint32_t place,
     write_entry("set_path", &path);
 }
 
-static void refused_path(struct world *world, struct random *random)
+void history_refused_path(struct world *world, struct random *random)
 {
     uint32_t chosen = ways(5, random);
     struct entry path =
@@ -148,95 +141,4 @@ static void refused_path(struct world *world, struct random *random)
     if (chosen & 16)
         path.last = beyond(2, random);
     write_entry("set_path", &path);
-}
-
-/* ---- Clearing, and any of them ------------------------------------------- */
-
-static void clear_route(struct world *world, struct random *random)
-{
-    uint32_t place = random_below(random, WORLD_ROUTES + 4);
-
-    if (place < WORLD_ROUTES)
-        world->routes[place].filled = false;
-    printf("clear_route %" PRIu32 "\n", place);
-}
-
-static void clear_entry(const char *word, uint32_t *entries, uint32_t count,
-                        struct random *random)
-{
-    uint32_t place = random_below(random, count + 4);
-
-    if (place < count)
-        entries[place] = 0;
-    printf("%s %" PRIu32 "\n", word, place);
-}
-
-static void any_router(struct world *world, struct random *random)
-{
-    static const uint32_t ROUTER[] = {0, 1, 1, 1, 2, 0xffffffff};
-
-    (void)world;
-    history_set_router(PICK(ROUTER));
-}
-
-static void any_port(struct world *world, struct random *random)
-{
-    if (random_one_in(random, 2))
-        history_set_port(world, world_port(world, random), random);
-    else
-        history_refused_port(world, random);
-}
-
-typedef void good_setting(struct world *world, uint32_t place,
-                          struct random *random);
-typedef void any_setting(struct world *world, struct random *random);
-
-/* One of so many places is set, or a setting is to be refused. */
-static void any_place(good_setting *good, uint32_t places,
-                      any_setting *refused, struct world *world,
-                      struct random *random)
-{
-    if (random_one_in(random, 2))
-        good(world, random_below(random, places), random);
-    else
-        refused(world, random);
-}
-
-static void any_route(struct world *world, struct random *random)
-{
-    any_place(history_set_route, WORLD_ROUTES, history_refused_route, world,
-              random);
-}
-
-static void any_group(struct world *world, struct random *random)
-{
-    any_place(history_set_group, WORLD_GROUPS, refused_group, world, random);
-}
-
-static void any_path(struct world *world, struct random *random)
-{
-    any_place(history_set_path, WORLD_PATHS, refused_path, world, random);
-}
-
-static void any_clear(struct world *world, struct random *random)
-{
-    switch (random_below(random, 4)) {
-    case 0:
-        clear_entry("clear_group", world->groups, WORLD_GROUPS, random);
-        break;
-    case 1:
-        clear_entry("clear_path", world->paths, WORLD_PATHS, random);
-        break;
-    default:
-        clear_route(world, random);
-    }
-}
-
-void history_setting(struct world *world, struct random *random)
-{
-    static any_setting *const KINDS[] = {
-        any_router, any_port,  any_port, any_route,
-        any_route,  any_group, any_path, any_clear};
-
-    PICK(KINDS)(world, random);
 }
