@@ -7,11 +7,13 @@
  * of the relay, kept from the answers (view.h), and is used for nothing but
  * these counts.
  */
+#include "relay.h"
+
 #include <stdio.h>
 #include <string.h>
 
-#include "coverage.h"
 #include "relay_lists.h"
+#include "table.h"
 
 #define NUMBERS 36
 #define COUNTERS 15

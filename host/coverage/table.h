@@ -1,15 +1,13 @@
 /*
- * coverage.h: the two halves of coverage. Each counts the lines of its words,
- * and says a table of what was reached.
+ * table.h: the table that coverage prints, row by row. A row that was reached
+ * too seldom is marked, and remembered: the table has then failed.
  */
-#ifndef COVERAGE_H
-#define COVERAGE_H
+#ifndef TABLE_H
+#define TABLE_H
 
 #include <stdbool.h>
 #include <stddef.h>
 #include <stdint.h>
-
-#include "shared/answered.h"
 
 #define LENGTH(array) (sizeof(array) / sizeof *(array))
 
@@ -22,12 +20,11 @@ void say_list(const char *const *names, const uint64_t *reached, size_t count);
 /* The answers to a word, by their numbers; one without a name is no answer. */
 void say_answers(const char *const *names, const uint64_t *reached,
                  size_t count);
+/* Of numbers that each must be reached, the one that was reached least. */
+void say_least(const char *name, const uint64_t *reached, size_t count);
 void say_failed(const char *what);
 
-/* relay.c: whether the word is the relay's. */
-answered_line count_relay_line;
-/* `new` and every word after it that is the relay's. */
-uint64_t relay_calls(void);
-void say_relay(void);
+/* Whether anything was marked. */
+bool table_failed(void);
 
 #endif
