@@ -23,30 +23,14 @@
 #include <stdlib.h>
 #include <string.h>
 
-#include "sides.h"
-#include "shared/options.h"
+#include "call.h"
+#include "ours.h"
 #include "painted.h"
+#include "plain.h"
+#include "shared/options.h"
 #include "shared/trace.h"
 
-/* ---- Marks --------------------------------------------------------------- */
-
-void bench_begin(void);
-void bench_end(void);
-
-__attribute__((noinline)) void bench_begin(void)
-{
-    __asm__ volatile("");
-}
-
-__attribute__((noinline)) void bench_end(void)
-{
-    __asm__ volatile("");
-}
-
 /* ---- One call ------------------------------------------------------------ */
-
-/* The call at hand; a side's function finds its arguments here. */
-struct bench_call bench_call;
 
 enum mode { COUNT, STACK };
 
@@ -180,12 +164,6 @@ static bool make_lines(enum mode mode)
     return good && !ferror(stdin);
 }
 
-static void nothing(void)
-{
-    bench_begin();
-    bench_end();
-}
-
 static const char HELP[] =
     "usage: bench [--help | --version] count|stack < TRACE\n"
     "       bench state\n"
@@ -220,6 +198,6 @@ int main(int count, char **arguments)
         return 2;
     }
     mode = arguments[1][0] == 'c' ? COUNT : STACK;
-    say(mode, "nothing", "nothing", run(mode, nothing));
+    say(mode, "nothing", "nothing", run(mode, bench_nothing));
     return options_end(&PROGRAM, make_lines(mode) ? 0 : 1);
 }

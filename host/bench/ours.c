@@ -2,7 +2,7 @@
  * ours.c: the calls of the bench on the library. What an answer does not
  * say is 0 in it, so it is cleared before the marks.
  */
-#include "sides.h"
+#include "ours.h"
 
 #include <string.h>
 

@@ -3,7 +3,7 @@
  * them on the library. The awkward case is a refusal: plain then writes nothing
  * to its result, which is therefore cleared too.
  */
-#include "sides.h"
+#include "plain.h"
 
 #include <string.h>
 

@@ -1,14 +1,13 @@
 /*
- * sides.h: the calls of the trace on the two sides, each a function that
- * finds its arguments in bench_call, and leaves the answer there. The measured
- * ones call bench_begin and bench_end just around the implementation's call,
- * which is made directly, so that what is counted is what a C program pays:
- * the passing of arguments, the call and its return.
+ * call.h: the call at hand, which both sides make. A side's function finds its
+ * arguments here, and leaves the answer here. The measured ones call bench_begin
+ * and bench_end just around the implementation's call, which is made directly,
+ * so that what is counted is what a C program pays: the passing of arguments,
+ * the call and its return.
  */
-#ifndef BENCH_SIDES_H
-#define BENCH_SIDES_H
+#ifndef CALL_H
+#define CALL_H
 
-#include <stdbool.h>
 #include <stddef.h>
 #include <stdint.h>
 
@@ -44,14 +43,11 @@ struct bench_call {
 };
 
 extern struct bench_call bench_call;
-extern void (*const bench_ours[BENCH_WORDS])(void);
-extern void (*const bench_plain[BENCH_WORDS])(void);
 
-/* The octets of a state. */
-size_t bench_our_state(void);
-size_t bench_plain_state(void);
-
+/* The marks; scripts/bench looks for them by these names. */
 void bench_begin(void);
 void bench_end(void);
+/* The one mark and then the other, which is what the marks cost. */
+void bench_nothing(void);
 
 #endif
