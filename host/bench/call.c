@@ -1,7 +1,10 @@
 /*
- * call.c: the marks are functions of a file of their own that do nothing, so
- * that no compiler puts them in place where they are called, or leaves them
- * out.
+ * call.c: the marks are functions that do nothing. The sides call them from
+ * files of their own, so that no compiler leaves them out.
+ *
+ * The awkward case is what the marks cost by themselves, which is taken from
+ * every measure: bench_nothing stands beside them, since in another file a
+ * compiler adds an instruction between the two.
  */
 #include "call.h"
 

@@ -1,9 +1,9 @@
 /*
  * call.h: the call at hand, which both sides make. A side's function finds its
- * arguments here, and leaves the answer here. The measured ones call bench_begin
- * and bench_end just around the implementation's call, which is made directly,
- * so that what is counted is what a C program pays: the passing of arguments,
- * the call and its return.
+ * arguments here, and leaves the answer here. The measured ones call
+ * bench_begin and bench_end just around the implementation's call, which is
+ * made directly, so that what is counted is what a C program pays: the passing
+ * of arguments, the call and its return.
  */
 #ifndef CALL_H
 #define CALL_H

@@ -8,10 +8,13 @@
  * handed out + waiting + dropped; for each relay, the drops of all ports have
  * to be npOutDiscards.
  */
+#include "books.h"
+
 #include <inttypes.h>
 #include <stdio.h>
 
-#include "rehearsal.h"
+#include "names.h"
+#include "nodes.h"
 
 static void print_counters(const struct node *node)
 {
@@ -19,7 +22,7 @@ static void print_counters(const struct node *node)
 
     printf("%s\n   counters:", node->name);
     for (uint32_t counter = 0; counter < HJ_COUNTERS; counter++) {
-        uint32_t value = net_counter(node, counter);
+        uint32_t value = node_counter(node, counter);
 
         if (value != 0) {
             printf("%s %s %" PRIu32, between, COUNTER_NAMES[counter], value);
@@ -33,7 +36,7 @@ static bool port_closes(const struct node *node, uint32_t port)
 {
     const struct wire *wire = &node->wires[port];
     uint64_t granted = wire->took + wire->dropped;
-    uint64_t waiting = net_waiting(node, port);
+    uint64_t waiting = node_waiting(node, port);
     bool closes = granted == wire->handed_out + waiting + wire->dropped;
 
     printf("   port %" PRIu32 ": granted %" PRIu64 " = handed out %" PRIu64
@@ -53,7 +56,7 @@ static bool relay_closes(const struct node *node)
         if (hj_get_port(node->relay, HJ_STATE_WORDS, port).ready)
             closes = port_closes(node, port) && closes;
     }
-    if ((uint32_t)dropped != net_counter(node, HJ_OUT_DISCARDS)) {
+    if ((uint32_t)dropped != node_counter(node, HJ_OUT_DISCARDS)) {
         printf("   dropped %" PRIu64 " by all ports, and npOutDiscards is "
                "another  DOES NOT CLOSE\n", dropped);
         return false;

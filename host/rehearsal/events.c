@@ -9,10 +9,16 @@
  * a ring: `run` would never end. It stops after MOST_STEPS arrivals and refuses
  * the line.
  */
+#include "events.h"
+
 #include <stdio.h>
 #include <string.h>
 
-#include "rehearsal.h"
+#include "expect.h"
+#include "line.h"
+#include "names.h"
+#include "net.h"
+#include "told.h"
 
 #define MOST_STEPS 20000
 /* SCPS-TP UDP, table 3-2. */
@@ -114,7 +120,7 @@ static void build(const hj_fields *fields, const char *text,
 
     if (hj_refusal(built) != HJ_DONE)
         line_refuse("fields that hj_build takes",
-                    told_number(hj_refusal(built)));
+                    number_name(hj_refusal(built)));
     datagram->header = hj_value(built);
     datagram->length = datagram->header + data;
     memcpy(datagram->octets + datagram->header, text, data);

@@ -7,11 +7,13 @@
  * says that no datagram reached the node at all, which is stronger than that
  * none was delivered.
  */
-#include <inttypes.h>
+#include "expect.h"
+
 #include <stdio.h>
 #include <string.h>
 
-#include "rehearsal.h"
+#include "line.h"
+#include "names.h"
 
 #define MOST_DELIVERIES 1024
 
@@ -118,7 +120,7 @@ static bool expect_counter(uint32_t node)
     memcpy(names, COUNTER_NAMES, sizeof COUNTER_NAMES);
     counter = line_choice("the name of a counter", names);
     return line_number("the counter's value", 0, 999999999) ==
-           net_counter(&nodes[node], counter);
+           node_counter(&nodes[node], counter);
 }
 
 static bool expect_waiting(uint32_t node)
@@ -126,7 +128,7 @@ static bool expect_waiting(uint32_t node)
     uint32_t port = line_port();
 
     return line_number("how many wait", 0, HJ_QUEUE) ==
-           net_waiting(&nodes[node], port);
+           node_waiting(&nodes[node], port);
 }
 
 /* Two texts, each delivered, the one before the other. */

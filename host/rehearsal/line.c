@@ -9,11 +9,13 @@
  * The awkward case is a `#` that is meant: in quotes it is a part of the text,
  * and so it is in the rest of the line, which `say` and `scene` take as it is.
  */
+#include "line.h"
+
 #include <stdio.h>
 #include <stdlib.h>
 #include <string.h>
 
-#include "rehearsal.h"
+#include "nodes.h"
 
 static const char *file_name;
 static unsigned line_at;

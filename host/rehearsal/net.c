@@ -1,6 +1,6 @@
 /*
- * net.c: the nodes, the datagrams that they keep by slot, the wires
- * between them and the clock.
+ * net.c: what moves between the nodes: the datagrams that they keep by slot,
+ * the wires and the clock.
  *
  * It does what flight software does around the library. A datagram arrives: a
  * free slot is found, the relay judges (hj_receive), and if ports took it, the
@@ -16,32 +16,14 @@
  * has no call for what begins here. So its own stand in a line before the wire,
  * the first first, and go before what the relay hands out.
  */
+#include "net.h"
+
 #include <stdio.h>
 #include <stdlib.h>
 #include <string.h>
 
-#include "rehearsal.h"
-
-struct node nodes[MOST_NODES];
-uint32_t node_count;
-uint64_t now;
-
-uint64_t net_microseconds(uint32_t octets, uint32_t bits_per_second)
-{
-    uint64_t bits = UINT64_C(8) * octets;
-
-    return (bits * 1000000 + bits_per_second - 1) / bits_per_second;
-}
-
-uint32_t net_counter(const struct node *node, uint32_t counter)
-{
-    return hj_value(hj_counter(node->relay, HJ_STATE_WORDS, counter));
-}
-
-uint32_t net_waiting(const struct node *node, uint32_t port)
-{
-    return hj_value(hj_waiting(node->relay, HJ_STATE_WORDS, port));
-}
+#include "expect.h"
+#include "told.h"
 
 /* ---- A wire begins ----------------------------------------------------- */
 
@@ -91,7 +73,7 @@ static void start_wire(uint32_t node, uint32_t port)
         return;
     wire->busy = true;
     wire->until =
-        now + net_microseconds(wire->flying.length, wire->bits_per_second);
+        now + wire_microseconds(wire->flying.length, wire->bits_per_second);
     told_start(node, port, own, entry);
 }
 
@@ -148,7 +130,7 @@ static void arrive(uint32_t at, uint32_t port, const struct datagram *came)
     hj_verdict verdict;
 
     for (uint32_t counter = 0; counter < HJ_COUNTERS; counter++)
-        before[counter] = net_counter(node, counter);
+        before[counter] = node_counter(node, counter);
     verdict = hj_receive(node->relay, HJ_STATE_WORDS, port, slot, came->octets,
                          came->length, header, sizeof header);
     node->slots[slot].copies = count_copies(node, verdict);

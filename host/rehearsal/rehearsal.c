@@ -8,13 +8,25 @@
  * the customer stands in scenarios/biocide.txt. Each line is done as it is
  * read: a line that is not understood ends the rehearsal where it stands, and
  * what was flown up to there has been told.
+ *
+ * Its parts, each of which uses only those above it:
+ *
+ *   nodes.c, names.c        the nodes; what numbers and counters are called
+ *   line.c, told.c          one line as words; the timeline as it is printed
+ *   expect.c, books.c       what a scenario expects; counters and ledger
+ *   net.c                   datagrams on their way between the nodes
+ *   settings.c, events.c    the words that set up; those that send and step
  */
 #include <errno.h>
 #include <stdio.h>
 #include <string.h>
 
+#include "books.h"
+#include "events.h"
+#include "expect.h"
+#include "line.h"
+#include "settings.h"
 #include "shared/options.h"
-#include "rehearsal.h"
 
 /* Characters of a line, its end not counted. */
 #define MOST_LINE 1000

@@ -3,10 +3,14 @@
  * groups and paths. Whether a setting is good is the library's to say: its
  * number is told, and the line is refused.
  */
+#include "settings.h"
+
 #include <stdio.h>
 #include <string.h>
 
-#include "rehearsal.h"
+#include "line.h"
+#include "names.h"
+#include "net.h"
 
 /* The library's answer to a setting. */
 static void taken(uint32_t refusal)
@@ -17,7 +21,7 @@ static void taken(uint32_t refusal)
     if (refusal == HJ_DONE)
         return;
     snprintf(found, sizeof found, "%u: %s", (unsigned)refusal,
-             told_number(refusal));
+             number_name(refusal));
     line_refuse("a setting that the relay takes", found);
 }
 

@@ -5,58 +5,17 @@
  * While it is quiet, sends and arrivals are only counted, so that thirty-two
  * like orders do not hide the one that matters; how many there were is told.
  */
+#include "told.h"
+
 #include <inttypes.h>
 #include <stdio.h>
 
-#include "rehearsal.h"
+#include "names.h"
 
 static bool is_quiet;
 static uint32_t sent_unseen, arrived_unseen, dropped_unseen;
 
-const char *const COUNTER_NAMES[HJ_COUNTERS] = {
-    "npInReceives",     "npInBadLength",     "npInBadVersion",
-    "npInBadAddress",   "npInBadChecksum",   "unsupported",
-    "npInAddrErrors",   "npInUnknownProtos", "npInDelivers",
-    "npForwHopDiscard", "npForwDatagrams",   "npOutNoRoutes",
-    "npOutDiscards",    "left-domain",       "too-big"};
-
-static const char *const NUMBERS[HJ_ENTRIES_WAIT + 1] = {
-    [HJ_SHORT] = "too short",
-    [HJ_BAD_VERSION] = "wrong version",
-    [HJ_BAD_LENGTH] = "wrong length",
-    [HJ_BAD_FORM] = "forbidden control bits",
-    [HJ_BAD_CHECKSUM] = "wrong checksum",
-    [HJ_BAD_ADDRESS] = "an invalid address",
-    [HJ_NO_DOMAIN] = "a one-octet address, and no domain to supply",
-    [HJ_NOT_CARRIED] = "a service that is not carried",
-    [HJ_NOT_FOR_US] = "not for this host",
-    [HJ_HOPS_USED_UP] = "hop count used up",
-    [HJ_NO_ROUTE] = "no route",
-    [HJ_NOT_UP] = "the route is not up",
-    [HJ_LEAVES_DOMAIN] = "a one-octet address would leave its domain",
-    [HJ_TOO_BIG] = "too big for every port",
-    [HJ_QUEUES_FULL] = "every queue is full",
-    [HJ_NO_PORT] = "no such port is set up",
-    [HJ_SHORT_OUTPUT] = "too little room for the output",
-    [HJ_NOTHING_WAITING] = "nothing waits",
-    [HJ_FIELD_RANGE] = "a field out of range",
-    [HJ_DATA_TOO_LONG] = "too much data",
-    [HJ_BAD_NUMBER] = "no such place or port, or the port is not set up",
-    [HJ_BAD_MASK] = "wrong mask or prefix bits",
-    [HJ_SAME_ENTRY] = "the same entry stands in another place",
-    [HJ_BAD_CODE] = "a code or size out of range",
-    [HJ_WRONG_CLASS] = "the wrong class of address",
-    [HJ_UNKNOWN_TP_ID] = "unknown transport number",
-    [HJ_ENTRIES_WAIT] = "entries wait on the port"};
-
-const char *told_number(uint32_t number)
-{
-    const char *words = number <= HJ_ENTRIES_WAIT ? NUMBERS[number] : NULL;
-
-    return words != NULL ? words : "an unlisted number";
-}
-
-void told_set(uint32_t ports)
+static void told_set(uint32_t ports)
 {
     const char *between = "";
 
@@ -148,7 +107,7 @@ void told_send(uint32_t node, uint32_t port, const hj_fields *fields,
 static void wire_time(const struct wire *wire)
 {
     uint64_t tenths =
-        (net_microseconds(wire->flying.length, wire->bits_per_second) + 50) /
+        (wire_microseconds(wire->flying.length, wire->bits_per_second) + 50) /
         100;
 
     printf("%14s%" PRIu32 " octets at %" PRIu32 " bit/s: %" PRIu64 ".%" PRIu64
@@ -175,7 +134,7 @@ void told_start(uint32_t node, uint32_t port, bool own, hj_answer entry)
     if (!own)
         printf("; slot %u, precedence %u, %" PRIu32 " still wait",
                (unsigned)hj_slot(entry), (unsigned)hj_precedence(entry),
-               net_waiting(&nodes[node], port));
+               node_waiting(&nodes[node], port));
     puts("");
 }
 
@@ -188,7 +147,7 @@ static void local_half(uint32_t local)
     else if (local == HJ_DELIVERED)
         puts("here: DELIVERED (1)");
     else
-        printf("here: REFUSED (%" PRIu32 "), %s\n", local, told_number(local));
+        printf("here: REFUSED (%" PRIu32 "), %s\n", local, number_name(local));
 }
 
 static void onward_half(hj_verdict verdict)
@@ -202,7 +161,7 @@ static void onward_half(hj_verdict verdict)
         printf("sent on (1), header %" PRIu32 " octets",
                hj_header_octets(verdict));
     else
-        printf("REFUSED (%" PRIu32 "), %s", onward, told_number(onward));
+        printf("REFUSED (%" PRIu32 "), %s", onward, number_name(onward));
 }
 
 static void ports_of(hj_verdict verdict)
@@ -225,7 +184,7 @@ static void counters_moved(const struct node *node, const uint32_t *before)
 
     printf("%14scounters:", "");
     for (uint32_t counter = 0; counter < HJ_COUNTERS; counter++) {
-        uint32_t after = net_counter(node, counter);
+        uint32_t after = node_counter(node, counter);
 
         if (after != before[counter]) {
             printf("%s %s %" PRIu32 " (+%" PRIu32 ")", between,
@@ -250,7 +209,7 @@ void told_arrival(uint32_t node, uint32_t port,
     printf(" by port %" PRIu32 "\n%14s", port, "");
     if (hj_ended_by(verdict) != HJ_DONE) {
         printf("REFUSED (%" PRIu32 "), %s", hj_ended_by(verdict),
-               told_number(hj_ended_by(verdict)));
+               number_name(hj_ended_by(verdict)));
     } else {
         local_half(hj_local(verdict));
         onward_half(verdict);
