@@ -4,31 +4,12 @@
  * that means something elsewhere: a place just beyond the last, an address, a
  * mask, a number of all ones.
  */
+#include "draw.h"
+
 #include <string.h>
 
-#include "soak.h"
-
-uint32_t soak_odd_number(const struct world *world, struct random *random)
-{
-    static const uint32_t EDGES[] = {0,  1,   2,   3,    4,    5,     7,
-                                     8,  9,   15,  16,   31,   32,    33,
-                                     63, 64,  255, 256,  8190, 8191,  8192,
-                                     0x80000000, 0xfffffffe, 0xffffffff};
-
-    switch (random_below(random, 5)) {
-    case 0:
-        return (uint32_t)random_number(random);
-    case 1:
-        return world_unicast(world, random);
-    case 2:
-        return world_mask(random_below(random, 33));
-    case 3:
-        return random_one_in(random, 2) ? world_multicast(world, random)
-                                        : world_path(random);
-    default:
-        return PICK(EDGES);
-    }
-}
+#include "numbers.h"
+#include "octets.h"
 
 static uint32_t draw_set(const struct world *world, struct random *random)
 {

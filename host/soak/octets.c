@@ -7,9 +7,11 @@
  * the octets of user data matter to nobody, but one in 300 has the most that a
  * length field can say.
  */
+#include "octets.h"
+
 #include <string.h>
 
-#include "soak.h"
+#include "numbers.h"
 
 #define MOST_OCTETS 300
 
@@ -69,21 +71,6 @@ static uint32_t draw_path(const struct world *world, struct random *random)
     if (random_one_in(random, 8))
         return draw_address(world, random);
     return path != 0 ? path : world_path(random);
-}
-
-/* At the edges of the classes: each octet one that decides something. */
-uint32_t soak_draw_edge(struct random *random)
-{
-    static const uint8_t FIRST[] = {0,   1,   9,   10,  10,  11,  126, 127,
-                                    128, 191, 192, 223, 224, 239, 240, 255};
-    static const uint8_t OTHER[] = {0, 1, 2, 253, 254, 255, 255};
-    uint32_t address = PICK(FIRST);
-
-    for (int octet = 0; octet < 3; octet++)
-        address = address << 8 | (random_one_in(random, 4)
-                                      ? random_below(random, 256)
-                                      : PICK(OTHER));
-    return address;
 }
 
 static void draw_form(struct form *form, const struct world *world,

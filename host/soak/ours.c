@@ -2,9 +2,9 @@
  * ours.c: the calls of the soak on the library. An empty piece is lent as
  * a null pointer by whoever calls this; nothing is looked at here.
  */
-#include <string.h>
+#include "ours.h"
 
-#include "soak.h"
+#include <string.h>
 
 /* A row of uint32_t, as the library's structures are. */
 static void put_row(uint64_t *parts, const void *row, size_t octets)

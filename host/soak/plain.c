@@ -5,12 +5,13 @@
  * The awkward case is the copies that were dropped: plain's verdict does not
  * name them, but its counter grows by one for each.
  */
+#include "plain.h"
+
 #include <string.h>
 
 #include "plain/plain_checksum.h"
 #include "plain/plain_header.h"
 #include "plain/plain_relay.h"
-#include "soak.h"
 
 static plain_relay relay;
 

@@ -13,10 +13,12 @@
  * moves only those that wait, and a count over 32 is full and hands nothing
  * out.
  */
+#include "rules.h"
+
+#include <stdbool.h>
 #include <string.h>
 
 #include "plain/plain_header.h"
-#include "soak.h"
 
 #define NONE 0xff
 

@@ -28,10 +28,16 @@
 #include <string.h>
 #include <unistd.h>
 
+#include "call.h"
+#include "draw.h"
+#include "lent.h"
+#include "numbers.h"
+#include "ours.h"
+#include "plain.h"
+#include "rules.h"
 #include "shared/options.h"
 #include "shared/settings.h"
-#include "soak.h"
-#include "lent.h"
+#include "table.h"
 
 #define HISTORY_CALLS 400
 #define OTHER_CALLS 120

@@ -6,12 +6,12 @@
  * it is said not to be whole, and fails, so that no short run passes for a
  * whole one.
  */
+#include "table.h"
+
 #include <inttypes.h>
 #include <stdio.h>
 
-#include "soak.h"
-
-const char *const soak_names[SOAK_KINDS] = {
+static const char *const soak_names[SOAK_KINDS] = {
     "hj_read",       "hj_build",       "hj_class",      "hj_path",
     "hj_checksum",   "hj_state_words", "hj_fresh",      "hj_set_router",
     "hj_set_port",   "hj_set_route",   "hj_set_group",  "hj_set_path",
@@ -19,7 +19,7 @@ const char *const soak_names[SOAK_KINDS] = {
     "hj_take",       "hj_counter",     "hj_waiting",    "hj_get_router",
     "hj_get_port",   "hj_get_route",   "hj_get_group",  "hj_get_path"};
 
-const uint8_t soak_number_counts[SOAK_KINDS] = {
+static const uint8_t soak_number_counts[SOAK_KINDS] = {
     0, 0, 1, 1, 0, 0, 0, 1, 4, 6, 4, 4, 1, 1, 1, 2, 1, 1, 1, 0, 1, 1, 1, 1};
 
 static void say_octets(const struct soak_call *call)
