@@ -26,15 +26,15 @@ VERSION := $(shell cat VERSION)
 ARCHIVE := build/libharpjuniper.a
 # Each program has a folder below host/, and takes from host/shared what is named here.
 program = $(wildcard host/$(1)/*.c) $(patsubst %,host/shared/%.c,options $(2))
-REPLAY := $(call program,replay,text trace)
+REPLAY := $(call program,replay,calls text trace)
 GENERATE := $(call program,generate,datagram form settings text world)
-COVERAGE := $(call program,coverage,answered arriving settings trace)
-LEDGER := $(call program,ledger,answered arriving trace)
-BENCH := $(call program,bench,trace)
+COVERAGE := $(call program,coverage,answered arriving calls settings trace)
+LEDGER := $(call program,ledger,answered arriving calls trace)
+BENCH := $(call program,bench,calls trace)
 REHEARSAL := $(call program,rehearsal)
 SOAK := $(call program,soak,datagram form settings world)
 PLAIN := $(wildcard host/plain/plain_*.c)
-HEADERS := $(wildcard include/*.h host/*/*.h tests/*.h)
+HEADERS := $(wildcard include/*.h host/*/*.h host/*/*.def tests/*.h)
 
 # `make test` goes through its parts in this order, whatever -j says.
 .NOTPARALLEL:

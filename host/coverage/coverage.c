@@ -22,10 +22,13 @@
 #include "shared/settings.h"
 #include "table.h"
 
-static bool count_line(const struct trace_call *call,
+static bool count_line(enum call of, const struct trace_call *call,
                        const struct trace_call *answer)
 {
-    return count_header_line(call, answer) || count_relay_line(call, answer);
+    if (of == CALLS)
+        return false;
+    return call_has_state(of) ? count_relay_line(of, call, answer)
+                              : count_header_line(of, call, answer);
 }
 
 enum { HEADERS, BUILDS, ADDRESSES, CHECKSUMS, HISTORIES, SETTINGS };

@@ -136,22 +136,6 @@ static bool count_build(const struct trace_call *call,
     return true;
 }
 
-static bool count_class(const struct trace_call *call,
-                        const struct trace_call *answer)
-{
-    (void)call;
-    tally.class[answered_number(6, answer->words[0])]++;
-    return true;
-}
-
-static bool count_path(const struct trace_call *call,
-                       const struct trace_call *answer)
-{
-    (void)call;
-    tally.path[answered_number(1, answer->words[0])]++;
-    return true;
-}
-
 static bool count_checksum(const struct trace_call *call,
                            const struct trace_call *answer)
 {
@@ -170,21 +154,25 @@ static bool count_checksum(const struct trace_call *call,
 
 /* ---- Lines --------------------------------------------------------------- */
 
-static const struct {
-    const char *word;
-    answered_line *count;
-} WORDS[] = {{"read", count_read},   {"build", count_build},
-             {"class", count_class}, {"path", count_path},
-             {"checksum", count_checksum}};
-
-bool count_header_line(const struct trace_call *call,
+bool count_header_line(enum call of, const struct trace_call *call,
                        const struct trace_call *answer)
 {
-    for (size_t i = 0; i < LENGTH(WORDS); i++) {
-        if (trace_is(call->words[0], WORDS[i].word))
-            return WORDS[i].count(call, answer);
+    switch (of) {
+    case CALL_READ:
+        return count_read(call, answer);
+    case CALL_BUILD:
+        return count_build(call, answer);
+    case CALL_CLASS:
+        tally.class[answered_number(6, answer->words[0])]++;
+        return true;
+    case CALL_PATH:
+        tally.path[answered_number(1, answer->words[0])]++;
+        return true;
+    case CALL_CHECKSUM:
+        return count_checksum(call, answer);
+    default:
+        return false;
     }
-    return false;
 }
 
 /* ---- The table ----------------------------------------------------------- */

@@ -7,7 +7,7 @@
 
 #include "shared/answered.h"
 
-/* Counts a line; false where its word is another, or it has no good answer. */
+/* Counts a line; false where it has no good answer, or is another call's. */
 answered_line count_header_line;
 
 /* How many lines there were of each word. */

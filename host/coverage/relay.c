@@ -9,13 +9,13 @@
  */
 #include "relay.h"
 
+#include <inttypes.h>
 #include <stdio.h>
 #include <string.h>
 
 #include "relay_lists.h"
 #include "table.h"
 
-#define NUMBERS 36
 #define COUNTERS 15
 
 static struct view view;
@@ -62,42 +62,10 @@ static const char *const PORT_NAMES[] = {PORT_LIST(NAME)};
 static const char *const ROUTE_NAMES[] = {ROUTE_LIST(NAME)};
 static const char *const ENTRY_NAMES[] = {ENTRY_LIST(NAME)};
 
-/* Each word that answers a number, and the numbers that it must answer. */
-enum word {
-    SET_ROUTER,
-    SET_PORT,
-    SET_ROUTE,
-    SET_GROUP,
-    SET_PATH,
-    CLEAR_ROUTE,
-    CLEAR_GROUP,
-    CLEAR_PATH,
-    TAKE,
-    RECEIVE,
-    WORDS
-};
-
-static const struct {
-    const char *name;
-    const char *forms; /* of its arguments: d a number, x an address */
-    uint8_t numbers[12]; /* after the first, up to a 0 */
-} WORD[WORDS] = {
-    [SET_ROUTER] = {"set_router", "d", {0, 24}},
-    [SET_PORT] = {"set_port", "dxxd", {0, 21, 22, 24, 25, 35}},
-    [SET_ROUTE] = {"set_route", "dxxddd", {0, 21, 22, 23, 24}},
-    [SET_GROUP] = {"set_group", "dxdd", {0, 21, 23, 25}},
-    [SET_PATH] = {"set_path", "dxdd", {0, 21, 23, 24, 25}},
-    [CLEAR_ROUTE] = {"clear_route", "d", {0, 21}},
-    [CLEAR_GROUP] = {"clear_group", "d", {0, 21}},
-    [CLEAR_PATH] = {"clear_path", "d", {0, 21}},
-    [TAKE] = {"take", "d", {0, 16, 18}},
-    [RECEIVE] = {"receive", "ddd", {0, 1, 2, 3, 4, 5, 6, 7, 8, 16, 17}},
-};
-
 static struct {
     uint64_t calls;
-    uint64_t numbers[WORDS][NUMBERS];
-    uint64_t local[NUMBERS], onward[NUMBERS];
+    uint64_t numbers[CALLS][CALL_NUMBERS];
+    uint64_t local[CALL_NUMBERS], onward[CALL_NUMBERS];
     uint64_t waiting_none, waiting_some, waiting_full, waiting_no_port;
     uint64_t precedence[16];
     uint64_t moved[COUNTERS];
@@ -166,8 +134,8 @@ static void count_halves(const struct receipt *r)
     WANTED_LIST(COUNT)
     reached = tally.of_copies;
     COPIES_LIST(COUNT)
-    tally.local[r->local % NUMBERS]++;
-    tally.onward[r->onward % NUMBERS]++;
+    tally.local[r->local % CALL_NUMBERS]++;
+    tally.onward[r->onward % CALL_NUMBERS]++;
 }
 
 static void count_receipt(const struct receipt *r)
@@ -204,36 +172,36 @@ static bool read_receipt(const struct trace_call *call,
 
 /* ---- Other calls --------------------------------------------------------- */
 
-static void count_setting(enum word word, const struct asked *s)
+static void count_setting(enum call of, const struct asked *s)
 {
     const struct view *v = &view;
     uint64_t *reached = tally.of_port;
 
-    if (word == SET_PORT) {
+    if (of == CALL_SET_PORT) {
         PORT_LIST(COUNT)
     }
     reached = tally.of_route;
-    if (word == SET_ROUTE) {
+    if (of == CALL_SET_ROUTE) {
         ROUTE_LIST(COUNT)
     }
     reached = tally.of_entry;
-    if (word == SET_GROUP || word == SET_PATH) {
+    if (of == CALL_SET_GROUP || of == CALL_SET_PATH) {
         ENTRY_LIST(COUNT)
     }
 }
 
-static bool count_number(enum word word, const struct trace_call *call,
+static bool count_number(enum call of, const struct trace_call *call,
                          const struct trace_call *answer)
 {
     struct asked asked = {number(answer->words[0]), {0}};
 
-    if (!trace_numbers(call->words + 1, WORD[word].forms, asked.n))
+    if (!trace_numbers(call->words + 1, call_facts[of].arguments, asked.n))
         return false;
-    tally.numbers[word][asked.number % NUMBERS]++;
-    count_setting(word, &asked);
-    if (word == TAKE && asked.number == 0)
+    tally.numbers[of][asked.number % CALL_NUMBERS]++;
+    count_setting(of, &asked);
+    if (of == CALL_TAKE && asked.number == 0)
         tally.precedence[number(answer->words[2]) % 16]++;
-    return word != RECEIVE || read_receipt(call, answer);
+    return of != CALL_RECEIVE || read_receipt(call, answer);
 }
 
 static bool count_waiting(const struct trace_call *answer)
@@ -264,33 +232,31 @@ static bool count_counters(const struct trace_call *answer)
     return true;
 }
 
-/* Looks at the call before the view notes what it did. */
-static bool count_call(const struct trace_call *call,
+static bool count_call(enum call of, const struct trace_call *call,
                        const struct trace_call *answer)
 {
-    if (trace_is(call->words[0], "new")) {
+    switch (of) {
+    case CALL_FRESH:
         memset(counters, 0, sizeof counters);
         return true;
-    }
-    if (trace_is(call->words[0], "waiting"))
+    case CALL_WAITING:
         return count_waiting(answer);
-    if (trace_is(call->words[0], "counters"))
+    case CALL_COUNTER:
         return count_counters(answer);
-    for (int word = 0; word < WORDS; word++) {
-        if (trace_is(call->words[0], WORD[word].name))
-            return count_number((enum word)word, call, answer);
+    default:
+        return count_number(of, call, answer);
     }
-    return false;
 }
 
-bool count_relay_line(const struct trace_call *call,
+/* Looks at the call before the view notes what it did. */
+bool count_relay_line(enum call of, const struct trace_call *call,
                       const struct trace_call *answer)
 {
-    bool known = count_call(call, answer);
+    bool known = count_call(of, call, answer);
 
     if (known) {
         tally.calls++;
-        view_note(&view, call, answer);
+        view_note(&view, of, call, answer);
     }
     return known;
 }
@@ -302,36 +268,45 @@ uint64_t relay_calls(void)
 
 /* ---- The table ----------------------------------------------------------- */
 
-static void say_numbers(int word)
+/* Each number that the call may end in, which it must have. */
+static void say_numbers(enum call of)
 {
-    bool due[NUMBERS] = {true};
     char row[64];
 
-    for (size_t i = 1; WORD[word].numbers[i] != 0; i++)
-        due[WORD[word].numbers[i]] = true;
-    for (size_t i = 0; i < NUMBERS; i++) {
-        snprintf(row, sizeof row, "%s: %zu", WORD[word].name, i);
-        if (due[i])
-            say_row(row, tally.numbers[word][i], LEAST);
-        else if (tally.numbers[word][i] > 0)
+    for (uint32_t i = 0; i < CALL_NUMBERS; i++) {
+        snprintf(row, sizeof row, "%s: %" PRIu32, call_facts[of].word, i);
+        if (call_ends_in(of, i))
+            say_row(row, tally.numbers[of][i], LEAST);
+        else if (tally.numbers[of][i] > 0)
             say_failed(row);
     }
 }
 
+static void say_calls(void)
+{
+    puts("The relay's calls:");
+    for (int of = 0; of < CALLS; of++) {
+        if (call_sets((enum call)of) && of != CALL_FRESH)
+            say_numbers((enum call)of);
+    }
+    say_numbers(CALL_TAKE);
+    say_numbers(CALL_RECEIVE);
+}
+
 static void say_halves(void)
 {
-    static const char *const LOCAL[NUMBERS] = {
+    static const char *const LOCAL[CALL_NUMBERS] = {
         [0] = "local: 0, no", [1] = "local: 1, delivered",
         [26] = "local: 26"};
-    static const char *const ONWARD[NUMBERS] = {
+    static const char *const ONWARD[CALL_NUMBERS] = {
         [0] = "onward: 0, not asked", [1] = "onward: 1, sent on",
         [9] = "onward: 9",            [10] = "onward: 10",
         [11] = "onward: 11",          [12] = "onward: 12",
         [13] = "onward: 13",          [14] = "onward: 14",
         [15] = "onward: 15"};
 
-    say_answers(LOCAL, tally.local, NUMBERS);
-    say_answers(ONWARD, tally.onward, NUMBERS);
+    say_answers(LOCAL, tally.local, CALL_NUMBERS);
+    say_answers(ONWARD, tally.onward, CALL_NUMBERS);
     puts("The local half:");
     say_list(LOCAL_NAMES, tally.of_local, LENGTH(LOCAL_NAMES));
     puts("The onward half, by the line that decided:");
@@ -381,9 +356,7 @@ static void say_counters(void)
 
 void say_relay(void)
 {
-    puts("The relay's calls:");
-    for (int word = 0; word < WORDS; word++)
-        say_numbers(word);
+    say_calls();
     puts("Refused receipts:");
     say_list(REFUSED_NAMES, tally.of_refused, LENGTH(REFUSED_NAMES));
     say_halves();

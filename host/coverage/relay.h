@@ -4,7 +4,7 @@
 
 #include "shared/answered.h"
 
-/* Counts a line; false where its word is another, or it has no good answer. */
+/* Counts a line; false where it has no good answer, or is another call's. */
 answered_line count_relay_line;
 /* `new` and every word after it that is the relay's. */
 uint64_t relay_calls(void);

@@ -88,32 +88,29 @@ static void note_taken(struct view *view, uint32_t took)
         view->ports[port].waits += took >> port & 1;
 }
 
-void view_note(struct view *view, const struct trace_call *call,
+void view_note(struct view *view, enum call of, const struct trace_call *call,
                const struct trace_call *answer)
 {
-    static const struct {
-        const char *word;
-        void (*note)(struct view *, const struct trace_word *);
-    } WORDS[] = {{"take", note_take},
-                 {"set_router", note_router},
-                 {"set_port", note_port},
-                 {"set_route", note_route},
-                 {"set_group", note_group},
-                 {"set_path", note_path},
-                 {"clear_route", note_clear_route},
-                 {"clear_group", note_clear_group},
-                 {"clear_path", note_clear_path}};
+    static void (*const NOTES[CALLS])(struct view *,
+                                      const struct trace_word *) = {
+        [CALL_TAKE] = note_take,
+        [CALL_SET_ROUTER] = note_router,
+        [CALL_SET_PORT] = note_port,
+        [CALL_SET_ROUTE] = note_route,
+        [CALL_SET_GROUP] = note_group,
+        [CALL_SET_PATH] = note_path,
+        [CALL_CLEAR_ROUTE] = note_clear_route,
+        [CALL_CLEAR_GROUP] = note_clear_group,
+        [CALL_CLEAR_PATH] = note_clear_path};
 
-    if (trace_is(call->words[0], "new"))
+    if (of == CALL_FRESH)
         memset(view, 0, sizeof *view);
     if (answer->count == 0 || !trace_is(answer->words[0], "0"))
         return;
-    if (trace_is(call->words[0], "receive"))
+    if (of == CALL_RECEIVE)
         note_taken(view, number(answer->words[3]));
-    for (size_t i = 0; i < sizeof WORDS / sizeof *WORDS; i++) {
-        if (trace_is(call->words[0], WORDS[i].word))
-            WORDS[i].note(view, call->words + 1);
-    }
+    if (NOTES[of] != NULL)
+        NOTES[of](view, call->words + 1);
 }
 
 /* ---- Naming -------------------------------------------------------------- */

@@ -46,7 +46,7 @@ struct view {
 };
 
 /* Notes what the call did by its answer. */
-void view_note(struct view *view, const struct trace_call *call,
+void view_note(struct view *view, enum call of, const struct trace_call *call,
                const struct trace_call *answer);
 
 /* What a datagram that no check refused names, arriving by a port. */

@@ -96,14 +96,14 @@ static uint32_t full_ports(void)
 }
 
 /* The counter of each number that ends the call or a half; 0 for none. */
-static const uint8_t COUNTER_OF[36] = {
+static const uint8_t COUNTER_OF[CALL_NUMBERS] = {
     [1] = 1, [2] = 2,   [3] = 1,   [4] = 3,   [5] = 4,   [6] = 3,   [7] = 3,
     [8] = 5, [9] = 6,   [10] = 9,  [11] = 11, [12] = 11, [13] = 13, [14] = 14,
     [26] = 7};
 
 static void count(uint32_t refusal)
 {
-    if (refusal < 36 && COUNTER_OF[refusal] != 0)
+    if (refusal < CALL_NUMBERS && COUNTER_OF[refusal] != 0)
         book.counters[COUNTER_OF[refusal]]++;
 }
 
@@ -216,8 +216,7 @@ static void check_discards(uint32_t found)
     book.most_discards = found;
 }
 
-static bool book_counters(const struct trace_call *call,
-                          const struct trace_call *answer)
+static bool book_counters(const struct trace_call *answer)
 {
     static const char *const NAMES[COUNTERS] = {
         "npInReceives",    "npInBadLength",     "npInBadVersion",
@@ -226,7 +225,6 @@ static bool book_counters(const struct trace_call *call,
         "npForwHopDiscard", "npForwDatagrams",  "npOutNoRoutes",
         "npOutDiscards",   "left domain",       "too big"};
 
-    (void)call;
     seen.counters++;
     for (int i = 0; i < COUNTERS; i++) {
         uint32_t found = number(answer->words[i]);
@@ -242,33 +240,25 @@ static bool book_counters(const struct trace_call *call,
 
 /* ---- Lines --------------------------------------------------------------- */
 
-static bool book_new(const struct trace_call *call,
-                     const struct trace_call *answer)
-{
-    (void)call;
-    (void)answer;
-    memset(&book, 0, sizeof book);
-    return true;
-}
-
 /* Other words move nothing that is booked. */
-static bool book_line(const struct trace_call *call,
+static bool book_line(enum call of, const struct trace_call *call,
                       const struct trace_call *answer)
 {
-    static const struct {
-        const char *word;
-        answered_line *book;
-    } WORDS[] = {{"receive", book_receive},
-                 {"take", book_take},
-                 {"waiting", book_waiting},
-                 {"counters", book_counters},
-                 {"new", book_new}};
-
-    for (size_t i = 0; i < sizeof WORDS / sizeof *WORDS; i++) {
-        if (trace_is(call->words[0], WORDS[i].word))
-            return WORDS[i].book(call, answer);
+    switch (of) {
+    case CALL_RECEIVE:
+        return book_receive(call, answer);
+    case CALL_TAKE:
+        return book_take(call, answer);
+    case CALL_WAITING:
+        return book_waiting(call, answer);
+    case CALL_COUNTER:
+        return book_counters(answer);
+    case CALL_FRESH:
+        memset(&book, 0, sizeof book);
+        return true;
+    default:
+        return true;
     }
-    return true;
 }
 
 static const char HELP[] =

@@ -12,8 +12,8 @@
 
 #include "trace.h"
 
-/* Whether the line is known. */
-typedef bool answered_line(const struct trace_call *call,
+/* Whether the line is known. The call is CALLS where no call has its word. */
+typedef bool answered_line(enum call of, const struct trace_call *call,
                            const struct trace_call *answer);
 
 /*

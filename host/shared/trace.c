@@ -55,6 +55,16 @@ bool trace_is(struct trace_word word, const char *text)
            memcmp(word.text, text, word.length) == 0;
 }
 
+enum call trace_call_of(struct trace_word word)
+{
+    for (int call = 0; call < CALLS; call++) {
+        if (call_facts[call].word != NULL &&
+            trace_is(word, call_facts[call].word))
+            return (enum call)call;
+    }
+    return CALLS;
+}
+
 bool trace_number(struct trace_word word, uint64_t most, uint64_t *number)
 {
     uint64_t value = 0;
@@ -123,7 +133,7 @@ bool trace_address(struct trace_word word, uint32_t *address)
 bool trace_numbers(const struct trace_word *words, const char *forms,
                    uint32_t *numbers)
 {
-    for (; *forms != '\0'; forms++, words++, numbers++) {
+    for (; *forms == 'd' || *forms == 'x'; forms++, words++, numbers++) {
         if (*forms == 'd' ? !trace_number_32(*words, numbers)
                           : !trace_address(*words, numbers))
             return false;

@@ -11,6 +11,8 @@
 #include <stddef.h>
 #include <stdint.h>
 
+#include "calls.h"
+
 /* Characters of a line that is understood, its end not counted. */
 #define TRACE_MOST_LINE 40000
 /* Octets that a word of such a line can stand for. */
@@ -39,11 +41,15 @@ enum trace_kind trace_cut(const char *line, size_t length,
 
 bool trace_is(struct trace_word word, const char *text);
 
+/* The call that has this word; CALLS where none has. */
+enum call trace_call_of(struct trace_word word);
+
 /* What a word stands for; false where it is not of that form. */
 bool trace_number(struct trace_word word, uint64_t most, uint64_t *number);
 bool trace_number_32(struct trace_word word, uint32_t *number);
 bool trace_address(struct trace_word word, uint32_t *address);
-/* Several words as numbers, each by its letter: d decimal, x an address. */
+/* Several words as numbers, each by its letter (calls.def): d or x. Any other
+ * letter ends them. */
 bool trace_numbers(const struct trace_word *words, const char *forms,
                    uint32_t *numbers);
 /* A hexadecimal number of 1 to 32 digits, as its upper and lower 64 bits. */
