@@ -26,11 +26,11 @@ VERSION := $(shell cat VERSION)
 ARCHIVE := build/libharpjuniper.a
 # Each program has a folder below host/, and takes from host/shared what is named here.
 program = $(wildcard host/$(1)/*.c) $(patsubst %,host/shared/%.c,options $(2))
-REPLAY := $(call program,replay,calls text trace)
+REPLAY := $(call program,replay,calls library text trace)
 GENERATE := $(call program,generate,datagram form settings text world)
 COVERAGE := $(call program,coverage,answered arriving calls settings trace)
 LEDGER := $(call program,ledger,answered arriving calls trace)
-BENCH := $(call program,bench,calls trace)
+BENCH := $(call program,bench,calls library plainly trace)
 REHEARSAL := $(call program,rehearsal)
 SOAK := $(call program,soak,datagram form settings world)
 PLAIN := $(wildcard host/plain/plain_*.c)

@@ -65,10 +65,10 @@ static const char *kind_of_receive(const struct bench_answer *answer)
 
 static const char *kind_of(const struct bench_answer *answer)
 {
-    switch (bench_call.word) {
-    case BENCH_RECEIVE:
+    switch (bench_call.which) {
+    case CALL_RECEIVE:
         return kind_of_receive(answer);
-    case BENCH_TAKE:
+    case CALL_TAKE:
         return answer->refusal == 0 ? "take" : "take, nothing waiting";
     default:
         return "read";
@@ -80,9 +80,9 @@ static bool measure(enum mode mode)
     struct bench_answer plain, ours;
     size_t plain_octets, our_octets;
 
-    plain_octets = run(mode, bench_plain[bench_call.word]);
+    plain_octets = run(mode, bench_plain[bench_call.which]);
     plain = bench_call.answer;
-    our_octets = run(mode, bench_ours[bench_call.word]);
+    our_octets = run(mode, bench_ours[bench_call.which]);
     ours = bench_call.answer;
     say(mode, kind_of(&plain), "plain", plain_octets);
     say(mode, kind_of(&ours), "ours", our_octets);
@@ -91,55 +91,39 @@ static bool measure(enum mode mode)
 
 /* ---- Lines --------------------------------------------------------------- */
 
-/* The forms of a word's numbers; those that are measured. Octets stand behind
- * the numbers. */
-static const struct bench_word {
-    const char *name;
-    const char *forms;
-    bool octets;
-    bool measured;
-} WORDS[BENCH_WORDS] = {
-    [BENCH_RECEIVE] = {"receive", "ddd", true, true},
-    [BENCH_TAKE] = {"take", "d", false, true},
-    [BENCH_READ] = {"read", "", true, true},
-    [BENCH_NEW] = {"new", "", false, false},
-    [BENCH_SET_ROUTER] = {"set_router", "d", false, false},
-    [BENCH_SET_PORT] = {"set_port", "dxxd", false, false},
-    [BENCH_SET_ROUTE] = {"set_route", "dxxddd", false, false},
-    [BENCH_SET_GROUP] = {"set_group", "dxdd", false, false},
-    [BENCH_SET_PATH] = {"set_path", "dxdd", false, false},
-};
-
-static bool take_arguments(const struct bench_word *word,
-                           const struct trace_call *call)
+/* Numbers, and octets behind them where the last argument is such. */
+static bool take_arguments(const char *forms, const struct trace_call *call)
 {
+    size_t count = strlen(forms);
     const struct trace_word *last = &call->words[call->count - 1];
 
-    if (call->count != 1 + strlen(word->forms) + word->octets ||
-        !trace_numbers(call->words + 1, word->forms, bench_call.numbers))
+    if (call->count != 1 + count ||
+        !trace_numbers(call->words + 1, forms, bench_call.numbers))
         return false;
-    return !word->octets ||
+    return count == 0 || forms[count - 1] != 'o' ||
            trace_octets(*last, bench_call.octets, &bench_call.count);
 }
 
-static bool make_call(enum mode mode, enum bench_kind word)
+/* False where the two differ, or the bench does not make such a call. */
+static bool make_call(enum mode mode)
 {
-    bench_call.word = word;
-    if (WORDS[word].measured)
+    enum call_kind kind = call_facts[bench_call.which].kind;
+
+    if (bench_ours[bench_call.which] != NULL)
         return measure(mode);
-    bench_plain[word]();
-    bench_ours[word]();
+    if (kind != KIND_FRESH && kind != KIND_SETTING)
+        return false;
+    bench_plain_set();
+    bench_ours_set();
     return true;
 }
 
 static bool make_line(enum mode mode, const struct trace_call *call)
 {
-    for (int word = 0; word < BENCH_WORDS; word++) {
-        if (trace_is(call->words[0], WORDS[word].name))
-            return take_arguments(&WORDS[word], call) &&
-                   make_call(mode, (enum bench_kind)word);
-    }
-    return false;
+    bench_call.which = trace_call_of(call->words[0]);
+    return bench_call.which != CALLS &&
+           take_arguments(call_facts[bench_call.which].arguments, call) &&
+           make_call(mode);
 }
 
 static bool make_lines(enum mode mode)

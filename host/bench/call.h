@@ -11,20 +11,8 @@
 #include <stddef.h>
 #include <stdint.h>
 
+#include "shared/calls.h"
 #include "shared/trace.h"
-
-enum bench_kind {
-    BENCH_RECEIVE,
-    BENCH_TAKE,
-    BENCH_READ,
-    BENCH_NEW,
-    BENCH_SET_ROUTER,
-    BENCH_SET_PORT,
-    BENCH_SET_ROUTE,
-    BENCH_SET_GROUP,
-    BENCH_SET_PATH,
-    BENCH_WORDS
-};
 
 /* What both sides must answer alike, the numbers of each other call 0. */
 struct bench_answer {
@@ -35,8 +23,8 @@ struct bench_answer {
 };
 
 struct bench_call {
-    enum bench_kind word;
-    uint32_t numbers[6];
+    enum call which;
+    uint32_t numbers[CALL_MOST_NUMBERS];
     size_t count;
     uint8_t octets[TRACE_MOST_OCTETS];
     struct bench_answer answer;

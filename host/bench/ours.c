@@ -7,6 +7,7 @@
 #include <string.h>
 
 #include "harpjuniper.h"
+#include "shared/library.h"
 
 static uint32_t state[HJ_STATE_WORDS];
 
@@ -62,48 +63,13 @@ static void read_header(void)
     answer->header = reading.header;
 }
 
-static void fresh(void)
-{
-    hj_fresh(state, HJ_STATE_WORDS);
-}
-
-static void set_router(void)
-{
-    hj_set_router(state, HJ_STATE_WORDS, bench_call.numbers[0]);
-}
-
-static void set_port(void)
-{
-    const uint32_t *n = bench_call.numbers;
-
-    hj_set_port(state, HJ_STATE_WORDS, n[0], n[1], n[2], n[3]);
-}
-
-static void set_route(void)
-{
-    const uint32_t *n = bench_call.numbers;
-
-    hj_set_route(state, HJ_STATE_WORDS, n[0], n[1], n[2], n[3], n[4], n[5]);
-}
-
-static void set_group(void)
-{
-    const uint32_t *n = bench_call.numbers;
-
-    hj_set_group(state, HJ_STATE_WORDS, n[0], n[1], n[2], n[3]);
-}
-
-static void set_path(void)
-{
-    const uint32_t *n = bench_call.numbers;
-
-    hj_set_path(state, HJ_STATE_WORDS, n[0], n[1], n[2], n[3]);
-}
-
-void (*const bench_ours[BENCH_WORDS])(void) = {
-    [BENCH_RECEIVE] = receive,     [BENCH_TAKE] = take,
-    [BENCH_READ] = read_header,    [BENCH_NEW] = fresh,
-    [BENCH_SET_ROUTER] = set_router, [BENCH_SET_PORT] = set_port,
-    [BENCH_SET_ROUTE] = set_route, [BENCH_SET_GROUP] = set_group,
-    [BENCH_SET_PATH] = set_path,
+void (*const bench_ours[CALLS])(void) = {
+    [CALL_RECEIVE] = receive,
+    [CALL_TAKE] = take,
+    [CALL_READ] = read_header,
 };
+
+void bench_ours_set(void)
+{
+    library_set(bench_call.which, state, HJ_STATE_WORDS, bench_call.numbers);
+}

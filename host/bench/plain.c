@@ -9,6 +9,7 @@
 
 #include "plain/plain_header.h"
 #include "plain/plain_relay.h"
+#include "shared/plainly.h"
 
 static plain_relay relay;
 
@@ -68,52 +69,13 @@ static void read_header(void)
     answer->header = header.header_length;
 }
 
-static void fresh(void)
-{
-    plain_relay_fresh(&relay);
-}
-
-static void set_router(void)
-{
-    plain_set_router(&relay, bench_call.numbers[0]);
-}
-
-static void set_port(void)
-{
-    const uint32_t *n = bench_call.numbers;
-    plain_port port = {{n[1]}, {n[2]}, n[3]};
-
-    plain_set_port(&relay, n[0], &port);
-}
-
-static void set_route(void)
-{
-    const uint32_t *n = bench_call.numbers;
-    plain_route route = {{n[1]}, {n[2]}, n[3], n[4], n[5]};
-
-    plain_set_route(&relay, n[0], &route);
-}
-
-static void set_group(void)
-{
-    const uint32_t *n = bench_call.numbers;
-    plain_group group = {{n[1]}, {n[2]}, {n[3]}};
-
-    plain_set_group(&relay, n[0], &group);
-}
-
-static void set_path(void)
-{
-    const uint32_t *n = bench_call.numbers;
-    plain_path_place path = {{n[1]}, {n[2]}, n[3]};
-
-    plain_set_path(&relay, n[0], &path);
-}
-
-void (*const bench_plain[BENCH_WORDS])(void) = {
-    [BENCH_RECEIVE] = receive,     [BENCH_TAKE] = take,
-    [BENCH_READ] = read_header,    [BENCH_NEW] = fresh,
-    [BENCH_SET_ROUTER] = set_router, [BENCH_SET_PORT] = set_port,
-    [BENCH_SET_ROUTE] = set_route, [BENCH_SET_GROUP] = set_group,
-    [BENCH_SET_PATH] = set_path,
+void (*const bench_plain[CALLS])(void) = {
+    [CALL_RECEIVE] = receive,
+    [CALL_TAKE] = take,
+    [CALL_READ] = read_header,
 };
+
+void bench_plain_set(void)
+{
+    plainly_set(&relay, bench_call.which, bench_call.numbers);
+}

@@ -10,53 +10,37 @@
 
 #include <stdio.h>
 #include <stdlib.h>
+#include <string.h>
 
 #include "shared/options.h"
 #include "shared/text.h"
 #include "shared/trace.h"
 #include "words.h"
 
-static const struct meaning {
-    const char *word;
-    size_t arguments;
-    answer_word *answer;
-} MEANINGS[] = {
-    {"receive", 4, answer_receive},
-    {"take", 1, answer_take},
-    {"read", 1, answer_read},
-    {"build", 16, answer_build},
-    {"class", 1, answer_class},
-    {"path", 1, answer_path},
-    {"checksum", 1, answer_checksum},
-    {"new", 0, answer_new},
-    {"set_router", 1, answer_set_router},
-    {"set_port", 4, answer_set_port},
-    {"set_route", 6, answer_set_route},
-    {"set_group", 4, answer_set_group},
-    {"set_path", 4, answer_set_path},
-    {"clear_route", 1, answer_clear_route},
-    {"clear_group", 1, answer_clear_group},
-    {"clear_path", 1, answer_clear_path},
-    {"counters", 0, answer_counters},
-    {"waiting", 1, answer_waiting},
-};
+/* A word's function, by its call; none for a word that sets. */
+#define ANSWER_STATELESS(word) answer_##word
+#define ANSWER_FRESH(word) answer_##word
+#define ANSWER_SETTING(word) NULL
+#define ANSWER_CLEARING(word) NULL
+#define ANSWER_DATAGRAM(word) answer_##word
+#define ANSWER_LOOK(word) answer_##word
 
-static const struct meaning *meaning_of(const struct trace_call *call)
-{
-    for (size_t i = 0; i < sizeof MEANINGS / sizeof *MEANINGS; i++) {
-        if (trace_is(call->words[0], MEANINGS[i].word) &&
-            call->count - 1 == MEANINGS[i].arguments)
-            return &MEANINGS[i];
-    }
-    return NULL;
-}
+static answer_word *const ANSWERS[CALLS] = {
+#define WORD(NAME, function, kind, object, numbers, word, ...)                 \
+    [CALL_##NAME] = ANSWER_##kind(word),
+#include "shared/calls.def"
+};
 
 static bool answer_call(const struct trace_call *call, struct text *answer)
 {
-    const struct meaning *meaning = meaning_of(call);
+    enum call of = trace_call_of(call->words[0]);
+    const struct trace_word *arguments = call->words + 1;
 
     text_clear(answer);
-    return meaning != NULL && meaning->answer(call->words + 1, answer);
+    if (of == CALLS || call->count != 1 + strlen(call_facts[of].arguments))
+        return false;
+    return ANSWERS[of] != NULL ? ANSWERS[of](arguments, answer)
+                               : answer_setting(of, arguments, answer);
 }
 
 static void write_answered(const struct trace_call *call,

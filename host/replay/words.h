@@ -3,13 +3,15 @@
  * of its line, calls the library and adds the answer; it answers false where an
  * argument is not understood, and has then called nothing.
  *
- * A new word is one function here and one row of the table in replay.c.
+ * A word that sets has no function of its own, since its row of calls.def says
+ * all that is to be known of it. Each other row has the function answer_WORD.
  */
 #ifndef WORDS_H
 #define WORDS_H
 
 #include <stdbool.h>
 
+#include "shared/calls.h"
 #include "shared/text.h"
 #include "shared/trace.h"
 
@@ -25,17 +27,11 @@ answer_word answer_build;
 
 /* words_relay.c: the relay. answer_new looks at no argument. */
 answer_word answer_new;
-answer_word answer_set_router;
-answer_word answer_set_port;
-answer_word answer_set_route;
-answer_word answer_set_group;
-answer_word answer_set_path;
-answer_word answer_clear_route;
-answer_word answer_clear_group;
-answer_word answer_clear_path;
 answer_word answer_receive;
 answer_word answer_take;
 answer_word answer_counters;
 answer_word answer_waiting;
+bool answer_setting(enum call call, const struct trace_word *arguments,
+                    struct text *answer);
 
 #endif

@@ -1,6 +1,6 @@
 /*
- * words_relay.c: the words new, set_*, clear_*, receive, take, counters and
- * waiting, each the library's call of that name on one state.
+ * words_relay.c: the words new, receive, take, counters and waiting, and those
+ * that set, each the library's call of that name on one state.
  *
  * The library decides, never this file: a place 70 or a port 9 is handed over
  * as it stands, and only what the library's types cannot hold makes a line that
@@ -19,8 +19,7 @@
 #include "harpjuniper.h"
 #include "lent.h"
 #include "lent_state.h"
-
-#define MOST_ARGUMENTS 6
+#include "shared/library.h"
 
 static void add_number(struct text *answer, uint32_t number)
 {
@@ -40,90 +39,18 @@ bool answer_new(const struct trace_word *arguments, struct text *answer)
     return true;
 }
 
-static bool answer_setting(struct text *answer, uint32_t refusal)
+bool answer_setting(enum call call, const struct trace_word *arguments,
+                    struct text *answer)
 {
+    uint32_t numbers[CALL_MOST_NUMBERS];
+    uint32_t refusal;
+
+    if (!trace_numbers(arguments, call_facts[call].arguments, numbers))
+        return false;
+    refusal = library_set(call, lent_state(), HJ_STATE_WORDS, numbers);
     text_number(answer, refusal);
     lent_state_answer(answer, refusal == HJ_DONE);
     return true;
-}
-
-bool answer_set_router(const struct trace_word *arguments, struct text *answer)
-{
-    uint32_t n[MOST_ARGUMENTS];
-
-    if (!trace_numbers(arguments, "d", n))
-        return false;
-    return answer_setting(answer,
-                          hj_set_router(lent_state(), HJ_STATE_WORDS, n[0]));
-}
-
-bool answer_set_port(const struct trace_word *arguments, struct text *answer)
-{
-    uint32_t n[MOST_ARGUMENTS];
-
-    if (!trace_numbers(arguments, "dxxd", n))
-        return false;
-    return answer_setting(answer, hj_set_port(lent_state(), HJ_STATE_WORDS,
-                                              n[0], n[1], n[2], n[3]));
-}
-
-bool answer_set_route(const struct trace_word *arguments, struct text *answer)
-{
-    uint32_t n[MOST_ARGUMENTS];
-
-    if (!trace_numbers(arguments, "dxxddd", n))
-        return false;
-    return answer_setting(answer,
-                          hj_set_route(lent_state(), HJ_STATE_WORDS, n[0],
-                                       n[1], n[2], n[3], n[4], n[5]));
-}
-
-bool answer_set_group(const struct trace_word *arguments, struct text *answer)
-{
-    uint32_t n[MOST_ARGUMENTS];
-
-    if (!trace_numbers(arguments, "dxdd", n))
-        return false;
-    return answer_setting(answer, hj_set_group(lent_state(), HJ_STATE_WORDS,
-                                               n[0], n[1], n[2], n[3]));
-}
-
-bool answer_set_path(const struct trace_word *arguments, struct text *answer)
-{
-    uint32_t n[MOST_ARGUMENTS];
-
-    if (!trace_numbers(arguments, "dxdd", n))
-        return false;
-    return answer_setting(answer, hj_set_path(lent_state(), HJ_STATE_WORDS,
-                                              n[0], n[1], n[2], n[3]));
-}
-
-static bool answer_clear(const struct trace_word *arguments,
-                         struct text *answer,
-                         uint32_t clear(uint32_t *, size_t, uint32_t))
-{
-    uint32_t place;
-
-    if (!trace_number_32(arguments[0], &place))
-        return false;
-    return answer_setting(answer, clear(lent_state(), HJ_STATE_WORDS, place));
-}
-
-bool answer_clear_route(const struct trace_word *arguments,
-                        struct text *answer)
-{
-    return answer_clear(arguments, answer, hj_clear_route);
-}
-
-bool answer_clear_group(const struct trace_word *arguments,
-                        struct text *answer)
-{
-    return answer_clear(arguments, answer, hj_clear_group);
-}
-
-bool answer_clear_path(const struct trace_word *arguments, struct text *answer)
-{
-    return answer_clear(arguments, answer, hj_clear_path);
 }
 
 /* ---- Datagrams ----------------------------------------------------------- */
