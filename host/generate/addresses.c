@@ -7,8 +7,7 @@
  */
 #include "addresses.h"
 
-#include <inttypes.h>
-#include <stdio.h>
+#include "line.h"
 
 /* An address that stands at an edge of the class table: every first octet, with
  * edges of the middle octets and of the last. */
@@ -60,6 +59,7 @@ void write_addresses(uint64_t count, struct random *random)
         uint32_t address = i < EDGES ? edge_address((uint32_t)i)
                                      : drawn_address(random);
 
-        printf("class %08" PRIx32 "\npath %08" PRIx32 "\n", address, address);
+        line_number(CALL_CLASS, address);
+        line_number(CALL_PATH, address);
     }
 }

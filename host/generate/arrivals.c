@@ -12,9 +12,6 @@
  */
 #include "arrivals.h"
 
-#include <inttypes.h>
-#include <stdio.h>
-
 #include "line.h"
 #include "shared/datagram.h"
 
@@ -213,18 +210,17 @@ static uint32_t choose_room(struct random *random)
 void history_receive(const struct world *world, struct random *random)
 {
     static struct datagram datagram;
-    char word[64];
-    uint32_t arrival = choose_arrival(world, random);
-    uint32_t slots = random_one_in(random, 2) ? 16 : 65536;
-    uint32_t slot = random_below(random, slots);
-    uint32_t room = choose_room(random);
+    uint32_t numbers[3]; /* arrival port, slot, room */
+    uint32_t slots;
 
+    numbers[0] = choose_arrival(world, random);
+    slots = random_one_in(random, 2) ? 16 : 65536;
+    numbers[1] = random_below(random, slots);
+    numbers[2] = choose_room(random);
     choose_form(world, &datagram.form, random);
     datagram_write(&datagram, choose_data(world, &datagram.form, random),
                    random);
     if (random_one_in(random, 8))
         spoil_somehow(&datagram, random);
-    snprintf(word, sizeof word,
-             "receive %" PRIu32 " %" PRIu32 " %" PRIu32, arrival, slot, room);
-    line_octets(word, datagram.octets, datagram.count);
+    line_octets(CALL_RECEIVE, numbers, datagram.octets, datagram.count);
 }

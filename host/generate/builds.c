@@ -13,6 +13,7 @@
 #include <stdio.h>
 #include <string.h>
 
+#include "shared/calls.h"
 #include "shared/form.h"
 #include "shared/text.h"
 
@@ -215,7 +216,7 @@ void write_builds(uint64_t count, struct random *random)
         say_number(&build, ROOM, choose_room(random));
         say_form(&build, &form);
         spoil(&build, random);
-        fputs("build", stdout);
+        fputs(call_facts[CALL_BUILD].word, stdout);
         for (int argument = 0; argument < ARGUMENTS; argument++)
             printf(" %s", build.words[argument]);
         putchar('\n');

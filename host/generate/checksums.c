@@ -39,6 +39,6 @@ void write_checksums(uint64_t count, struct random *random)
         uint32_t length = random_below(random, most + 1);
 
         choose_summed(octets, length, random);
-        line_octets("checksum", octets, length);
+        line_octets(CALL_CHECKSUM, NULL, octets, length);
     }
 }

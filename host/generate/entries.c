@@ -9,9 +9,7 @@
  */
 #include "entries.h"
 
-#include <inttypes.h>
-#include <stdio.h>
-
+#include "line.h"
 #include "ways.h"
 
 /* A set that names a port not set up, or one over 7. */
@@ -30,10 +28,12 @@ struct entry {
     uint32_t place, address, send, last;
 };
 
-static void write_entry(const char *word, const struct entry *entry)
+static void write_entry(enum call call, const struct entry *entry)
 {
-    printf("%s %" PRIu32 " %08" PRIx32 " %" PRIu32 " %" PRIu32 "\n", word,
-           entry->place, entry->address, entry->send, entry->last);
+    const uint32_t numbers[] = {entry->place, entry->address, entry->send,
+                                entry->last};
+
+    line_numbers(call, numbers);
 }
 
 /* Often no port, or the port of one number alone. */
@@ -90,7 +90,7 @@ void history_set_group(struct world *world, uint32_t place,
     struct entry group = choose_group(world, place, random);
 
     world->groups[place] = group.address;
-    write_entry("set_group", &group);
+    write_entry(CALL_SET_GROUP, &group);
 }
 
 void history_refused_group(struct world *world, struct random *random)
@@ -106,7 +106,7 @@ void history_refused_group(struct world *world, struct random *random)
         group.address = random_one_in(random, 2)
                             ? world_unicast(world, random)
                             : world_invalid(random);
-    write_entry("set_group", &group);
+    write_entry(CALL_SET_GROUP, &group);
 }
 
 static struct entry choose_path(const struct world *world, uint32_t place,
@@ -126,7 +126,7 @@ void history_set_path(struct world *world, uint32_t place,
     struct entry path = choose_path(world, place, random);
 
     world->paths[place] = path.address;
-    write_entry("set_path", &path);
+    write_entry(CALL_SET_PATH, &path);
 }
 
 void history_refused_path(struct world *world, struct random *random)
@@ -140,5 +140,5 @@ void history_refused_path(struct world *world, struct random *random)
         path.address = random_one_in(random, 2) ? 0x0a0409fe : 0xac100402;
     if (chosen & 16)
         path.last = beyond(2, random);
-    write_entry("set_path", &path);
+    write_entry(CALL_SET_PATH, &path);
 }

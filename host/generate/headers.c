@@ -126,6 +126,6 @@ void write_headers(uint64_t count, struct random *random)
     for (uint64_t i = 0; i < count; i++) {
         KINDS[i % 16].make(&datagram, random);
         KINDS[i % 16].spoil(&datagram, random);
-        line_octets("read", datagram.octets, datagram.count);
+        line_octets(CALL_READ, NULL, datagram.octets, datagram.count);
     }
 }

@@ -10,11 +10,9 @@
  */
 #include "history.h"
 
-#include <inttypes.h>
-#include <stdio.h>
-
 #include "arrivals.h"
 #include "entries.h"
+#include "line.h"
 #include "ports.h"
 #include "setting.h"
 #include "shared/world.h"
@@ -46,23 +44,18 @@ static const struct shape SHAPES[] = {
     {1, DOMAINS, 2, 6, 6, 6, 1, 1},       /* two ports, hardly emptied */
 };
 
-static void look(uint32_t port)
-{
-    printf("waiting %" PRIu32 "\n", port);
-}
-
 static void look_at_all(void)
 {
-    puts("counters");
+    line_numbers(CALL_COUNTER, NULL);
     for (uint32_t port = 0; port <= WORLD_PORTS; port++)
-        look(port);
+        line_number(CALL_WAITING, port);
 }
 
 static void set_up(const struct shape *shape, struct world *world,
                    struct random *random)
 {
-    puts("new");
-    history_set_router(shape->router);
+    line_numbers(CALL_FRESH, NULL);
+    line_number(CALL_SET_ROUTER, shape->router);
     for (uint32_t i = 0; i < shape->ports; i++)
         history_set_port(world, i, random);
     for (uint32_t i = 0; i < shape->routes; i++)
@@ -73,18 +66,13 @@ static void set_up(const struct shape *shape, struct world *world,
         history_set_path(world, i, random);
 }
 
-static void take(uint32_t port)
-{
-    printf("take %" PRIu32 "\n", port);
-}
-
 /* Takes more than can wait, and writes the port again. */
 static void drain(struct world *world, struct random *random)
 {
     uint32_t port = world_port(world, random);
 
     for (uint32_t i = 0; i <= QUEUE; i++)
-        take(port);
+        line_number(CALL_TAKE, port);
     if (random_one_in(random, 2))
         history_set_port(world, port, random);
 }
@@ -97,12 +85,13 @@ static void write_call(const struct shape *shape, struct world *world,
     if (random_one_in(random, 200))
         drain(world, random);
     else if (random_one_in(random, 80))
-        puts("counters");
+        line_numbers(CALL_COUNTER, NULL);
     else if (random_one_in(random, 40))
-        look(random_below(random, WORLD_PORTS + 2));
+        line_number(CALL_WAITING, random_below(random, WORLD_PORTS + 2));
     else if (draw < shape->takes)
-        take(random_one_in(random, 16) ? random_below(random, WORLD_PORTS + 2)
-                                       : world_port(world, random));
+        line_number(CALL_TAKE, random_one_in(random, 16)
+                                   ? random_below(random, WORLD_PORTS + 2)
+                                   : world_port(world, random));
     else if (draw < shape->takes + shape->settings)
         history_setting(world, random);
     else

@@ -4,9 +4,7 @@
  */
 #include "ports.h"
 
-#include <inttypes.h>
-#include <stdio.h>
-
+#include "line.h"
 #include "ways.h"
 
 static uint32_t no_mask(struct random *random)
@@ -106,8 +104,10 @@ static struct port choose_port(const struct world *world, uint32_t number,
 
 static void write_port(const struct port *port)
 {
-    printf("set_port %" PRIu32 " %08" PRIx32 " %08" PRIx32 " %" PRIu32 "\n",
-           port->number, port->address, port->mask, port->mtu);
+    const uint32_t numbers[] = {port->number, port->address, port->mask,
+                                port->mtu};
+
+    line_numbers(CALL_SET_PORT, numbers);
 }
 
 void history_set_port(struct world *world, uint32_t number,
@@ -198,10 +198,11 @@ static void spoil_route(const struct world *world, struct route *route,
 
 static void write_route(const struct route *route)
 {
-    printf("set_route %" PRIu32 " %08" PRIx32 " %08" PRIx32 " %" PRIu32
-           " %" PRIu32 " %" PRIu32 "\n",
-           route->place, route->prefix, route->mask, route->port,
-           route->availability, route->capabilities);
+    const uint32_t numbers[] = {route->place,        route->prefix,
+                                route->mask,         route->port,
+                                route->availability, route->capabilities};
+
+    line_numbers(CALL_SET_ROUTE, numbers);
 }
 
 void history_set_route(struct world *world, uint32_t place,

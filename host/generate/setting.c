@@ -5,16 +5,9 @@
  */
 #include "setting.h"
 
-#include <inttypes.h>
-#include <stdio.h>
-
 #include "entries.h"
+#include "line.h"
 #include "ports.h"
-
-void history_set_router(uint32_t router)
-{
-    printf("set_router %" PRIu32 "\n", router);
-}
 
 static void clear_route(struct world *world, struct random *random)
 {
@@ -22,17 +15,17 @@ static void clear_route(struct world *world, struct random *random)
 
     if (place < WORLD_ROUTES)
         world->routes[place].filled = false;
-    printf("clear_route %" PRIu32 "\n", place);
+    line_number(CALL_CLEAR_ROUTE, place);
 }
 
-static void clear_entry(const char *word, uint32_t *entries, uint32_t count,
+static void clear_entry(enum call call, uint32_t *entries, uint32_t count,
                         struct random *random)
 {
     uint32_t place = random_below(random, count + 4);
 
     if (place < count)
         entries[place] = 0;
-    printf("%s %" PRIu32 "\n", word, place);
+    line_number(call, place);
 }
 
 static void any_router(struct world *world, struct random *random)
@@ -40,7 +33,7 @@ static void any_router(struct world *world, struct random *random)
     static const uint32_t ROUTER[] = {0, 1, 1, 1, 2, 0xffffffff};
 
     (void)world;
-    history_set_router(PICK(ROUTER));
+    line_number(CALL_SET_ROUTER, PICK(ROUTER));
 }
 
 static void any_port(struct world *world, struct random *random)
@@ -88,10 +81,10 @@ static void any_clear(struct world *world, struct random *random)
 {
     switch (random_below(random, 4)) {
     case 0:
-        clear_entry("clear_group", world->groups, WORLD_GROUPS, random);
+        clear_entry(CALL_CLEAR_GROUP, world->groups, WORLD_GROUPS, random);
         break;
     case 1:
-        clear_entry("clear_path", world->paths, WORLD_PATHS, random);
+        clear_entry(CALL_CLEAR_PATH, world->paths, WORLD_PATHS, random);
         break;
     default:
         clear_route(world, random);

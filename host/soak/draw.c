@@ -43,38 +43,51 @@ static void draw_route(uint32_t *n, const struct world *world,
     n[5] = PICK(CAPABLE);
 }
 
+uint32_t soak_places(enum call which)
+{
+    static const uint32_t PLACES[CALL_OBJECTS] = {
+        [ON_RELAY] = HJ_GROUPS, /* any: the number is not looked at */
+        [ON_PORT] = HJ_PORTS,       [ON_ROUTE] = HJ_ROUTES,
+        [ON_GROUP] = HJ_GROUPS,     [ON_PATH] = HJ_PATHS,
+        [ON_COUNTER] = HJ_COUNTERS, [ON_QUEUE] = HJ_PORTS};
+
+    return PLACES[call_facts[which].object];
+}
+
 static void spoil(struct soak_call *call, const struct world *world,
                   struct random *random)
 {
     uint32_t times = 1 + random_below(random, 2);
 
     while (times-- > 0) {
-        uint32_t *number = call->numbers + random_below(random, SOAK_NUMBERS);
+        uint32_t *number =
+            call->numbers + random_below(random, CALL_MOST_NUMBERS);
 
         *number = soak_odd_number(world, random);
     }
 }
 
-void soak_draw_setting(struct soak_call *call, enum soak_kind kind,
+void soak_draw_setting(struct soak_call *call, enum call which,
                        const struct world *world, struct random *random)
 {
     uint32_t *n = call->numbers;
 
-    call->kind = kind;
-    n[0] = random_below(random, kind == SOAK_CLEAR_ROUTE ? HJ_ROUTES
-                                                         : HJ_GROUPS);
-    if (kind == SOAK_SET_ROUTER) {
+    call->which = which;
+    n[0] = random_below(random, soak_places(which));
+    if (which == CALL_SET_ROUTER) {
         n[0] = !random_one_in(random, 8);
-    } else if (kind == SOAK_SET_PORT) {
+    } else if (which == CALL_SET_PORT) {
         draw_port(n, world, random);
-    } else if (kind == SOAK_SET_ROUTE) {
+    } else if (which == CALL_SET_ROUTE) {
         draw_route(n, world, random);
-    } else if (kind == SOAK_SET_GROUP || kind == SOAK_SET_PATH) {
-        n[1] = kind == SOAK_SET_GROUP ? world_multicast(world, random)
-                                      : world_path(random);
+    } else if (which == CALL_SET_GROUP) {
+        n[1] = world_multicast(world, random);
         n[2] = draw_set(world, random);
-        n[3] = kind == SOAK_SET_GROUP ? draw_set(world, random)
-                                      : random_below(random, 2);
+        n[3] = draw_set(world, random);
+    } else if (which == CALL_SET_PATH) {
+        n[1] = world_path(random);
+        n[2] = draw_set(world, random);
+        n[3] = random_below(random, 2);
     }
 }
 
@@ -95,56 +108,66 @@ static void draw_receive(struct soak_call *call, const struct world *world,
 static void draw_look(struct soak_call *call, const struct world *world,
                       struct random *random)
 {
-    uint32_t most = call->kind == SOAK_GET_ROUTE ? HJ_ROUTES : HJ_GROUPS;
-
-    if (call->kind <= SOAK_WAITING || call->kind == SOAK_GET_PORT)
-        most = call->kind == SOAK_COUNTER ? HJ_COUNTERS : HJ_PORTS;
-    call->numbers[0] = random_below(random, most + 1);
-    if (call->kind == SOAK_TAKE && !random_one_in(random, 12))
+    call->numbers[0] = random_below(random, soak_places(call->which) + 1);
+    if (call->which == CALL_TAKE && !random_one_in(random, 12))
         call->numbers[0] = world_port(world, random);
     if (random_one_in(random, 24))
         call->numbers[0] = soak_odd_number(world, random);
 }
 
-void soak_draw_kind(struct soak_call *call, enum soak_kind kind,
+static void draw_stateless(struct soak_call *call, const struct world *world,
+                           struct random *random)
+{
+    call->numbers[0] = random_one_in(random, 2)
+                           ? soak_draw_edge(random)
+                           : soak_odd_number(world, random);
+    call->room = random_below(random, SOAK_MOST_ROOM + 1);
+    if (call->which == CALL_BUILD)
+        soak_draw_fields(call, world, random);
+    else
+        soak_draw_octets(call, world, random);
+}
+
+void soak_draw_call(struct soak_call *call, enum call which,
                     const struct world *world, struct random *random)
 {
-    call->kind = kind;
+    call->which = which;
     call->count = 0;
     call->room = 0;
     memset(call->numbers, 0, sizeof call->numbers);
-    if (kind == SOAK_RECEIVE) {
-        draw_receive(call, world, random);
-    } else if (kind > SOAK_RECEIVE) {
-        draw_look(call, world, random);
-    } else if (kind >= SOAK_FRESH) {
-        soak_draw_setting(call, kind, world, random);
+    if (!call_has_state(which)) {
+        draw_stateless(call, world, random);
+    } else if (call_sets(which)) {
+        soak_draw_setting(call, which, world, random);
         if (random_one_in(random, 4))
             spoil(call, world, random);
+    } else if (which == CALL_RECEIVE) {
+        draw_receive(call, world, random);
     } else {
-        call->numbers[0] = random_one_in(random, 2)
-                               ? soak_draw_edge(random)
-                               : soak_odd_number(world, random);
-        call->room = random_below(random, SOAK_MOST_ROOM + 1);
-        if (kind == SOAK_BUILD)
-            soak_draw_fields(call, world, random);
-        else
-            soak_draw_octets(call, world, random);
+        draw_look(call, world, random);
     }
 }
 
+/* A place that was written or emptied. */
 static void note_place(const struct soak_call *call, struct world *world)
 {
     const uint32_t *n = call->numbers;
+    bool filled = call_facts[call->which].kind == KIND_SETTING;
 
-    if (call->kind == SOAK_SET_GROUP || call->kind == SOAK_CLEAR_GROUP) {
-        world->groups[n[0]] = call->kind == SOAK_SET_GROUP ? n[1] : 0;
-    } else if (call->kind == SOAK_SET_PATH || call->kind == SOAK_CLEAR_PATH) {
-        world->paths[n[0]] = call->kind == SOAK_SET_PATH ? n[1] : 0;
-    } else {
-        world->routes[n[0]].filled = call->kind == SOAK_SET_ROUTE;
+    switch (call_facts[call->which].object) {
+    case ON_GROUP:
+        world->groups[n[0]] = filled ? n[1] : 0;
+        break;
+    case ON_PATH:
+        world->paths[n[0]] = filled ? n[1] : 0;
+        break;
+    case ON_ROUTE:
+        world->routes[n[0]].filled = filled;
         world->routes[n[0]].prefix = n[1];
         world->routes[n[0]].mask = n[2];
+        break;
+    default:
+        break;
     }
 }
 
@@ -152,17 +175,17 @@ void soak_note(const struct soak_call *call, struct world *world)
 {
     const uint32_t *n = call->numbers;
 
-    if (call->kind == SOAK_FRESH) {
+    if (call->which == CALL_FRESH) {
         enum nets nets = world->nets;
 
         memset(world, 0, sizeof *world);
         world->nets = nets;
-    } else if (call->kind == SOAK_SET_PORT) {
+    } else if (call->which == CALL_SET_PORT) {
         world->set_up |= 1u << n[0];
         world->ports[n[0]].address = n[1];
         world->ports[n[0]].mask = n[2];
         world->ports[n[0]].mtu = n[3];
-    } else if (call->kind > SOAK_SET_PORT && call->kind < SOAK_RECEIVE) {
+    } else if (call_sets(call->which)) {
         note_place(call, world);
     }
 }

@@ -6,10 +6,13 @@
 #include "shared/random.h"
 #include "shared/world.h"
 
-void soak_draw_kind(struct soak_call *call, enum soak_kind kind,
+/* How many there are of what the call's first number names. */
+uint32_t soak_places(enum call which);
+
+void soak_draw_call(struct soak_call *call, enum call which,
                     const struct world *world, struct random *random);
 /* A good setting. */
-void soak_draw_setting(struct soak_call *call, enum soak_kind kind,
+void soak_draw_setting(struct soak_call *call, enum call which,
                        const struct world *world, struct random *random);
 /* Notes a setting that was taken. */
 void soak_note(const struct soak_call *call, struct world *world);

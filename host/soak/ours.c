@@ -6,6 +6,8 @@
 
 #include <string.h>
 
+#include "shared/library.h"
+
 /* A row of uint32_t, as the library's structures are. */
 static void put_row(uint64_t *parts, const void *row, size_t octets)
 {
@@ -45,52 +47,25 @@ static void put_answer(uint64_t *parts, hj_answer answer)
 static void stateless(const struct soak_call *call, const uint8_t *octets,
                       uint8_t *output, uint64_t *parts)
 {
-    switch (call->kind) {
-    case SOAK_READ:
+    switch (call->which) {
+    case CALL_READ:
         read_header(call, octets, parts);
         break;
-    case SOAK_BUILD:
+    case CALL_BUILD:
         put_answer(parts,
                    hj_build(call->fields, call->data, output, call->room));
         break;
-    case SOAK_CLASS:
+    case CALL_CLASS:
         parts[1] = hj_class(call->numbers[0]);
         break;
-    case SOAK_PATH:
+    case CALL_PATH:
         parts[1] = hj_path(call->numbers[0]);
         break;
-    case SOAK_CHECKSUM:
+    case CALL_CHECKSUM:
         parts[1] = hj_checksum(octets, call->count);
         break;
     default:
         parts[1] = hj_state_words();
-    }
-}
-
-static uint32_t setting(const struct soak_call *call, uint32_t *state)
-{
-    const uint32_t *n = call->numbers;
-    size_t words = call->words;
-
-    switch (call->kind) {
-    case SOAK_FRESH:
-        return hj_fresh(state, words);
-    case SOAK_SET_ROUTER:
-        return hj_set_router(state, words, n[0]);
-    case SOAK_SET_PORT:
-        return hj_set_port(state, words, n[0], n[1], n[2], n[3]);
-    case SOAK_SET_ROUTE:
-        return hj_set_route(state, words, n[0], n[1], n[2], n[3], n[4], n[5]);
-    case SOAK_SET_GROUP:
-        return hj_set_group(state, words, n[0], n[1], n[2], n[3]);
-    case SOAK_SET_PATH:
-        return hj_set_path(state, words, n[0], n[1], n[2], n[3]);
-    case SOAK_CLEAR_ROUTE:
-        return hj_clear_route(state, words, n[0]);
-    case SOAK_CLEAR_GROUP:
-        return hj_clear_group(state, words, n[0]);
-    default:
-        return hj_clear_path(state, words, n[0]);
     }
 }
 
@@ -128,13 +103,13 @@ static void get_setting(const struct soak_call *call, const uint32_t *state,
 {
     uint32_t number = call->numbers[0];
 
-    if (call->kind == SOAK_GET_PORT) {
+    if (call->which == CALL_GET_PORT) {
         hj_port port = hj_get_port(state, call->words, number);
         put_row(parts, &port, sizeof port);
-    } else if (call->kind == SOAK_GET_ROUTE) {
+    } else if (call->which == CALL_GET_ROUTE) {
         hj_route route = hj_get_route(state, call->words, number);
         put_row(parts, &route, sizeof route);
-    } else if (call->kind == SOAK_GET_GROUP) {
+    } else if (call->which == CALL_GET_GROUP) {
         hj_group group = hj_get_group(state, call->words, number);
         put_row(parts, &group, sizeof group);
     } else {
@@ -148,21 +123,22 @@ void soak_ours(const struct soak_call *call, uint32_t *state,
                struct soak_answer *answer)
 {
     memset(answer, 0, sizeof *answer);
-    if (call->kind < SOAK_FRESH)
+    if (!call_has_state(call->which))
         stateless(call, octets, output, answer->parts);
-    else if (call->kind < SOAK_RECEIVE)
-        answer->parts[0] = setting(call, state);
-    else if (call->kind == SOAK_RECEIVE)
+    else if (call_sets(call->which))
+        answer->parts[0] =
+            library_set(call->which, state, call->words, call->numbers);
+    else if (call->which == CALL_RECEIVE)
         receive(call, state, octets, output, answer);
-    else if (call->kind == SOAK_TAKE)
+    else if (call->which == CALL_TAKE)
         take(call, state, answer->parts);
-    else if (call->kind == SOAK_COUNTER)
+    else if (call->which == CALL_COUNTER)
         put_answer(answer->parts,
                    hj_counter(state, call->words, call->numbers[0]));
-    else if (call->kind == SOAK_WAITING)
+    else if (call->which == CALL_WAITING)
         put_answer(answer->parts,
                    hj_waiting(state, call->words, call->numbers[0]));
-    else if (call->kind == SOAK_GET_ROUTER)
+    else if (call->which == CALL_GET_ROUTER)
         put_answer(answer->parts, hj_get_router(state, call->words));
     else
         get_setting(call, state, answer->parts);

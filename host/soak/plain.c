@@ -12,6 +12,7 @@
 #include "plain/plain_checksum.h"
 #include "plain/plain_header.h"
 #include "plain/plain_relay.h"
+#include "shared/plainly.h"
 
 static plain_relay relay;
 
@@ -82,54 +83,18 @@ static void stateless(const struct soak_call *call, uint8_t *output,
     plain_address address = {call->numbers[0]};
     plain_path path = {call->numbers[0]};
 
-    if (call->kind == SOAK_READ)
+    if (call->which == CALL_READ)
         read_header(call, parts);
-    else if (call->kind == SOAK_BUILD)
+    else if (call->which == CALL_BUILD)
         build(call, output, parts);
-    else if (call->kind == SOAK_CLASS)
+    else if (call->which == CALL_CLASS)
         parts[1] = plain_address_class(address);
-    else if (call->kind == SOAK_PATH)
+    else if (call->which == CALL_PATH)
         parts[1] = plain_path_valid(path);
-    else if (call->kind == SOAK_CHECKSUM)
+    else if (call->which == CALL_CHECKSUM)
         parts[1] = plain_checksum(call->octets, call->count);
     else
         parts[1] = HJ_STATE_WORDS;
-}
-
-static plain_refusal set_place(const struct soak_call *call)
-{
-    const uint32_t *n = call->numbers;
-    plain_port port = {{n[1]}, {n[2]}, n[3]};
-    plain_route route = {{n[1]}, {n[2]}, n[3], n[4], n[5]};
-    plain_group group = {{n[1]}, {n[2]}, {n[3]}};
-    plain_path_place path = {{n[1]}, {n[2]}, n[3]};
-
-    if (call->kind == SOAK_SET_PORT)
-        return plain_set_port(&relay, n[0], &port);
-    if (call->kind == SOAK_SET_ROUTE)
-        return plain_set_route(&relay, n[0], &route);
-    if (call->kind == SOAK_SET_GROUP)
-        return plain_set_group(&relay, n[0], &group);
-    return plain_set_path(&relay, n[0], &path);
-}
-
-static plain_refusal setting(const struct soak_call *call)
-{
-    switch (call->kind) {
-    case SOAK_FRESH:
-        plain_relay_fresh(&relay);
-        return PLAIN_GOOD;
-    case SOAK_SET_ROUTER:
-        return plain_set_router(&relay, call->numbers[0]);
-    case SOAK_CLEAR_ROUTE:
-        return plain_clear_route(&relay, call->numbers[0]);
-    case SOAK_CLEAR_GROUP:
-        return plain_clear_group(&relay, call->numbers[0]);
-    case SOAK_CLEAR_PATH:
-        return plain_clear_path(&relay, call->numbers[0]);
-    default:
-        return set_place(call);
-    }
 }
 
 static void receive(const struct soak_call *call, uint8_t *output,
@@ -163,9 +128,9 @@ static void look(const struct soak_call *call, uint64_t *parts)
     uint32_t number = call->numbers[0];
     uint32_t waiting = 0;
 
-    if (call->kind == SOAK_GET_ROUTER) {
+    if (call->which == CALL_GET_ROUTER) {
         parts[1] = relay.router;
-    } else if (call->kind == SOAK_WAITING) {
+    } else if (call->which == CALL_WAITING) {
         parts[0] = plain_waiting(&relay, number, &waiting);
         parts[1] = waiting;
     } else if (number < PLAIN_COUNTERS) {
@@ -196,17 +161,17 @@ static void get_setting(const struct soak_call *call, uint64_t *parts)
 {
     uint32_t number = call->numbers[0];
 
-    if (call->kind == SOAK_GET_PORT && number < PLAIN_PORTS) {
+    if (call->which == CALL_GET_PORT && number < PLAIN_PORTS) {
         const plain_port *port = &relay.ports[number];
         put_four(parts, plain_set_has(relay.set_up, number),
                  port->address.bits, port->mask.bits, port->mtu);
-    } else if (call->kind == SOAK_GET_ROUTE && number < PLAIN_ROUTES) {
+    } else if (call->which == CALL_GET_ROUTE && number < PLAIN_ROUTES) {
         get_route(&relay.routes[number], parts);
-    } else if (call->kind == SOAK_GET_GROUP && number < PLAIN_GROUPS) {
+    } else if (call->which == CALL_GET_GROUP && number < PLAIN_GROUPS) {
         const plain_group *group = &relay.groups[number];
         put_four(parts, group->address.bits != 0, group->address.bits,
                  group->send.bits, group->subscribed.bits);
-    } else if (call->kind == SOAK_GET_PATH && number < PLAIN_PATHS) {
+    } else if (call->which == CALL_GET_PATH && number < PLAIN_PATHS) {
         const plain_path_place *path = &relay.paths[number];
         put_four(parts, path->path.bits != 0, path->path.bits,
                  path->send.bits, path->here);
@@ -219,15 +184,16 @@ void soak_plain(const struct soak_call *call, uint8_t *output,
                 struct soak_answer *answer)
 {
     memset(answer, 0, sizeof *answer);
-    if (call->kind < SOAK_FRESH)
+    if (!call_has_state(call->which))
         stateless(call, output, answer->parts);
-    else if (call->kind < SOAK_RECEIVE)
-        answer->parts[0] = setting(call);
-    else if (call->kind == SOAK_RECEIVE)
+    else if (call_sets(call->which))
+        answer->parts[0] = plainly_set(&relay, call->which, call->numbers);
+    else if (call->which == CALL_RECEIVE)
         receive(call, output, answer->parts);
-    else if (call->kind == SOAK_TAKE)
+    else if (call->which == CALL_TAKE)
         take(call, answer->parts);
-    else if (call->kind <= SOAK_GET_ROUTER)
+    else if (call->which == CALL_COUNTER || call->which == CALL_WAITING ||
+             call->which == CALL_GET_ROUTER)
         look(call, answer->parts);
     else
         get_setting(call, answer->parts);

@@ -41,46 +41,32 @@ static const char *only(const struct soak_answer *answer, uint64_t refusal)
 static const char *wrong_length(const struct soak_call *call,
                                 const struct soak_answer *answer)
 {
-    bool by_port = call->kind == SOAK_RECEIVE || call->kind == SOAK_TAKE;
+    bool by_port = call_facts[call->which].kind == KIND_DATAGRAM;
 
     return only(answer, by_port ? HJ_NO_PORT : HJ_BAD_NUMBER);
 }
 
 /* ---- Records ------------------------------------------------------------- */
 
-/* Where the kind's records stand, how many there are and how long. */
+/* Where the records of an object stand, how many there are and how long. */
 struct records {
     uint32_t at, count, words;
 };
 
-static struct records records_of(enum soak_kind kind)
+static const struct records RECORDS[CALL_OBJECTS] = {
+    [ON_RELAY] = {0, 1, 1},
+    [ON_PORT] = {SOAK_PORTS_AT, HJ_PORTS, 4},
+    [ON_ROUTE] = {SOAK_ROUTES_AT, HJ_ROUTES, 6},
+    [ON_GROUP] = {SOAK_GROUPS_AT, HJ_GROUPS, 4},
+    [ON_PATH] = {SOAK_PATHS_AT, HJ_PATHS, 4},
+    [ON_COUNTER] = {SOAK_COUNTERS_AT, HJ_COUNTERS, 1},
+    [ON_QUEUE] = {SOAK_QUEUES_AT, HJ_PORTS, SOAK_QUEUE_WORDS}};
+
+static uint32_t *record(uint32_t *words, enum call_object object,
+                        uint32_t number)
 {
-    static const struct records PORT = {SOAK_PORTS_AT, HJ_PORTS, 4};
-    static const struct records ROUTE = {SOAK_ROUTES_AT, HJ_ROUTES, 6};
-    static const struct records GROUP = {SOAK_GROUPS_AT, HJ_GROUPS, 4};
-    static const struct records PATH = {SOAK_PATHS_AT, HJ_PATHS, 4};
-    static const struct records COUNTER = {SOAK_COUNTERS_AT, HJ_COUNTERS, 1};
-    static const struct records QUEUE = {SOAK_QUEUES_AT, HJ_PORTS,
-                                         SOAK_QUEUE_WORDS};
-
-    if (kind == SOAK_SET_PORT || kind == SOAK_GET_PORT)
-        return PORT;
-    if (kind == SOAK_SET_ROUTE || kind == SOAK_GET_ROUTE ||
-        kind == SOAK_CLEAR_ROUTE)
-        return ROUTE;
-    if (kind == SOAK_SET_GROUP || kind == SOAK_GET_GROUP ||
-        kind == SOAK_CLEAR_GROUP)
-        return GROUP;
-    if (kind == SOAK_COUNTER)
-        return COUNTER;
-    return kind == SOAK_WAITING ? QUEUE : PATH;
-}
-
-static uint32_t *record(uint32_t *words, enum soak_kind kind, uint32_t number)
-{
-    struct records records = records_of(kind);
-
-    return words + records.at + (size_t)number * records.words;
+    return words + RECORDS[object].at +
+           (size_t)number * RECORDS[object].words;
 }
 
 static bool is_setting_refusal(uint64_t refusal)
@@ -93,7 +79,8 @@ static bool is_setting_refusal(uint64_t refusal)
 static const char *placed(const struct soak_call *call,
                           const struct soak_answer *answer, uint32_t *words)
 {
-    struct records records = records_of(call->kind);
+    enum call_object object = call_facts[call->which].object;
+    struct records records = RECORDS[object];
     uint32_t number = call->numbers[0];
     uint32_t *at;
 
@@ -101,8 +88,8 @@ static const char *placed(const struct soak_call *call,
         return only(answer, HJ_BAD_NUMBER);
     if (answer->parts[0] != HJ_DONE)
         return is_setting_refusal(answer->parts[0]) ? NULL : "odd refusal";
-    at = record(words, call->kind, number);
-    if (call->kind >= SOAK_CLEAR_ROUTE) {
+    at = record(words, object, number);
+    if (call_facts[call->which].kind == KIND_CLEARING) {
         memset(at, 0, records.words * sizeof *at);
         return NULL;
     }
@@ -114,11 +101,11 @@ static const char *placed(const struct soak_call *call,
 static const char *set(const struct soak_call *call,
                        const struct soak_answer *answer, uint32_t *words)
 {
-    if (call->kind == SOAK_FRESH) {
+    if (call->which == CALL_FRESH) {
         memset(words, 0, HJ_STATE_WORDS * sizeof *words);
         return only(answer, HJ_DONE);
     }
-    if (call->kind != SOAK_SET_ROUTER)
+    if (call->which != CALL_SET_ROUTER)
         return placed(call, answer, words);
     if (call->numbers[0] > 1)
         return only(answer, HJ_BAD_CODE);
@@ -130,20 +117,20 @@ static const char *set(const struct soak_call *call,
 static const char *looked(const struct soak_call *call,
                           const struct soak_answer *answer, uint32_t *words)
 {
-    struct records records = records_of(call->kind);
+    enum call_object object = call_facts[call->which].object;
+    struct records records = RECORDS[object];
     struct soak_answer due = {{0}, 0};
     const uint32_t *at;
 
-    if (call->kind == SOAK_GET_ROUTER) {
+    if (call->which == CALL_GET_ROUTER) {
         due.parts[1] = words[0];
     } else if (call->numbers[0] >= records.count) {
         due.parts[0] = HJ_BAD_NUMBER;
     } else {
-        at = record(words, call->kind, call->numbers[0]);
-        if (call->kind == SOAK_WAITING)
+        at = record(words, object, call->numbers[0]);
+        if (object == ON_QUEUE)
             due.parts[1] = at[HJ_QUEUE];
-        for (uint32_t i = 0; i < records.words && call->kind != SOAK_WAITING;
-             i++)
+        for (uint32_t i = 0; i < records.words && object != ON_QUEUE; i++)
             due.parts[1 + i] = at[i];
     }
     return memcmp(&due, answer, sizeof due) == 0 ? NULL
@@ -159,7 +146,7 @@ static bool is_set_up(const uint32_t *words, uint32_t port)
 
 static uint32_t *queue(uint32_t *words, uint32_t port)
 {
-    return record(words, SOAK_WAITING, port);
+    return record(words, ON_QUEUE, port);
 }
 
 static const char *put(uint32_t *entries, uint32_t slot, uint32_t precedence)
@@ -313,15 +300,15 @@ const char *soak_rules(const struct soak_call *call,
                        const struct soak_answer *answer, uint32_t *words,
                        uint8_t *output)
 {
-    if (call->kind < SOAK_FRESH)
+    if (!call_has_state(call->which))
         return NULL;
     if (call->words != HJ_STATE_WORDS)
         return wrong_length(call, answer);
-    if (call->kind < SOAK_RECEIVE)
+    if (call_sets(call->which))
         return set(call, answer, words);
-    if (call->kind == SOAK_RECEIVE)
+    if (call->which == CALL_RECEIVE)
         return received(call, answer, words, output);
-    if (call->kind == SOAK_TAKE)
+    if (call->which == CALL_TAKE)
         return taken(call, answer, words);
     return looked(call, answer, words);
 }

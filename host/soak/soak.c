@@ -108,9 +108,9 @@ static void lend_other_state(void)
 static void count_call(void)
 {
     tally.calls++;
-    tally.kinds[call.kind]++;
-    if (call.kind >= SOAK_FRESH && call.words != HJ_STATE_WORDS) {
-        tally.wrong_kinds[call.kind]++;
+    tally.made[call.which]++;
+    if (call_has_state(call.which) && call.words != HJ_STATE_WORDS) {
+        tally.wrong_made[call.which]++;
         tally.wrong[call.words]++;
     }
 }
@@ -118,11 +118,11 @@ static void count_call(void)
 /* Odd numbers are a failure that was found before. */
 static void count_end(void)
 {
-    if (call.kind >= SOAK_FRESH && call.words != HJ_STATE_WORDS)
+    if (call_has_state(call.which) && call.words != HJ_STATE_WORDS)
         return;
-    if (answer.parts[0] <= SOAK_NUMBERS_MOST)
-        tally.ends[call.kind][answer.parts[0]]++;
-    if (call.kind == SOAK_RECEIVE && answer.parts[0] == HJ_DONE)
+    if (answer.parts[0] < CALL_NUMBERS)
+        tally.ends[call.which][answer.parts[0]]++;
+    if (call.which == CALL_RECEIVE && answer.parts[0] == HJ_DONE)
         tally.onward[answer.parts[2]]++;
 }
 
@@ -151,7 +151,7 @@ static bool make_on(struct soak_lent *lent, bool compared)
     if (wrong != NULL)
         return fail(wrong);
     count_end();
-    if ((compared || call.kind < SOAK_FRESH) && !plain_agrees())
+    if ((compared || !call_has_state(call.which)) && !plain_agrees())
         return fail("plain answers otherwise");
     if (!soak_lent_is_due(lent))
         return fail("the words of the state, or those around it");
@@ -176,12 +176,12 @@ static bool make_wrong_length(void)
 
 static void note_in_books(void)
 {
-    for (uint32_t port = 0; port < HJ_PORTS && call.kind == SOAK_RECEIVE;
+    for (uint32_t port = 0; port < HJ_PORTS && call.which == CALL_RECEIVE;
          port++) {
         books[port].took += answer.parts[3] >> port & 1;
         books[port].dropped += answer.dropped >> port & 1;
     }
-    if (call.kind == SOAK_TAKE && answer.parts[0] == HJ_DONE)
+    if (call.which == CALL_TAKE && answer.parts[0] == HJ_DONE)
         books[call.numbers[0]].handed_out++;
 }
 
@@ -190,7 +190,7 @@ static bool make(enum soak_state sort)
     call.words = HJ_STATE_WORDS;
     if (!make_on(&state, sort == SOAK_HISTORY))
         return false;
-    tally.calls_on[sort] += call.kind >= SOAK_FRESH;
+    tally.calls_on[sort] += call_has_state(call.which);
     if (answer.parts[0] == HJ_DONE)
         soak_note(&call, &world);
     note_in_books();
@@ -199,60 +199,65 @@ static bool make(enum soak_state sort)
 
 /* ---- Which call ---------------------------------------------------------- */
 
-static enum soak_kind draw_kind(void)
+/* One of the calls whose kinds are from one kind up to another. */
+static enum call draw_of(enum call_kind from, enum call_kind to)
+{
+    enum call found[CALLS];
+    uint32_t count = 0;
+
+    for (int which = 0; which < CALLS; which++) {
+        if (call_facts[which].kind >= from && call_facts[which].kind <= to)
+            found[count++] = (enum call)which;
+    }
+    return found[random_below(random, count)];
+}
+
+static enum call draw_which(void)
 {
     uint32_t draw = random_below(random, 100);
 
     if (draw < 12)
-        return (enum soak_kind)random_below(random, SOAK_FRESH);
+        return draw_of(KIND_STATELESS, KIND_STATELESS);
     if (draw < 24)
-        return (enum soak_kind)(SOAK_SET_ROUTER +
-                                random_below(random, SOAK_RECEIVE -
-                                                         SOAK_SET_ROUTER));
+        return draw_of(KIND_SETTING, KIND_CLEARING);
     if (draw < 36)
-        return (enum soak_kind)(SOAK_COUNTER +
-                                random_below(random,
-                                             SOAK_KINDS - SOAK_COUNTER));
-    return draw < 50 ? SOAK_TAKE : SOAK_RECEIVE;
+        return draw_of(KIND_LOOK, KIND_LOOK);
+    return draw < 50 ? CALL_TAKE : CALL_RECEIVE;
 }
 
 static bool make_any(enum soak_state sort)
 {
     if (random_one_in(random, 8)) {
-        soak_draw_kind(&call,
-                       (enum soak_kind)(SOAK_FRESH +
-                                        random_below(random, SOAK_KINDS -
-                                                                 SOAK_FRESH)),
-                       &world, random);
+        soak_draw_call(&call, draw_of(KIND_FRESH, KIND_LOOK), &world, random);
         return make_wrong_length();
     }
-    soak_draw_kind(&call, draw_kind(), &world, random);
+    soak_draw_call(&call, draw_which(), &world, random);
     return make(sort);
 }
 
 /* ---- Histories ----------------------------------------------------------- */
 
-static bool make_look(enum soak_kind kind, uint32_t number)
+static bool make_look(enum call which, uint32_t number)
 {
-    call.kind = kind;
+    call.which = which;
     call.numbers[0] = number;
     return make(SOAK_HISTORY);
 }
 
+/* Every number of every call that only reads, and one beyond the last. */
 static bool compare_all(void)
 {
-    static const struct {
-        enum soak_kind kind;
-        uint32_t count;
-    } LOOKS[] = {{SOAK_COUNTER, HJ_COUNTERS}, {SOAK_WAITING, HJ_PORTS},
-                 {SOAK_GET_ROUTER, 0},        {SOAK_GET_PORT, HJ_PORTS},
-                 {SOAK_GET_ROUTE, HJ_ROUTES}, {SOAK_GET_GROUP, HJ_GROUPS},
-                 {SOAK_GET_PATH, HJ_PATHS}};
     bool good = true;
 
-    for (uint32_t i = 0; i < LENGTH(LOOKS); i++) {
-        for (uint32_t n = 0; good && n <= LOOKS[i].count; n++)
-            good = make_look(LOOKS[i].kind, n);
+    for (int which = 0; which < CALLS; which++) {
+        uint32_t most = call_facts[which].numbers == 0
+                            ? 0
+                            : soak_places((enum call)which);
+
+        if (call_facts[which].kind != KIND_LOOK)
+            continue;
+        for (uint32_t n = 0; good && n <= most; n++)
+            good = make_look((enum call)which, n);
     }
     return good;
 }
@@ -264,24 +269,24 @@ static bool close_books(void)
     uint64_t dropped = 0;
 
     for (uint32_t port = 0; port < HJ_PORTS; port++) {
-        if (!make_look(SOAK_WAITING, port))
+        if (!make_look(CALL_WAITING, port))
             return false;
         if (books[port].took != books[port].handed_out + answer.parts[1])
             return fail("the port's ledger does not close");
         dropped += books[port].dropped;
         tally.ledgers++;
     }
-    if (!make_look(SOAK_COUNTER, HJ_OUT_DISCARDS))
+    if (!make_look(CALL_COUNTER, HJ_OUT_DISCARDS))
         return false;
     return answer.parts[1] == dropped || fail("the dropped copies' counter");
 }
 
-static bool make_settings(enum soak_kind kind, uint32_t count)
+static bool make_settings(enum call which, uint32_t count)
 {
     bool good = true;
 
     while (good && count-- > 0) {
-        soak_draw_setting(&call, kind, &world, random);
+        soak_draw_setting(&call, which, &world, random);
         good = make(SOAK_HISTORY);
     }
     return good;
@@ -291,11 +296,11 @@ static bool begin_history(void)
 {
     world.nets = (enum nets)random_below(random, ALL_NETS + 1);
     memset(books, 0, sizeof books);
-    return make_settings(SOAK_FRESH, 1) && make_settings(SOAK_SET_ROUTER, 1) &&
-           make_settings(SOAK_SET_PORT, 1 + random_below(random, 12)) &&
-           make_settings(SOAK_SET_ROUTE, random_below(random, 40)) &&
-           make_settings(SOAK_SET_GROUP, random_below(random, 20)) &&
-           make_settings(SOAK_SET_PATH, random_below(random, 20));
+    return make_settings(CALL_FRESH, 1) && make_settings(CALL_SET_ROUTER, 1) &&
+           make_settings(CALL_SET_PORT, 1 + random_below(random, 12)) &&
+           make_settings(CALL_SET_ROUTE, random_below(random, 40)) &&
+           make_settings(CALL_SET_GROUP, random_below(random, 20)) &&
+           make_settings(CALL_SET_PATH, random_below(random, 20));
 }
 
 /* Some are left with little taken, so that queues fill. */
@@ -308,7 +313,7 @@ static bool run_history(void)
 
     for (uint32_t i = 0; good && i < calls; i++) {
         if (!takes && i % 4 != 0) {
-            soak_draw_kind(&call, SOAK_RECEIVE, &world, random);
+            soak_draw_call(&call, CALL_RECEIVE, &world, random);
             good = make(SOAK_HISTORY);
         } else {
             good = make_any(SOAK_HISTORY);

@@ -10,17 +10,7 @@
 
 #include <inttypes.h>
 #include <stdio.h>
-
-static const char *const soak_names[SOAK_KINDS] = {
-    "hj_read",       "hj_build",       "hj_class",      "hj_path",
-    "hj_checksum",   "hj_state_words", "hj_fresh",      "hj_set_router",
-    "hj_set_port",   "hj_set_route",   "hj_set_group",  "hj_set_path",
-    "hj_clear_route", "hj_clear_group", "hj_clear_path", "hj_receive",
-    "hj_take",       "hj_counter",     "hj_waiting",    "hj_get_router",
-    "hj_get_port",   "hj_get_route",   "hj_get_group",  "hj_get_path"};
-
-static const uint8_t soak_number_counts[SOAK_KINDS] = {
-    0, 0, 1, 1, 0, 0, 0, 1, 4, 6, 4, 4, 1, 1, 1, 2, 1, 1, 1, 0, 1, 1, 1, 1};
+#include <string.h>
 
 static void say_octets(const struct soak_call *call)
 {
@@ -40,19 +30,19 @@ static void say_fields(const hj_fields *fields)
 
 void soak_say_call(const struct soak_call *call)
 {
-    printf("%s", soak_names[call->kind]);
-    for (uint32_t i = 0; i < soak_number_counts[call->kind]; i++)
+    printf("%s", call_facts[call->which].name);
+    for (uint32_t i = 0; i < call_facts[call->which].numbers; i++)
         printf(" %08" PRIx32, call->numbers[i]);
-    if (call->kind >= SOAK_FRESH)
+    if (call_has_state(call->which))
         printf(", %zu words", call->words);
-    if (call->kind == SOAK_RECEIVE || call->kind == SOAK_BUILD)
+    if (call->which == CALL_RECEIVE || call->which == CALL_BUILD)
         printf(", room %zu", call->room);
-    if (call->kind == SOAK_BUILD)
+    if (call->which == CALL_BUILD)
         printf(", data %zu", call->data);
-    if (call->kind == SOAK_BUILD)
+    if (call->which == CALL_BUILD)
         say_fields(&call->fields);
-    else if (call->kind == SOAK_RECEIVE || call->kind == SOAK_READ ||
-             call->kind == SOAK_CHECKSUM)
+    else if (call->which == CALL_RECEIVE || call->which == CALL_READ ||
+             call->which == CALL_CHECKSUM)
         say_octets(call);
     putchar('\n');
 }
@@ -71,8 +61,8 @@ static uint64_t wrong_calls(const struct soak_tally *tally)
 {
     uint64_t sum = 0;
 
-    for (int kind = 0; kind < SOAK_KINDS; kind++)
-        sum += tally->wrong_kinds[kind];
+    for (int which = 0; which < CALLS; which++)
+        sum += tally->wrong_made[which];
     return sum;
 }
 
@@ -83,54 +73,68 @@ static void say(const char *what, uint64_t number)
 
 /* ---- What the calls ended in --------------------------------------------- */
 
-/* A group of calls, and the numbers that it is to have met. */
+/* The numbers that a group of calls may end in, all of which a run is to have
+ * met, and how often it met each. */
 struct ends {
     const char *what;
-    enum soak_kind from, to;
-    uint8_t numbers[SOAK_NUMBERS_MOST]; /* 0 and others; a second 0 ends it */
+    bool due[CALL_NUMBERS];
+    uint64_t times[CALL_NUMBERS];
 };
 
-static const struct ends ENDS[] = {
-    {"hj_read", SOAK_READ, SOAK_READ, {0, 1, 2, 3, 4, 5}},
-    {"hj_build", SOAK_BUILD, SOAK_BUILD, {0, 17, 19, 20}},
-    {"settings", SOAK_FRESH, SOAK_CLEAR_PATH, {0, 21, 22, 23, 24, 25, 35}},
-    {"hj_receive", SOAK_RECEIVE, SOAK_RECEIVE,
-     {0, 1, 2, 3, 4, 5, 6, 7, 8, 16, 17}},
-    {"hj_take", SOAK_TAKE, SOAK_TAKE, {0, 16, 18}},
-    {"reading a relay", SOAK_COUNTER, SOAK_GET_PATH, {0, 21}},
-};
-static const struct ends ONWARD = {
-    "onward half", SOAK_RECEIVE, SOAK_RECEIVE,
-    {0, 1, 9, 10, 11, 12, 13, 14, 15}};
+/* The groups, by the names of group_of. */
+static const char SETTINGS[] = "settings";
+static const char READING[] = "reading a relay";
 
-static uint64_t times_met(const struct soak_tally *tally,
-                          const struct ends *ends, uint32_t number)
+static const char *group_of(enum call which)
 {
-    uint64_t sum = 0;
-
-    if (ends == &ONWARD)
-        return tally->onward[number];
-    for (int kind = (int)ends->from; kind <= (int)ends->to; kind++)
-        sum += tally->ends[kind][number];
-    return sum;
+    if (call_sets(which))
+        return SETTINGS;
+    return call_facts[which].kind == KIND_LOOK ? READING
+                                               : call_facts[which].name;
 }
 
-static bool say_ends(const struct soak_tally *tally, const struct ends *ends,
-                     bool aloud)
+static struct ends ends_of(const struct soak_tally *tally, const char *group)
+{
+    struct ends ends = {group, {false}, {0}};
+
+    for (int which = 0; which < CALLS; which++) {
+        if (strcmp(group_of((enum call)which), group) != 0)
+            continue;
+        for (uint32_t i = 0; i < CALL_NUMBERS; i++) {
+            ends.due[i] = ends.due[i] || call_ends_in((enum call)which, i);
+            ends.times[i] += tally->ends[which][i];
+        }
+    }
+    return ends;
+}
+
+/* The onward half of a verdict, whose numbers end no call. */
+static struct ends onward_ends(const struct soak_tally *tally)
+{
+    struct ends ends = {"onward half",
+                        {[HJ_NOT_ASKED] = true, [HJ_SENT_ON] = true},
+                        {0}};
+
+    for (uint32_t i = HJ_NOT_FOR_US; i <= HJ_QUEUES_FULL; i++)
+        ends.due[i] = true;
+    memcpy(ends.times, tally->onward, sizeof ends.times);
+    return ends;
+}
+
+static bool say_ends(const struct ends *ends, bool aloud)
 {
     bool met = true;
-    uint32_t i = 0;
 
     if (aloud)
         printf("  %s:", ends->what);
-    do {
-        uint64_t times = times_met(tally, ends, ends->numbers[i]);
-
+    for (uint32_t i = 0; i < CALL_NUMBERS; i++) {
+        if (!ends->due[i])
+            continue;
         if (aloud)
-            printf("%s %u %" PRIu64, i == 0 ? "" : ",",
-                   (unsigned)ends->numbers[i], times);
-        met = met && times > 0;
-    } while (ends->numbers[++i] != 0);
+            printf("%s %" PRIu32 " %" PRIu64, i == 0 ? "" : ",", i,
+                   ends->times[i]);
+        met = met && ends->times[i] > 0;
+    }
     if (aloud)
         putchar('\n');
     return met;
@@ -138,10 +142,15 @@ static bool say_ends(const struct soak_tally *tally, const struct ends *ends,
 
 static bool all_ends(const struct soak_tally *tally, bool aloud)
 {
-    bool met = say_ends(tally, &ONWARD, aloud);
+    static const char *const GROUPS[] = {"hj_read",    "hj_build", SETTINGS,
+                                         "hj_receive", "hj_take",  READING};
+    struct ends ends = onward_ends(tally);
+    bool met = say_ends(&ends, aloud);
 
-    for (size_t i = 0; i < sizeof ENDS / sizeof *ENDS; i++)
-        met = say_ends(tally, &ENDS[i], aloud) && met;
+    for (size_t i = 0; i < sizeof GROUPS / sizeof *GROUPS; i++) {
+        ends = ends_of(tally, GROUPS[i]);
+        met = say_ends(&ends, aloud) && met;
+    }
     return met;
 }
 
@@ -150,9 +159,9 @@ static bool all_ends(const struct soak_tally *tally, bool aloud)
 void soak_say_tally(const struct soak_tally *tally)
 {
     printf("%-22s%12s%22s\n", "call", "calls", "of them wrong length");
-    for (int kind = 0; kind < SOAK_KINDS; kind++)
-        printf("%-22s%12" PRIu64 "%22" PRIu64 "\n", soak_names[kind],
-               tally->kinds[kind], tally->wrong_kinds[kind]);
+    for (int which = 0; which < CALLS; which++)
+        printf("%-22s%12" PRIu64 "%22" PRIu64 "\n", call_facts[which].name,
+               tally->made[which], tally->wrong_made[which]);
     printf("%-22s%12" PRIu64 "%22" PRIu64 "\n\n", "all", tally->calls,
            wrong_calls(tally));
     say("wrong lengths of 0 to 830 tried, of 830", lengths_met(tally));
@@ -176,8 +185,9 @@ bool soak_is_whole(const struct soak_tally *tally)
 
     for (int sort = 0; sort < SOAK_STATES; sort++)
         whole = whole && tally->calls_on[sort] > 0;
-    for (int kind = 0; kind < SOAK_KINDS; kind++)
-        whole = whole && tally->kinds[kind] > 0 &&
-                (kind < SOAK_FRESH || tally->wrong_kinds[kind] > 0);
+    for (int which = 0; which < CALLS; which++)
+        whole = whole && tally->made[which] > 0 &&
+                (!call_has_state((enum call)which) ||
+                 tally->wrong_made[which] > 0);
     return whole;
 }

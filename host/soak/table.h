@@ -13,16 +13,16 @@ enum soak_state { SOAK_HISTORY, SOAK_CHANGED, SOAK_GARBAGE, SOAK_STATES };
 
 struct soak_tally {
     uint64_t calls;
-    uint64_t kinds[SOAK_KINDS];
-    uint64_t wrong_kinds[SOAK_KINDS];     /* of them with a wrong length */
+    uint64_t made[CALLS];
+    uint64_t wrong_made[CALLS];           /* of them with a wrong length */
     uint64_t wrong[SOAK_MOST_WORDS + 1];  /* calls by the words lent */
     uint64_t states[SOAK_STATES];         /* made, of each sort */
     uint64_t calls_on[SOAK_STATES];       /* on their 824 words */
     uint64_t ledgers;                     /* ports whose ledger closed */
     /* Calls on 824 words, or on none, that ended in each number; the onward
      * halves of the verdicts beside them. */
-    uint64_t ends[SOAK_KINDS][SOAK_NUMBERS_MOST + 1];
-    uint64_t onward[SOAK_NUMBERS_MOST + 1];
+    uint64_t ends[CALLS][CALL_NUMBERS];
+    uint64_t onward[CALL_NUMBERS];
 };
 
 /* The call in a line. */
