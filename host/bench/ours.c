@@ -1,6 +1,6 @@
 /*
- * ours.c: the calls of the bench on the library. What an answer does not
- * say is 0 in it, so it is cleared before the marks.
+ * ours.c: the calls of the bench on the library. What an answer does not say is
+ * 0 in it, so it is cleared before the marks.
  */
 #include "ours.h"
 

@@ -1,7 +1,7 @@
 /*
- * plain.c: the calls of the bench on host/plain, as ours.c makes
- * them on the library. The awkward case is a refusal: plain then writes nothing
- * to its result, which is therefore cleared too.
+ * plain.c: the calls of the bench on host/plain, as ours.c makes them on the
+ * library. The awkward case is a refusal: plain then writes nothing to its
+ * result, which is therefore cleared too.
  */
 #include "plain.h"
 

@@ -1,6 +1,6 @@
 /*
- * header_lists.h: what coverage counts. Each row is a name and a condition
- * over the numbers of one line; the line counts for the row where it holds.
+ * header_lists.h: what coverage counts. Each row is a name and a condition over
+ * the numbers of one line; the line counts for the row where it holds.
  */
 #ifndef COVERAGE_LISTS_H
 #define COVERAGE_LISTS_H

@@ -1,7 +1,7 @@
 /*
- * relay.c: what was reached of the relay: each number at each call,
- * each reason of the local half, each line of the onward half, each counter's
- * movement. The lists are in relay_lists.h.
+ * relay.c: what was reached of the relay: each number at each call, each reason
+ * of the local half, each line of the onward half, each counter's movement. The
+ * lists are in relay_lists.h.
  *
  * Which line of the rules decided is not in the answer. It is told from a view
  * of the relay, kept from the answers (view.h), and is used for nothing but

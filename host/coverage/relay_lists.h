@@ -1,7 +1,7 @@
 /*
- * relay_lists.h: what coverage counts of the relay's calls. Each row
- * is a name and a condition over one answered line; the line counts for the row
- * where it holds. `r` is a receipt, `s` a setting, `v` the view before it.
+ * relay_lists.h: what coverage counts of the relay's calls. Each row is a name
+ * and a condition over one answered line; the line counts for the row where it
+ * holds. `r` is a receipt, `s` a setting, `v` the view before it.
  */
 #ifndef COVERAGE_RELAY_LISTS_H
 #define COVERAGE_RELAY_LISTS_H

@@ -1,8 +1,8 @@
 /*
- * builds.c: `build` lines. Each is the call that would build a good
- * header; about half of them are then spoiled: a number too large for its
- * element, a combination that 003 does not allow, too little room, too much
- * data. Two spoilings may meet in a line, which tries the order 17, 19, 20.
+ * builds.c: `build` lines. Each is the call that would build a good header;
+ * about half of them are then spoiled: a number too large for its element, a
+ * combination that 003 does not allow, too little room, too much data. Two
+ * spoilings may meet in a line, which tries the order 17, 19, 20.
  *
  * A line must stay understood, so what spoils one part of a timestamp or of the
  * basic QOS sets its other parts too.

@@ -1,8 +1,8 @@
 /*
- * headers.c: `read` lines of sixteen kinds, from good headers of every
- * form down to random octets. Most strings are short, so that a million of them
- * stay small. The awkward case is a checksum of 0000, which chance would hardly
- * ever hit: two octets of the address are chosen for it.
+ * headers.c: `read` lines of sixteen kinds, from good headers of every form
+ * down to random octets. Most strings are short, so that a million of them stay
+ * small. The awkward case is a checksum of 0000, which chance would hardly ever
+ * hit: two octets of the address are chosen for it.
  */
 #include "headers.h"
 

@@ -1,6 +1,6 @@
 /*
- * ports.c: `set_port` and `set_route` lines. The number 35 comes by
- * itself: ports are written while entries wait.
+ * ports.c: `set_port` and `set_route` lines. The number 35 comes by itself:
+ * ports are written while entries wait.
  */
 #include "ports.h"
 

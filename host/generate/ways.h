@@ -1,6 +1,6 @@
 /*
- * ways.h: how a setting is spoiled: in which of its ways, each a bit of
- * a set, and by a number beyond those that there are.
+ * ways.h: how a setting is spoiled: in which of its ways, each a bit of a set,
+ * and by a number beyond those that there are.
  */
 #ifndef HISTORY_WAYS_H
 #define HISTORY_WAYS_H

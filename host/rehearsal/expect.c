@@ -1,7 +1,7 @@
 /*
- * expect.c: what a scenario expects. An expectation looks at what has
- * happened since its scene began; but counters and what waits are as they
- * stand. One that fails is told, the rehearsal goes on, and ends with status 1.
+ * expect.c: what a scenario expects. An expectation looks at what has happened
+ * since its scene began; but counters and what waits are as they stand. One
+ * that fails is told, the rehearsal goes on, and ends with status 1.
  *
  * `refused`, `took` and `dropped` look at the node's latest answer. `nothing`
  * says that no datagram reached the node at all, which is stronger than that

@@ -1,7 +1,7 @@
 /*
- * settings.c: the words that set up nodes, ports, links, routes,
- * groups and paths. Whether a setting is good is the library's to say: its
- * number is told, and the line is refused.
+ * settings.c: the words that set up nodes, ports, links, routes, groups and
+ * paths. Whether a setting is good is the library's to say: its number is told,
+ * and the line is refused.
  */
 #include "settings.h"
 

@@ -1,6 +1,6 @@
 /*
- * told.c: the timeline as it is printed, for a reader who knows water
- * and not headers: each number of the library stands with its words.
+ * told.c: the timeline as it is printed, for a reader who knows water and not
+ * headers: each number of the library stands with its words.
  *
  * While it is quiet, sends and arrivals are only counted, so that thirty-two
  * like orders do not hide the one that matters; how many there were is told.

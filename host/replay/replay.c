@@ -26,7 +26,7 @@
 #define ANSWER_LOOK(word) answer_##word
 
 static answer_word *const ANSWERS[CALLS] = {
-#define WORD(NAME, function, kind, object, numbers, word, ...)                 \
+#define WORD(NAME, function, kind, object, numbers, word, ...)                \
     [CALL_##NAME] = ANSWER_##kind(word),
 #include "shared/calls.def"
 };

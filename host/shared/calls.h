@@ -1,6 +1,6 @@
 /*
- * calls.h: the calls of the library as numbers, and the facts of each, both from
- * the one table, calls.def.
+ * calls.h: the calls of the library as numbers, and the facts of each, both
+ * from the one table, calls.def.
  */
 #ifndef CALLS_H
 #define CALLS_H

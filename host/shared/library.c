@@ -1,7 +1,7 @@
 /*
- * library.c: one case for each call that sets, written from calls.def, so that a
- * new setting needs none here. A call of another kind is a fault of the program
- * that asks for it, and ends it.
+ * library.c: one case for each call that sets, written from calls.def, so that
+ * a new setting needs none here. A call of another kind is a fault of the
+ * program that asks for it, and ends it.
  */
 #include "library.h"
 
@@ -18,8 +18,8 @@
 #define NUMBERS_5 , n[0], n[1], n[2], n[3], n[4]
 #define NUMBERS_6 , n[0], n[1], n[2], n[3], n[4], n[5]
 
-#define CASE(NAME, function, numbers)                                          \
-    case CALL_##NAME:                                                          \
+#define CASE(NAME, function, numbers)                                         \
+    case CALL_##NAME:                                                         \
         return hj_##function(state, words NUMBERS_##numbers);
 #define CASE_FRESH CASE
 #define CASE_SETTING CASE
@@ -32,9 +32,9 @@ uint32_t library_set(enum call call, uint32_t *state, size_t words,
                      const uint32_t *n)
 {
     switch (call) {
-#define WORD(NAME, function, kind, object, numbers, ...)                       \
+#define WORD(NAME, function, kind, object, numbers, ...)                      \
     CASE_##kind(NAME, function, numbers)
-#define CALL(NAME, function, kind, object, numbers, ...)                       \
+#define CALL(NAME, function, kind, object, numbers, ...)                      \
     CASE_##kind(NAME, function, numbers)
 #include "calls.def"
     default:

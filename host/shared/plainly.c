@@ -7,7 +7,8 @@
 
 #include <stdlib.h>
 
-plain_refusal plainly_set(plain_relay *relay, enum call call, const uint32_t *n)
+plain_refusal plainly_set(plain_relay *relay, enum call call,
+                          const uint32_t *n)
 {
     plain_port port = {{n[1]}, {n[2]}, n[3]};
     plain_route route = {{n[1]}, {n[2]}, n[3], n[4], n[5]};

@@ -1,8 +1,8 @@
 /*
- * draw.c: calls drawn at random. A setting is drawn good for the world as
- * it stands, and one in four has then a number or two of it replaced by one
- * that means something elsewhere: a place just beyond the last, an address, a
- * mask, a number of all ones.
+ * draw.c: calls drawn at random. A setting is drawn good for the world as it
+ * stands, and one in four has then a number or two of it replaced by one that
+ * means something elsewhere: a place just beyond the last, an address, a mask,
+ * a number of all ones.
  */
 #include "draw.h"
 

@@ -1,7 +1,7 @@
 /*
- * lent.c: the memory of a piece ends at a page that can not be read. A
- * piece is put against that page, or a guard away from it. Pages are taken to
- * be of 64 KiB, which is a whole number of pages everywhere.
+ * lent.c: the memory of a piece ends at a page that can not be read. A piece is
+ * put against that page, or a guard away from it. Pages are taken to be of 64
+ * KiB, which is a whole number of pages everywhere.
  */
 #define _DEFAULT_SOURCE
 

@@ -1,10 +1,10 @@
 /*
- * octets.c: octets to lend as a datagram, and fields to build a header of.
- * Most are good headers aimed at something that the relay was told of; some of
- * these are spoiled, and some octets are nothing but random.
+ * octets.c: octets to lend as a datagram, and fields to build a header of. Most
+ * are good headers aimed at something that the relay was told of; some of these
+ * are spoiled, and some octets are nothing but random.
  *
- * The awkward case is length: most datagrams have at most 300 octets, since
- * the octets of user data matter to nobody, but one in 300 has the most that a
+ * The awkward case is length: most datagrams have at most 300 octets, since the
+ * octets of user data matter to nobody, but one in 300 has the most that a
  * length field can say.
  */
 #include "octets.h"

@@ -1,6 +1,6 @@
 /*
- * ours.c: the calls of the soak on the library. An empty piece is lent as
- * a null pointer by whoever calls this; nothing is looked at here.
+ * ours.c: the calls of the soak on the library. An empty piece is lent as a
+ * null pointer by whoever calls this; nothing is looked at here.
  */
 #include "ours.h"
 

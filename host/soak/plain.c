@@ -1,6 +1,6 @@
 /*
- * plain.c: the calls of the soak on host/plain, whose relay has lived
- * through the same history. Its answers are put into the form of the library's.
+ * plain.c: the calls of the soak on host/plain, whose relay has lived through
+ * the same history. Its answers are put into the form of the library's.
  *
  * The awkward case is the copies that were dropped: plain's verdict does not
  * name them, but its counter grows by one for each.

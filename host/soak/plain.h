@@ -1,4 +1,4 @@
-/* plain.h: the calls of the soak on host/plain, which has a relay of its own. */
+/* plain.h: the calls of the soak on host/plain, on a relay of its own. */
 #ifndef PLAIN_H
 #define PLAIN_H
 

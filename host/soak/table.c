@@ -1,6 +1,6 @@
 /*
- * table.c: the names of the calls, a call said in a line, and the table of
- * what was run.
+ * table.c: the names of the calls, a call said in a line, and the table of what
+ * was run.
  *
  * The awkward case is a run that is too short to have met what it is to meet:
  * it is said not to be whole, and fails, so that no short run passes for a
