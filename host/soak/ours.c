@@ -4,6 +4,7 @@
  */
 #include "ours.h"
 
+#include <stdlib.h>
 #include <string.h>
 
 #include "shared/library.h"
@@ -64,8 +65,11 @@ static void stateless(const struct soak_call *call, const uint8_t *octets,
     case CALL_CHECKSUM:
         parts[1] = hj_checksum(octets, call->count);
         break;
-    default:
+    case CALL_STATE_WORDS:
         parts[1] = hj_state_words();
+        break;
+    default:
+        abort(); /* a row of calls.def that has no code here */
     }
 }
 
@@ -98,8 +102,8 @@ static void take(const struct soak_call *call, uint32_t *state,
     parts[2] = hj_precedence(taken);
 }
 
-static void get_setting(const struct soak_call *call, const uint32_t *state,
-                        uint64_t *parts)
+static void get_record(const struct soak_call *call, const uint32_t *state,
+                       uint64_t *parts)
 {
     uint32_t number = call->numbers[0];
 
@@ -112,10 +116,27 @@ static void get_setting(const struct soak_call *call, const uint32_t *state,
     } else if (call->which == CALL_GET_GROUP) {
         hj_group group = hj_get_group(state, call->words, number);
         put_row(parts, &group, sizeof group);
-    } else {
+    } else if (call->which == CALL_GET_PATH) {
         hj_path_place path = hj_get_path(state, call->words, number);
         put_row(parts, &path, sizeof path);
+    } else {
+        abort(); /* as above */
     }
+}
+
+static void look(const struct soak_call *call, const uint32_t *state,
+                 uint64_t *parts)
+{
+    uint32_t number = call->numbers[0];
+
+    if (call->which == CALL_COUNTER)
+        put_answer(parts, hj_counter(state, call->words, number));
+    else if (call->which == CALL_WAITING)
+        put_answer(parts, hj_waiting(state, call->words, number));
+    else if (call->which == CALL_GET_ROUTER)
+        put_answer(parts, hj_get_router(state, call->words));
+    else
+        get_record(call, state, parts);
 }
 
 void soak_ours(const struct soak_call *call, uint32_t *state,
@@ -132,14 +153,6 @@ void soak_ours(const struct soak_call *call, uint32_t *state,
         receive(call, state, octets, output, answer);
     else if (call->which == CALL_TAKE)
         take(call, state, answer->parts);
-    else if (call->which == CALL_COUNTER)
-        put_answer(answer->parts,
-                   hj_counter(state, call->words, call->numbers[0]));
-    else if (call->which == CALL_WAITING)
-        put_answer(answer->parts,
-                   hj_waiting(state, call->words, call->numbers[0]));
-    else if (call->which == CALL_GET_ROUTER)
-        put_answer(answer->parts, hj_get_router(state, call->words));
     else
-        get_setting(call, state, answer->parts);
+        look(call, state, answer->parts);
 }

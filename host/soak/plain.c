@@ -7,6 +7,7 @@
  */
 #include "plain.h"
 
+#include <stdlib.h>
 #include <string.h>
 
 #include "plain/plain_checksum.h"
@@ -93,8 +94,10 @@ static void stateless(const struct soak_call *call, uint8_t *output,
         parts[1] = plain_path_valid(path);
     else if (call->which == CALL_CHECKSUM)
         parts[1] = plain_checksum(call->octets, call->count);
-    else
+    else if (call->which == CALL_STATE_WORDS)
         parts[1] = HJ_STATE_WORDS;
+    else
+        abort(); /* a row of calls.def that has no code here */
 }
 
 static void receive(const struct soak_call *call, uint8_t *output,
