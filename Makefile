@@ -41,24 +41,17 @@ else
 $(error FROM is dist or build, and not "$(FROM)")
 endif
 
-REPLAY := $(addprefix host/,replay.c words_header.c words_relay.c \
-	lent.c lent_state.c trace.c text.c options.c)
-GENERATE := $(addprefix host/,generate.c generate_header.c generate_build.c \
-	history.c history_ports.c history_settings.c history_arrivals.c world.c \
-	datagram.c form.c settings.c text.c options.c)
-COVERAGE := $(addprefix host/,coverage.c coverage_relay.c view.c arriving.c \
-	answered.c settings.c trace.c options.c)
-LEDGER := $(addprefix host/,ledger.c arriving.c answered.c trace.c options.c)
-BENCH := $(addprefix host/,bench.c bench_ours.c bench_plain.c painted.c trace.c \
-	options.c)
-REHEARSAL := $(addprefix host/,rehearsal.c rehearsal_line.c rehearsal_settings.c \
-	rehearsal_events.c rehearsal_net.c rehearsal_told.c rehearsal_expect.c \
-	rehearsal_books.c options.c)
-SOAK := $(addprefix host/,soak.c soak_ours.c soak_plain.c soak_rules.c soak_lent.c \
-	soak_draw.c soak_octets.c soak_table.c world.c datagram.c form.c settings.c \
-	options.c)
+# Each program has a folder below host/, and takes from host/shared what is named here.
+program = $(wildcard host/$(1)/*.c) $(patsubst %,host/shared/%.c,options $(2))
+REPLAY := $(call program,replay,calls library text trace)
+GENERATE := $(call program,generate,calls datagram form settings text world)
+COVERAGE := $(call program,coverage,answered arriving calls settings trace)
+LEDGER := $(call program,ledger,answered arriving calls trace)
+BENCH := $(call program,bench,calls library plainly trace)
+REHEARSAL := $(call program,rehearsal)
+SOAK := $(call program,soak,calls datagram form library plainly settings world)
 PLAIN := $(wildcard host/plain/plain_*.c)
-HEADERS := $(wildcard $(INCLUDE)/*.h host/*.h host/plain/*.h tests/*.h)
+HEADERS := $(wildcard $(INCLUDE)/*.h host/*/*.h host/*/*.def tests/*.h)
 
 # `make test` goes through its parts in this order, whatever -j says.
 .NOTPARALLEL:
@@ -178,7 +171,7 @@ build/coverage: $(COVERAGE)
 build/ledger: $(LEDGER)
 build/generate build/coverage build/ledger: $(HEADERS) | tools
 	@mkdir -p build
-	gcc $(CFLAGS) -I$(INCLUDE) -o $@ $(filter %.c,$^)
+	gcc $(CFLAGS) -I$(INCLUDE) -Ihost -o $@ $(filter %.c,$^)
 
 build/coverage-plain/plain: host/plain/plain.c $(PLAIN) $(HEADERS) VERSION | tools
 	@mkdir -p $(@D)

@@ -1,8 +1,12 @@
 #!/usr/bin/env python3
-"""--help, --version and what is no option, on each host program that a user may
-run: said alike by all of them.
+"""What the host programs have alike. --help, --version and what is no option, said
+alike by each that a user may run; the one table of calls, which the help and the
+documents must not fall behind; and their files, no two of which may use each other
+in a circle.
 """
+import glob
 import os
+import re
 import subprocess
 import unittest
 
@@ -78,6 +82,65 @@ class Options(unittest.TestCase):
         for program in ("build/replay", "build/plain"):
             self.assertEqual(run(program, calls="class 0a04090f\n"), (0, "class 0a04090f = 2\n", ""))
             self.assertEqual(run(program, calls="--help\n"), (1, "? --help\n", ""))
+
+
+def text_of(path):
+    with open(os.path.join(ROOT, path), encoding="utf-8") as file:
+        return file.read()
+
+
+class Calls(unittest.TestCase):
+    """host/shared/calls.def against what is written by hand."""
+
+    ROWS = re.findall(r"^(?:WORD|CALL)\((\w+), (\w+), \w+, \w+, \d, (\w+)", text_of("host/shared/calls.def"), re.M)
+    WORDS = [word for _, _, word in ROWS if not word.isdigit()]
+
+    def test_each_exported_function_has_a_row(self):
+        self.assertEqual(sorted(f"hj_{function}" for _, function, _ in self.ROWS), text_of("exports.txt").split())
+        for name, function, _ in self.ROWS:
+            self.assertEqual(name, function.upper())
+
+    def test_each_word_is_told(self):
+        places = {"replay --help": run("build/replay", "--help")[1], "man/replay.1": text_of("man/replay.1"),
+                  "docs/TRACE.md": text_of("docs/TRACE.md")}
+        self.assertEqual(len(self.WORDS), 18)
+        for place, text in places.items():
+            for word in self.WORDS:
+                self.assertRegex(text, rf"\b{word}\b", place)
+
+
+class Files(unittest.TestCase):
+    """NAME.c and NAME.h count as one. A call shows in the header that it needs."""
+
+    @staticmethod
+    def uses():
+        """For each of them, those that it includes."""
+        found = {}
+        for path in glob.glob(os.path.join(ROOT, "host/*/*.[ch]")):
+            folder, name = os.path.split(os.path.relpath(path, os.path.join(ROOT, "host")))
+            uses = found.setdefault(os.path.join(folder, os.path.splitext(name)[0]), set())
+            with open(path, encoding="ascii") as file:
+                for header in re.findall(r'^#include "([\w/]+)\.h"', file.read(), re.M):
+                    near = os.path.join(folder, header)
+                    uses.add(near if os.path.exists(os.path.join(ROOT, "host", near + ".h")) else header)
+        return {name: uses - {name} for name, uses in found.items()}
+
+    def test_no_circle(self):
+        left = self.uses()
+        while True:
+            free = [name for name, uses in left.items() if not uses & left.keys()]
+            if not free:
+                break
+            for name in free:
+                del left[name]
+        self.assertEqual(left, {}, "these use each other in a circle, or what does")
+
+    def test_no_program_uses_another(self):
+        for name, uses in self.uses().items():
+            for other in uses:
+                folder, of = name.split("/")[0], other.split("/")[0]
+                self.assertIn(of, {folder, "harpjuniper"} | ({"shared", "plain"} if folder != "plain" else set()),
+                              f"{name} uses {other}")
 
 
 if __name__ == "__main__":

@@ -1,0 +1,187 @@
+/*
+ * bench: makes the calls of a trace on the library and on host/plain, both in
+ * one program, so that they can be measured side by side.
+ *
+ *     bench count < TRACE    each measured call between two marks
+ *     bench stack < TRACE    each measured call on a painted stack
+ *     bench state            the octets of the two states
+ *
+ * `count` prints a line for each measured call, the kind of it and which side
+ * made it; an emulator that logs every instruction gives the numbers to these
+ * lines, as those between bench_begin and bench_end (scripts/bench). Its first
+ * line is a measure of nothing, the cost of the marks. `stack` prints the lines
+ * with the octets of stack that the call has written to. Measured are receive,
+ * take and read.
+ *
+ * The awkward case is a call that differs on the two sides: what is measured is
+ * then not the same, and the program fails.
+ */
+#define _POSIX_C_SOURCE 200809L
+
+#include <inttypes.h>
+#include <stdio.h>
+#include <stdlib.h>
+#include <string.h>
+
+#include "call.h"
+#include "ours.h"
+#include "painted.h"
+#include "plain.h"
+#include "shared/options.h"
+#include "shared/trace.h"
+
+/* ---- One call ------------------------------------------------------------ */
+
+enum mode { COUNT, STACK };
+
+static void say(enum mode mode, const char *kind, const char *side,
+                size_t octets)
+{
+    if (mode == COUNT)
+        printf("%s\t%s\n", kind, side);
+    else
+        printf("%s\t%s\t%zu\n", kind, side, octets);
+}
+
+/* Makes the call by a side; the answer is in bench_call. */
+static size_t run(enum mode mode, void make(void))
+{
+    if (mode == STACK)
+        return painted_octets(make);
+    make();
+    return 0;
+}
+
+static const char *kind_of_receive(const struct bench_answer *answer)
+{
+    if (answer->refusal != 0)
+        return "receive, refused";
+    if (answer->onward != 1)
+        return answer->local == 1 ? "receive, delivered" : "receive, other";
+    return (answer->ports & (answer->ports - 1)) == 0
+               ? "receive, sent by route"
+               : "receive, sent to three ports";
+}
+
+static const char *kind_of(const struct bench_answer *answer)
+{
+    switch (bench_call.which) {
+    case CALL_RECEIVE:
+        return kind_of_receive(answer);
+    case CALL_TAKE:
+        return answer->refusal == 0 ? "take" : "take, nothing waiting";
+    default:
+        return "read";
+    }
+}
+
+static bool measure(enum mode mode)
+{
+    struct bench_answer plain, ours;
+    size_t plain_octets, our_octets;
+
+    plain_octets = run(mode, bench_plain[bench_call.which]);
+    plain = bench_call.answer;
+    our_octets = run(mode, bench_ours[bench_call.which]);
+    ours = bench_call.answer;
+    say(mode, kind_of(&plain), "plain", plain_octets);
+    say(mode, kind_of(&ours), "ours", our_octets);
+    return memcmp(&plain, &ours, sizeof plain) == 0;
+}
+
+/* ---- Lines --------------------------------------------------------------- */
+
+/* Numbers, and octets behind them where the last argument is such. */
+static bool take_arguments(const char *forms, const struct trace_call *call)
+{
+    size_t count = strlen(forms);
+    const struct trace_word *last = &call->words[call->count - 1];
+
+    if (call->count != 1 + count ||
+        !trace_numbers(call->words + 1, forms, bench_call.numbers))
+        return false;
+    return count == 0 || forms[count - 1] != 'o' ||
+           trace_octets(*last, bench_call.octets, &bench_call.count);
+}
+
+/* False where the two differ, or the bench does not make such a call. */
+static bool make_call(enum mode mode)
+{
+    enum call_kind kind = call_facts[bench_call.which].kind;
+
+    if (bench_ours[bench_call.which] != NULL)
+        return measure(mode);
+    if (kind != KIND_FRESH && kind != KIND_SETTING)
+        return false;
+    bench_plain_set();
+    bench_ours_set();
+    return true;
+}
+
+static bool make_line(enum mode mode, const struct trace_call *call)
+{
+    bench_call.which = trace_call_of(call->words[0]);
+    return bench_call.which != CALLS &&
+           take_arguments(call_facts[bench_call.which].arguments, call) &&
+           make_call(mode);
+}
+
+static bool make_lines(enum mode mode)
+{
+    char *line = NULL;
+    size_t room = 0;
+    ssize_t got;
+    bool good = true;
+
+    while (good && (got = getline(&line, &room, stdin)) > 0) {
+        size_t length = (size_t)got - (line[got - 1] == '\n');
+        struct trace_call call;
+        enum trace_kind kind = trace_cut(line, length, &call);
+
+        good = kind == TRACE_NOTHING ||
+               (kind == TRACE_CALL && make_line(mode, &call));
+        if (!good)
+            printf("bench: FAILED: not measured alike: %.*s\n", (int)length,
+                   line);
+    }
+    free(line);
+    return good && !ferror(stdin);
+}
+
+static const char HELP[] =
+    "usage: bench [--help | --version] count|stack < TRACE\n"
+    "       bench state\n"
+    "\n"
+    "Makes the calls of a trace (docs/TRACE.md) on the library and on the\n"
+    "plain C implementation. `make bench` calls it and says what it found.\n"
+    "    count  each measured call between two marks, for an emulator's log\n"
+    "    stack  each measured call, with the octets of stack it has written to\n"
+    "    state  the octets of the two states\n"
+    "\n"
+    "Status: 0 done; 1 the two answered a call differently, or a line is not\n"
+    "understood, or the input failed; 2 bad usage, or the output failed.\n";
+
+int main(int count, char **arguments)
+{
+    static const struct program PROGRAM = {"bench", HELP, true};
+    int status = options_status(&PROGRAM, arguments + (count > 0));
+    enum mode mode;
+
+    if (status != OPTIONS_GO_ON)
+        return status;
+    if (count == 2 && strcmp(arguments[1], "state") == 0) {
+        printf("ours\t%zu\nplain\t%zu\n", bench_our_state(),
+               bench_plain_state());
+        return options_end(&PROGRAM, 0);
+    }
+    if (count != 2 || (strcmp(arguments[1], "count") != 0 &&
+                       strcmp(arguments[1], "stack") != 0)) {
+        fputs("bench: say one of count, stack and state\n"
+              "bench: try --help\n",
+              stderr);
+        return 2;
+    }
+    mode = arguments[1][0] == 'c' ? COUNT : STACK;
+    say(mode, "nothing", "nothing", run(mode, bench_nothing));
+    return options_end(&PROGRAM, make_lines(mode) ? 0 : 1);
+}

@@ -1,0 +1,81 @@
+/*
+ * plain.c: the calls of the bench on host/plain, as ours.c makes them on the
+ * library. The awkward case is a refusal: plain then writes nothing to its
+ * result, which is therefore cleared too.
+ */
+#include "plain.h"
+
+#include <string.h>
+
+#include "plain/plain_header.h"
+#include "plain/plain_relay.h"
+#include "shared/plainly.h"
+
+static plain_relay relay;
+
+size_t bench_plain_state(void)
+{
+    return sizeof relay;
+}
+
+static void receive(void)
+{
+    const uint32_t *n = bench_call.numbers;
+    struct bench_answer *answer = &bench_call.answer;
+    plain_slot slot = {(uint16_t)n[1]};
+    plain_verdict verdict;
+
+    memset(answer, 0, sizeof *answer);
+    bench_begin();
+    verdict = plain_receive(&relay, n[0], slot, bench_call.octets,
+                            bench_call.count, answer->output,
+                            sizeof answer->output);
+    bench_end();
+    answer->refusal = verdict.refusal;
+    answer->local = verdict.local;
+    answer->onward = verdict.onward;
+    answer->ports = verdict.ports.bits;
+    answer->header = verdict.header_length;
+}
+
+static void take(void)
+{
+    struct bench_answer *answer = &bench_call.answer;
+    plain_entry entry = {{0}, 0};
+    plain_refusal refusal;
+
+    memset(answer, 0, sizeof *answer);
+    bench_begin();
+    refusal = plain_take(&relay, bench_call.numbers[0], &entry);
+    bench_end();
+    answer->refusal = refusal;
+    answer->slot = entry.slot.number;
+    answer->precedence = entry.precedence;
+}
+
+static void read_header(void)
+{
+    struct bench_answer *answer = &bench_call.answer;
+    plain_header header;
+    plain_refusal refusal;
+
+    memset(answer, 0, sizeof *answer);
+    memset(&header, 0, sizeof header);
+    bench_begin();
+    refusal = plain_header_read(bench_call.octets, bench_call.count, &header);
+    bench_end();
+    answer->refusal = refusal;
+    answer->length = header.length;
+    answer->header = header.header_length;
+}
+
+void (*const bench_plain[CALLS])(void) = {
+    [CALL_RECEIVE] = receive,
+    [CALL_TAKE] = take,
+    [CALL_READ] = read_header,
+};
+
+void bench_plain_set(void)
+{
+    plainly_set(&relay, bench_call.which, bench_call.numbers);
+}

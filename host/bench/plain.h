@@ -1,0 +1,17 @@
+/* plain.h: the calls of the bench on host/plain. */
+#ifndef PLAIN_H
+#define PLAIN_H
+
+#include "call.h"
+
+/* Each makes bench_call, and leaves the answer there; null where the call is
+ * not measured. */
+extern void (*const bench_plain[CALLS])(void);
+
+/* Makes a bench_call that sets. */
+void bench_plain_set(void);
+
+/* The octets of a state. */
+size_t bench_plain_state(void);
+
+#endif

@@ -1,0 +1,366 @@
+/*
+ * relay.c: what was reached of the relay: each number at each call, each reason
+ * of the local half, each line of the onward half, each counter's movement. The
+ * lists are in relay_lists.h.
+ *
+ * Which line of the rules decided is not in the answer. It is told from a view
+ * of the relay, kept from the answers (view.h), and is used for nothing but
+ * these counts.
+ */
+#include "relay.h"
+
+#include <inttypes.h>
+#include <stdio.h>
+#include <string.h>
+
+#include "relay_lists.h"
+#include "table.h"
+
+#define COUNTERS 15
+
+static struct view view;
+
+static uint32_t number(struct trace_word word)
+{
+    return (uint32_t)answered_number(UINT32_MAX, word);
+}
+
+/* ---- Conditions ---------------------------------------------------------- */
+
+static bool fills(const struct view *v, uint32_t took)
+{
+    for (uint32_t port = 0; port < VIEW_PORTS; port++) {
+        if ((took >> port & 1) != 0 &&
+            v->ports[port].waits == VIEW_QUEUE - 1)
+            return true;
+    }
+    return false;
+}
+
+static bool same_route(const struct view *v, const struct asked *s)
+{
+    for (uint32_t place = 0; place < VIEW_ROUTES; place++) {
+        const struct view_route *route = &v->routes[place];
+
+        if (place != s->n[0] && route->filled && route->prefix == s->n[1] &&
+            route->mask == s->n[2])
+            return true;
+    }
+    return false;
+}
+
+/* ---- Tallies ------------------------------------------------------------- */
+
+#define NAME(name, condition) name,
+#define COUNT(name, condition) *reached++ += (condition) ? 1 : 0;
+
+static const char *const REFUSED_NAMES[] = {REFUSED_RECEIPT_LIST(NAME)};
+static const char *const LOCAL_NAMES[] = {LOCAL_LIST(NAME)};
+static const char *const WANTED_NAMES[] = {WANTED_LIST(NAME)};
+static const char *const COPIES_NAMES[] = {COPIES_LIST(NAME)};
+static const char *const PORT_NAMES[] = {PORT_LIST(NAME)};
+static const char *const ROUTE_NAMES[] = {ROUTE_LIST(NAME)};
+static const char *const ENTRY_NAMES[] = {ENTRY_LIST(NAME)};
+
+static struct {
+    uint64_t calls;
+    uint64_t numbers[CALLS][CALL_NUMBERS];
+    uint64_t local[CALL_NUMBERS], onward[CALL_NUMBERS];
+    uint64_t waiting_none, waiting_some, waiting_full, waiting_no_port;
+    uint64_t precedence[16];
+    uint64_t moved[COUNTERS];
+    uint64_t of_refused[LENGTH(REFUSED_NAMES)];
+    uint64_t of_local[LENGTH(LOCAL_NAMES)];
+    uint64_t of_wanted[LENGTH(WANTED_NAMES)];
+    uint64_t of_copies[LENGTH(COPIES_NAMES)];
+    uint64_t of_port[LENGTH(PORT_NAMES)];
+    uint64_t of_route[LENGTH(ROUTE_NAMES)];
+    uint64_t of_entry[LENGTH(ENTRY_NAMES)];
+} tally;
+
+static uint32_t counters[COUNTERS]; /* at the last counters line */
+
+/* ---- Receipts ------------------------------------------------------------ */
+
+static const char *deciding_line(const struct naming *named)
+{
+    if (named->own || named->limited)
+        return "own";
+    if (!view.router)
+        return "host";
+    if (view_ours(named))
+        return "broadcast";
+    if (named->multicast)
+        return "multicast";
+    return named->by_path ? "path" : "route";
+}
+
+static uint32_t wanted_ports(const struct receipt *r)
+{
+    if (strcmp(r->line, "broadcast") == 0)
+        return r->named.others;
+    if (strcmp(r->line, "multicast") == 0 && r->named.group != NULL)
+        return r->named.group->send & r->named.others;
+    if (strcmp(r->line, "path") == 0 && r->named.path != NULL)
+        return r->named.path->send & r->named.others;
+    if (strcmp(r->line, "route") == 0 && r->named.route != NULL)
+        return 1u << r->named.route->port % VIEW_PORTS;
+    return 0;
+}
+
+static void look_at_ports(struct receipt *r)
+{
+    uint32_t domain = view.ports[r->arrival % VIEW_PORTS].address >> 8;
+
+    for (uint32_t i = 0; i < VIEW_PORTS; i++) {
+        const struct view_port *port = &view.ports[i];
+
+        if (!r->datagram.extended && port->address >> 8 != domain)
+            r->foreign |= 1u << i;
+        if (port->mtu < r->datagram.length)
+            r->small |= 1u << i;
+        if (port->waits == VIEW_QUEUE)
+            r->full |= 1u << i;
+    }
+}
+
+static void count_halves(const struct receipt *r)
+{
+    const struct view *v = &view;
+    uint64_t *reached = tally.of_local;
+
+    LOCAL_LIST(COUNT)
+    reached = tally.of_wanted;
+    WANTED_LIST(COUNT)
+    reached = tally.of_copies;
+    COPIES_LIST(COUNT)
+    tally.local[r->local % CALL_NUMBERS]++;
+    tally.onward[r->onward % CALL_NUMBERS]++;
+}
+
+static void count_receipt(const struct receipt *r)
+{
+    uint64_t *reached = tally.of_refused;
+
+    REFUSED_RECEIPT_LIST(COUNT)
+    if (r->refusal == 0 && r->arrival < VIEW_PORTS)
+        count_halves(r);
+}
+
+static bool read_receipt(const struct trace_call *call,
+                         const struct trace_call *answer)
+{
+    static uint8_t octets[TRACE_MOST_OCTETS];
+    struct receipt r = {0};
+
+    if (!trace_octets(call->words[4], octets, &r.lent))
+        return false;
+    r.arrival = number(call->words[1]);
+    r.room = number(call->words[3]);
+    r.refusal = number(answer->words[0]);
+    r.local = number(answer->words[1]);
+    r.onward = number(answer->words[2]);
+    r.took = number(answer->words[3]);
+    r.datagram = arriving_read(octets, r.lent);
+    r.named = view_name(&view, r.arrival, &r.datagram);
+    r.line = deciding_line(&r.named);
+    r.wanted = wanted_ports(&r);
+    look_at_ports(&r);
+    count_receipt(&r);
+    return r.refusal != 0 || r.arrival < VIEW_PORTS;
+}
+
+/* ---- Other calls --------------------------------------------------------- */
+
+static void count_setting(enum call of, const struct asked *s)
+{
+    const struct view *v = &view;
+    uint64_t *reached = tally.of_port;
+
+    if (of == CALL_SET_PORT) {
+        PORT_LIST(COUNT)
+    }
+    reached = tally.of_route;
+    if (of == CALL_SET_ROUTE) {
+        ROUTE_LIST(COUNT)
+    }
+    reached = tally.of_entry;
+    if (of == CALL_SET_GROUP || of == CALL_SET_PATH) {
+        ENTRY_LIST(COUNT)
+    }
+}
+
+static bool count_number(enum call of, const struct trace_call *call,
+                         const struct trace_call *answer)
+{
+    struct asked asked = {number(answer->words[0]), {0}};
+
+    if (!trace_numbers(call->words + 1, call_facts[of].arguments, asked.n))
+        return false;
+    tally.numbers[of][asked.number % CALL_NUMBERS]++;
+    count_setting(of, &asked);
+    if (of == CALL_TAKE && asked.number == 0)
+        tally.precedence[number(answer->words[2]) % 16]++;
+    return of != CALL_RECEIVE || read_receipt(call, answer);
+}
+
+static bool count_waiting(const struct trace_call *answer)
+{
+    uint32_t waits;
+
+    if (trace_is(answer->words[0], "!21")) {
+        tally.waiting_no_port++;
+        return true;
+    }
+    waits = number(answer->words[0]);
+    tally.waiting_none += waits == 0;
+    tally.waiting_full += waits == VIEW_QUEUE;
+    tally.waiting_some += waits > 0 && waits < VIEW_QUEUE;
+    return waits <= VIEW_QUEUE;
+}
+
+static bool count_counters(const struct trace_call *answer)
+{
+    if (answer->count != COUNTERS)
+        return false;
+    for (size_t i = 0; i < COUNTERS; i++) {
+        uint32_t value = number(answer->words[i]);
+
+        tally.moved[i] += value != counters[i];
+        counters[i] = value;
+    }
+    return true;
+}
+
+static bool count_call(enum call of, const struct trace_call *call,
+                       const struct trace_call *answer)
+{
+    switch (of) {
+    case CALL_FRESH:
+        memset(counters, 0, sizeof counters);
+        return true;
+    case CALL_WAITING:
+        return count_waiting(answer);
+    case CALL_COUNTER:
+        return count_counters(answer);
+    default:
+        return count_number(of, call, answer);
+    }
+}
+
+/* Looks at the call before the view notes what it did. */
+bool count_relay_line(enum call of, const struct trace_call *call,
+                      const struct trace_call *answer)
+{
+    bool known = count_call(of, call, answer);
+
+    if (known) {
+        tally.calls++;
+        view_note(&view, of, call, answer);
+    }
+    return known;
+}
+
+uint64_t relay_calls(void)
+{
+    return tally.calls;
+}
+
+/* ---- The table ----------------------------------------------------------- */
+
+/* Each number that the call may end in, which it must have. */
+static void say_numbers(enum call of)
+{
+    char row[64];
+
+    for (uint32_t i = 0; i < CALL_NUMBERS; i++) {
+        snprintf(row, sizeof row, "%s: %" PRIu32, call_facts[of].word, i);
+        if (call_ends_in(of, i))
+            say_row(row, tally.numbers[of][i], LEAST);
+        else if (tally.numbers[of][i] > 0)
+            say_failed(row);
+    }
+}
+
+static void say_calls(void)
+{
+    puts("The relay's calls:");
+    for (int of = 0; of < CALLS; of++) {
+        if (call_sets((enum call)of) && of != CALL_FRESH)
+            say_numbers((enum call)of);
+    }
+    say_numbers(CALL_TAKE);
+    say_numbers(CALL_RECEIVE);
+}
+
+static void say_halves(void)
+{
+    static const char *const LOCAL[CALL_NUMBERS] = {
+        [0] = "local: 0, no", [1] = "local: 1, delivered",
+        [26] = "local: 26"};
+    static const char *const ONWARD[CALL_NUMBERS] = {
+        [0] = "onward: 0, not asked", [1] = "onward: 1, sent on",
+        [9] = "onward: 9",            [10] = "onward: 10",
+        [11] = "onward: 11",          [12] = "onward: 12",
+        [13] = "onward: 13",          [14] = "onward: 14",
+        [15] = "onward: 15"};
+
+    say_answers(LOCAL, tally.local, CALL_NUMBERS);
+    say_answers(ONWARD, tally.onward, CALL_NUMBERS);
+    puts("The local half:");
+    say_list(LOCAL_NAMES, tally.of_local, LENGTH(LOCAL_NAMES));
+    puts("The onward half, by the line that decided:");
+    say_list(WANTED_NAMES, tally.of_wanted, LENGTH(WANTED_NAMES));
+    puts("Copies:");
+    say_list(COPIES_NAMES, tally.of_copies, LENGTH(COPIES_NAMES));
+}
+
+static void say_settings(void)
+{
+    puts("Settings:");
+    say_list(PORT_NAMES, tally.of_port, LENGTH(PORT_NAMES));
+    say_list(ROUTE_NAMES, tally.of_route, LENGTH(ROUTE_NAMES));
+    say_list(ENTRY_NAMES, tally.of_entry, LENGTH(ENTRY_NAMES));
+}
+
+static void say_queues(void)
+{
+    char row[64];
+
+    puts("Queues:");
+    say_row("waiting: none", tally.waiting_none, LEAST);
+    say_row("waiting: 1 to 31", tally.waiting_some, LEAST);
+    say_row("waiting: 32", tally.waiting_full, LEAST);
+    say_row("waiting: 21, no such port", tally.waiting_no_port, LEAST);
+    for (int i = 0; i < 16; i++) {
+        snprintf(row, sizeof row, "taken, of precedence %d", i);
+        say_row(row, tally.precedence[i], LEAST);
+    }
+}
+
+static void say_counters(void)
+{
+    static const char *const MOVED[COUNTERS] = {
+        "npInReceives moved",    "npInBadLength moved",
+        "npInBadVersion moved",  "npInBadAddress moved",
+        "npInBadChecksum moved", "unsupported moved",
+        "npInAddrErrors moved",  "npInUnknownProtos moved",
+        "npInDelivers moved",    "npForwHopDiscard moved",
+        "npForwDatagrams moved", "npOutNoRoutes moved",
+        "npOutDiscards moved",   "left domain moved",
+        "too big moved"};
+
+    puts("Counters:");
+    say_list(MOVED, tally.moved, COUNTERS);
+}
+
+void say_relay(void)
+{
+    say_calls();
+    puts("Refused receipts:");
+    say_list(REFUSED_NAMES, tally.of_refused, LENGTH(REFUSED_NAMES));
+    say_halves();
+    say_settings();
+    say_queues();
+    say_counters();
+}

@@ -1,0 +1,248 @@
+/*
+ * relay_lists.h: what coverage counts of the relay's calls. Each row is a name
+ * and a condition over one answered line; the line counts for the row where it
+ * holds. `r` is a receipt, `s` a setting, `v` the view before it.
+ */
+#ifndef COVERAGE_RELAY_LISTS_H
+#define COVERAGE_RELAY_LISTS_H
+
+#include "view.h"
+
+struct receipt {
+    uint32_t arrival, room, refusal, local, onward, took;
+    size_t lent;
+    struct arriving datagram;
+    struct naming named;
+    uint32_t wanted; /* the ports that the rules want, before any is struck */
+    uint32_t foreign; /* ports of another domain than the arrival port's */
+    uint32_t small;   /* ports whose MTU is under the length */
+    uint32_t full;    /* ports on which 32 entries wait */
+    const char *line; /* of the onward half: what decided the wanted ports */
+};
+
+/* A setting: its number, and its arguments as numbers, in their order. */
+struct asked {
+    uint32_t number;
+    uint32_t n[6];
+};
+
+/* The route and the group that were found; an empty one where none was, which
+ * an answer that is wrong may come to. */
+static inline const struct view_route *route_of(const struct receipt *r)
+{
+    static const struct view_route none;
+
+    return r->named.route != NULL ? r->named.route : &none;
+}
+
+static inline uint32_t route_mtu(const struct view *v, const struct receipt *r)
+{
+    return v->ports[route_of(r)->port % VIEW_PORTS].mtu;
+}
+
+static inline const struct view_group *group_of(const struct receipt *r)
+{
+    static const struct view_group none;
+
+    return r->named.group != NULL ? r->named.group : &none;
+}
+
+static inline bool set_up_port(const struct view *v, uint32_t port)
+{
+    return port < VIEW_PORTS && (v->set_up >> port & 1) != 0;
+}
+
+#define REFUSED_RECEIPT_LIST(ROW)                                             \
+    ROW("1, no octets", r->refusal == 1 && r->lent == 0)                      \
+    ROW("6, path", r->refusal == 6 && r->named.by_path)                       \
+    ROW("6, end system", r->refusal == 6 && !r->named.by_path)                \
+    ROW("6, source of a good destination",                                    \
+        r->refusal == 6 && (r->named.route || r->named.own))                  \
+    ROW("6, one octet", r->refusal == 6 && !r->datagram.extended)             \
+    ROW("7, path", r->refusal == 7 && r->named.by_path)                       \
+    ROW("7, end system", r->refusal == 7 && !r->named.by_path)                \
+    ROW("8, routing requirements", r->refusal == 8 && r->datagram.routing)    \
+    ROW("8, IPv6", r->refusal == 8 && r->datagram.ipv6)                       \
+    ROW("16, port over 7", r->refusal == 16 && r->arrival >= VIEW_PORTS)      \
+    ROW("16, port not set up", r->refusal == 16 && r->arrival < VIEW_PORTS)   \
+    ROW("16 before 17", r->refusal == 16 && r->room < 50)                     \
+    ROW("17, room 0", r->refusal == 17 && r->room == 0)                       \
+    ROW("17, room 49", r->refusal == 17 && r->room == 49)
+
+/* The reasons to deliver, and that the datagram is delivered. */
+#define DELIVERED (r->local == 1)
+#define HERE(r) ((r)->named.path != NULL && (r)->named.path->here)
+#define REASON(r)                                                             \
+    ((r)->named.own || (r)->named.limited || view_ours(&(r)->named) ||        \
+     (r)->named.subscribed || HERE(r))
+
+#define LOCAL_LIST(ROW)                                                       \
+    ROW("no", r->local == 0)                                                  \
+    ROW("delivered, a port's address", DELIVERED && r->named.own)             \
+    ROW("delivered, the address of another port",                             \
+        DELIVERED && r->named.own &&                                          \
+            r->named.destination != v->ports[r->arrival].address)             \
+    ROW("delivered, limited broadcast", DELIVERED && r->named.limited)        \
+    ROW("delivered, net broadcast of a port", DELIVERED && r->named.net)      \
+    ROW("delivered, subnet broadcast of a port",                              \
+        DELIVERED && r->named.subnet && !r->named.net)                        \
+    ROW("delivered, broadcast of all SCPS", DELIVERED && r->named.all_scps)   \
+    ROW("delivered, subscribed", DELIVERED && r->named.subscribed)            \
+    ROW("delivered, path place", DELIVERED && HERE(r))                        \
+    ROW("delivered, intermediate delivery alone",                             \
+        DELIVERED && !REASON(r) && r->datagram.intermediate)                  \
+    ROW("delivered, intermediate delivery and another reason",                \
+        DELIVERED && REASON(r) && r->datagram.intermediate)                   \
+    ROW("26, a port's address", r->local == 26 && r->named.own)               \
+    ROW("26, a broadcast", r->local == 26 && view_ours(&r->named))            \
+    ROW("26, subscribed", r->local == 26 && r->named.subscribed)              \
+    ROW("26, path place", r->local == 26 && HERE(r))                          \
+    ROW("26, intermediate delivery alone", r->local == 26 && !REASON(r))      \
+    ROW("26, TP-ID 0", r->local == 26 && r->datagram.tp_id == 0)              \
+    ROW("no, and unknown TP-ID",                                              \
+        r->local == 0 && r->datagram.tp_id == 0 && r->onward == 1)            \
+    ROW("a path that has a port's number, not delivered for it",              \
+        r->named.by_path && r->local == 0 &&                                  \
+            r->named.destination == v->ports[r->arrival].address)
+
+/* By the line that decided, with its ends. */
+#define BY(name) (strcmp(r->line, name) == 0)
+#define WANTED_LIST(ROW)                                                      \
+    ROW("a port's address: not asked", BY("own") && r->named.own)             \
+    ROW("limited broadcast: not asked", BY("own") && r->named.limited)        \
+    ROW("a port's address that is a broadcast of ours too",                   \
+        BY("own") && view_ours(&r->named))                                    \
+    ROW("host: not asked", BY("host") && r->onward == 0)                      \
+    ROW("host: 9", BY("host") && r->onward == 9)                              \
+    ROW("broadcast of ours: sent on", BY("broadcast") && r->onward == 1)      \
+    ROW("broadcast of ours: not asked, no other port",                        \
+        BY("broadcast") && r->onward == 0)                                    \
+    ROW("multicast: sent on", BY("multicast") && r->onward == 1)              \
+    ROW("multicast: sent on to two ports or more",                            \
+        BY("multicast") && (r->took & (r->took - 1)) != 0)                    \
+    ROW("multicast: sent on, the arrival port in the set",                    \
+        BY("multicast") && r->onward == 1 &&                                  \
+            (group_of(r)->send >> r->arrival & 1) != 0)                       \
+    ROW("multicast: not asked, subscribed and no other port",                 \
+        BY("multicast") && r->onward == 0)                                    \
+    ROW("multicast: 11, no group",                                            \
+        BY("multicast") && r->onward == 11 && r->named.group == NULL)         \
+    ROW("multicast: 11, the set empty",                                       \
+        BY("multicast") && r->onward == 11 && r->named.group != NULL)         \
+    ROW("multicast: 11, subscribed",                                          \
+        BY("multicast") && r->onward == 11 && r->named.subscribed)            \
+    ROW("path: sent on", BY("path") && r->onward == 1)                        \
+    ROW("path: 11, no place",                                                 \
+        BY("path") && r->onward == 11 && r->named.path == NULL)               \
+    ROW("path: 11, the set empty and not delivered here",                     \
+        BY("path") && r->onward == 11 && r->named.path != NULL)               \
+    ROW("path: not asked, the set empty and delivered here",                  \
+        BY("path") && r->onward == 0)                                         \
+    ROW("route: sent on", BY("route") && r->onward == 1)                      \
+    ROW("route: sent on by the arrival port",                                 \
+        BY("route") && (r->took >> r->arrival & 1) != 0)                      \
+    ROW("route: sent on by the default route",                                \
+        BY("route") && r->onward == 1 && route_of(r)->mask == 0)              \
+    ROW("route: sent on by a route of 32 ones",                               \
+        BY("route") && r->onward == 1 &&                                      \
+            route_of(r)->mask == 0xffffffff)                                  \
+    ROW("route: 11, none", BY("route") && r->onward == 11)                    \
+    ROW("route: 12, down",                                                    \
+        r->onward == 12 && route_of(r)->availability == 2)                    \
+    ROW("route: 12, testing",                                                 \
+        r->onward == 12 && route_of(r)->availability == 3)                    \
+    ROW("route: 12, out",                                                     \
+        r->onward == 12 && route_of(r)->availability == 4)                    \
+    ROW("route: a broadcast that is not ours",                                \
+        BY("route") && r->onward == 1 && r->named.destination % 256 == 255)
+
+#define COPIES_LIST(ROW)                                                      \
+    ROW("10, hop count 0", r->onward == 10 && r->datagram.hop_count == 0)     \
+    ROW("10, hop count 1", r->onward == 10 && r->datagram.hop_count == 1)     \
+    ROW("sent on, hop count 2",                                               \
+        r->onward == 1 && r->datagram.hop_count == 2)                         \
+    ROW("sent on, no hop count",                                              \
+        r->onward == 1 && !r->datagram.has_hop_count)                         \
+    ROW("sent on, one octet", r->onward == 1 && !r->datagram.extended)        \
+    ROW("13, broadcast of ours", r->onward == 13 && BY("broadcast"))          \
+    ROW("13, multicast", r->onward == 13 && BY("multicast"))                  \
+    ROW("13, path", r->onward == 13 && BY("path"))                            \
+    ROW("13, route", r->onward == 13 && BY("route"))                          \
+    ROW("sent on, a port struck out by its domain",                           \
+        r->onward == 1 && (r->wanted & r->foreign) != 0)                      \
+    ROW("14, broadcast of ours", r->onward == 14 && BY("broadcast"))          \
+    ROW("14, multicast", r->onward == 14 && BY("multicast"))                  \
+    ROW("14, path", r->onward == 14 && BY("path"))                            \
+    ROW("14, route", r->onward == 14 && BY("route"))                          \
+    ROW("14, one octet over the MTU",                                         \
+        r->onward == 14 && BY("route") &&                                     \
+            route_mtu(v, r) + 1 == r->datagram.length)                        \
+    ROW("14, length 8,191",                                                   \
+        r->onward == 14 && r->datagram.length == 8191)                        \
+    ROW("sent on, of the MTU's length",                                       \
+        r->onward == 1 && BY("route") &&                                      \
+            route_mtu(v, r) == r->datagram.length)                            \
+    ROW("sent on, length 8,191",                                              \
+        r->onward == 1 && r->datagram.length == 8191)                         \
+    ROW("sent on, a port struck out by its MTU",                              \
+        r->onward == 1 &&                                                     \
+            (r->wanted & r->small & ~r->foreign & ~r->took) != 0)             \
+    ROW("15, one copy",                                                       \
+        r->onward == 15 && (r->wanted & (r->wanted - 1)) == 0)                \
+    ROW("15, two copies or more",                                             \
+        r->onward == 15 && (r->wanted & (r->wanted - 1)) != 0)                \
+    ROW("sent on, another port full",                                         \
+        r->onward == 1 &&                                                     \
+            (r->wanted & r->full & ~r->foreign & ~r->small) != 0)             \
+    ROW("the 32nd entry taken", fills(v, r->took))                            \
+    ROW("delivered, and sent on", r->local == 1 && r->onward == 1)            \
+    ROW("delivered, and 15", r->local == 1 && r->onward == 15)                \
+    ROW("26, and sent on", r->local == 26 && r->onward == 1)                  \
+    ROW("no, and sent on", r->local == 0 && r->onward == 1)
+
+#define PORT_LIST(ROW)                                                        \
+    ROW("set_port: 0, a port set up",                                         \
+        s->number == 0 && !set_up_port(v, s->n[0]))                           \
+    ROW("set_port: 0, a port written again",                                  \
+        s->number == 0 && set_up_port(v, s->n[0]))                            \
+    ROW("set_port: 22, net 10 without 24 ones",                               \
+        s->number == 22 && s->n[1] >> 24 == 10)                               \
+    ROW("set_port: 22, host bits all ones",                                   \
+        s->number == 22 && s->n[2] == 0xffffff00 && s->n[1] % 256 == 255)     \
+    ROW("set_port: 24, MTU 0", s->number == 24 && s->n[3] == 0)               \
+    ROW("set_port: 24, MTU 8,192", s->number == 24 && s->n[3] == 8192)        \
+    ROW("set_port: 0, MTU 1", s->number == 0 && s->n[3] == 1)                 \
+    ROW("set_port: 0, MTU 8,191", s->number == 0 && s->n[3] == 8191)          \
+    ROW("set_port: 25 before 22",                                             \
+        s->number == 25 && (~s->n[2] & (~s->n[2] + 1)) != 0)                  \
+    ROW("set_port: 25 before 24", s->number == 25 && s->n[3] == 0)
+
+#define ROUTE_LIST(ROW)                                                       \
+    ROW("set_route: 0, over what stood there",                                \
+        s->number == 0 && v->routes[s->n[0] % VIEW_ROUTES].filled)            \
+    ROW("set_route: 21, place 64", s->number == 21 && s->n[0] == 64)          \
+    ROW("set_route: 21, port 8", s->number == 21 && s->n[3] == 8)             \
+    ROW("set_route: 21, port not set up",                                     \
+        s->number == 21 && s->n[0] < 64 && s->n[3] < 8)                       \
+    ROW("set_route: 22, prefix",                                              \
+        s->number == 22 && (~s->n[2] & (~s->n[2] + 1)) == 0)                  \
+    ROW("set_route: 22, mask",                                                \
+        s->number == 22 && (~s->n[2] & (~s->n[2] + 1)) != 0)                  \
+    ROW("set_route: 24, availability 0", s->number == 24 && s->n[4] == 0)     \
+    ROW("set_route: 24, availability 5", s->number == 24 && s->n[4] == 5)     \
+    ROW("set_route: 24, capabilities 3", s->number == 24 && s->n[5] == 3)     \
+    ROW("set_route: 24 before 23",                                            \
+        s->number == 24 && same_route(v, s))                                  \
+    ROW("set_route: 0, capabilities 4", s->number == 0 && s->n[5] == 4)
+
+#define ENTRY_LIST(ROW)                                                       \
+    ROW("set_group, set_path: 21, place 16",                                  \
+        s->number == 21 && s->n[0] == 16)                                     \
+    ROW("set_group, set_path: 21, a port over 7",                             \
+        s->number == 21 && s->n[2] > 255)                                     \
+    ROW("set_group, set_path: 21, a port not set up",                         \
+        s->number == 21 && s->n[2] < 256 && (s->n[2] & ~v->set_up) != 0)      \
+    ROW("set_group, set_path: 0, an empty set",                               \
+        s->number == 0 && s->n[2] == 0)
+
+#endif

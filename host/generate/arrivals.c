@@ -1,0 +1,226 @@
+/*
+ * arrivals.c: `receive` lines.
+ *
+ * A datagram is aimed at something: a port, a route, a group, a broadcast of
+ * ours and so on, each aim a function that draws a destination. Its header is
+ * any form, with values of the hop count, the TP-ID and the length that stand
+ * at the edges of the rules. One in eight is spoiled.
+ *
+ * The awkward case is the length: a datagram of an MTU's length is 8,191 octets
+ * long where the MTU is, so such long ones are rare, and yet each line of the
+ * rules about lengths has to be reached.
+ */
+#include "arrivals.h"
+
+#include "line.h"
+#include "shared/datagram.h"
+
+/* ---- What a datagram is aimed at ----------------------------------------- */
+
+typedef uint32_t aim(const struct world *world, struct random *random);
+
+static uint32_t at_port(const struct world *world, struct random *random)
+{
+    return world->ports[world_port(world, random)].address;
+}
+
+static uint32_t at_limited_broadcast(const struct world *world,
+                                     struct random *random)
+{
+    (void)world;
+    (void)random;
+    return 0xffffffff;
+}
+
+static uint32_t at_all_scps(const struct world *world, struct random *random)
+{
+    (void)world;
+    (void)random;
+    return 0x0affffff;
+}
+
+static uint32_t at_net_broadcast(const struct world *world,
+                                 struct random *random)
+{
+    uint32_t address = at_port(world, random);
+
+    return address | world_host_bits(address);
+}
+
+static uint32_t at_subnet_broadcast(const struct world *world,
+                                    struct random *random)
+{
+    uint32_t port = world_port(world, random);
+
+    return world->ports[port].address | ~world->ports[port].mask;
+}
+
+/* Of a network that may be no port's. */
+static uint32_t at_other_broadcast(const struct world *world,
+                                   struct random *random)
+{
+    uint32_t address = world_unicast(world, random);
+
+    return address | (random_one_in(random, 2) ? 0xffu
+                                               : world_host_bits(address));
+}
+
+static uint32_t at_group(const struct world *world, struct random *random)
+{
+    uint32_t group = world->groups[random_below(random, WORLD_GROUPS)];
+
+    return group != 0 ? group : world_multicast(world, random);
+}
+
+/* An address under the prefix of a route. */
+static uint32_t at_route(const struct world *world, struct random *random)
+{
+    uint32_t place = random_below(random, WORLD_ROUTES);
+
+    if (!world->routes[place].filled)
+        return world_unicast(world, random);
+    return world->routes[place].prefix |
+           (world_unicast(world, random) & ~world->routes[place].mask);
+}
+
+static uint32_t at_invalid(const struct world *world, struct random *random)
+{
+    (void)world;
+    return world_invalid(random);
+}
+
+static uint32_t at_any(const struct world *world, struct random *random)
+{
+    (void)world;
+    return (uint32_t)random_number(random);
+}
+
+static uint32_t choose_destination(const struct world *world,
+                                   struct random *random)
+{
+    static aim *const AIMS[] = {
+        at_route,         at_route,
+        at_route,         at_route,
+        world_unicast,    world_unicast,
+        at_group,         at_group,
+        at_group,         at_port,
+        at_net_broadcast, at_subnet_broadcast,
+        at_all_scps,      at_limited_broadcast,
+        at_other_broadcast, world_multicast};
+
+    if (random_one_in(random, 32))
+        return at_invalid(world, random);
+    if (random_one_in(random, 64))
+        return at_any(world, random);
+    return PICK(AIMS)(world, random);
+}
+
+static uint32_t choose_path(const struct world *world, struct random *random)
+{
+    uint32_t path = world->paths[random_below(random, WORLD_PATHS)];
+
+    if (random_one_in(random, 12))
+        return choose_destination(world, random);
+    return path != 0 && !random_one_in(random, 4) ? path : world_path(random);
+}
+
+static uint32_t choose_source(const struct world *world, struct random *random)
+{
+    return random_one_in(random, 24) ? choose_destination(world, random)
+                                     : world_unicast(world, random);
+}
+
+/* ---- Its header ---------------------------------------------------------- */
+
+static void aim_form(const struct world *world, struct form *form,
+                     struct random *random)
+{
+    static const unsigned OCTETS[] = {4, 4, 4, 4, 4, 1, 1, 1};
+    uint32_t destination;
+
+    if (form->address_octets == 16 && !random_one_in(random, 8))
+        form->address_octets = 4;
+    if (form->address_octets != 16) {
+        form->address_octets = PICK(OCTETS);
+        form->has_source = !random_one_in(random, 6);
+    }
+    destination = form->has_source ? choose_destination(world, random)
+                                   : choose_path(world, random);
+    form_put_address(form, form->destination, destination);
+    form_put_address(form, form->source, choose_source(world, random));
+}
+
+static void choose_form(const struct world *world, struct form *form,
+                        struct random *random)
+{
+    static const unsigned ASSIGNED[] = {1, 4, 5, 6, 8, 10, 11};
+    static const uint8_t HOPS[] = {0, 1, 2, 2, 2, 3, 64, 255};
+
+    form_choose(form, random);
+    aim_form(world, form, random);
+    if (!random_one_in(random, 4))
+        form->tp_id = PICK(ASSIGNED);
+    if (!random_one_in(random, 24))
+        form->routing = 0;
+    if (!random_one_in(random, 4))
+        form->hop_count = PICK(HOPS);
+    form->intermediate = random_one_in(random, 10);
+    form->control_octets = form_shortest_control(form);
+    if (random_one_in(random, 8))
+        form->control_octets = 3;
+}
+
+/* Data that makes the length that of a port's MTU, or one off it; little
+ * elsewhere. */
+static size_t choose_data(const struct world *world, const struct form *form,
+                          struct random *random)
+{
+    uint8_t header[FORM_MOST_HEADER];
+    size_t octets = form_write(form, 0, header);
+    size_t length = world->ports[world_port(world, random)].mtu;
+
+    length += random_below(random, 3);
+    if (length > DATAGRAM_MOST_LENGTH + 1)
+        length = DATAGRAM_MOST_LENGTH + 1;
+    if (!random_one_in(random, length > 1000 ? 160 : 2) || length <= octets)
+        return random_below(random, 6);
+    return length - 1 - octets;
+}
+
+/* ---- The line ------------------------------------------------------------ */
+
+static uint32_t choose_arrival(const struct world *world,
+                               struct random *random)
+{
+    static const uint32_t BEYOND[] = {8, 9, 255, 256, 0xffffffff};
+
+    if (!random_one_in(random, 40))
+        return world_port(world, random);
+    return random_one_in(random, 3) ? PICK(BEYOND)
+                                    : random_below(random, WORLD_PORTS);
+}
+
+static uint32_t choose_room(struct random *random)
+{
+    static const uint32_t OTHER[] = {0, 1, 49, 49, 49, 51, 60, 400};
+
+    return random_one_in(random, 24) ? PICK(OTHER) : 50;
+}
+
+void history_receive(const struct world *world, struct random *random)
+{
+    static struct datagram datagram;
+    uint32_t numbers[3]; /* arrival port, slot, room */
+    uint32_t slots;
+
+    numbers[0] = choose_arrival(world, random);
+    slots = random_one_in(random, 2) ? 16 : 65536;
+    numbers[1] = random_below(random, slots);
+    numbers[2] = choose_room(random);
+    choose_form(world, &datagram.form, random);
+    datagram_write(&datagram, choose_data(world, &datagram.form, random),
+                   random);
+    if (random_one_in(random, 8))
+        spoil_somehow(&datagram, random);
+    line_octets(CALL_RECEIVE, numbers, datagram.octets, datagram.count);
+}

@@ -1,0 +1,23 @@
+/*
+ * line.h: a line of the trace, written to standard output: the word of a call,
+ * and its arguments in the forms that the table of calls has for them.
+ */
+#ifndef LINE_H
+#define LINE_H
+
+#include <stddef.h>
+#include <stdint.h>
+
+#include "shared/calls.h"
+
+/* A call of numbers alone. */
+void line_numbers(enum call call, const uint32_t *numbers);
+
+/* A call of one number. */
+void line_number(enum call call, uint32_t number);
+
+/* A call of numbers and octets behind them. */
+void line_octets(enum call call, const uint32_t *numbers,
+                 const uint8_t *octets, size_t count);
+
+#endif

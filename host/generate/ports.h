@@ -1,0 +1,18 @@
+/*
+ * ports.h: `set_port` and `set_route` lines. A good setting is noted in the
+ * world as what was asked for; one that is to be refused is not.
+ */
+#ifndef PORTS_H
+#define PORTS_H
+
+#include "shared/random.h"
+#include "shared/world.h"
+
+void history_set_port(struct world *world, uint32_t port,
+                      struct random *random);
+void history_refused_port(struct world *world, struct random *random);
+void history_set_route(struct world *world, uint32_t place,
+                       struct random *random);
+void history_refused_route(struct world *world, struct random *random);
+
+#endif

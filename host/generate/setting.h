@@ -1,0 +1,11 @@
+/* setting.h: a setting of any kind. */
+#ifndef SETTING_H
+#define SETTING_H
+
+#include "shared/random.h"
+#include "shared/world.h"
+
+/* Any setting or clearing, often one that is to be refused. */
+void history_setting(struct world *world, struct random *random);
+
+#endif

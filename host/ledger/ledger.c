@@ -1,0 +1,291 @@
+/*
+ * ledger: recounts an answered trace from its calls and answers alone, and
+ * fails (status 1) where the books do not balance.
+ *
+ *     ledger < ANSWERED
+ *
+ * For each port: what took an entry, one copy per port and receipt, is what was
+ * handed out by takes and what waits (`waiting` lines). Each entry handed out
+ * is the oldest of the highest precedence that waits, by a plain list. Each
+ * counter of a `counters` line is what the answers since `new` add up to.
+ *
+ * The awkward counter is npOutDiscards: an answer gives the ports that took an
+ * entry, not those that dropped theirs. Only a port with 32 waiting drops one,
+ * so the answer bounds it: at most one for each full port, and at least one
+ * with 15. Where a counters line is read, its value is what is counted on from.
+ */
+#include <inttypes.h>
+#include <stdio.h>
+#include <stdlib.h>
+#include <string.h>
+
+#include "shared/answered.h"
+#include "shared/arriving.h"
+#include "shared/options.h"
+
+#define PORTS 8
+#define QUEUE 32
+#define COUNTERS 15
+#define OUT_DISCARDS 12
+
+struct entry {
+    uint32_t slot, precedence;
+};
+
+static struct {
+    struct {
+        uint64_t took, handed_out, waits;
+        struct entry entries[QUEUE];
+    } ports[PORTS];
+    uint32_t counters[COUNTERS]; /* but for npOutDiscards */
+    uint32_t least_discards, most_discards;
+} book;
+
+static struct {
+    uint64_t receipts, takes, counters, waiting, copies, exact;
+} seen;
+
+static bool balanced = true;
+
+static void expect(bool holds, const char *what, uint64_t due, uint64_t found)
+{
+    static unsigned said;
+
+    if (holds)
+        return;
+    balanced = false;
+    if (said++ < 20)
+        printf("ledger: FAILED: %s: due %" PRIu64 ", found %" PRIu64
+               " (receipt %" PRIu64 ")\n",
+               what, due, found, seen.receipts);
+}
+
+static uint32_t number(struct trace_word word)
+{
+    return (uint32_t)answered_number(UINT32_MAX, word);
+}
+
+/* ---- Receipts ------------------------------------------------------------ */
+
+/* Ahead of the first entry with lower precedence, else last. */
+static void enter(uint32_t port, struct entry newcomer)
+{
+    struct entry *entries = book.ports[port].entries;
+    uint64_t waits = book.ports[port].waits;
+    uint64_t at = 0;
+
+    expect(waits < QUEUE, "a full port took an entry", QUEUE, waits);
+    if (waits >= QUEUE)
+        return;
+    while (at < waits && entries[at].precedence >= newcomer.precedence)
+        at++;
+    memmove(entries + at + 1, entries + at, (waits - at) * sizeof *entries);
+    entries[at] = newcomer;
+    book.ports[port].waits++;
+    book.ports[port].took++;
+    seen.copies++;
+}
+
+static uint32_t full_ports(void)
+{
+    uint32_t full = 0;
+
+    for (uint32_t port = 0; port < PORTS; port++)
+        full += book.ports[port].waits == QUEUE;
+    return full;
+}
+
+/* The counter of each number that ends the call or a half; 0 for none. */
+static const uint8_t COUNTER_OF[CALL_NUMBERS] = {
+    [1] = 1, [2] = 2,   [3] = 1,   [4] = 3,   [5] = 4,   [6] = 3,   [7] = 3,
+    [8] = 5, [9] = 6,   [10] = 9,  [11] = 11, [12] = 11, [13] = 13, [14] = 14,
+    [26] = 7};
+
+static void count(uint32_t refusal)
+{
+    if (refusal < CALL_NUMBERS && COUNTER_OF[refusal] != 0)
+        book.counters[COUNTER_OF[refusal]]++;
+}
+
+static void count_receipt(uint32_t refusal, uint32_t local, uint32_t onward)
+{
+    if (refusal == 16 || refusal == 17)
+        return;
+    book.counters[0]++;
+    count(refusal);
+    if (refusal != 0)
+        return;
+    book.counters[8] += local == 1;
+    book.counters[10] += onward == 1;
+    if (local != 1)
+        count(local);
+    if (onward != 1)
+        count(onward);
+}
+
+/* Before the entries enter, as fullness is what it was before the call. */
+static void bound_discards(uint32_t refusal, uint32_t onward)
+{
+    uint32_t full = full_ports();
+
+    if (refusal != 0 || (onward != 1 && onward != 15))
+        return;
+    book.most_discards += full;
+    book.least_discards += onward == 15;
+    if (onward == 15)
+        expect(full > 0, "15 without a full port", 1, full);
+}
+
+static bool book_receive(const struct trace_call *call,
+                         const struct trace_call *answer)
+{
+    static uint8_t octets[TRACE_MOST_OCTETS];
+    size_t length;
+    struct entry newcomer = {number(call->words[2]), 0};
+    uint32_t refusal = number(answer->words[0]);
+    uint32_t onward = number(answer->words[2]);
+    uint32_t ports = number(answer->words[3]);
+
+    seen.receipts++;
+    count_receipt(refusal, number(answer->words[1]), onward);
+    bound_discards(refusal, onward);
+    expect((ports != 0) == (refusal == 0 && onward == 1),
+           "ports exactly where sent on", onward, ports);
+    if (!trace_octets(call->words[4], octets, &length))
+        return false;
+    newcomer.precedence = arriving_read(octets, length).precedence;
+    for (uint32_t port = 0; port < PORTS; port++) {
+        if (ports >> port & 1)
+            enter(port, newcomer);
+    }
+    return true;
+}
+
+/* ---- Takes, waiting, counters -------------------------------------------- */
+
+static bool book_take(const struct trace_call *call,
+                      const struct trace_call *answer)
+{
+    uint32_t port = number(call->words[1]);
+    uint32_t refusal = number(answer->words[0]);
+    struct entry *entries;
+
+    seen.takes++;
+    if (port >= PORTS)
+        return refusal == 16;
+    expect((book.ports[port].waits > 0) == (refusal == 0),
+           "an entry exactly where one waits", book.ports[port].waits,
+           refusal);
+    if (refusal != 0 || book.ports[port].waits == 0)
+        return true;
+    entries = book.ports[port].entries;
+    expect(entries[0].slot == number(answer->words[1]), "slot taken",
+           entries[0].slot, number(answer->words[1]));
+    expect(entries[0].precedence == number(answer->words[2]),
+           "precedence taken", entries[0].precedence,
+           number(answer->words[2]));
+    memmove(entries, entries + 1, (QUEUE - 1) * sizeof *entries);
+    book.ports[port].waits--;
+    book.ports[port].handed_out++;
+    return true;
+}
+
+static bool book_waiting(const struct trace_call *call,
+                         const struct trace_call *answer)
+{
+    uint32_t port = number(call->words[1]);
+    uint32_t waiting;
+
+    seen.waiting++;
+    if (port >= PORTS)
+        return trace_is(answer->words[0], "!21");
+    waiting = number(answer->words[0]);
+    expect(book.ports[port].took == book.ports[port].handed_out + waiting,
+           "took = handed out + waiting", book.ports[port].took,
+           book.ports[port].handed_out + waiting);
+    return true;
+}
+
+static void check_discards(uint32_t found)
+{
+    expect(found - book.least_discards <=
+               book.most_discards - book.least_discards,
+           "npOutDiscards within its bounds", book.least_discards, found);
+    seen.exact += book.least_discards == book.most_discards;
+    book.least_discards = found;
+    book.most_discards = found;
+}
+
+static bool book_counters(const struct trace_call *answer)
+{
+    static const char *const NAMES[COUNTERS] = {
+        "npInReceives",    "npInBadLength",     "npInBadVersion",
+        "npInBadAddress",  "npInBadChecksum",   "unsupported",
+        "npInAddrErrors",  "npInUnknownProtos", "npInDelivers",
+        "npForwHopDiscard", "npForwDatagrams",  "npOutNoRoutes",
+        "npOutDiscards",   "left domain",       "too big"};
+
+    seen.counters++;
+    for (int i = 0; i < COUNTERS; i++) {
+        uint32_t found = number(answer->words[i]);
+
+        if (i == OUT_DISCARDS)
+            check_discards(found);
+        else
+            expect(found == book.counters[i], NAMES[i], book.counters[i],
+                   found);
+    }
+    return true;
+}
+
+/* ---- Lines --------------------------------------------------------------- */
+
+/* Other words move nothing that is booked. */
+static bool book_line(enum call of, const struct trace_call *call,
+                      const struct trace_call *answer)
+{
+    switch (of) {
+    case CALL_RECEIVE:
+        return book_receive(call, answer);
+    case CALL_TAKE:
+        return book_take(call, answer);
+    case CALL_WAITING:
+        return book_waiting(call, answer);
+    case CALL_COUNTER:
+        return book_counters(answer);
+    case CALL_FRESH:
+        memset(&book, 0, sizeof book);
+        return true;
+    default:
+        return true;
+    }
+}
+
+static const char HELP[] =
+    "usage: ledger [--help | --version] < ANSWERED\n"
+    "\n"
+    "Recounts an answered trace (docs/TRACE.md) from its calls and answers\n"
+    "alone: for each port the copies taken, handed out and waiting, the order\n"
+    "of what is handed out, and each counter.\n"
+    "\n"
+    "Status: 0 the books balance; 1 they do not, or a line has no good\n"
+    "answer; 2 bad usage, or the output failed.\n";
+
+int main(int count, char **arguments)
+{
+    static const struct program PROGRAM = {"ledger", HELP, false};
+    int status = options_status(&PROGRAM, arguments + (count > 0));
+    bool good;
+
+    if (status != OPTIONS_GO_ON)
+        return status;
+    good = answered_lines(book_line);
+    printf("ledger: %" PRIu64 " receipts, %" PRIu64 " copies, %" PRIu64
+           " takes, %" PRIu64 " waiting lines, %" PRIu64
+           " counters lines (npOutDiscards exact in %" PRIu64 ")\n",
+           seen.receipts, seen.copies, seen.takes, seen.waiting, seen.counters,
+           seen.exact);
+    if (!good || !balanced)
+        puts("ledger: FAILED: the books do not balance");
+    return options_end(&PROGRAM, good && balanced ? 0 : 1);
+}

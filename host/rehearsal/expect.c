@@ -1,0 +1,165 @@
+/*
+ * expect.c: what a scenario expects. An expectation looks at what has happened
+ * since its scene began; but counters and what waits are as they stand. One
+ * that fails is told, the rehearsal goes on, and ends with status 1.
+ *
+ * `refused`, `took` and `dropped` look at the node's latest answer. `nothing`
+ * says that no datagram reached the node at all, which is stronger than that
+ * none was delivered.
+ */
+#include "expect.h"
+
+#include <stdio.h>
+#include <string.h>
+
+#include "line.h"
+#include "names.h"
+
+#define MOST_DELIVERIES 1024
+
+static struct delivery {
+    uint32_t node;
+    char text[MOST_DATA + 1];
+} deliveries[MOST_DELIVERIES];
+
+static uint32_t delivered, expected, failed;
+
+uint32_t expect_failures(void)
+{
+    return failed;
+}
+
+uint32_t expect_count(void)
+{
+    return expected;
+}
+
+void expect_scene(void)
+{
+    delivered = 0;
+    for (uint32_t node = 0; node < node_count; node++) {
+        nodes[node].answered = false;
+        nodes[node].arrivals = 0;
+    }
+}
+
+void expect_note(uint32_t node, const struct datagram *datagram,
+                 hj_verdict verdict)
+{
+    uint32_t data = datagram->length - datagram->header;
+
+    nodes[node].answered = true;
+    nodes[node].verdict = verdict;
+    nodes[node].arrivals++;
+    if (hj_local(verdict) != HJ_DELIVERED)
+        return;
+    if (delivered == MOST_DELIVERIES)
+        line_refuse("at most 1024 deliveries in a scene", "more");
+    deliveries[delivered].node = node;
+    memcpy(deliveries[delivered].text, datagram->octets + datagram->header,
+           data);
+    deliveries[delivered].text[data] = '\0';
+    delivered++;
+}
+
+/* ---- Each kind of expectation, of a node ------------------------------- */
+
+/* When the text was first delivered to the node, or how many were delivered. */
+static uint32_t first_delivery(uint32_t node, const char *text)
+{
+    uint32_t at = 0;
+
+    while (at < delivered && (deliveries[at].node != node ||
+                              strcmp(deliveries[at].text, text) != 0))
+        at++;
+    return at;
+}
+
+static bool expect_refused(uint32_t node)
+{
+    uint32_t number = line_number("a number, 1 to 26", 1, HJ_UNKNOWN_TP_ID);
+    hj_verdict verdict = nodes[node].verdict;
+
+    if (!nodes[node].answered)
+        return false;
+    if (hj_ended_by(verdict) != HJ_DONE)
+        return hj_ended_by(verdict) == number;
+    return (number >= HJ_NOT_FOR_US && hj_onward(verdict) == number) ||
+           (number == HJ_UNKNOWN_TP_ID && hj_local(verdict) == number);
+}
+
+static bool expect_delivered(uint32_t node)
+{
+    return first_delivery(node, line_text("the data as \"text\"")) < delivered;
+}
+
+static bool expect_nothing(uint32_t node)
+{
+    return nodes[node].arrivals == 0;
+}
+
+static bool expect_took(uint32_t node)
+{
+    uint32_t ports = line_set("ports, as 0,2 or -");
+
+    return nodes[node].answered && hj_took(nodes[node].verdict) == ports;
+}
+
+static bool expect_dropped(uint32_t node)
+{
+    uint32_t ports = line_set("ports, as 0,2 or -");
+
+    return nodes[node].answered && hj_dropped(nodes[node].verdict) == ports;
+}
+
+static bool expect_counter(uint32_t node)
+{
+    static const char *names[HJ_COUNTERS + 1];
+    uint32_t counter;
+
+    memcpy(names, COUNTER_NAMES, sizeof COUNTER_NAMES);
+    counter = line_choice("the name of a counter", names);
+    return line_number("the counter's value", 0, 999999999) ==
+           node_counter(&nodes[node], counter);
+}
+
+static bool expect_waiting(uint32_t node)
+{
+    uint32_t port = line_port();
+
+    return line_number("how many wait", 0, HJ_QUEUE) ==
+           node_waiting(&nodes[node], port);
+}
+
+/* Two texts, each delivered, the one before the other. */
+static bool expect_order(uint32_t node)
+{
+    uint32_t first = first_delivery(node, line_text("a \"text\""));
+    uint32_t second = first_delivery(node, line_text("a second \"text\""));
+
+    return first < second && second < delivered;
+}
+
+void expect(void)
+{
+    static const char *const KINDS[] = {"refused", "delivered", "nothing",
+                                        "took",    "dropped",   "counter",
+                                        "waiting", "order",     NULL};
+    static bool (*const HOLDS[])(uint32_t) = {
+        expect_refused, expect_delivered, expect_nothing, expect_took,
+        expect_dropped, expect_counter,   expect_waiting, expect_order};
+    char line[1000];
+    uint32_t node, kind;
+    bool holds;
+
+    line_copy(line, sizeof line);
+    node = line_node();
+    kind = line_choice("refused, delivered, nothing, took, dropped, counter, "
+                       "waiting or order",
+                       KINDS);
+    holds = HOLDS[kind](node);
+    line_end();
+    expected++;
+    failed += !holds;
+    printf("   %s %s\n", holds ? "as expected:" : "NOT AS EXPECTED:", line);
+}

@@ -1,0 +1,17 @@
+/* expect.h: what a scenario expects, and how much of it held. */
+#ifndef EXPECT_H
+#define EXPECT_H
+
+#include "nodes.h"
+
+/* The word `expect`: reads the rest of its line. */
+void expect(void);
+
+/* A scene begins: what happened before is not looked at any more. */
+void expect_scene(void);
+void expect_note(uint32_t node, const struct datagram *datagram,
+                 hj_verdict verdict);
+uint32_t expect_failures(void);
+uint32_t expect_count(void);
+
+#endif

@@ -1,0 +1,14 @@
+/* net.h: datagrams on their way between the nodes. */
+#ifndef NET_H
+#define NET_H
+
+#include "nodes.h"
+
+/* False where no more of the node's own can stand before the wire. */
+bool net_send(uint32_t node, uint32_t port, const struct datagram *datagram);
+/* Each wire that is free, and not held, begins with what is next on it. */
+void net_start_wires(void);
+/* The next arrival; false where nothing is on a wire. */
+bool net_step(void);
+
+#endif

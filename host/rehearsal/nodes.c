@@ -1,0 +1,29 @@
+/*
+ * nodes.c: the nodes, which every part of the rehearsal looks at. What happens
+ * to them is in settings.c and net.c.
+ *
+ * The awkward case is a time that is no whole number of microseconds: it is
+ * rounded up, since a datagram arrives whole.
+ */
+#include "nodes.h"
+
+struct node nodes[MOST_NODES];
+uint32_t node_count;
+uint64_t now;
+
+uint32_t node_counter(const struct node *node, uint32_t counter)
+{
+    return hj_value(hj_counter(node->relay, HJ_STATE_WORDS, counter));
+}
+
+uint32_t node_waiting(const struct node *node, uint32_t port)
+{
+    return hj_value(hj_waiting(node->relay, HJ_STATE_WORDS, port));
+}
+
+uint64_t wire_microseconds(uint32_t octets, uint32_t bits_per_second)
+{
+    uint64_t bits = UINT64_C(8) * octets;
+
+    return (bits * 1000000 + bits_per_second - 1) / bits_per_second;
+}

@@ -1,0 +1,64 @@
+/*
+ * nodes.h: the nodes of a rehearsal, and the clock. A node is what flight
+ * software would be: a relay of the library's, the datagrams it keeps by slot,
+ * and a wire on each port.
+ */
+#ifndef NODES_H
+#define NODES_H
+
+#include <stdbool.h>
+#include <stdint.h>
+
+#include "harpjuniper.h"
+
+#define MOST_NODES 16
+#define MOST_NAME 20
+/* Characters of user data in one datagram. */
+#define MOST_DATA 400
+/* Datagrams of a node's own that may stand before one of its wires. */
+#define MOST_OWN 64
+/* One for each entry that can wait on all ports, and one that arrives. */
+#define SLOTS (HJ_PORTS * HJ_QUEUE + 1)
+
+struct datagram {
+    uint32_t header; /* octets of the header, at the front */
+    uint32_t length; /* octets of header and data */
+    uint8_t octets[HJ_OUTPUT_ROOM + MOST_DATA];
+};
+
+/* The wire that a port sends on, and what is known of the port's copies. */
+struct wire {
+    bool linked, held, busy;
+    uint32_t peer, peer_port, bits_per_second;
+    uint64_t until; /* when what is on the wire arrives */
+    struct datagram flying;
+    struct datagram own[MOST_OWN];
+    uint32_t own_first, own_count;
+    uint64_t took, dropped, handed_out;
+};
+
+struct node {
+    char name[MOST_NAME + 1];
+    uint32_t relay[HJ_STATE_WORDS];
+    struct wire wires[HJ_PORTS];
+    struct {
+        struct datagram datagram;
+        uint32_t copies; /* entries that wait with this slot; 0: free */
+    } slots[SLOTS];
+    bool answered; /* whether the two below are of this scene */
+    hj_verdict verdict;
+    uint32_t arrivals;
+};
+
+extern struct node nodes[MOST_NODES];
+extern uint32_t node_count;
+/* Microseconds since the rehearsal began. */
+extern uint64_t now;
+
+uint32_t node_counter(const struct node *node, uint32_t counter);
+uint32_t node_waiting(const struct node *node, uint32_t port);
+
+/* How long so many octets are on a wire. */
+uint64_t wire_microseconds(uint32_t octets, uint32_t bits_per_second);
+
+#endif

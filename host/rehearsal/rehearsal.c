@@ -1,0 +1,133 @@
+/*
+ * rehearsal: flies a story on several relays of the library, linked to each
+ * other in memory, and tells what each of them answered.
+ *
+ *     rehearsal FILE
+ *
+ * FILE is a scenario, a line for each step (docs/REHEARSAL.md). The story of
+ * the customer stands in scenarios/biocide.txt. Each line is done as it is
+ * read: a line that is not understood ends the rehearsal where it stands, and
+ * what was flown up to there has been told.
+ *
+ * Its parts, each of which uses only those above it:
+ *
+ *   nodes.c, names.c        the nodes; what numbers and counters are called
+ *   line.c, told.c          one line as words; the timeline as it is printed
+ *   expect.c, books.c       what a scenario expects; counters and ledger
+ *   net.c                   datagrams on their way between the nodes
+ *   settings.c, events.c    the words that set up; those that send and step
+ */
+#include <errno.h>
+#include <stdio.h>
+#include <string.h>
+
+#include "books.h"
+#include "events.h"
+#include "expect.h"
+#include "line.h"
+#include "settings.h"
+#include "shared/options.h"
+
+/* Characters of a line, its end not counted. */
+#define MOST_LINE 1000
+
+static const struct {
+    const char *word;
+    void (*perform)(void);
+} WORDS[] = {
+    {"node", set_node},         {"port", set_port},   {"link", set_link},
+    {"route", set_route},       {"group", set_group}, {"path", set_path},
+    {"send", event_send},       {"hold", event_hold},
+    {"release", event_release}, {"step", event_step}, {"run", event_run},
+    {"scene", event_scene},     {"say", event_say},   {"quiet", event_quiet},
+    {"loud", event_loud},       {"expect", expect},
+};
+
+static void perform_line(void)
+{
+    static const char EXPECTED[] =
+        "node, port, link, route, group, path, send, hold, release, step, run, "
+        "scene, say, quiet, loud or expect";
+
+    for (size_t i = 0; i < sizeof WORDS / sizeof *WORDS; i++) {
+        if (line_is(WORDS[i].word)) {
+            WORDS[i].perform();
+            return;
+        }
+    }
+    line_refuse(EXPECTED, line_word(EXPECTED));
+}
+
+static void perform_file(FILE *file, const char *name)
+{
+    static char text[MOST_LINE + 2];
+    unsigned number = 0;
+
+    while (fgets(text, sizeof text, file) != NULL) {
+        bool any = line_begin(name, ++number, text);
+
+        if (strchr(text, '\n') == NULL && !feof(file))
+            line_refuse("a text line of at most 1000 characters", "another");
+        if (any)
+            perform_line();
+    }
+}
+
+/* The end: counters, ledger, expectations. Answers the status. */
+static int conclude(void)
+{
+    bool closes = books_close();
+
+    printf("\n%u of %u expectations held; the ledger %s.\n",
+           (unsigned)(expect_count() - expect_failures()),
+           (unsigned)expect_count(),
+           closes ? "closes on every port" : "DOES NOT CLOSE");
+    return closes && expect_failures() == 0 ? 0 : 1;
+}
+
+static int rehearse(const char *name)
+{
+    FILE *file = fopen(name, "r");
+    bool unread;
+
+    if (file == NULL) {
+        fprintf(stderr, "rehearsal: %s: %s\n", name, strerror(errno));
+        return 2;
+    }
+    perform_file(file, name);
+    unread = ferror(file) != 0;
+    fclose(file);
+    if (unread) {
+        fprintf(stderr, "rehearsal: %s could not be read\n", name);
+        return 2;
+    }
+    return conclude();
+}
+
+static const char HELP[] =
+    "usage: rehearsal [--help | --version] FILE\n"
+    "\n"
+    "Flies the scenario in FILE on relays of the library, linked in memory,\n"
+    "and prints what was sent, what each relay answered, and the time on the\n"
+    "links; then the counters and the ledger of each relay. The words of a\n"
+    "scenario are in docs/REHEARSAL.md. `make rehearsal` flies\n"
+    "scenarios/biocide.txt.\n"
+    "\n"
+    "Status: 0 all went as expected and every ledger closes; 1 not so; 2 bad\n"
+    "usage, a line that is not understood, or the file or the output failed.\n";
+
+int main(int count, char **arguments)
+{
+    static const struct program PROGRAM = {"rehearsal", HELP, true};
+    int status = options_status(&PROGRAM, arguments + (count > 0));
+
+    if (status != OPTIONS_GO_ON)
+        return status;
+    if (count != 2) {
+        fputs("rehearsal: say one scenario, such as scenarios/biocide.txt\n"
+              "rehearsal: try --help\n",
+              stderr);
+        return 2;
+    }
+    return options_end(&PROGRAM, rehearse(arguments[1]));
+}

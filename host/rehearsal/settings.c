@@ -1,0 +1,131 @@
+/*
+ * settings.c: the words that set up nodes, ports, links, routes, groups and
+ * paths. Whether a setting is good is the library's to say: its number is told,
+ * and the line is refused.
+ */
+#include "settings.h"
+
+#include <stdio.h>
+#include <string.h>
+
+#include "line.h"
+#include "names.h"
+#include "net.h"
+
+/* The library's answer to a setting. */
+static void taken(uint32_t refusal)
+{
+    char found[100];
+
+    line_end();
+    if (refusal == HJ_DONE)
+        return;
+    snprintf(found, sizeof found, "%u: %s", (unsigned)refusal,
+             number_name(refusal));
+    line_refuse("a setting that the relay takes", found);
+}
+
+void set_node(void)
+{
+    static const char *const KINDS[] = {"host", "router", NULL};
+    struct node *node = nodes + node_count;
+    const char *name = line_word("a new node's name");
+    uint32_t router = line_choice("'router' or 'host'", KINDS);
+
+    if (node_count == MOST_NODES)
+        line_refuse("at most 16 nodes", name);
+    if (strlen(name) > MOST_NAME)
+        line_refuse("a name of at most 20 characters", name);
+    for (uint32_t other = 0; other < node_count; other++) {
+        if (strcmp(nodes[other].name, name) == 0)
+            line_refuse("a name that no other node has", name);
+    }
+    strcpy(node->name, name);
+    taken(hj_fresh(node->relay, HJ_STATE_WORDS));
+    taken(hj_set_router(node->relay, HJ_STATE_WORDS, router));
+    node_count++;
+}
+
+void set_port(void)
+{
+    struct node *node = &nodes[line_node()];
+    uint32_t port = line_port();
+    uint32_t address = line_address("the port's address", NULL);
+    uint32_t mask = line_address("the port's mask", NULL);
+    uint32_t mtu = line_number("an MTU", 0, 999999);
+
+    taken(hj_set_port(node->relay, HJ_STATE_WORDS, port, address, mask, mtu));
+}
+
+static struct wire *free_wire(uint32_t node, uint32_t port)
+{
+    if (!hj_get_port(nodes[node].relay, HJ_STATE_WORDS, port).ready)
+        line_refuse("a port that is set up", nodes[node].name);
+    if (nodes[node].wires[port].linked)
+        line_refuse("a port without a link", nodes[node].name);
+    return &nodes[node].wires[port];
+}
+
+static void join(struct wire *wire, uint32_t peer, uint32_t port, uint32_t bits)
+{
+    wire->linked = true;
+    wire->peer = peer;
+    wire->peer_port = port;
+    wire->bits_per_second = bits;
+}
+
+void set_link(void)
+{
+    uint32_t one = line_node();
+    uint32_t one_port = line_port();
+    uint32_t other = line_node();
+    uint32_t other_port = line_port();
+    uint32_t bits = line_number("bits a second, 1 to 100000000", 1, 100000000);
+
+    line_end();
+    if (one == other)
+        line_refuse("two nodes", nodes[one].name);
+    join(free_wire(one, one_port), other, other_port, bits);
+    join(free_wire(other, other_port), one, one_port, bits);
+    net_start_wires();
+}
+
+void set_route(void)
+{
+    static const char *const AVAILABLE[] = {"up", "down", "testing", "out",
+                                            NULL};
+    struct node *node = &nodes[line_node()];
+    uint32_t place = line_number("a place, 0 to 63", 0, 999999);
+    uint32_t prefix = line_address("the prefix", NULL);
+    uint32_t mask = line_address("the mask", NULL);
+    uint32_t port = line_port();
+    uint32_t available =
+        HJ_UP + line_choice("'up', 'down', 'testing' or 'out'", AVAILABLE);
+
+    taken(hj_set_route(node->relay, HJ_STATE_WORDS, place, prefix, mask, port,
+                       available, HJ_CAPABLE_NONE));
+}
+
+void set_group(void)
+{
+    struct node *node = &nodes[line_node()];
+    uint32_t place = line_number("a place, 0 to 15", 0, 999999);
+    uint32_t address = line_address("the group's address", NULL);
+    uint32_t send = line_set("the ports to send to, as 0,2 or -");
+    uint32_t subscribed = line_set("the subscribed ports, as 0,2 or -");
+
+    taken(hj_set_group(node->relay, HJ_STATE_WORDS, place, address, send,
+                       subscribed));
+}
+
+void set_path(void)
+{
+    static const char *const HERE[] = {"on", "here", NULL};
+    struct node *node = &nodes[line_node()];
+    uint32_t place = line_number("a place, 0 to 15", 0, 999999);
+    uint32_t path = line_address("the path's address", NULL);
+    uint32_t send = line_set("the ports to send to, as 0,2 or -");
+    uint32_t here = line_choice("'here' or 'on'", HERE);
+
+    taken(hj_set_path(node->relay, HJ_STATE_WORDS, place, path, send, here));
+}

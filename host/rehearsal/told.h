@@ -1,0 +1,17 @@
+/* told.h: the timeline, told as it happens. */
+#ifndef TOLD_H
+#define TOLD_H
+
+#include "nodes.h"
+
+void told_quiet(bool quiet);
+void told_scene(const char *title);
+void told_say(const char *text);
+void told_send(uint32_t node, uint32_t port, const hj_fields *fields,
+               const struct datagram *datagram);
+void told_start(uint32_t node, uint32_t port, bool own, hj_answer entry);
+void told_arrival(uint32_t node, uint32_t port,
+                  const struct datagram *datagram, hj_verdict verdict,
+                  const uint32_t *before);
+
+#endif

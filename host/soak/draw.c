@@ -1,0 +1,191 @@
+/*
+ * draw.c: calls drawn at random. A setting is drawn good for the world as it
+ * stands, and one in four has then a number or two of it replaced by one that
+ * means something elsewhere: a place just beyond the last, an address, a mask,
+ * a number of all ones.
+ */
+#include "draw.h"
+
+#include <string.h>
+
+#include "numbers.h"
+#include "octets.h"
+
+static uint32_t draw_set(const struct world *world, struct random *random)
+{
+    return world->set_up & random_below(random, 256);
+}
+
+static void draw_port(uint32_t *n, const struct world *world,
+                      struct random *random)
+{
+    static const uint32_t ONES[] = {8, 16, 22, 24, 24, 28, 30};
+    static const uint32_t MTU[] = {8191, 8191, 8191, 8190, 300, 64, 24, 1};
+
+    n[0] = random_below(random, HJ_PORTS);
+    n[1] = world_unicast(world, random);
+    n[2] = world_mask(n[1] >> 24 == 10 ? 24 : PICK(ONES));
+    n[3] = PICK(MTU);
+}
+
+static void draw_route(uint32_t *n, const struct world *world,
+                       struct random *random)
+{
+    static const uint32_t ONES[] = {0, 8, 16, 22, 24, 24, 28, 31, 32, 32};
+    static const uint32_t AVAILABLE[] = {1, 1, 1, 1, 1, 1, 2, 3, 4};
+    static const uint32_t CAPABLE[] = {0, 1, 2, 4};
+
+    n[0] = random_below(random, HJ_ROUTES);
+    n[2] = world_mask(PICK(ONES));
+    n[1] = world_unicast(world, random) & n[2];
+    n[3] = world_port(world, random);
+    n[4] = PICK(AVAILABLE);
+    n[5] = PICK(CAPABLE);
+}
+
+uint32_t soak_places(enum call which)
+{
+    static const uint32_t PLACES[CALL_OBJECTS] = {
+        [ON_RELAY] = HJ_GROUPS, /* any: the number is not looked at */
+        [ON_PORT] = HJ_PORTS,       [ON_ROUTE] = HJ_ROUTES,
+        [ON_GROUP] = HJ_GROUPS,     [ON_PATH] = HJ_PATHS,
+        [ON_COUNTER] = HJ_COUNTERS, [ON_QUEUE] = HJ_PORTS};
+
+    return PLACES[call_facts[which].object];
+}
+
+static void spoil(struct soak_call *call, const struct world *world,
+                  struct random *random)
+{
+    uint32_t times = 1 + random_below(random, 2);
+
+    while (times-- > 0) {
+        uint32_t *number =
+            call->numbers + random_below(random, CALL_MOST_NUMBERS);
+
+        *number = soak_odd_number(world, random);
+    }
+}
+
+void soak_draw_setting(struct soak_call *call, enum call which,
+                       const struct world *world, struct random *random)
+{
+    uint32_t *n = call->numbers;
+
+    call->which = which;
+    n[0] = random_below(random, soak_places(which));
+    if (which == CALL_SET_ROUTER) {
+        n[0] = !random_one_in(random, 8);
+    } else if (which == CALL_SET_PORT) {
+        draw_port(n, world, random);
+    } else if (which == CALL_SET_ROUTE) {
+        draw_route(n, world, random);
+    } else if (which == CALL_SET_GROUP) {
+        n[1] = world_multicast(world, random);
+        n[2] = draw_set(world, random);
+        n[3] = draw_set(world, random);
+    } else if (which == CALL_SET_PATH) {
+        n[1] = world_path(random);
+        n[2] = draw_set(world, random);
+        n[3] = random_below(random, 2);
+    }
+}
+
+static void draw_receive(struct soak_call *call, const struct world *world,
+                         struct random *random)
+{
+    call->numbers[0] = random_one_in(random, 24)
+                           ? soak_odd_number(world, random)
+                           : world_port(world, random);
+    call->numbers[1] = random_below(random, 65536);
+    call->room = random_one_in(random, 6)
+                     ? random_below(random, SOAK_MOST_ROOM + 1)
+                     : HJ_OUTPUT_ROOM;
+    soak_draw_octets(call, world, random);
+}
+
+/* A port, a place or a counter; some are beyond the last. */
+static void draw_look(struct soak_call *call, const struct world *world,
+                      struct random *random)
+{
+    call->numbers[0] = random_below(random, soak_places(call->which) + 1);
+    if (call->which == CALL_TAKE && !random_one_in(random, 12))
+        call->numbers[0] = world_port(world, random);
+    if (random_one_in(random, 24))
+        call->numbers[0] = soak_odd_number(world, random);
+}
+
+static void draw_stateless(struct soak_call *call, const struct world *world,
+                           struct random *random)
+{
+    call->numbers[0] = random_one_in(random, 2)
+                           ? soak_draw_edge(random)
+                           : soak_odd_number(world, random);
+    call->room = random_below(random, SOAK_MOST_ROOM + 1);
+    if (call->which == CALL_BUILD)
+        soak_draw_fields(call, world, random);
+    else
+        soak_draw_octets(call, world, random);
+}
+
+void soak_draw_call(struct soak_call *call, enum call which,
+                    const struct world *world, struct random *random)
+{
+    call->which = which;
+    call->count = 0;
+    call->room = 0;
+    memset(call->numbers, 0, sizeof call->numbers);
+    if (!call_has_state(which)) {
+        draw_stateless(call, world, random);
+    } else if (call_sets(which)) {
+        soak_draw_setting(call, which, world, random);
+        if (random_one_in(random, 4))
+            spoil(call, world, random);
+    } else if (which == CALL_RECEIVE) {
+        draw_receive(call, world, random);
+    } else {
+        draw_look(call, world, random);
+    }
+}
+
+/* A place that was written or emptied. */
+static void note_place(const struct soak_call *call, struct world *world)
+{
+    const uint32_t *n = call->numbers;
+    bool filled = call_facts[call->which].kind == KIND_SETTING;
+
+    switch (call_facts[call->which].object) {
+    case ON_GROUP:
+        world->groups[n[0]] = filled ? n[1] : 0;
+        break;
+    case ON_PATH:
+        world->paths[n[0]] = filled ? n[1] : 0;
+        break;
+    case ON_ROUTE:
+        world->routes[n[0]].filled = filled;
+        world->routes[n[0]].prefix = n[1];
+        world->routes[n[0]].mask = n[2];
+        break;
+    default:
+        break;
+    }
+}
+
+void soak_note(const struct soak_call *call, struct world *world)
+{
+    const uint32_t *n = call->numbers;
+
+    if (call->which == CALL_FRESH) {
+        enum nets nets = world->nets;
+
+        memset(world, 0, sizeof *world);
+        world->nets = nets;
+    } else if (call->which == CALL_SET_PORT) {
+        world->set_up |= 1u << n[0];
+        world->ports[n[0]].address = n[1];
+        world->ports[n[0]].mask = n[2];
+        world->ports[n[0]].mtu = n[3];
+    } else if (call_sets(call->which)) {
+        note_place(call, world);
+    }
+}

@@ -1,0 +1,20 @@
+/* draw.h: calls drawn at random, for the world as it stands. */
+#ifndef DRAW_H
+#define DRAW_H
+
+#include "call.h"
+#include "shared/random.h"
+#include "shared/world.h"
+
+/* How many there are of what the call's first number names. */
+uint32_t soak_places(enum call which);
+
+void soak_draw_call(struct soak_call *call, enum call which,
+                    const struct world *world, struct random *random);
+/* A good setting. */
+void soak_draw_setting(struct soak_call *call, enum call which,
+                       const struct world *world, struct random *random);
+/* Notes a setting that was taken. */
+void soak_note(const struct soak_call *call, struct world *world);
+
+#endif

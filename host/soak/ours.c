@@ -1,0 +1,158 @@
+/*
+ * ours.c: the calls of the soak on the library. An empty piece is lent as a
+ * null pointer by whoever calls this; nothing is looked at here.
+ */
+#include "ours.h"
+
+#include <stdlib.h>
+#include <string.h>
+
+#include "shared/library.h"
+
+/* A row of uint32_t, as the library's structures are. */
+static void put_row(uint64_t *parts, const void *row, size_t octets)
+{
+    const uint32_t *numbers = (const uint32_t *)row;
+
+    for (size_t i = 0; i < octets / sizeof *numbers; i++)
+        parts[i] = numbers[i];
+}
+
+/* The fields alone begin with wider numbers, up to the TP-ID. */
+static void put_fields(uint64_t *parts, const hj_fields *fields)
+{
+    size_t wide = offsetof(hj_fields, tp_id);
+
+    memcpy(parts, fields, wide);
+    put_row(parts + wide / sizeof *parts, (const uint8_t *)fields + wide,
+            sizeof *fields - wide);
+}
+
+static void read_header(const struct soak_call *call, const uint8_t *octets,
+                        uint64_t *parts)
+{
+    hj_reading reading = hj_read(octets, call->count);
+
+    parts[0] = reading.refusal;
+    parts[1] = reading.length;
+    parts[2] = reading.header;
+    put_fields(parts + 3, &reading.fields);
+}
+
+static void put_answer(uint64_t *parts, hj_answer answer)
+{
+    parts[0] = hj_refusal(answer);
+    parts[1] = hj_value(answer);
+}
+
+static void stateless(const struct soak_call *call, const uint8_t *octets,
+                      uint8_t *output, uint64_t *parts)
+{
+    switch (call->which) {
+    case CALL_READ:
+        read_header(call, octets, parts);
+        break;
+    case CALL_BUILD:
+        put_answer(parts,
+                   hj_build(call->fields, call->data, output, call->room));
+        break;
+    case CALL_CLASS:
+        parts[1] = hj_class(call->numbers[0]);
+        break;
+    case CALL_PATH:
+        parts[1] = hj_path(call->numbers[0]);
+        break;
+    case CALL_CHECKSUM:
+        parts[1] = hj_checksum(octets, call->count);
+        break;
+    case CALL_STATE_WORDS:
+        parts[1] = hj_state_words();
+        break;
+    default:
+        abort(); /* a row of calls.def that has no code here */
+    }
+}
+
+static void receive(const struct soak_call *call, uint32_t *state,
+                    const uint8_t *octets, uint8_t *output,
+                    struct soak_answer *answer)
+{
+    hj_verdict verdict =
+        hj_receive(state, call->words, call->numbers[0],
+                   (uint16_t)call->numbers[1], octets, call->count, output,
+                   call->room);
+
+    answer->parts[0] = hj_ended_by(verdict);
+    answer->parts[1] = hj_local(verdict);
+    answer->parts[2] = hj_onward(verdict);
+    answer->parts[3] = hj_took(verdict);
+    answer->parts[4] = hj_header_octets(verdict);
+    answer->dropped = hj_dropped(verdict);
+    answer->parts[5] = (uint64_t)__builtin_popcount(answer->dropped);
+    answer->parts[6] = verdict >> 48;
+}
+
+static void take(const struct soak_call *call, uint32_t *state,
+                 uint64_t *parts)
+{
+    hj_answer taken = hj_take(state, call->words, call->numbers[0]);
+
+    parts[0] = hj_refusal(taken);
+    parts[1] = hj_slot(taken);
+    parts[2] = hj_precedence(taken);
+}
+
+static void get_record(const struct soak_call *call, const uint32_t *state,
+                       uint64_t *parts)
+{
+    uint32_t number = call->numbers[0];
+
+    if (call->which == CALL_GET_PORT) {
+        hj_port port = hj_get_port(state, call->words, number);
+        put_row(parts, &port, sizeof port);
+    } else if (call->which == CALL_GET_ROUTE) {
+        hj_route route = hj_get_route(state, call->words, number);
+        put_row(parts, &route, sizeof route);
+    } else if (call->which == CALL_GET_GROUP) {
+        hj_group group = hj_get_group(state, call->words, number);
+        put_row(parts, &group, sizeof group);
+    } else if (call->which == CALL_GET_PATH) {
+        hj_path_place path = hj_get_path(state, call->words, number);
+        put_row(parts, &path, sizeof path);
+    } else {
+        abort(); /* as above */
+    }
+}
+
+static void look(const struct soak_call *call, const uint32_t *state,
+                 uint64_t *parts)
+{
+    uint32_t number = call->numbers[0];
+
+    if (call->which == CALL_COUNTER)
+        put_answer(parts, hj_counter(state, call->words, number));
+    else if (call->which == CALL_WAITING)
+        put_answer(parts, hj_waiting(state, call->words, number));
+    else if (call->which == CALL_GET_ROUTER)
+        put_answer(parts, hj_get_router(state, call->words));
+    else
+        get_record(call, state, parts);
+}
+
+void soak_ours(const struct soak_call *call, uint32_t *state,
+               const uint8_t *octets, uint8_t *output,
+               struct soak_answer *answer)
+{
+    memset(answer, 0, sizeof *answer);
+    if (!call_has_state(call->which))
+        stateless(call, octets, output, answer->parts);
+    else if (call_sets(call->which))
+        answer->parts[0] =
+            library_set(call->which, state, call->words, call->numbers);
+    else if (call->which == CALL_RECEIVE)
+        receive(call, state, octets, output, answer);
+    else if (call->which == CALL_TAKE)
+        take(call, state, answer->parts);
+    else
+        look(call, state, answer->parts);
+}

@@ -1,0 +1,193 @@
+/*
+ * table.c: the names of the calls, a call said in a line, and the table of what
+ * was run.
+ *
+ * The awkward case is a run that is too short to have met what it is to meet:
+ * it is said not to be whole, and fails, so that no short run passes for a
+ * whole one.
+ */
+#include "table.h"
+
+#include <inttypes.h>
+#include <stdio.h>
+#include <string.h>
+
+static void say_octets(const struct soak_call *call)
+{
+    printf(", %zu octets ", call->count);
+    for (size_t i = 0; i < call->count; i++)
+        printf("%02x", (unsigned)call->octets[i]);
+}
+
+static void say_fields(const hj_fields *fields)
+{
+    const uint8_t *at = (const uint8_t *)fields;
+
+    printf(", the octets of hj_fields ");
+    for (size_t i = 0; i < sizeof *fields; i++)
+        printf("%02x", (unsigned)at[i]);
+}
+
+void soak_say_call(const struct soak_call *call)
+{
+    printf("%s", call_facts[call->which].name);
+    for (uint32_t i = 0; i < call_facts[call->which].numbers; i++)
+        printf(" %08" PRIx32, call->numbers[i]);
+    if (call_has_state(call->which))
+        printf(", %zu words", call->words);
+    if (call->which == CALL_RECEIVE || call->which == CALL_BUILD)
+        printf(", room %zu", call->room);
+    if (call->which == CALL_BUILD)
+        printf(", data %zu", call->data);
+    if (call->which == CALL_BUILD)
+        say_fields(&call->fields);
+    else if (call->which == CALL_RECEIVE || call->which == CALL_READ ||
+             call->which == CALL_CHECKSUM)
+        say_octets(call);
+    putchar('\n');
+}
+
+/* How many of the lengths from 0 to 830, but the right one. */
+static uint32_t lengths_met(const struct soak_tally *tally)
+{
+    uint32_t met = 0;
+
+    for (uint32_t words = 0; words <= 830; words++)
+        met += words != HJ_STATE_WORDS && tally->wrong[words] > 0;
+    return met;
+}
+
+static uint64_t wrong_calls(const struct soak_tally *tally)
+{
+    uint64_t sum = 0;
+
+    for (int which = 0; which < CALLS; which++)
+        sum += tally->wrong_made[which];
+    return sum;
+}
+
+static void say(const char *what, uint64_t number)
+{
+    printf("%-44s%10" PRIu64 "\n", what, number);
+}
+
+/* ---- What the calls ended in --------------------------------------------- */
+
+/* The numbers that a group of calls may end in, all of which a run is to have
+ * met, and how often it met each. */
+struct ends {
+    const char *what;
+    bool due[CALL_NUMBERS];
+    uint64_t times[CALL_NUMBERS];
+};
+
+/* The groups, by the names of group_of. */
+static const char SETTINGS[] = "settings";
+static const char READING[] = "reading a relay";
+
+static const char *group_of(enum call which)
+{
+    if (call_sets(which))
+        return SETTINGS;
+    return call_facts[which].kind == KIND_LOOK ? READING
+                                               : call_facts[which].name;
+}
+
+static struct ends ends_of(const struct soak_tally *tally, const char *group)
+{
+    struct ends ends = {group, {false}, {0}};
+
+    for (int which = 0; which < CALLS; which++) {
+        if (strcmp(group_of((enum call)which), group) != 0)
+            continue;
+        for (uint32_t i = 0; i < CALL_NUMBERS; i++) {
+            ends.due[i] = ends.due[i] || call_ends_in((enum call)which, i);
+            ends.times[i] += tally->ends[which][i];
+        }
+    }
+    return ends;
+}
+
+/* The onward half of a verdict, whose numbers end no call. */
+static struct ends onward_ends(const struct soak_tally *tally)
+{
+    struct ends ends = {"onward half",
+                        {[HJ_NOT_ASKED] = true, [HJ_SENT_ON] = true},
+                        {0}};
+
+    for (uint32_t i = HJ_NOT_FOR_US; i <= HJ_QUEUES_FULL; i++)
+        ends.due[i] = true;
+    memcpy(ends.times, tally->onward, sizeof ends.times);
+    return ends;
+}
+
+static bool say_ends(const struct ends *ends, bool aloud)
+{
+    bool met = true;
+
+    if (aloud)
+        printf("  %s:", ends->what);
+    for (uint32_t i = 0; i < CALL_NUMBERS; i++) {
+        if (!ends->due[i])
+            continue;
+        if (aloud)
+            printf("%s %" PRIu32 " %" PRIu64, i == 0 ? "" : ",", i,
+                   ends->times[i]);
+        met = met && ends->times[i] > 0;
+    }
+    if (aloud)
+        putchar('\n');
+    return met;
+}
+
+static bool all_ends(const struct soak_tally *tally, bool aloud)
+{
+    static const char *const GROUPS[] = {"hj_read",    "hj_build", SETTINGS,
+                                         "hj_receive", "hj_take",  READING};
+    struct ends ends = onward_ends(tally);
+    bool met = say_ends(&ends, aloud);
+
+    for (size_t i = 0; i < sizeof GROUPS / sizeof *GROUPS; i++) {
+        ends = ends_of(tally, GROUPS[i]);
+        met = say_ends(&ends, aloud) && met;
+    }
+    return met;
+}
+
+/* ---- The table ----------------------------------------------------------- */
+
+void soak_say_tally(const struct soak_tally *tally)
+{
+    printf("%-22s%12s%22s\n", "call", "calls", "of them wrong length");
+    for (int which = 0; which < CALLS; which++)
+        printf("%-22s%12" PRIu64 "%22" PRIu64 "\n", call_facts[which].name,
+               tally->made[which], tally->wrong_made[which]);
+    printf("%-22s%12" PRIu64 "%22" PRIu64 "\n\n", "all", tally->calls,
+           wrong_calls(tally));
+    say("wrong lengths of 0 to 830 tried, of 830", lengths_met(tally));
+    say("histories", tally->states[SOAK_HISTORY]);
+    say("  calls on them, plain's answers the same",
+        tally->calls_on[SOAK_HISTORY]);
+    say("  ledgers of a port found closed", tally->ledgers);
+    say("states with a few words changed", tally->states[SOAK_CHANGED]);
+    say("  calls on them", tally->calls_on[SOAK_CHANGED]);
+    say("garbage states", tally->states[SOAK_GARBAGE]);
+    say("  calls on them", tally->calls_on[SOAK_GARBAGE]);
+    puts("numbers that calls not lent a wrong length ended in, each with how "
+         "often:");
+    all_ends(tally, true);
+}
+
+bool soak_is_whole(const struct soak_tally *tally)
+{
+    bool whole = lengths_met(tally) == 830 && tally->ledgers > 0 &&
+                 all_ends(tally, false);
+
+    for (int sort = 0; sort < SOAK_STATES; sort++)
+        whole = whole && tally->calls_on[sort] > 0;
+    for (int which = 0; which < CALLS; which++)
+        whole = whole && tally->made[which] > 0 &&
+                (!call_has_state((enum call)which) ||
+                 tally->wrong_made[which] > 0);
+    return whole;
+}

@@ -1,0 +1,34 @@
+/*
+ * table.h: what was run. The sorts of states are those of a history, which
+ * plain lives through too; those with a few words changed; garbage.
+ */
+#ifndef TABLE_H
+#define TABLE_H
+
+#include <stdbool.h>
+
+#include "call.h"
+
+enum soak_state { SOAK_HISTORY, SOAK_CHANGED, SOAK_GARBAGE, SOAK_STATES };
+
+struct soak_tally {
+    uint64_t calls;
+    uint64_t made[CALLS];
+    uint64_t wrong_made[CALLS];           /* of them with a wrong length */
+    uint64_t wrong[SOAK_MOST_WORDS + 1];  /* calls by the words lent */
+    uint64_t states[SOAK_STATES];         /* made, of each sort */
+    uint64_t calls_on[SOAK_STATES];       /* on their 824 words */
+    uint64_t ledgers;                     /* ports whose ledger closed */
+    /* Calls on 824 words, or on none, that ended in each number; the onward
+     * halves of the verdicts beside them. */
+    uint64_t ends[CALLS][CALL_NUMBERS];
+    uint64_t onward[CALL_NUMBERS];
+};
+
+/* The call in a line. */
+void soak_say_call(const struct soak_call *call);
+void soak_say_tally(const struct soak_tally *tally);
+/* Whether the run met all that a run is to meet. */
+bool soak_is_whole(const struct soak_tally *tally);
+
+#endif
