@@ -432,6 +432,22 @@ class Documents(Tree):
         page = "`twice`, `thrice`, in `crates/address/proofs/Laws.antt`\n"
         self.refused(page, "docs/PAGE.md:1: crates/address/proofs/Laws.antt declares no thrice")
 
+    def test_the_house(self):
+        def house(*rows):
+            self.write("docs/ARCHITECTURE.md", "# Architecture\n\n## The house\n\n" + "".join(rows) + "\n## On\n\n| `rest` | no crate |\n")
+        self.write("crates.txt", "# three\none:\ntwo: one\nthree: one two\n")
+        self.write("crates/three/src/lib.rt", "")
+        self.write("crates/three/src/part.rt", "")
+        one, three = "| `one`, `two` | both |\n", "| `three` | Module `part` |\n"
+        house(one, three)
+        self.assertEqual(self.check("One.\n"), (0, "documents: 3 name what is there\n"))
+        house(one)
+        self.refused("One.\n", "docs/ARCHITECTURE.md:3: lists three 0 times, and crates.txt 1 times")
+        house(one, three, "| `four` | more |\n")
+        self.refused("One.\n", "docs/ARCHITECTURE.md:3: lists four 1 times, and crates.txt 0 times")
+        house(one, "| `three` | a room |\n")
+        self.refused("One.\n", "docs/ARCHITECTURE.md:6: the row of three does not name its module part")
+
 
 class InMemory(Tree):
     """scripts/in-memory with a stand-in for df, which says what room there is."""
