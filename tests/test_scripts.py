@@ -32,7 +32,7 @@ module Inside (n : ℕ) where
     within = refl
 """
 
-PAGE = """# Promises
+PAGE = """# Theorems
 
 Each address has one class: `one-class`, in `crates/address/proofs/Laws.antt`.
 
@@ -57,24 +57,33 @@ The file `crates/address/proofs/Laws.antt` has no more.
 """
 
 
-class Promises(Tree):
-    def check(self, page):
-        self.write("docs/PROMISES.md", page)
-        self.write("crates/address/proofs/Laws.antt", LAWS)
-        return self.run_script(os.path.join(ROOT, "scripts/check-promises"), self.root)
+SUMMARY = """# Promises
 
-    def refused(self, page, *says):
-        status, output = self.check(page)
+Each address has one class (`one-class`), by `crates/address/proofs/Laws.antt`; `make test` asks.
+"""
+
+
+class Promises(Tree):
+    def check(self, page, summary=SUMMARY, *options):
+        self.write("docs/THEOREMS.md", page)
+        self.write("docs/PROMISES.md", summary)
+        self.write("crates/address/proofs/Laws.antt", LAWS)
+        self.write("crates/address/src/lib.rt", SOURCE)
+        return self.run_script(os.path.join(ROOT, "scripts/check-promises"), *options, self.root)
+
+    def refused(self, page, *says, summary=SUMMARY):
+        status, output = self.check(page, summary)
         self.assertEqual(status, 1, output)
         for words in says:
             self.assertIn(words, output)
 
     def test_sections_and_rows_are_taken(self):
         status, output = self.check(PAGE)
-        self.assertEqual((status, output), (0, "promises: 3 statements are quoted as they stand, 0 wrong programs are there\n"))
+        says = "promises: 3 statements are quoted as they stand, 1 of them named in docs/PROMISES.md, 0 wrong programs are there\n"
+        self.assertEqual((status, output), (0, says))
 
     def test_another_statement(self):
-        self.refused(PAGE.replace("< 7", "< 8"), "PROMISES.md:3: one-class is quoted as", "< 8", "< 7")
+        self.refused(PAGE.replace("< 7", "< 8"), "THEOREMS.md:3: one-class is quoted as", "< 8", "< 7")
 
     def test_a_statement_cut_short(self):
         self.refused(PAGE.replace(" → classNumber (classOf a) < 7", ""), "one-class is quoted as")
@@ -109,11 +118,51 @@ class Promises(Tree):
         self.assertIn("2 wrong programs", output)
 
     def test_a_page_without_theorems(self):
-        self.refused("# Promises\n", "names no theorem")
+        self.refused("# Theorems\n", "docs/THEOREMS.md: names no theorem with its file")
+
+    def test_a_name_that_is_not_quoted(self):
+        summary = SUMMARY + "And `twice`, by `hidden` and `hj_twice`.\n"
+        self.refused(PAGE, "PROMISES.md:4: docs/THEOREMS.md quotes no hidden", "PROMISES.md:4: docs/THEOREMS.md quotes no hj_twice", summary=summary)
+
+    def test_a_summary_without_theorems(self):
+        self.refused(PAGE, "docs/PROMISES.md: names no theorem", summary="# Promises\n")
 
     def test_no_page(self):
         status, output = self.run_script(os.path.join(ROOT, "scripts/check-promises"), self.root)
+        self.assertEqual((status, output), (1, "promises: there is no docs/THEOREMS.md\n"))
+        self.write("docs/THEOREMS.md", PAGE)
+        status, output = self.run_script(os.path.join(ROOT, "scripts/check-promises"), self.root)
         self.assertEqual((status, output), (1, "promises: there is no docs/PROMISES.md\n"))
+
+    def read(self, name):
+        with open(os.path.join(self.root, name), encoding="utf-8") as file:
+            return file.read()
+
+    def test_renewing_what_stands_changes_nothing(self):
+        status, output = self.check(PAGE, SUMMARY, "--renew")
+        self.assertEqual(status, 0, output)
+        self.assertIn("promises: 0 quotations are written anew\n", output)
+        self.assertEqual(self.read("docs/THEOREMS.md"), PAGE)
+
+    def test_renewing_a_changed_statement(self):
+        page = PAGE.replace("< 7", "< 8").replace("within : n ≡ n", "within : n ≡ 0\n    → n ≡ n")
+        page += "`first`, in `crates/address/src/lib.rt`\n\n```rust\npub fn first(self) -> u16\n```\n"
+        status, output = self.check(page, SUMMARY, "--renew")
+        self.assertEqual(status, 0, output)
+        self.assertIn("promises: 3 quotations are written anew\n", output)
+        new = self.read("docs/THEOREMS.md")
+        self.assertIn("```antt\npub one-class : (a : ℕ) →\n    classNumber (classOf a) < 7\n```\n", new)
+        self.assertIn("```antt\ntwice {ℓ} : ℕ → ℕ\n```\n", new)
+        self.assertIn("```antt\nwithin : n ≡ n\n```\n", new)
+        self.assertIn("```rust\npub fn first(self) -> u8\n    ensures { λ r. ⌜ r ≡ self .0 ⌝ }\n```\n", new)
+
+    def test_renewing_finds_the_other_faults(self):
+        page = PAGE.replace("< 7", "< 8").replace("`within`", "`without`")
+        status, output = self.check(page, SUMMARY, "--renew")
+        self.assertEqual(status, 1, output)
+        self.assertIn("promises: 1 quotations are written anew", output)
+        self.assertIn("declares no without", output)
+        self.assertIn("belongs to no theorem", output)
 
 
 SOURCE = """// A brace { in a comment.
@@ -382,6 +431,22 @@ class Documents(Tree):
     def test_a_definition_that_is_gone(self):
         page = "`twice`, `thrice`, in `crates/address/proofs/Laws.antt`\n"
         self.refused(page, "docs/PAGE.md:1: crates/address/proofs/Laws.antt declares no thrice")
+
+    def test_the_house(self):
+        def house(*rows):
+            self.write("docs/ARCHITECTURE.md", "# Architecture\n\n## The house\n\n" + "".join(rows) + "\n## On\n\n| `rest` | no crate |\n")
+        self.write("crates.txt", "# three\none:\ntwo: one\nthree: one two\n")
+        self.write("crates/three/src/lib.rt", "")
+        self.write("crates/three/src/part.rt", "")
+        one, three = "| `one`, `two` | both |\n", "| `three` | Module `part` |\n"
+        house(one, three)
+        self.assertEqual(self.check("One.\n"), (0, "documents: 3 name what is there\n"))
+        house(one)
+        self.refused("One.\n", "docs/ARCHITECTURE.md:3: lists three 0 times, and crates.txt 1 times")
+        house(one, three, "| `four` | more |\n")
+        self.refused("One.\n", "docs/ARCHITECTURE.md:3: lists four 1 times, and crates.txt 0 times")
+        house(one, "| `three` | a room |\n")
+        self.refused("One.\n", "docs/ARCHITECTURE.md:6: the row of three does not name its module part")
 
 
 class InMemory(Tree):
