@@ -12,6 +12,7 @@ ghost use mathlib.Core.Path.{_≡_};
 ghost use Prim.Native.Nat.{_+_, _≤_, _<_};
 ghost use lib.ListN.{length};
 ghost use Rattle.octets.specs.Octets.{pasted, fronted};
+ghost use Rattle.header.specs.Limits.{longestHeader, mostData};
 ghost use Rattle.header.specs.Build.{restOctets, sizeOf, headerOctets, builtOf, outputOf};
 
 // The elements between control field and checksum.
@@ -34,7 +35,7 @@ fn put_rest(out: &mut [u8], place: usize, f: Fields) -> usize
 
 // Writes the header of a datagram with n octets of user data.
 fn write_header(f: Fields, n: usize, out: &mut [u8]) -> usize
-    requires { ⌜ (50 ≤ length (now out)) × (n ≤ 8141) ⌝ }
+    requires { ⌜ (longestHeader ≤ length (now out)) × (n ≤ mostData) ⌝ }
     requires { ⌜ (f .tpid < 16) × ((f .checksum < 2) × (f .intermediate < 2)) ⌝ }
     ensures { λ r. ⌜ r ≡ sizeOf f ⌝ }
     ensures { λ _. ⌜ now (out .exit) ≡ fronted (headerOctets f n) (now (out .entry)) ⌝ }
@@ -56,14 +57,14 @@ pub fn build_header(f: Fields, n: usize, out: &mut [u8]) -> Built
     ensures { λ r. ⌜ r ≡ builtOf f n (length (now (out .entry))) ⌝ }
     ensures { λ _. ⌜ now (out .exit) ≡ outputOf f n (now (out .entry)) ⌝ }
 {
-    if out.len() < 50 {
+    let Check::Passed = header::limits::check_room(out.len()) else {
         return Built::Refused(17);
-    }
+    };
     let Check::Passed = crate::range::check_fields(f) else {
         return Built::Refused(19);
     };
-    if 8141 < n {
+    let Check::Passed = header::limits::check_data(n) else {
         return Built::Refused(20);
-    }
+    };
     Built::Done(write_header(f, n, out))
 }

@@ -13,6 +13,7 @@ use lib.Dec.{T, ltb, lit<}
 use borrow.Author.Tests.{le-ltb}
 use Rattle.checks.specs.Order.{firstOf}
 use Rattle.octets.specs.Octets.{octet, number, octets}
+use Rattle.header.specs.Limits.{longestHeader, mostData, lengthLimit}
 use Rattle.header.specs.Form.{controlOf, layoutOf, placesOf, bit20, bit24, hasChecksum, hasHops, hasQos, hasExpanded, stampFormat}
 use Rattle.header.specs.Read.{fieldsOf, headerOf, lengthOf, readOf}
 use Rattle.header.specs.Build.{present, thirdOctet, secondOctet, firstBits, frontOctets, restOctets, bodyOctets, sizeOf, headerOctets, buildChecks, builtOf, outputOf}
@@ -151,8 +152,8 @@ module _ (s : List ℕ) (h : Header) (small : (i : ℕ) → getD s i 0 < 256) (e
   front-is : frontOctets (lengthOf s) (octet s 2) (k .second) (k .third) ≡ take (k .end) s
   unfolding frontOctets controlOf lengthOf number
   front-is =
-      let length-is : 8192 + lengthOf s ≡ number s 0 2 = omega (arith, p .version) in
-      let two : octets 2 (8192 + lengthOf s) ≡ take 2 s = rw length-is (number-back s small 0 2 (omega (arith, p .long))) in
+      let length-is : lengthLimit + lengthOf s ≡ number s 0 2 = omega (arith, p .version) in
+      let two : octets 2 (lengthLimit + lengthOf s) ≡ take 2 s = rw length-is (number-back s small 0 2 (omega (arith, p .long))) in
       let three = octet-back s small 2 (octet s 2) refl (p .long) in
       let four = control-again s small (bit20 k) 3 (k .second) (omega arith) refl (omega (arith, p .whole)) in
       let five = control-again s small (bit24 k) (3 + bit20 k) (k .third) (omega arith) (third-at s (bit (bit20 k) (omega arith))) (p .whole) in
@@ -175,14 +176,14 @@ module _ (s : List ℕ) (h : Header) (small : (i : ℕ) → getD s i 0 < 256) (e
   built-again = rw (p .is) header-is
 
   -- the builder refuses it for nothing but its data, and says the size that was read
-  pub done-again : (room : ℕ) → 50 ≤ room → h .length - h .size ≤ 8141 → builtOf (h .fields) (h .length - h .size) room ≡ Done (h .size)
+  pub done-again : (room : ℕ) → longestHeader ≤ room → h .length - h .size ≤ mostData → builtOf (h .fields) (h .length - h .size) room ≡ Done (h .size)
   unfolding headerOf builtOf buildChecks firstOf
   done-again room enough few =
       let size : sizeOf (h .fields) ≡ h .size = rw (p .is) size-is in
-      simp (le-ltb room 50 enough, not-out (h .fields) (read-in-range s h small e), le-ltb 8141 (h .length - h .size) few, size)
+      simp (le-ltb room longestHeader enough, not-out (h .fields) (read-in-range s h small e), le-ltb mostData (h .length - h .size) few, size)
 
   -- and writes the octets that were read
-  pub output-again : (lent : List ℕ) → 50 ≤ length lent → h .length - h .size ≤ 8141
+  pub output-again : (lent : List ℕ) → longestHeader ≤ length lent → h .length - h .size ≤ mostData
       → outputOf (h .fields) (h .length - h .size) lent ≡ take (h .size) s ++ drop (h .size) lent
   unfolding headerOf outputOf
   output-again lent enough few =

@@ -11,6 +11,7 @@ use borrow.Author.Tests.{eqb-true, eqb-false}
 use Rattle.checks.proofs.Bools.{or-false, not-false}
 use Rattle.checks.proofs.Laws.{either}
 use Rattle.octets.specs.Octets.{octet}
+use Rattle.header.specs.Limits.{longestHeader}
 use Rattle.header.specs.declared.Control.{Control}
 use Rattle.header.specs.Form.{controlOf, layoutOf, placesOf, forbidden, addressSize, stampSize, stampFormat, bit21, bit29, bit32, bits36to39, hasDestination, hasSource, isIpv6, isExtended}
 
@@ -63,7 +64,7 @@ placed s k e =
     search needs
 
 -- the octets of a header itself
-pub header-size : (s : List ℕ) → (4 ≤ placesOf s .size) × (placesOf s .size ≤ 50)
+pub header-size : (s : List ℕ) → (4 ≤ placesOf s .size) × (placesOf s .size ≤ longestHeader)
 header-size s =
     let e = control-end s in
     let p = placed s (controlOf s) (e .1) in

@@ -8,6 +8,8 @@
 // 19 are numbers that are too large for their element. The awkward element is the timestamp with an explicit P-field: its length
 // stands in its own first octet.
 pub mod flags;
+pub mod limits;
+pub mod pfield;
 
 use address::Address;
 use address::PathAddress;

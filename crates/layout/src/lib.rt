@@ -88,7 +88,7 @@ pub fn stamp_size(format: u8, first: u8) -> usize
     match format {
         0 => 0,
         1 => 3,
-        2 => 2 + (first / 4 % 4) as usize + (first % 4) as usize,
+        2 => 1 + header::pfield::time_size(first),
         _ => 4,
     }
 }

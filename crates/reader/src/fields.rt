@@ -84,7 +84,7 @@ fn stamp_at(s: &[u8], format: u8, place: usize) -> Timestamp
         1 => Timestamp::Implicit(octets::number_at(s, place, 3)),
         2 => {
             let p = octets::octet_at(s, place);
-            let time_size = 1 + (p / 4 % 4) as usize + (p % 4) as usize;
+            let time_size = header::pfield::time_size(p);
             Timestamp::Explicit(p, octets::number_at(s, place + 1, time_size))
         }
         _ => Timestamp::Binary(octets::number_at(s, place, 4)),

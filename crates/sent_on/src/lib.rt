@@ -10,6 +10,7 @@ ghost use mathlib.Core.Path.{_≡_};
 ghost use Prim.Native.Nat.{_-_, _≤_, _<_};
 ghost use lib.ListN.{length};
 ghost use Rattle.octets.specs.Octets.{fronted};
+ghost use Rattle.header.specs.Limits.{longestHeader};
 ghost use Rattle.header.specs.Form.{placesOf};
 ghost use Rattle.header.specs.Onward.{lessened, sentOn};
 
@@ -32,7 +33,7 @@ fn lessen(out: &mut [u8], place: usize, on: u8)
 
 // Writes the header of a datagram as it goes on to the front of the output; answers its length.
 pub fn send_on(s: &[u8], out: &mut [u8]) -> usize
-    requires { ⌜ (50 ≤ length (now out)) × (placesOf (now s) .size ≤ length (now s)) ⌝ }
+    requires { ⌜ (longestHeader ≤ length (now out)) × (placesOf (now s) .size ≤ length (now s)) ⌝ }
     ensures { λ r. ⌜ r ≡ placesOf (now (s .entry)) .size ⌝ }
     ensures { λ _. ⌜ now (out .exit) ≡ fronted (sentOn (now (s .entry))) (now (out .entry)) ⌝ }
 {

@@ -9,6 +9,7 @@ ghost use mathlib.Core.Path.{_≡_};
 ghost use Prim.Native.Nat.{_+_, _≤_, _<_};
 ghost use lib.ListN.{length};
 ghost use Rattle.octets.specs.Octets.{pasted};
+ghost use Rattle.header.specs.Limits.{lengthLimit};
 ghost use Rattle.header.specs.Build.{present, thirdOctet, secondOctet, frontOctets};
 
 // 1 where a control octet says something and so is present, else 0.
@@ -49,11 +50,11 @@ pub fn second_octet(f: Fields, third: u8) -> u8
 
 // Version, length field, TP-ID and control field; `shared` is the octet that TP-ID and bits 20 to 23 share.
 pub fn put_front(out: &mut [u8], len: usize, shared: u8, second: u8, third: u8) -> usize
-    requires { ⌜ (5 ≤ length (now out)) × (len < 8192) ⌝ }
+    requires { ⌜ (5 ≤ length (now out)) × (len < lengthLimit) ⌝ }
     ensures { λ r. ⌜ r ≡ 0 + length (frontOctets len shared second third) ⌝ }
     ensures { λ _. ⌜ now (out .exit) ≡ pasted (now (out .entry)) 0 (frontOctets len shared second third) ⌝ }
 {
-    let a = octets::put_number(out, 0, 2, 8192 + len as u64);
+    let a = octets::put_number(out, 0, 2, (header::limits::LENGTH_LIMIT + len) as u64);
     let b = octets::put_number(out, a, 1, shared as u64);
     let c = octets::put_number(out, b, presence(second) as usize, second as u64);
     octets::put_number(out, c, presence(third) as usize, third as u64)
