@@ -8,6 +8,7 @@ pub mod range;
 use checks::Check;
 use header::Built;
 use header::Fields;
+use header::control_bits;
 ghost use mathlib.Core.Path.{_≡_};
 ghost use Prim.Native.Nat.{_+_, _≤_, _<_};
 ghost use lib.ListN.{length};
@@ -44,7 +45,10 @@ fn write_header(f: Fields, n: usize, out: &mut [u8]) -> usize
     let second = writer::front::second_octet(f, third);
     let has_second = writer::front::presence(second);
     let has_third = writer::front::presence(third);
-    let shared = f.tpid * 16 + (8 * has_second + 2 + f.checksum);
+    let bits = control_bits::SECOND_OCTET * has_second
+        + control_bits::DESTINATION
+        + control_bits::CHECKSUM * f.checksum;
+    let shared = f.tpid * 16 + bits;
     let place = put_rest(out, 3 + has_second as usize + has_third as usize, f);
     let size = place + 2 * f.checksum as usize;
     writer::front::put_front(out, size + n, shared, second, third);

@@ -66,7 +66,7 @@ built-size f r =
     let addresses = addresses-length k (f .addresses) (bits f r .addresses) in
     simp (length-append, addresses, qos-length, octet-length)
     (omega
-    (arith, present-le (secondOctet f), present-le (thirdOctet f), gate (k .second / 64) (addressSize k), addressSize-le k, addressSize-ge k, qosFlag-le (f .qos), octetFlag-le (f .hops), stamp-le (f .stamp), octetFlag-le (f .expanded), r .checksum))
+    (arith, present-le (secondOctet f), present-le (thirdOctet f), gate 25 (k .second) (addressSize k), addressSize-le k, addressSize-ge k, qosFlag-le (f .qos), octetFlag-le (f .hops), stamp-le (f .stamp), octetFlag-le (f .expanded), r .checksum))
 
 -- ---- the octets
 

@@ -14,7 +14,7 @@ use Rattle.octets.specs.Octets.{octet, number, octets}
 use Rattle.octets.proofs.Laws.{length-octets}
 use Rattle.checksum.specs.Sum.{checksumOf, elementOf}
 use Rattle.header.specs.Limits.{mostData, lengthLimit}
-use Rattle.header.specs.Form.{controlOf, placesOf, layoutOf, qosPlace, hopsPlace, stampPlace, expandedPlace, checksumPlace, hasQos, hasHops, hasExpanded, stampFormat}
+use Rattle.header.specs.Form.{thirdFollows, controlOf, placesOf, layoutOf, qosPlace, hopsPlace, stampPlace, expandedPlace, checksumPlace, hasQos, hasHops, hasExpanded, stampFormat}
 use Rattle.header.specs.Read.{addressesOf, qosOf, octetOf, stampOf, lengthOf, fieldsOf, headerOf, readOf}
 use Rattle.header.specs.Build.{addressesOctets, qosOctets, octetOctets, stampOctets, present, frontOctets, restOctets, bodyOctets, checksumOctets, headerOctets, sizeOf}
 use Rattle.header.specs.Range.{InRange}
@@ -71,7 +71,7 @@ record Front (s : List ℕ) (f : Fields) (len : ℕ) (last : List ℕ) : Type 0 
   addresses : Stands s (builtControl f .end) (addressesOctets (f .addresses)) (rest f last)
 
 -- the third control octet stands at 4, since without a second there is none
-third-place : (s : List ℕ) (t : Bool) (second on : ℕ) → eqb second 0 ≡ t → second / 128 % 2 ≡ on → on * octet s (3 + pick t 0 1) ≡ on * octet s 4
+third-place : (s : List ℕ) (t : Bool) (second on : ℕ) → eqb second 0 ≡ t → thirdFollows second ≡ on → on * octet s (3 + pick t 0 1) ≡ on * octet s 4
 third-place s true second on e h =
     let z : on ≡ 0 = omega (arith, eqb-true second 0 e) in
     rw z (omega arith)

@@ -8,7 +8,7 @@ use Rattle.checks.specs.Order.{pick, Checks, firstOf}
 use Rattle.octets.specs.Octets.{octets, fronted}
 use Rattle.checksum.specs.Sum.{checksumOf}
 use Rattle.header.specs.Limits.{lengthLimit, noRoom, tooMuchData}
-use Rattle.header.specs.Form.{timeSize}
+use Rattle.header.specs.Form.{weight, timeSize}
 use Rattle.header.specs.Range.{outOfRange}
 use Rattle.header.specs.declared.Six.{Six}
 use Rattle.header.specs.declared.Addresses.{Addresses}
@@ -94,15 +94,15 @@ present n = pick (eqb n 0) 0 1
 
 -- bits 32 to 39, 24 to 31 and 20 to 23 (003, table 3-4)
 unfoldable pub thirdOctet : Fields → ℕ
-thirdOctet f = 64 * ipv6Flag (f .addresses) + 32 * octetFlag (f .expanded) + 16 * f .intermediate
+thirdOctet f = weight 33 * ipv6Flag (f .addresses) + weight 34 * octetFlag (f .expanded) + weight 35 * f .intermediate
 
 unfoldable pub secondOctet : Fields → ℕ
 secondOctet f =
-    128 * present (thirdOctet f) + 64 * sourceFlag (f .addresses) + 32 * octetFlag (f .hops) + 8 * formatOf (f .stamp) + 2 * qosFlag (f .qos)
-    + extendedFlag (f .addresses)
+    weight 24 * present (thirdOctet f) + weight 25 * sourceFlag (f .addresses) + weight 26 * octetFlag (f .hops) + weight 28 * formatOf (f .stamp)
+    + weight 30 * qosFlag (f .qos) + weight 31 * extendedFlag (f .addresses)
 
 unfoldable pub firstBits : Fields → ℕ
-firstBits f = 8 * present (secondOctet f) + 2 + f .checksum
+firstBits f = weight 20 * present (secondOctet f) + weight 22 + weight 23 * f .checksum
 
 -- ---- the header whole
 

@@ -6,6 +6,7 @@
 //
 // The awkward case is a hop count of 0. It stays 0: the relay refuses it before it comes here, and as a leaf by itself this function
 // must not bring a used-up datagram back with 255 hops.
+use header::control_bits;
 ghost use mathlib.Core.Path.{_≡_};
 ghost use Prim.Native.Nat.{_-_, _≤_, _<_};
 ghost use lib.ListN.{length};
@@ -41,6 +42,6 @@ pub fn send_on(s: &[u8], out: &mut [u8]) -> usize
     let places = layout::layout_of(s, control);
     let checksum = places.checksum;
     bytes::copy(&s[..checksum], out);
-    lessen(out, places.hops, control.second / 32 % 2);
-    writer::put_checksum(out, checksum, control.first % 2)
+    lessen(out, places.hops, control_bits::has_hops(control));
+    writer::put_checksum(out, checksum, control_bits::has_checksum(control))
 }

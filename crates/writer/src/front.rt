@@ -5,6 +5,7 @@
 // then says that it follows. So the third control octet is made first, the second from it, the first from that. The awkward case is an
 // octet that says nothing: it is written like the others, as a number of no octets.
 use header::Fields;
+use header::control_bits;
 ghost use mathlib.Core.Path.{_≡_};
 ghost use Prim.Native.Nat.{_+_, _≤_, _<_};
 ghost use lib.ListN.{length};
@@ -26,9 +27,9 @@ pub fn third_octet(f: Fields) -> u8
 {
     let addresses = f.addresses;
     let expanded = f.expanded;
-    64 * header::flags::ipv6_flag(addresses)
-        + 32 * header::flags::octet_flag(expanded)
-        + 16 * f.intermediate
+    control_bits::IPV6 * header::flags::ipv6_flag(addresses)
+        + control_bits::EXPANDED * header::flags::octet_flag(expanded)
+        + control_bits::INTERMEDIATE * f.intermediate
 }
 
 // Bits 24 to 31, once the third octet is known.
@@ -40,12 +41,12 @@ pub fn second_octet(f: Fields, third: u8) -> u8
     let hops = f.hops;
     let stamp = f.stamp;
     let qos = f.qos;
-    128 * presence(third)
-        + 64 * header::flags::source_flag(addresses)
-        + 32 * header::flags::octet_flag(hops)
-        + 8 * header::flags::stamp_format(stamp)
-        + 2 * header::flags::qos_flag(qos)
-        + header::flags::extended_flag(addresses)
+    control_bits::THIRD_OCTET * presence(third)
+        + control_bits::SOURCE * header::flags::source_flag(addresses)
+        + control_bits::HOPS * header::flags::octet_flag(hops)
+        + control_bits::STAMP * header::flags::stamp_format(stamp)
+        + control_bits::QOS * header::flags::qos_flag(qos)
+        + control_bits::EXTENDED * header::flags::extended_flag(addresses)
 }
 
 // Version, length field, TP-ID and control field; `shared` is the octet that TP-ID and bits 20 to 23 share.
