@@ -204,11 +204,15 @@ typedef struct hj_fields {
     uint32_t intermediate;     /* intermediate delivery requested */
 } hj_fields;
 
-/* What reading found. With a refusal, every other number is 0. */
+/*
+ * What reading found. With a refusal, every other number is 0. Each octet of it
+ * belongs to a member, so that two of them can be compared whole.
+ */
 typedef struct hj_reading {
     uint32_t refusal;
-    uint32_t length;  /* the length field: octets of the whole datagram */
-    uint32_t header;  /* the header's own length in octets, 4 to 50 */
+    uint32_t length;   /* the length field: octets of the whole datagram */
+    uint32_t header;   /* the header's own length in octets, 4 to 50 */
+    uint32_t reserved; /* 0 */
     hj_fields fields;
 } hj_reading;
 
@@ -324,8 +328,10 @@ typedef struct hj_path_place {
  *                        own length;
  *   HJ_BAD_CHECKSUM (5)  the checksum is present and wrong.
  * The first that holds, in the order 1, 2, 1, 4, 3, 5, is given.
- * The octets are not changed. The answer does not depend on octets beyond the
- * length field, but for those of the control field.
+ * The octets are not changed. Of the octets beyond the length that the length
+ * field gives, only those up to the end of the control field, five at most,
+ * matter: they are tested before the length is. So 20 00 12 gives 3 and
+ * 40 00 12 gives 2, though both say a length of 0.
  */
 hj_reading hj_read(const uint8_t *octets, size_t count);
 

@@ -71,7 +71,7 @@ static void expect_built(hj_fields fields, const char *what)
     reading = hj_read(output, hj_value(built));
     expect(hj_refusal(built) == 0 && reading.refusal == 0 &&
                reading.header == hj_value(built) &&
-               reading.length == hj_value(built) &&
+               reading.length == hj_value(built) && reading.reserved == 0 &&
                memcmp(&reading.fields, &fields, sizeof fields) == 0 &&
                output[reading.header] == UNTOUCHED,
            what);

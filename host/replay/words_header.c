@@ -168,6 +168,7 @@ static bool all_zero(const hj_reading *reading)
     static const hj_fields nothing;
 
     return reading->length == 0 && reading->header == 0 &&
+           reading->reserved == 0 &&
            memcmp(&reading->fields, &nothing, sizeof nothing) == 0;
 }
 

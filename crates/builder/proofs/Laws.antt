@@ -4,12 +4,13 @@ use Prim.Native.Nat.{ℕ, _+_, _*_, _≤_, _<_}
 use mathlib.Core.Path.{_≡_, ap, sym, _∙_}
 use mathlib.Core.List.{List, _++_, append-assoc}
 use lib.ListN.{length, take, length-append}
-use borrow.Author.Tests.{le-ltb}
+use borrow.Author.Tests.{ltb-true, ltb-false}
 use Rattle.checks.specs.Order.{checkOf, firstOf}
 use Rattle.checks.specs.declared.Check.the-variants.{Passed, Failed}
 use Rattle.checks.proofs.Laws.{passed-false, failed-true}
 use Rattle.octets.specs.Octets.{pasted, fronted}
 use Rattle.octets.proofs.Laws.{length-octets, pasted-before, pasted-on, pasted-front, take-front, Put, put-two}
+use Rattle.header.specs.Limits.{longestHeader, mostData, noRoom, tooMuchData}
 use Rattle.header.specs.Range.{outOfRange}
 use Rattle.header.specs.Build.{addressesOctets, qosOctets, octetOctets, stampOctets, present, thirdOctet, secondOctet, firstBits, frontOctets, restOctets, bodyOctets, checksumOctets, sizeOf, headerOctets, buildChecks, builtOf, outputOf}
 use Rattle.header.specs.declared.Fields.{Fields}
@@ -67,7 +68,7 @@ rest-put f l m₁ m₂ m₃ m₄ m₅ at r₁ r₂ r₃ r₄ r₅ p₁ p₂ p₃
 
 -- the three pieces make the header
 pub assembled : (f : Fields) (n : ℕ) (l m₁ m₂ m₃ : List ℕ) (k body : ℕ) → k ≡ 3 + present (secondOctet f) + present (thirdOctet f) → body ≡ k + length (restOctets f)
-    → f .checksum < 2 → 50 ≤ length l → m₁ ≡ pasted l k (restOctets f)
+    → f .checksum < 2 → longestHeader ≤ length l → m₁ ≡ pasted l k (restOctets f)
     → m₂ ≡ pasted m₁ 0 (frontOctets (sizeOf f + n) (f .tpid * 16 + firstBits f) (secondOctet f) (thirdOctet f))
     → m₃ ≡ pasted m₂ body (checksumOctets (f .checksum) (take body m₂))
     → m₃ ≡ fronted (headerOctets f n) l
@@ -95,28 +96,34 @@ assembled f n l m₁ m₂ m₃ k body ek eb flag room e₁ e₂ e₃ =
 pub in-range : (f : Fields) → checkOf (outOfRange f) ≡ Passed → (f .tpid < 16) × ((f .checksum < 2) × (f .intermediate < 2))
 in-range f h = let t = tested f (passed-false (outOfRange f) h) in (t .tpid, (t .checksum, t .intermediate))
 
+pub short : (n : ℕ) → checkOf (tooMuchData n) ≡ Passed → n ≤ mostData
+short n h = ltb-false _ _ (passed-false _ h)
+
 module _ (f : Fields) (n : ℕ) (l : List ℕ) where
   -- a refusal writes nothing
   unwritten : (m : ℕ) → builtOf f n (length l) ≡ Refused m → (Refused m ≡ builtOf f n (length l)) × (l ≡ outputOf f n l)
   unfolding outputOf
   unwritten m e = (sym e, rw e)
 
-  pub no-room : length l < 50 → (Refused 17 ≡ builtOf f n (length l)) × (l ≡ outputOf f n l)
-  no-room h = unwritten 17 (built-refused f n (length l) .no-room .1 h)
+  pub no-room : checkOf (noRoom (length l)) ≡ Failed → (Refused 17 ≡ builtOf f n (length l)) × (l ≡ outputOf f n l)
+  no-room h = unwritten 17 (built-refused f n (length l) .no-room .1 (ltb-true _ _ (failed-true _ h)))
 
-  module _ (room : 50 ≤ length l) where
+  module _ (room : checkOf (noRoom (length l)) ≡ Passed) where
+    pub roomy : longestHeader ≤ length l
+    roomy = ltb-false _ _ (passed-false _ room)
+
     pub no-range : checkOf (outOfRange f) ≡ Failed → (Refused 19 ≡ builtOf f n (length l)) × (l ≡ outputOf f n l)
-    no-range h = unwritten 19 (built-refused f n (length l) .no-range .1 (room, failed-true (outOfRange f) h))
+    no-range h = unwritten 19 (built-refused f n (length l) .no-range .1 (roomy, failed-true (outOfRange f) h))
 
     module _ (fits : checkOf (outOfRange f) ≡ Passed) where
-      pub too-long : 8141 < n → (Refused 20 ≡ builtOf f n (length l)) × (l ≡ outputOf f n l)
-      too-long h = unwritten 20 (built-refused f n (length l) .too-long .1 (room, (passed-false (outOfRange f) fits, h)))
+      pub too-long : checkOf (tooMuchData n) ≡ Failed → (Refused 20 ≡ builtOf f n (length l)) × (l ≡ outputOf f n l)
+      too-long h = unwritten 20 (built-refused f n (length l) .too-long .1 (roomy, (passed-false (outOfRange f) fits, ltb-true _ _ (failed-true _ h))))
 
-      pub done : n ≤ 8141 → (size : ℕ) (out : List ℕ) → size ≡ sizeOf f → out ≡ fronted (headerOctets f n) l
+      pub done : checkOf (tooMuchData n) ≡ Passed → (size : ℕ) (out : List ℕ) → size ≡ sizeOf f → out ≡ fronted (headerOctets f n) l
           → (Done size ≡ builtOf f n (length l)) × (out ≡ outputOf f n l)
       unfolding builtOf outputOf buildChecks firstOf
       done h size out es eo =
-          let a = le-ltb (length l) 50 room in
+          let a = passed-false (noRoom (length l)) room in
           let b = passed-false (outOfRange f) fits in
-          let c = le-ltb 8141 n h in
+          let c = passed-false (tooMuchData n) h in
           (simp (a, b, c) (ap Done es), simp (a, b, c) eo)

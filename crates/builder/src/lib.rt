@@ -8,10 +8,12 @@ pub mod range;
 use checks::Check;
 use header::Built;
 use header::Fields;
+use header::control_bits;
 ghost use mathlib.Core.Path.{_≡_};
 ghost use Prim.Native.Nat.{_+_, _≤_, _<_};
 ghost use lib.ListN.{length};
 ghost use Rattle.octets.specs.Octets.{pasted, fronted};
+ghost use Rattle.header.specs.Limits.{longestHeader, mostData};
 ghost use Rattle.header.specs.Build.{restOctets, sizeOf, headerOctets, builtOf, outputOf};
 
 // The elements between control field and checksum.
@@ -34,7 +36,7 @@ fn put_rest(out: &mut [u8], place: usize, f: Fields) -> usize
 
 // Writes the header of a datagram with n octets of user data.
 fn write_header(f: Fields, n: usize, out: &mut [u8]) -> usize
-    requires { ⌜ (50 ≤ length (now out)) × (n ≤ 8141) ⌝ }
+    requires { ⌜ (longestHeader ≤ length (now out)) × (n ≤ mostData) ⌝ }
     requires { ⌜ (f .tpid < 16) × ((f .checksum < 2) × (f .intermediate < 2)) ⌝ }
     ensures { λ r. ⌜ r ≡ sizeOf f ⌝ }
     ensures { λ _. ⌜ now (out .exit) ≡ fronted (headerOctets f n) (now (out .entry)) ⌝ }
@@ -43,7 +45,10 @@ fn write_header(f: Fields, n: usize, out: &mut [u8]) -> usize
     let second = writer::front::second_octet(f, third);
     let has_second = writer::front::presence(second);
     let has_third = writer::front::presence(third);
-    let shared = f.tpid * 16 + (8 * has_second + 2 + f.checksum);
+    let bits = control_bits::SECOND_OCTET * has_second
+        + control_bits::DESTINATION
+        + control_bits::CHECKSUM * f.checksum;
+    let shared = f.tpid * 16 + bits;
     let place = put_rest(out, 3 + has_second as usize + has_third as usize, f);
     let size = place + 2 * f.checksum as usize;
     writer::front::put_front(out, size + n, shared, second, third);
@@ -56,14 +61,14 @@ pub fn build_header(f: Fields, n: usize, out: &mut [u8]) -> Built
     ensures { λ r. ⌜ r ≡ builtOf f n (length (now (out .entry))) ⌝ }
     ensures { λ _. ⌜ now (out .exit) ≡ outputOf f n (now (out .entry)) ⌝ }
 {
-    if out.len() < 50 {
+    let Check::Passed = header::limits::check_room(out.len()) else {
         return Built::Refused(17);
-    }
+    };
     let Check::Passed = crate::range::check_fields(f) else {
         return Built::Refused(19);
     };
-    if 8141 < n {
+    let Check::Passed = header::limits::check_data(n) else {
         return Built::Refused(20);
-    }
+    };
     Built::Done(write_header(f, n, out))
 }

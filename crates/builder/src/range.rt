@@ -58,9 +58,7 @@ fn check_stamp(t: Timestamp) -> Check
     match t {
         Timestamp::Absent => Check::Passed,
         Timestamp::Implicit(time) => check_time(3, time),
-        Timestamp::Explicit(p, time) => {
-            check_time(1 + (p / 4 % 4) as usize + (p % 4) as usize, time)
-        }
+        Timestamp::Explicit(p, time) => check_time(header::pfield::time_size(p), time),
         Timestamp::Binary(time) => check_time(4, time),
     }
 }

@@ -1,15 +1,14 @@
 -- What the calls return, said over plain variables: one law a return. Assumes nothing.
 use native.Mathlib.Omega.{arith}
-use Prim.Native.Nat.{ℕ, _*_, _≤_, _<_}
+use Prim.Native.Nat.{ℕ, _*_, _<_}
 use mathlib.Core.Path.{_≡_, refl, ap, _∙_}
 use mathlib.Core.List.{List}
 use mathlib.Core.Bool.{Bool, true, false}
 use lib.ListN.{length, getD}
-use lib.Dec.{ltb}
-use borrow.Author.Tests.{lt-ltb, le-ltb}
 use Rattle.checks.specs.Order.{checkOf, firstOf}
 use Rattle.checks.specs.declared.Check.the-variants.{Passed, Failed}
 use Rattle.checks.proofs.Laws.{passed-false, failed-true}
+use Rattle.header.specs.Limits.{noRoom, tooMuchData}
 use Rattle.header.specs.Range.{outOfRange}
 use Rattle.header.specs.Build.{builtOf, outputOf}
 use Rattle.header.specs.Build as header
@@ -27,19 +26,19 @@ use Rattle.numbers.specs.Out.{numbersOut}
 use Rattle.harpjuniper.specs.Face.{nothing, readingOf, builtAnswer, buildChecks, buildAnswer, buildOutput}
 
 module _ (n : Numbers) (size : ℕ) (lent : List ℕ) where
-  pub no-room : length lent < 50 → (x : ℕ) → x ≡ 17 * 4294967296 → (x ≡ buildAnswer n size (length lent)) × (lent ≡ buildOutput n size lent)
+  pub no-room : checkOf (noRoom (length lent)) ≡ Failed → (x : ℕ) → x ≡ 17 * 4294967296 → (x ≡ buildAnswer n size (length lent)) × (lent ≡ buildOutput n size lent)
   unfolding buildAnswer buildOutput buildChecks firstOf
-  no-room h x e = (simp (lt-ltb (length lent) 50 h) e, simp (lt-ltb (length lent) 50 h))
+  no-room h x e = let a = failed-true (noRoom (length lent)) h in (simp a e, simp a)
 
-  module _ (room : 50 ≤ length lent) where
+  module _ (room : checkOf (noRoom (length lent)) ≡ Passed) where
     pub no-fields : checkOf (numbersOut n) ≡ Failed → (x : ℕ) → x ≡ 19 * 4294967296 → (x ≡ buildAnswer n size (length lent)) × (lent ≡ buildOutput n size lent)
     unfolding buildAnswer buildOutput buildChecks firstOf
     no-fields h x e =
-        let a = le-ltb (length lent) 50 room in
+        let a = passed-false (noRoom (length lent)) room in
         let b = failed-true (numbersOut n) h in
         (simp (a, b) e, simp (a, b))
 
-    built-case : (t u : Bool) → ltb (length lent) 50 ≡ false → numbersOut n ≡ false → outOfRange (fieldsFrom n) ≡ t → ltb 8141 size ≡ u
+    built-case : (t u : Bool) → noRoom (length lent) ≡ false → numbersOut n ≡ false → outOfRange (fieldsFrom n) ≡ t → tooMuchData size ≡ u
         → (builtAnswer (builtOf (fieldsFrom n) size (length lent)) ≡ buildAnswer n size (length lent)) × (outputOf (fieldsFrom n) size lent ≡ buildOutput n size lent)
     unfolding buildAnswer buildOutput buildChecks firstOf builtOf outputOf header.buildChecks
     built-case true u a b c d = (simp (a, b, c), simp (a, b, c))
@@ -49,15 +48,15 @@ module _ (n : Numbers) (size : ℕ) (lent : List ℕ) where
     pub built : checkOf (numbersOut n) ≡ Passed → (f : Fields) (b : Built) (x : ℕ) (out : List ℕ) → f ≡ fieldsFrom n → b ≡ builtOf f size (length lent) → out ≡ outputOf f size lent
         → x ≡ builtAnswer b → (x ≡ buildAnswer n size (length lent)) × (out ≡ buildOutput n size lent)
     built h f b x out ef eb eo ex =
-        let p = built-case (outOfRange (fieldsFrom n)) (ltb 8141 size) (le-ltb (length lent) 50 room) (passed-false (numbersOut n) h) refl refl in
+        let p = built-case (outOfRange (fieldsFrom n)) (tooMuchData size) (passed-false (noRoom (length lent)) room) (passed-false (numbersOut n) h) refl refl in
         (ex ∙ ap builtAnswer (rw ef at eb) ∙ p .0, rw ef at eo ∙ p .1)
 
-pub refused-reading : (r : Read) (n : ℕ) (z : Numbers) → r ≡ read.Refused n → z ≡ nothing → record { refusal = n; length = 0; header = 0; fields = z } ≡ readingOf r
+pub refused-reading : (r : Read) (n : ℕ) (z : Numbers) → r ≡ read.Refused n → z ≡ nothing → record { refusal = n; length = 0; header = 0; reserved = 0; fields = z } ≡ readingOf r
 unfolding readingOf
 refused-reading r n z e ez = rw (e, ez)
 
 pub good-reading : (r : Read) (h : Header) (z : Numbers) → r ≡ read.Good h → z ≡ numbersOf (h .fields)
-    → record { refusal = 0; length = h .length; header = h .size; fields = z } ≡ readingOf r
+    → record { refusal = 0; length = h .length; header = h .size; reserved = 0; fields = z } ≡ readingOf r
 unfolding readingOf
 good-reading r h z e ez = rw (e, ez)
 

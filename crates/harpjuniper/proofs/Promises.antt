@@ -8,10 +8,11 @@ use mathlib.Core.Bool.{Bool, true, false, _||_}
 use mathlib.Core.Logic.{_↔_}
 use lib.ListN.{length, take, drop}
 use lib.Seq.{take-at}
-use lib.Dec.{eqb, ltb}
+use lib.Dec.{eqb}
 use borrow.Author.Tests.{ltb-true, ltb-false, lt-ltb, le-ltb}
 use Rattle.checks.specs.Order.{pick, firstOf}
 use Rattle.checks.proofs.Bools.{or-false}
+use Rattle.header.specs.Limits.{longestHeader, mostData, noRoom, tooMuchData}
 use Rattle.header.specs.Range.{outOfRange, InRange}
 use Rattle.header.specs.Read.{readOf}
 use Rattle.header.specs.Build.{sizeOf, headerOctets}
@@ -39,7 +40,7 @@ record First (a b c : Bool) (answer : ℕ) : Type 0 where
   is-19 : answer ≡ 19 * 2 ^ 32 → (a ≡ false) × (b ≡ true)
   is-20 : answer ≡ 20 * 2 ^ 32 → (a ≡ false) × ((b ≡ false) × (c ≡ true))
 
-first : (a b c : Bool) (value : ℕ) → (b ≡ false → value ≤ 50) → First a b c (answerBy (firstOf ((a, 17) ∷ (b, 19) ∷ (c, 20) ∷ [])) value)
+first : (a b c : Bool) (value : ℕ) → (b ≡ false → value ≤ longestHeader) → First a b c (answerBy (firstOf ((a, 17) ∷ (b, 19) ∷ (c, 20) ∷ [])) value)
 unfolding firstOf
 first true b c v h = record { is-17 = λ e. refl; is-19 = λ e. absurd (omega arith); is-20 = λ e. absurd (omega arith) }
 first false true c v h = record { is-17 = λ e. absurd (omega arith); is-19 = λ e. (refl, refl); is-20 = λ e. absurd (omega arith) }
@@ -50,21 +51,21 @@ first false false false v h =
 
 -- each refusal exactly where its condition holds and no earlier one
 pub record Refusals (n : Numbers) (size room : ℕ) : Type 0 where
-  pub no-room : (buildAnswer n size room ≡ 17 * 2 ^ 32) ↔ (room < 50)
-  pub no-fields : (buildAnswer n size room ≡ 19 * 2 ^ 32) ↔ ((50 ≤ room) × (fieldsOut n ≡ true))
-  pub too-long : (buildAnswer n size room ≡ 20 * 2 ^ 32) ↔ ((50 ≤ room) × ((fieldsOut n ≡ false) × (8141 < size)))
+  pub no-room : (buildAnswer n size room ≡ 17 * 2 ^ 32) ↔ (room < longestHeader)
+  pub no-fields : (buildAnswer n size room ≡ 19 * 2 ^ 32) ↔ ((longestHeader ≤ room) × (fieldsOut n ≡ true))
+  pub too-long : (buildAnswer n size room ≡ 20 * 2 ^ 32) ↔ ((longestHeader ≤ room) × ((fieldsOut n ≡ false) × (mostData < size)))
 
 pub build-refused : (n : Numbers) → Words n → (size room : ℕ) → Refusals n size room
 unfolding buildAnswer buildChecks firstOf
 build-refused n w size room =
-    let p = first (ltb room 50) (fieldsOut n) (ltb 8141 size) (sizeOf (fieldsFrom n)) (λ h. built-size (fieldsFrom n) (fields-in n w h) .1) in
+    let p = first (noRoom room) (fieldsOut n) (tooMuchData size) (sizeOf (fieldsFrom n)) (λ h. built-size (fieldsFrom n) (fields-in n w h) .1) in
     record {
-      no-room = (λ e. ltb-true room 50 (p .is-17 e), λ h. simp (lt-ltb room 50 h));
-      no-fields = (λ e. (ltb-false room 50 (p .is-19 e .0), p .is-19 e .1), λ h. simp (le-ltb room 50 (h .0), h .1));
-      too-long = (λ e. (ltb-false room 50 (p .is-20 e .0), (p .is-20 e .1 .0, ltb-true 8141 size (p .is-20 e .1 .1))), λ h. simp (le-ltb room 50 (h .0), h .1 .0, lt-ltb 8141 size (h .1 .1)));
+      no-room = (λ e. ltb-true room longestHeader (p .is-17 e), λ h. simp (lt-ltb room longestHeader h));
+      no-fields = (λ e. (ltb-false room longestHeader (p .is-19 e .0), p .is-19 e .1), λ h. simp (le-ltb room longestHeader (h .0), h .1));
+      too-long = (λ e. (ltb-false room longestHeader (p .is-20 e .0), (p .is-20 e .1 .0, ltb-true mostData size (p .is-20 e .1 .1))), λ h. simp (le-ltb room longestHeader (h .0), h .1 .0, lt-ltb mostData size (h .1 .1)));
     }
 
-kept : (a b c : Bool) (value : ℕ) (built lent : List ℕ) → (b ≡ false → value ≤ 50) → 2 ^ 32 ≤ answerBy (firstOf ((a, 17) ∷ (b, 19) ∷ (c, 20) ∷ [])) value
+kept : (a b c : Bool) (value : ℕ) (built lent : List ℕ) → (b ≡ false → value ≤ longestHeader) → 2 ^ 32 ≤ answerBy (firstOf ((a, 17) ∷ (b, 19) ∷ (c, 20) ∷ [])) value
     → pick (eqb (firstOf ((a, 17) ∷ (b, 19) ∷ (c, 20) ∷ [])) 0) built lent ≡ lent
 unfolding firstOf
 kept true b c v built lent h e = refl
@@ -76,32 +77,32 @@ kept false false false v built lent h e = let few = h refl in absurd (omega arit
 pub refusal-writes-nothing : (n : Numbers) → Words n → (size : ℕ) (lent : List ℕ) → 2 ^ 32 ≤ buildAnswer n size (length lent) → buildOutput n size lent ≡ lent
 unfolding buildAnswer buildOutput buildChecks
 refusal-writes-nothing n w size lent h =
-    kept (ltb (length lent) 50) (fieldsOut n) (ltb 8141 size) (sizeOf (fieldsFrom n)) _ lent (λ e. built-size (fieldsFrom n) (fields-in n w e) .1) h
+    kept (noRoom (length lent)) (fieldsOut n) (tooMuchData size) (sizeOf (fieldsFrom n)) _ lent (λ e. built-size (fieldsFrom n) (fields-in n w e) .1) h
 
 -- ---- what was built
 
 -- the answer is the header's length, and the header stands at the front of the output
-pub built-octets : (n : Numbers) → Words n → (size : ℕ) (lent : List ℕ) → 50 ≤ length lent → fieldsOut n ≡ false → size ≤ 8141
+pub built-octets : (n : Numbers) → Words n → (size : ℕ) (lent : List ℕ) → longestHeader ≤ length lent → fieldsOut n ≡ false → size ≤ mostData
     → (buildAnswer n size (length lent) ≡ sizeOf (fieldsFrom n)) × (buildOutput n size lent ≡ headerOctets (fieldsFrom n) size ++ drop (sizeOf (fieldsFrom n)) lent)
 unfolding buildAnswer buildOutput buildChecks firstOf
 built-octets n w size lent room good short =
-    let a = le-ltb (length lent) 50 room in
-    let c = le-ltb 8141 size short in
+    let a = le-ltb (length lent) longestHeader room in
+    let c = le-ltb mostData size short in
     (simp (a, good, c), simp (a, good, c) (rw (header-length (fieldsFrom n) size (fields-in n w good .checksum))))
 
 -- with its data after it, the header is read as the numbers that it was built from
-pub built-then-read : (n : Numbers) → Words n → (size : ℕ) (userData : List ℕ) → fieldsOut n ≡ false → size ≤ 8141 → size ≤ length userData
+pub built-then-read : (n : Numbers) → Words n → (size : ℕ) (userData : List ℕ) → fieldsOut n ≡ false → size ≤ mostData → size ≤ length userData
     → readingOf (readOf (headerOctets (fieldsFrom n) size ++ userData))
-    ≡ record { refusal = 0; length = sizeOf (fieldsFrom n) + size; header = sizeOf (fieldsFrom n); fields = n }
+    ≡ record { refusal = 0; length = sizeOf (fieldsFrom n) + size; header = sizeOf (fieldsFrom n); reserved = 0; fields = n }
 unfolding readingOf
 built-then-read n w size userData good short enough =
     rw (read-built (fieldsFrom n) size userData (fields-in n w good) short enough, numbers-back n (or-false (numbersOut n) _ good .0))
 
 -- the same as C sees it: as many octets of the output as hj_build answers, and the data after them, given to hj_read
-pub hj-build-then-hj-read : (n : Numbers) → Words n → (size : ℕ) (lent userData : List ℕ) → 50 ≤ length lent → fieldsOut n ≡ false → size ≤ 8141
+pub hj-build-then-hj-read : (n : Numbers) → Words n → (size : ℕ) (lent userData : List ℕ) → longestHeader ≤ length lent → fieldsOut n ≡ false → size ≤ mostData
     → size ≤ length userData
     → readingOf (readOf (take (buildAnswer n size (length lent)) (buildOutput n size lent) ++ userData))
-    ≡ record { refusal = 0; length = buildAnswer n size (length lent) + size; header = buildAnswer n size (length lent); fields = n }
+    ≡ record { refusal = 0; length = buildAnswer n size (length lent) + size; header = buildAnswer n size (length lent); reserved = 0; fields = n }
 hj-build-then-hj-read n w size lent userData room good short enough =
     let built = built-octets n w size lent room good short in
     let long = header-length (fieldsFrom n) size (fields-in n w good .checksum) in

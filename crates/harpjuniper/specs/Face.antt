@@ -3,9 +3,10 @@ use Prim.Native.Nat.{ℕ, _*_}
 use mathlib.Core.List.{List, [], _∷_}
 use mathlib.Core.Bool.{_||_}
 use lib.ListN.{length}
-use lib.Dec.{eqb, ltb}
+use lib.Dec.{eqb}
 use Rattle.checks.specs.Order.{pick, Checks, firstOf}
 use Rattle.octets.specs.Octets.{fronted}
+use Rattle.header.specs.Limits.{noRoom, tooMuchData}
 use Rattle.header.specs.Range.{outOfRange}
 use Rattle.header.specs.Build.{sizeOf, headerOctets}
 use Rattle.header.specs.declared.Read.{Read}
@@ -45,10 +46,11 @@ nothing =
       intermediate = 0;
     }
 
--- the refusal, or 0 with length field, header's own length and the numbers of the fields
+-- the refusal, or 0 with length field, header's own length and the numbers of the fields; the word between, which keeps the fields on a
+-- boundary of eight octets, is 0
 unfoldable pub readingOf : Read → Reading
-readingOf (read.Refused n) = record { refusal = n; length = 0; header = 0; fields = nothing }
-readingOf (read.Good h) = record { refusal = 0; length = h .length; header = h .size; fields = numbersOf (h .fields) }
+readingOf (read.Refused n) = record { refusal = n; length = 0; header = 0; reserved = 0; fields = nothing }
+readingOf (read.Good h) = record { refusal = 0; length = h .length; header = h .size; reserved = 0; fields = numbersOf (h .fields) }
 
 -- ---- building
 
@@ -60,9 +62,9 @@ abbrev pub builtAnswer : Built → ℕ
 builtAnswer (built.Done size) = size
 builtAnswer (built.Refused n) = n * 4294967296
 
--- room under 50 octets; numbers that stand for no fields, or for fields out of range; data over 8,141 (page 01, "Refusal numbers")
+-- no room; numbers that stand for no fields, or for fields out of range; too much data (page 01, "Refusal numbers")
 unfoldable pub buildChecks : Numbers → ℕ → ℕ → Checks
-buildChecks n size room = (ltb room 50, 17) ∷ (numbersOut n || outOfRange (fieldsFrom n), 19) ∷ (ltb 8141 size, 20) ∷ []
+buildChecks n size room = (noRoom room, 17) ∷ (numbersOut n || outOfRange (fieldsFrom n), 19) ∷ (tooMuchData size, 20) ∷ []
 
 unfoldable pub buildAnswer : Numbers → ℕ → ℕ → ℕ
 buildAnswer n size room = answerBy (firstOf (buildChecks n size room)) (sizeOf (fieldsFrom n))

@@ -14,12 +14,14 @@ ghost use lib.ListN.{length};
 ghost use Rattle.header.specs.Read.{readOf};
 ghost use Rattle.harpjuniper.specs.Face.{readingOf, nothing, builtAnswer, buildAnswer, buildOutput};
 
-// What reading found: the refusal, or 0 and the numbers of the header.
+// What reading found: the refusal, or 0 and the numbers of the header. `reserved` is always 0: it stands where C would leave four octets
+// unused before the fields, which begin with a number of eight, so that no octet of the answer is left to chance.
 #[repr(C)]
 pub struct Reading {
     pub refusal: u32,
     pub length: u32,
     pub header: u32,
+    pub reserved: u32,
     pub fields: Numbers,
 }
 
@@ -62,6 +64,7 @@ pub extern "C" fn hj_read(octets: &[u8]) -> Reading
                 refusal: number as u32,
                 length: 0,
                 header: 0,
+                reserved: 0,
                 fields,
             }
         }
@@ -72,6 +75,7 @@ pub extern "C" fn hj_read(octets: &[u8]) -> Reading
                 refusal: 0,
                 length: h.length as u32,
                 header: h.size as u32,
+                reserved: 0,
                 fields,
             }
         }
@@ -101,9 +105,9 @@ pub extern "C" fn hj_build(fields: Numbers, size: usize, output: &mut [u8]) -> u
     ensures { λ r. ⌜ r ≡ buildAnswer fields size (length (now (output .entry))) ⌝ }
     ensures { λ _. ⌜ now (output .exit) ≡ buildOutput fields size (now (output .entry)) ⌝ }
 {
-    if output.len() < 50 {
+    let Check::Passed = header::limits::check_room(output.len()) else {
         return refusal(17);
-    }
+    };
     let Check::Passed = numbers::validity::check_numbers(fields) else {
         return refusal(19);
     };

@@ -13,7 +13,8 @@ use lib.Dec.{T, ltb, lit<}
 use borrow.Author.Tests.{le-ltb}
 use Rattle.checks.specs.Order.{firstOf}
 use Rattle.octets.specs.Octets.{octet, number, octets}
-use Rattle.header.specs.Form.{controlOf, layoutOf, placesOf, bit20, bit24, hasChecksum, hasHops, hasQos, hasExpanded, stampFormat}
+use Rattle.header.specs.Limits.{longestHeader, mostData, lengthLimit}
+use Rattle.header.specs.Form.{controlOf, layoutOf, placesOf, weight, bit, secondFollows, thirdFollows, hasChecksum, hasHops, hasQos, hasExpanded, stampFormat}
 use Rattle.header.specs.Read.{fieldsOf, headerOf, lengthOf, readOf}
 use Rattle.header.specs.Build.{present, thirdOctet, secondOctet, firstBits, frontOctets, restOctets, bodyOctets, sizeOf, headerOctets, buildChecks, builtOf, outputOf}
 use Rattle.header.specs.declared.Control.{Control}
@@ -26,17 +27,17 @@ use Rattle.header.proofs.Bounds.{gate, control-end, Placed, placed, All
 use Rattle.header.proofs.Passed.{Passed, passed}
 use Rattle.header.proofs.BuiltLaws.{not-out}
 use Rattle.header.proofs.Answers.{read-in-range}
-use Rattle.header.proofs.Back.{bit, number-back, octet-back, control-again, octet-again, qos-again, stamp-again, addresses-again, checksum-again}
+use Rattle.header.proofs.Back.{zero-or-one, number-back, octet-back, control-again, octet-again, qos-again, stamp-again, addresses-again, checksum-again}
 
 -- page 01, "where the control field was shortest": no octet of it stands there to say nothing
 abbrev pub shortest : Control → Type 0
-shortest k = (bit20 k ≡ present (k .second)) × (bit24 k ≡ present (k .third))
+shortest k = (secondFollows (k .first) ≡ present (k .second)) × (thirdFollows (k .second) ≡ present (k .third))
 
 -- the octets of a control field are octets
 control-lt : (s : List ℕ) → ((i : ℕ) → getD s i 0 < 256) → (controlOf s .second < 256) × (controlOf s .third < 256)
 unfolding controlOf
 control-lt s small =
-    (omega (arith, gate (controlOf s .first / 8) (octet s 3), small 3), omega (arith, gate (controlOf s .second / 128) (octet s 4), small 4))
+    (omega (arith, gate 20 (controlOf s .first) (octet s 3), small 3), omega (arith, gate 24 (controlOf s .second) (octet s 4), small 4))
 
 -- no control field of the same bits is shorter: t has those of s, but for 20 and 24
 module _ (s t : List ℕ) (small : (i : ℕ) → getD s i 0 < 256) (short : shortest (controlOf s))
@@ -44,13 +45,13 @@ module _ (s t : List ℕ) (small : (i : ℕ) → getD s i 0 < 256) (short : shor
   absent : (n : ℕ) → n ≡ 0 → present n ≡ 0
   absent n e = rw e
 
-  none-24 : bit24 (controlOf t) ≡ 0 → bit24 (controlOf s) ≡ 0
+  none-24 : thirdFollows (controlOf t .second) ≡ 0 → thirdFollows (controlOf s .second) ≡ 0
   unfolding controlOf
   none-24 z =
       let c : controlOf t .third ≡ 0 = rw (z, zero-mul) in
       short .1 ∙ absent _ (sym third ∙ c)
 
-  least-case : (bit20 (controlOf t) ≡ 0) ⊎ (bit20 (controlOf t) ≡ 1) → (bit24 (controlOf t) ≡ 0) ⊎ (bit24 (controlOf t) ≡ 1) → controlOf s .end ≤ controlOf t .end
+  least-case : (secondFollows (controlOf t .first) ≡ 0) ⊎ (secondFollows (controlOf t .first) ≡ 1) → (thirdFollows (controlOf t .second) ≡ 0) ⊎ (thirdFollows (controlOf t .second) ≡ 1) → controlOf s .end ≤ controlOf t .end
   unfolding controlOf
   least-case (inl none) y =
       let b : controlOf t .second ≡ 0 = rw (none, zero-mul) in
@@ -61,7 +62,7 @@ module _ (s t : List ℕ) (small : (i : ℕ) → getD s i 0 < 256) (short : shor
   least-case (inr more) (inr most) = omega arith
 
   pub shortest-least : controlOf s .end ≤ controlOf t .end
-  shortest-least = least-case (bit (bit20 (controlOf t)) (omega arith)) (bit (bit24 (controlOf t)) (omega arith))
+  shortest-least = least-case (zero-or-one (secondFollows (controlOf t .first)) (omega arith)) (zero-or-one (thirdFollows (controlOf t .second)) (omega arith))
 
 -- ---- a control octet is the sum of its bits
 
@@ -69,27 +70,27 @@ module _ (s t : List ℕ) (small : (i : ℕ) → getD s i 0 < 256) (short : shor
 digit : (n m c : ℕ) → T (ltb 0 m) → T (ltb 0 c) → n % (m * c) ≡ n / c % m * c + n % c
 digit n m c h g = mod-mul n (lit< h) (lit< g)
 
-third-sum : (c : ℕ) → c < 256 → c % 16 ≡ 0 → c / 128 % 2 ≡ 0 → 64 * (c / 64 % 2) + 32 * (c / 32 % 2) + 16 * (c / 16 % 2) ≡ c
+third-sum : (c : ℕ) → c < 256 → c % weight 35 ≡ 0 → bit 32 c ≡ 0 → weight 33 * bit 33 c + weight 34 * bit 34 c + weight 35 * bit 35 c ≡ c
 third-sum c h z t =
-    let e : c / 128 % 2 * 128 + (c / 64 % 2 * 64 + (c / 32 % 2 * 32 + (c / 16 % 2 * 16 + c % 16))) ≡ c =
+    let e : bit 32 c * 128 + (bit 33 c * 64 + (bit 34 c * 32 + (bit 35 c * 16 + c % 16))) ≡ c =
     rw (← digit c 2 16 tt tt, ← digit c 2 32 tt tt, ← digit c 2 64 tt tt, ← digit c 2 128 tt tt) (mod-eq-of-lt h) in
     omega arith
 
-second-sum : (b : ℕ) → b < 256 → b / 4 % 2 ≡ 0
-    → 128 * (b / 128 % 2) + 64 * (b / 64 % 2) + 32 * (b / 32 % 2) + 8 * (b / 8 % 4) + 2 * (b / 2 % 2) + b % 2 ≡ b
+second-sum : (b : ℕ) → b < 256 → bit 29 b ≡ 0
+    → weight 24 * bit 24 b + weight 25 * bit 25 b + weight 26 * bit 26 b + weight 28 * (b / weight 28 % 4) + weight 30 * bit 30 b + weight 31 * bit 31 b ≡ b
 second-sum b h z =
-    let e : b / 128 % 2 * 128 + (b / 64 % 2 * 64 + (b / 32 % 2 * 32 + (b / 8 % 4 * 8 + (b / 4 % 2 * 4 + (b / 2 % 2 * 2 + b % 2))))) ≡ b =
+    let e : bit 24 b * 128 + (bit 25 b * 64 + (bit 26 b * 32 + (b / 8 % 4 * 8 + (bit 29 b * 4 + (bit 30 b * 2 + b % 2))))) ≡ b =
     rw (← digit b 2 2 tt tt, ← digit b 2 4 tt tt, ← digit b 4 8 tt tt, ← digit b 2 32 tt tt, ← digit b 2 64 tt tt, ← digit b 2 128 tt tt) (mod-eq-of-lt h) in
     omega arith
 
-first-sum : (a : ℕ) → a < 16 → a / 4 % 2 ≡ 0 → a / 2 % 2 ≡ 1 → 8 * (a / 8 % 2) + 2 + a % 2 ≡ a
+first-sum : (a : ℕ) → a < 16 → bit 21 a ≡ 0 → bit 22 a ≡ 1 → weight 20 * bit 20 a + weight 22 + weight 23 * bit 23 a ≡ a
 first-sum a h z o =
-    let e : a / 8 % 2 * 8 + (a / 4 % 2 * 4 + (a / 2 % 2 * 2 + a % 2)) ≡ a =
+    let e : bit 20 a * 8 + (bit 21 a * 4 + (bit 22 a * 2 + a % 2)) ≡ a =
     rw (← digit a 2 2 tt tt, ← digit a 2 4 tt tt, ← digit a 2 8 tt tt) (mod-eq-of-lt h) in
     omega arith
 
 -- the third control octet stands right after the second, or there is none
-third-at : (s : List ℕ) → (bit20 (controlOf s) ≡ 0) ⊎ (bit20 (controlOf s) ≡ 1) → controlOf s .third ≡ bit24 (controlOf s) * octet s (3 + bit20 (controlOf s))
+third-at : (s : List ℕ) → (secondFollows (controlOf s .first) ≡ 0) ⊎ (secondFollows (controlOf s .first) ≡ 1) → controlOf s .third ≡ thirdFollows (controlOf s .second) * octet s (3 + secondFollows (controlOf s .first))
 unfolding controlOf
 third-at s (inl none) = simp (none, zero-mul)
 third-at s (inr one) = simp one
@@ -151,11 +152,11 @@ module _ (s : List ℕ) (h : Header) (small : (i : ℕ) → getD s i 0 < 256) (e
   front-is : frontOctets (lengthOf s) (octet s 2) (k .second) (k .third) ≡ take (k .end) s
   unfolding frontOctets controlOf lengthOf number
   front-is =
-      let length-is : 8192 + lengthOf s ≡ number s 0 2 = omega (arith, p .version) in
-      let two : octets 2 (8192 + lengthOf s) ≡ take 2 s = rw length-is (number-back s small 0 2 (omega (arith, p .long))) in
+      let length-is : lengthLimit + lengthOf s ≡ number s 0 2 = omega (arith, p .version) in
+      let two : octets 2 (lengthLimit + lengthOf s) ≡ take 2 s = rw length-is (number-back s small 0 2 (omega (arith, p .long))) in
       let three = octet-back s small 2 (octet s 2) refl (p .long) in
-      let four = control-again s small (bit20 k) 3 (k .second) (omega arith) refl (omega (arith, p .whole)) in
-      let five = control-again s small (bit24 k) (3 + bit20 k) (k .third) (omega arith) (third-at s (bit (bit20 k) (omega arith))) (p .whole) in
+      let four = control-again s small (secondFollows (k .first)) 3 (k .second) (omega arith) refl (omega (arith, p .whole)) in
+      let five = control-again s small (thirdFollows (k .second)) (3 + secondFollows (k .first)) (k .third) (omega arith) (third-at s (zero-or-one (secondFollows (k .first)) (omega arith))) (p .whole) in
       rw (← short .0, ← short .1) (simp (← append-assoc, two, three, four, five))
 
   body-is : bodyOctets f (sizeOf f + (lengthOf s - l .size)) ≡ take (l .checksum) s
@@ -175,14 +176,14 @@ module _ (s : List ℕ) (h : Header) (small : (i : ℕ) → getD s i 0 < 256) (e
   built-again = rw (p .is) header-is
 
   -- the builder refuses it for nothing but its data, and says the size that was read
-  pub done-again : (room : ℕ) → 50 ≤ room → h .length - h .size ≤ 8141 → builtOf (h .fields) (h .length - h .size) room ≡ Done (h .size)
+  pub done-again : (room : ℕ) → longestHeader ≤ room → h .length - h .size ≤ mostData → builtOf (h .fields) (h .length - h .size) room ≡ Done (h .size)
   unfolding headerOf builtOf buildChecks firstOf
   done-again room enough few =
       let size : sizeOf (h .fields) ≡ h .size = rw (p .is) size-is in
-      simp (le-ltb room 50 enough, not-out (h .fields) (read-in-range s h small e), le-ltb 8141 (h .length - h .size) few, size)
+      simp (le-ltb room longestHeader enough, not-out (h .fields) (read-in-range s h small e), le-ltb mostData (h .length - h .size) few, size)
 
   -- and writes the octets that were read
-  pub output-again : (lent : List ℕ) → 50 ≤ length lent → h .length - h .size ≤ 8141
+  pub output-again : (lent : List ℕ) → longestHeader ≤ length lent → h .length - h .size ≤ mostData
       → outputOf (h .fields) (h .length - h .size) lent ≡ take (h .size) s ++ drop (h .size) lent
   unfolding headerOf outputOf
   output-again lent enough few =

@@ -7,6 +7,7 @@ use lib.ListN.{getD, length}
 use lib.Dec.{eqb}
 use Rattle.checks.proofs.Laws.{either}
 use Rattle.octets.proofs.Laws.{number-lt}
+use Rattle.header.specs.Limits.{longestHeader, lengthLimit}
 use Rattle.header.specs.Form.{controlOf, placesOf, hasSource, isExtended, isIpv6}
 use Rattle.header.specs.Read.{addressesOf, sixOf, qosOf, octetOf, stampOf, fieldsOf, headerOf, lengthOf, readOf}
 use Rattle.header.specs.Range.{sixFits, addressesFit, qosFits, octetFits, stampFits, InRange}
@@ -62,7 +63,7 @@ module _ (s : List ℕ) (small : (i : ℕ) → getD s i 0 < 256) where
       }
 
   -- the length field has 13 bits (page 01)
-  length-lt : lengthOf s < 8192
+  length-lt : lengthOf s < lengthLimit
   unfolding lengthOf
   length-lt = omega (arith, small 1)
 
@@ -72,7 +73,7 @@ read-in-range s h small e = rw (passed s h e .is) (fields-in-range s small (cont
 
 -- a header has 4 to 50 octets, and its length field is at least that and at most the octets lent
 pub read-bounds : (s : List ℕ) (h : Header) → ((i : ℕ) → getD s i 0 < 256) → readOf s ≡ Good h
-    → (4 ≤ h .size) × ((h .size ≤ 50) × ((h .size ≤ h .length) × ((h .length ≤ length s) × (h .length < 8192))))
+    → (4 ≤ h .size) × ((h .size ≤ longestHeader) × ((h .size ≤ h .length) × ((h .length ≤ length s) × (h .length < lengthLimit))))
 unfolding headerOf
 read-bounds s h small e =
     let p = passed s h e in

@@ -18,10 +18,10 @@ use Rattle.header.specs.Build.{addressesOctets, sixOctets, qosOctets, oc
 use Rattle.header.specs.declared.Control.{Control}
 
 -- a bit is 0 or 1
-pub bit : (n : ℕ) → n ≤ 1 → (n ≡ 0) ⊎ (n ≡ 1)
-bit zero h = inl refl
-bit (suc zero) h = inr refl
-bit (suc (suc n)) h = absurd (omega arith)
+pub zero-or-one : (n : ℕ) → n ≤ 1 → (n ≡ 0) ⊎ (n ≡ 1)
+zero-or-one zero h = inl refl
+zero-or-one (suc zero) h = inr refl
+zero-or-one (suc (suc n)) h = absurd (omega arith)
 
 -- the addresses have their flags and their octets again
 abbrev pub AddressesAgain : List ℕ → Control → Type 0
@@ -112,7 +112,7 @@ module _ (s : List ℕ) (small : (i : ℕ) → getD s i 0 < 256) where
 
   pub addresses-again : (k : Control) → (isIpv6 k ≡ 1 → (isExtended k ≡ 0) × (hasSource k ≡ 1)) → qosPlace k ≤ length s → AddressesAgain s k
   addresses-again k six h =
-      addresses-case k six h (bit (isIpv6 k) (omega arith)) (bit (isExtended k) (omega arith)) (bit (hasSource k) (omega arith))
+      addresses-case k six h (zero-or-one (isIpv6 k) (omega arith)) (zero-or-one (isExtended k) (omega arith)) (zero-or-one (hasSource k) (omega arith))
 
   -- the checksum, where it is what it should be
   pub checksum-again : (on at : ℕ) → on ≤ 1 → (on ≡ 1 → number s at 2 ≡ elementOf s at) → at + 2 * on ≤ length s

@@ -5,7 +5,7 @@ use mathlib.Core.Path.{_≡_, refl}
 use mathlib.Core.Bool.{Bool, true, false, _&&_, _||_}
 use lib.Dec.{eqb}
 use borrow.Author.Tests.{eqb-true}
-use Rattle.header.specs.Form.{forbidden, isIpv6, isExtended, hasSource, bit20, bit24, hasChecksum, hasHops, hasQos, hasExpanded, stampFormat, isIntermediate}
+use Rattle.header.specs.Form.{forbidden, isIpv6, isExtended, hasSource, secondFollows, thirdFollows, hasChecksum, hasHops, hasQos, hasExpanded, stampFormat, isIntermediate}
 use Rattle.header.specs.Build.{firstBits, secondOctet, thirdOctet, present, qosFlag, octetFlag, formatOf}
 use Rattle.header.specs.Range.{InRange}
 use Rattle.header.specs.declared.Control.{Control}
@@ -25,8 +25,8 @@ builtControl f =
 
 -- what the bits of a control field say of fields
 pub record Bits (f : Fields) (k : Control) : Type 0 where
-  pub more : bit20 k ≡ present (k .second)
-  pub most : bit24 k ≡ present (k .third)
+  pub more : secondFollows (k .first) ≡ present (k .second)
+  pub most : thirdFollows (k .second) ≡ present (k .third)
   pub checksum : hasChecksum k ≡ f .checksum
   pub addresses : AddressBits k (f .addresses)
   pub qos : hasQos k ≡ qosFlag (f .qos)

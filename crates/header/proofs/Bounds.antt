@@ -11,14 +11,18 @@ use borrow.Author.Tests.{eqb-true, eqb-false}
 use Rattle.checks.proofs.Bools.{or-false, not-false}
 use Rattle.checks.proofs.Laws.{either}
 use Rattle.octets.specs.Octets.{octet}
+use Rattle.header.specs.Limits.{longestHeader}
 use Rattle.header.specs.declared.Control.{Control}
-use Rattle.header.specs.Form.{controlOf, layoutOf, placesOf, forbidden, addressSize, stampSize, stampFormat, bit21, bit29, bit32, bits36to39, hasDestination, hasSource, isIpv6, isExtended}
+use Rattle.header.specs.Form.{weight, bit, controlOf, layoutOf, placesOf, forbidden, addressSize, stampSize, stampFormat, reserved21, reserved29, fourthFollows, unassigned, hasDestination, hasChecksum, hasSource, isIpv6, isExtended}
 
--- a bit times n
-pub gate : (x n : ℕ) → x % 2 * n ≤ n
-gate x n =
-    let h : x % 2 ≤ 1 = omega arith in
-    rw (one-mul n) at (mul-le-mul-right n h)
+below-two : (x : ℕ) → x % 2 ≤ 1
+below-two x = omega arith
+
+-- a bit of x times m
+pub gate : (n x m : ℕ) → bit n x * m ≤ m
+gate n x m =
+    let h : bit n x ≤ 1 = below-two (x / weight n) in
+    rw (one-mul m) at (mul-le-mul-right m h)
 
 -- an address has 1 to 16 octets, a timestamp at most 8
 pub addressSize-le : (k : Control) → addressSize k ≤ 16
@@ -51,19 +55,19 @@ pub record Placed (s : List ℕ) (k : Control) : Type 0 where
   pub expanded : layoutOf s k .stamp ≤ layoutOf s k .expanded
   pub checksum : layoutOf s k .expanded ≤ layoutOf s k .checksum
   pub most : layoutOf s k .checksum ≤ 48
-  pub size : layoutOf s k .size ≡ layoutOf s k .checksum + 2 * (k .first % 2)
+  pub size : layoutOf s k .size ≡ layoutOf s k .checksum + 2 * hasChecksum k
 
 pub placed : (s : List ℕ) (k : Control) → k .end ≤ 5 → Placed s k
 unfolding layoutOf
 placed s k e =
     let a = addressSize-le k in
     let b = addressSize-ge k in
-    let g = gate (k .second / 64) (addressSize k) in
+    let g = gate 25 (k .second) (addressSize k) in
     let t = stampSize-le (stampFormat k) (octet s (layoutOf s k .stamp)) in
     search needs
 
 -- the octets of a header itself
-pub header-size : (s : List ℕ) → (4 ≤ placesOf s .size) × (placesOf s .size ≤ 50)
+pub header-size : (s : List ℕ) → (4 ≤ placesOf s .size) × (placesOf s .size ≤ longestHeader)
 header-size s =
     let e = control-end s in
     let p = placed s (controlOf s) (e .1) in
@@ -71,11 +75,11 @@ header-size s =
 
 -- what bits that are not forbidden are
 pub record Allowed (k : Control) : Type 0 where
-  pub zero21 : bit21 k ≡ 0
+  pub zero21 : reserved21 k ≡ 0
   pub destination : hasDestination k ≡ 1
-  pub zero29 : bit29 k ≡ 0
-  pub zero32 : bit32 k ≡ 0
-  pub zeros : bits36to39 k ≡ 0
+  pub zero29 : reserved29 k ≡ 0
+  pub zero32 : fourthFollows k ≡ 0
+  pub zeros : unassigned k ≡ 0
   pub six : isIpv6 k ≡ 1 → (isExtended k ≡ 0) × (hasSource k ≡ 1)
 
 six-case : (k : Control) (t : Bool) → eqb (isIpv6 k) 1 ≡ t → (t && (eqb (isExtended k) 1 || eqb (hasSource k) 0)) ≡ false → isIpv6 k ≡ 1 → (isExtended k ≡ 0) × (hasSource k ≡ 1)
@@ -89,20 +93,20 @@ six-case k false e h o = absurd (eqb-false (isIpv6 k) 1 e o)
 pub allowed : (k : Control) → forbidden k ≡ false → Allowed k
 unfolding forbidden
 allowed k h =
-    let p₁ = or-false (eqb (bit21 k) 1) _ h in
+    let p₁ = or-false (eqb (reserved21 k) 1) _ h in
     let p₂ = or-false (eqb (hasDestination k) 0) _ (p₁ .1) in
-    let p₃ = or-false (eqb (bit29 k) 1) _ (p₂ .1) in
-    let p₄ = or-false (eqb (bit32 k) 1) _ (p₃ .1) in
-    let p₅ = or-false (not (eqb (bits36to39 k) 0)) _ (p₄ .1) in
-    let n₁ = eqb-false (bit21 k) 1 (p₁ .0) in
+    let p₃ = or-false (eqb (reserved29 k) 1) _ (p₂ .1) in
+    let p₄ = or-false (eqb (fourthFollows k) 1) _ (p₃ .1) in
+    let p₅ = or-false (not (eqb (unassigned k) 0)) _ (p₄ .1) in
+    let n₁ = eqb-false (reserved21 k) 1 (p₁ .0) in
     let n₂ = eqb-false (hasDestination k) 0 (p₂ .0) in
-    let n₃ = eqb-false (bit29 k) 1 (p₃ .0) in
-    let n₄ = eqb-false (bit32 k) 1 (p₄ .0) in
+    let n₃ = eqb-false (reserved29 k) 1 (p₃ .0) in
+    let n₄ = eqb-false (fourthFollows k) 1 (p₄ .0) in
     record {
       zero21 = omega arith;
       destination = omega arith;
       zero29 = omega arith;
       zero32 = omega arith;
-      zeros = eqb-true (bits36to39 k) 0 (not-false (eqb (bits36to39 k) 0) (p₅ .0));
+      zeros = eqb-true (unassigned k) 0 (not-false (eqb (unassigned k) 0) (p₅ .0));
       six = six-case k (eqb (isIpv6 k) 1) refl (p₅ .1);
     }

@@ -17,6 +17,7 @@ use Rattle.octets.proofs.Laws.{length-octets}
 use Rattle.checksum.specs.Sum.{onesSum, checksumOf}
 use Rattle.checksum.proofs.Words.{Octets}
 use Rattle.checksum.proofs.Laws.{zeros-of-sum}
+use Rattle.header.specs.Limits.{longestHeader, mostData, lengthLimit}
 use Rattle.header.specs.Form.{addressSize}
 use Rattle.header.specs.Build.{sixOctets, addressesOctets, qosOctets, octetOctets, stampOctets, frontOctets, restOctets, bodyOctets, checksumOctets, headerOctets, sizeOf, buildChecks, builtBy, builtOf, present, secondOctet, thirdOctet}
 use Rattle.header.specs.Range.{qosOutOfRange, stampOutOfRange, outOfRange, addressesFit, qosFits, octetFits, stampFits, InRange}
@@ -58,14 +59,14 @@ unfolding headerOctets sizeOf builtControl
 header-length f n h = simp (length-append, body-length, checksum-length (f .checksum) h)
 
 -- 50 octets hold every header (page 01: "Header at most 50 octets")
-pub built-size : (f : Fields) → InRange f → (4 ≤ sizeOf f) × (sizeOf f ≤ 50)
+pub built-size : (f : Fields) → InRange f → (4 ≤ sizeOf f) × (sizeOf f ≤ longestHeader)
 unfolding sizeOf restOctets
 built-size f r =
     let k = builtControl f in
     let addresses = addresses-length k (f .addresses) (bits f r .addresses) in
     simp (length-append, addresses, qos-length, octet-length)
     (omega
-    (arith, present-le (secondOctet f), present-le (thirdOctet f), gate (k .second / 64) (addressSize k), addressSize-le k, addressSize-ge k, qosFlag-le (f .qos), octetFlag-le (f .hops), stamp-le (f .stamp), octetFlag-le (f .expanded), r .checksum))
+    (arith, present-le (secondOctet f), present-le (thirdOctet f), gate 25 (k .second) (addressSize k), addressSize-le k, addressSize-ge k, qosFlag-le (f .qos), octetFlag-le (f .hops), stamp-le (f .stamp), octetFlag-le (f .expanded), r .checksum))
 
 -- ---- the octets
 
@@ -211,9 +212,9 @@ not-out f r =
 
 -- ---- what the builder answers
 
-pub accepted : (f : Fields) (n room : ℕ) → InRange f → n ≤ 8141 → 50 ≤ room → builtOf f n room ≡ Done (sizeOf f)
+pub accepted : (f : Fields) (n room : ℕ) → InRange f → n ≤ mostData → longestHeader ≤ room → builtOf f n room ≡ Done (sizeOf f)
 unfolding builtOf buildChecks firstOf
-accepted f n room r short h = simp (le-ltb room 50 h, not-out f r, le-ltb 8141 n short)
+accepted f n room r short h = simp (le-ltb room longestHeader h, not-out f r, le-ltb mostData n short)
 
 -- which of the three conditions a number tells
 record First (a b c : Bool) (built : Built) : Type 0 where
@@ -236,24 +237,24 @@ first false false false n = record { is-17 = done _ _; is-19 = done _ _; is-20 =
 
 -- each refusal exactly where its condition holds and no earlier one (page 01, "Refusal numbers")
 pub record Refusals (f : Fields) (n room : ℕ) : Type 0 where
-  pub no-room : (builtOf f n room ≡ Refused 17) ↔ (room < 50)
-  pub no-range : (builtOf f n room ≡ Refused 19) ↔ ((50 ≤ room) × (outOfRange f ≡ true))
-  pub too-long : (builtOf f n room ≡ Refused 20) ↔ ((50 ≤ room) × ((outOfRange f ≡ false) × (8141 < n)))
+  pub no-room : (builtOf f n room ≡ Refused 17) ↔ (room < longestHeader)
+  pub no-range : (builtOf f n room ≡ Refused 19) ↔ ((longestHeader ≤ room) × (outOfRange f ≡ true))
+  pub too-long : (builtOf f n room ≡ Refused 20) ↔ ((longestHeader ≤ room) × ((outOfRange f ≡ false) × (mostData < n)))
 
 pub built-refused : (f : Fields) (n room : ℕ) → Refusals f n room
 unfolding builtOf buildChecks firstOf
 built-refused f n room =
-    let p = first (ltb room 50) (outOfRange f) (ltb 8141 n) (sizeOf f) in
+    let p = first (ltb room longestHeader) (outOfRange f) (ltb mostData n) (sizeOf f) in
     record {
-      no-room = (λ e. ltb-true room 50 (p .is-17 e), λ h. simp (lt-ltb room 50 h));
-      no-range = (λ e. (ltb-false room 50 (p .is-19 e .0), p .is-19 e .1), λ h. simp (le-ltb room 50 (h .0), h .1));
-      too-long = (λ e. (ltb-false room 50 (p .is-20 e .0), (p .is-20 e .1 .0, ltb-true 8141 n (p .is-20 e .1 .1))), λ h. simp (le-ltb room 50 (h .0), h .1 .0, lt-ltb 8141 n (h .1 .1)));
+      no-room = (λ e. ltb-true room longestHeader (p .is-17 e), λ h. simp (lt-ltb room longestHeader h));
+      no-range = (λ e. (ltb-false room longestHeader (p .is-19 e .0), p .is-19 e .1), λ h. simp (le-ltb room longestHeader (h .0), h .1));
+      too-long = (λ e. (ltb-false room longestHeader (p .is-20 e .0), (p .is-20 e .1 .0, ltb-true mostData n (p .is-20 e .1 .1))), λ h. simp (le-ltb room longestHeader (h .0), h .1 .0, lt-ltb mostData n (h .1 .1)));
     }
 
 -- ---- the checksum
 
 -- a built checksum element is never FFFF: the version makes the first octet at least 32
-pub never-ffff : (f : Fields) (len : ℕ) → len < 8192 → checksumOf (bodyOctets f len ++ 0 ∷ 0 ∷ []) ≡ 65535 → ⊥
+pub never-ffff : (f : Fields) (len : ℕ) → len < lengthLimit → checksumOf (bodyOctets f len ++ 0 ∷ 0 ∷ []) ≡ 65535 → ⊥
 unfolding bodyOctets frontOctets octets
 never-ffff f len short e =
     let sum : onesSum (bodyOctets f len ++ 0 ∷ 0 ∷ []) ≡ 0 = omega arith in

@@ -1,4 +1,5 @@
 -- The laws of headers. To be read: Refusals, Answers, Trip, Again, SentOn, BuiltLaws, Promises; the others serve them and the code's proofs.
+pub mod Tests
 pub mod Bounds
 pub mod Passed
 pub mod Bits

@@ -3,6 +3,7 @@ use Prim.Native.Nat.{ℕ, _-_, _≤_, _<_}
 use mathlib.Core.Path.{_≡_}
 use mathlib.Core.List.{List, _++_}
 use lib.ListN.{getD, length, take, drop}
+use Rattle.header.specs.Limits.{longestHeader, mostData}
 use Rattle.header.specs.Form.{controlOf}
 use Rattle.header.specs.Read.{readOf}
 use Rattle.header.specs.Build.{builtOf, outputOf}
@@ -15,7 +16,7 @@ use Rattle.header.proofs.SentOn.{withHops, read-sent-on, sent-as-it-cam
 
 -- building what was read gives the same header octets, where the control field was shortest and the data at most 8,141 octets
 pub build-what-was-read : (s : List ℕ) (h : Header) → ((i : ℕ) → getD s i 0 < 256) → readOf s ≡ Good h → shortest (controlOf s)
-    → h .length - h .size ≤ 8141 → (lent : List ℕ) → 50 ≤ length lent
+    → h .length - h .size ≤ mostData → (lent : List ℕ) → longestHeader ≤ length lent
     → (builtOf (h .fields) (h .length - h .size) (length lent) ≡ Done (h .size))
     × (outputOf (h .fields) (h .length - h .size) lent ≡ take (h .size) s ++ drop (h .size) lent)
 build-what-was-read s h small e short few lent room = (done-again s h small e short (length lent) room few, output-again s h small e short lent room few)

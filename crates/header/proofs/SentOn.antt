@@ -16,7 +16,7 @@ use Rattle.checks.specs.Order.{pick}
 use Rattle.octets.specs.Octets.{octet, number}
 use Rattle.checksum.specs.Sum.{elementOf}
 use Rattle.checksum.proofs.Words.{Octets}
-use Rattle.header.specs.Form.{controlOf, secondControl, thirdControl, layoutOf, placesOf, stampSize, hasQos, hasHops, stampFormat, hasExpanded, hasChecksum}
+use Rattle.header.specs.Form.{thirdFollows, controlOf, secondControl, thirdControl, layoutOf, placesOf, stampSize, hasQos, hasHops, stampFormat, hasExpanded, hasChecksum}
 use Rattle.header.specs.Read.{addressesOf, qosOf, octetOf, stampOf, lengthOf, fieldsOf, headerOf, readOf}
 use Rattle.header.specs.Build.{stampOctets, checksumOctets}
 use Rattle.header.specs.Range.{InRange}
@@ -32,7 +32,7 @@ use Rattle.header.proofs.Passed.{Passed, passed, read-passed}
 use Rattle.header.proofs.Pieces.{Stands, addresses-read, qos-read, octet-read, stamp-read, stamp-size}
 use Rattle.header.proofs.BuiltLaws.{checksum-length, append-small, pick-small}
 use Rattle.header.proofs.Trip.{right}
-use Rattle.header.proofs.Back.{bit, addresses-again, qos-again, octet-again, stamp-again, checksum-again}
+use Rattle.header.proofs.Back.{zero-or-one, addresses-again, qos-again, octet-again, stamp-again, checksum-again}
 use Rattle.header.proofs.Answers.{fields-in-range}
 
 -- ---- one octet less one
@@ -123,7 +123,7 @@ module _ (s : List ℕ) (room : placesOf s .size ≤ length s) where
   unfolding sentBody
   sent-same i below other =
       let front = take (placesOf s .checksum) s in
-      let body-same = other-case (hasHops (controlOf s)) (placesOf s .hops) front i (bit _ (omega arith)) other in
+      let body-same = other-case (hasHops (controlOf s)) (placesOf s .hops) front i (zero-or-one _ (omega arith)) other in
       body-front i below ∙ (body-same ∙ getD-take (placesOf s .checksum) s i 0 below)
 
   -- the hop count is one less; 0 stays 0
@@ -160,8 +160,8 @@ record Alike (s t : List ℕ) : Type 0 where
   same : (i : ℕ) → i < placesOf s .checksum → (hasHops (controlOf s) ≡ 1 → i ≡ placesOf s .hops → ⊥) → octet t i ≡ octet s i
 
 -- the third control octet matters only where bit 24 says that it is there
-third-case : (s t : List ℕ) → secondControl t ≡ secondControl s → (secondControl s / 128 % 2 ≡ 0) ⊎ (secondControl s / 128 % 2 ≡ 1)
-    → (secondControl s / 128 % 2 ≡ 1 → octet t 4 ≡ octet s 4) → thirdControl t ≡ thirdControl s
+third-case : (s t : List ℕ) → secondControl t ≡ secondControl s → (thirdFollows (secondControl s) ≡ 0) ⊎ (thirdFollows (secondControl s) ≡ 1)
+    → (thirdFollows (secondControl s) ≡ 1 → octet t 4 ≡ octet s 4) → thirdControl t ≡ thirdControl s
 third-case s t second (inl none) four = rw (second, none) (omega arith)
 third-case s t second (inr one) four = rw (second, one, four one)
 
@@ -216,7 +216,7 @@ module _ (s t : List ℕ) (h : Header) (small : Octets s) (p : Passed s h) (alik
       let two = before-hops 2 (omega (arith, places s, control-end s)) in
       let three = before-hops 3 (omega (arith, places s, control-end s)) in
       let second : secondControl t ≡ secondControl s = rw (two, three) in
-      let third = third-case s t second (bit _ (omega arith)) (λ on. before-hops 4 (omega (arith, places s, control-end s))) in
+      let third = third-case s t second (zero-or-one _ (omega arith)) (λ on. before-hops 4 (omega (arith, places s, control-end s))) in
       rw (third, second, two)
 
   -- each element that was read is in range, and is read again where its octets stand
@@ -326,7 +326,7 @@ module _ (s : List ℕ) (h : Header) (small : (i : ℕ) → getD s i 0 < 256) (e
   sent-as-it-came none =
       let at = placesOf s .checksum in
       let body-is : sentBody s ≡ take at s =
-      kept-case s (take at s) (hasHops (controlOf s)) (placesOf s .hops) (bit _ (omega arith)) (rw hops-are at none)
+      kept-case s (take at s) (hasHops (controlOf s)) (placesOf s .hops) (zero-or-one _ (omega arith)) (rw hops-are at none)
       (λ on. getD-take at s (placesOf s .hops) 0 (hops-before s on)) in
       rw (body-is, size-is, places s .size)
       (checksum-again s small (hasChecksum (controlOf s)) at (omega arith) (was .right) (omega (arith, places s, enough)))
@@ -349,7 +349,7 @@ module _ (s : List ℕ) (h : Header) (small : (i : ℕ) → getD s i 0 < 256) (e
   sent-less =
       let less : hasHops (controlOf s) ≡ 1 → octet sent (placesOf s .hops) ≡ octet s (placesOf s .hops) - 1 =
       λ on. front (placesOf s .hops) (omega (arith, places s, hops-before s on)) ∙ sent-hops s enough on in
-      rw hops-are (hops-case s sent (hasHops (controlOf s)) (placesOf s .hops) (bit _ (omega arith)) less)
+      rw hops-are (hops-case s sent (hasHops (controlOf s)) (placesOf s .hops) (zero-or-one _ (omega arith)) less)
 
   sent-right : hasChecksum (controlOf s) ≡ 1 → number sent (placesOf s .checksum) 2 ≡ elementOf sent (placesOf s .checksum)
   unfolding sentOn

@@ -13,7 +13,8 @@ use Rattle.checks.specs.Order.{pick}
 use Rattle.octets.specs.Octets.{octet, number, octets}
 use Rattle.octets.proofs.Laws.{length-octets}
 use Rattle.checksum.specs.Sum.{checksumOf, elementOf}
-use Rattle.header.specs.Form.{controlOf, placesOf, layoutOf, qosPlace, hopsPlace, stampPlace, expandedPlace, checksumPlace, hasQos, hasHops, hasExpanded, stampFormat}
+use Rattle.header.specs.Limits.{mostData, lengthLimit}
+use Rattle.header.specs.Form.{thirdFollows, controlOf, placesOf, layoutOf, qosPlace, hopsPlace, stampPlace, expandedPlace, checksumPlace, hasQos, hasHops, hasExpanded, stampFormat}
 use Rattle.header.specs.Read.{addressesOf, qosOf, octetOf, stampOf, lengthOf, fieldsOf, headerOf, readOf}
 use Rattle.header.specs.Build.{addressesOctets, qosOctets, octetOctets, stampOctets, present, frontOctets, restOctets, bodyOctets, checksumOctets, headerOctets, sizeOf}
 use Rattle.header.specs.Range.{InRange}
@@ -70,13 +71,13 @@ record Front (s : List ℕ) (f : Fields) (len : ℕ) (last : List ℕ) : Type 0 
   addresses : Stands s (builtControl f .end) (addressesOctets (f .addresses)) (rest f last)
 
 -- the third control octet stands at 4, since without a second there is none
-third-place : (s : List ℕ) (t : Bool) (second on : ℕ) → eqb second 0 ≡ t → second / 128 % 2 ≡ on → on * octet s (3 + pick t 0 1) ≡ on * octet s 4
+third-place : (s : List ℕ) (t : Bool) (second on : ℕ) → eqb second 0 ≡ t → thirdFollows second ≡ on → on * octet s (3 + pick t 0 1) ≡ on * octet s 4
 third-place s true second on e h =
     let z : on ≡ 0 = omega (arith, eqb-true second 0 e) in
     rw z (omega arith)
 third-place s false second on e h = refl
 
-front : (f : Fields) (len : ℕ) (last : List ℕ) → InRange f → len < 8192 → Front (bodyOctets f len ++ last) f len last
+front : (f : Fields) (len : ℕ) (last : List ℕ) → InRange f → len < lengthLimit → Front (bodyOctets f len ++ last) f len last
 unfolding lengthOf controlOf bodyOctets frontOctets restOctets octets builtControl
 front f len last r short =
     let s = bodyOctets f len ++ last in
@@ -109,7 +110,7 @@ record Begun (s : List ℕ) (f : Fields) (len : ℕ) : Type 0 where
   length-is : lengthOf s ≡ len
   size : placesOf s .size ≡ sizeOf f
 
-begun : (f : Fields) (len : ℕ) (last : List ℕ) → InRange f → len < 8192 → Begun (bodyOctets f len ++ last) f len
+begun : (f : Fields) (len : ℕ) (last : List ℕ) → InRange f → len < lengthLimit → Begun (bodyOctets f len ++ last) f len
 unfolding fieldsOf layoutOf sizeOf builtControl
 begun f len last r short =
     let b = bits f r in
@@ -134,7 +135,7 @@ right on body userData e =
     number-there 2 _ there (omega arith) ∙ rw (take-append-seam body (checksumOctets on body ++ userData))
 
 -- a built header, with at least n octets behind it, is read as what it was built from
-pub read-built : (f : Fields) (n : ℕ) (userData : List ℕ) → InRange f → n ≤ 8141 → n ≤ length userData
+pub read-built : (f : Fields) (n : ℕ) (userData : List ℕ) → InRange f → n ≤ mostData → n ≤ length userData
     → readOf (headerOctets f n ++ userData) ≡ Good (record { fields = f; length = sizeOf f + n; size = sizeOf f })
 unfolding headerOctets headerOf sizeOf builtControl
 read-built f n userData r short enough =

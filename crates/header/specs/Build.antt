@@ -3,11 +3,12 @@
 use Prim.Native.Nat.{ℕ, _+_, _*_}
 use mathlib.Core.List.{List, [], _∷_, _++_}
 use lib.ListN.{length}
-use lib.Dec.{eqb, ltb}
+use lib.Dec.{eqb}
 use Rattle.checks.specs.Order.{pick, Checks, firstOf}
 use Rattle.octets.specs.Octets.{octets, fronted}
 use Rattle.checksum.specs.Sum.{checksumOf}
-use Rattle.header.specs.Form.{timeSize}
+use Rattle.header.specs.Limits.{lengthLimit, noRoom, tooMuchData}
+use Rattle.header.specs.Form.{weight, timeSize}
 use Rattle.header.specs.Range.{outOfRange}
 use Rattle.header.specs.declared.Six.{Six}
 use Rattle.header.specs.declared.Addresses.{Addresses}
@@ -93,21 +94,21 @@ present n = pick (eqb n 0) 0 1
 
 -- bits 32 to 39, 24 to 31 and 20 to 23 (003, table 3-4)
 unfoldable pub thirdOctet : Fields → ℕ
-thirdOctet f = 64 * ipv6Flag (f .addresses) + 32 * octetFlag (f .expanded) + 16 * f .intermediate
+thirdOctet f = weight 33 * ipv6Flag (f .addresses) + weight 34 * octetFlag (f .expanded) + weight 35 * f .intermediate
 
 unfoldable pub secondOctet : Fields → ℕ
 secondOctet f =
-    128 * present (thirdOctet f) + 64 * sourceFlag (f .addresses) + 32 * octetFlag (f .hops) + 8 * formatOf (f .stamp) + 2 * qosFlag (f .qos)
-    + extendedFlag (f .addresses)
+    weight 24 * present (thirdOctet f) + weight 25 * sourceFlag (f .addresses) + weight 26 * octetFlag (f .hops) + weight 28 * formatOf (f .stamp)
+    + weight 30 * qosFlag (f .qos) + weight 31 * extendedFlag (f .addresses)
 
 unfoldable pub firstBits : Fields → ℕ
-firstBits f = 8 * present (secondOctet f) + 2 + f .checksum
+firstBits f = weight 20 * present (secondOctet f) + weight 22 + weight 23 * f .checksum
 
 -- ---- the header whole
 
--- version 001 and the length field; TP-ID and bits 20 to 23; the rest of the control field
+-- version 001 above the length field; TP-ID and bits 20 to 23; the rest of the control field
 unfoldable pub frontOctets : ℕ → ℕ → ℕ → ℕ → List ℕ
-frontOctets length x second third = octets 2 (8192 + length) ++ (octets 1 x ++ (octets (present second) second ++ octets (present third) third))
+frontOctets length x second third = octets 2 (lengthLimit + length) ++ (octets 1 x ++ (octets (present second) second ++ octets (present third) third))
 
 unfoldable pub restOctets : Fields → List ℕ
 restOctets f =
@@ -131,9 +132,9 @@ headerOctets f n = bodyOctets f (sizeOf f + n) ++ checksumOctets (f .checksum) (
 
 -- ---- the builder (page 01, "Refusal numbers")
 
--- room under 50 octets; a field out of range; data over 8,141
+-- no room; a field out of range; too much data
 unfoldable pub buildChecks : Fields → ℕ → ℕ → Checks
-buildChecks f n room = (ltb room 50, 17) ∷ (outOfRange f, 19) ∷ (ltb 8141 n, 20) ∷ []
+buildChecks f n room = (noRoom room, 17) ∷ (outOfRange f, 19) ∷ (tooMuchData n, 20) ∷ []
 
 abbrev pub builtBy : ℕ → ℕ → Built
 builtBy n size = pick (eqb n 0) (Done size) (Refused n)

@@ -1,6 +1,6 @@
 -- The form of a header: control bits (003, table 3-4), what they forbid (tables 3-4, 3-6, 3-8) and where each element stands (3.2.2.1).
 -- Assumes nothing.
-use Prim.Native.Nat.{ℕ, _+_, _*_, _/_, _%_}
+use Prim.Native.Nat.{ℕ, _+_, _*_, _-_, _/_, _%_, _^_}
 use mathlib.Core.List.{List}
 use mathlib.Core.Bool.{Bool, not, _&&_, _||_}
 use lib.Dec.{eqb}
@@ -9,15 +9,32 @@ use Rattle.octets.specs.Octets.{octet}
 use Rattle.header.specs.declared.Control.{Control}
 use Rattle.header.specs.declared.Layout.{Layout}
 
+-- ---- the control bits, by their numbers in table 3-4
+
+-- what bit n weighs in its octet: bits are counted from the most significant of the first octet (003, 1.6.1)
+abbrev pub weight : ℕ → ℕ
+weight n = 2 ^ (7 - n % 8)
+
+-- bit n of the octet that has it
+abbrev pub bit : ℕ → ℕ → ℕ
+bit n octet = octet / weight n % 2
+
+-- bits 20 and 24, of the number that has each: whether a second control octet follows the first four bits, and a third the second
+abbrev pub secondFollows : ℕ → ℕ
+secondFollows first = bit 20 first
+
+abbrev pub thirdFollows : ℕ → ℕ
+thirdFollows second = bit 24 second
+
 -- the control field of the octets s; an octet that is not there counts as 0 (003, 3.2.3.4.3)
 abbrev pub firstControl : List ℕ → ℕ
 firstControl s = octet s 2 % 16
 
 abbrev pub secondControl : List ℕ → ℕ
-secondControl s = firstControl s / 8 % 2 * octet s 3
+secondControl s = secondFollows (firstControl s) * octet s 3
 
 abbrev pub thirdControl : List ℕ → ℕ
-thirdControl s = secondControl s / 128 % 2 * octet s 4
+thirdControl s = thirdFollows (secondControl s) * octet s 4
 
 unfoldable pub controlOf : List ℕ → Control
 controlOf s =
@@ -25,57 +42,54 @@ controlOf s =
       first = firstControl s;
       second = secondControl s;
       third = thirdControl s;
-      end = 3 + firstControl s / 8 % 2 + secondControl s / 128 % 2;
+      end = 3 + secondFollows (firstControl s) + thirdFollows (secondControl s);
     }
 
--- the control bits by their numbers in table 3-4
-abbrev pub bit20 : Control → ℕ
-bit20 k = k .first / 8 % 2
-
-abbrev pub bit21 : Control → ℕ
-bit21 k = k .first / 4 % 2
+abbrev pub reserved21 : Control → ℕ
+reserved21 k = bit 21 (k .first)
 
 abbrev pub hasDestination : Control → ℕ
-hasDestination k = k .first / 2 % 2
+hasDestination k = bit 22 (k .first)
 
 abbrev pub hasChecksum : Control → ℕ
-hasChecksum k = k .first % 2
-
-abbrev pub bit24 : Control → ℕ
-bit24 k = k .second / 128 % 2
+hasChecksum k = bit 23 (k .first)
 
 abbrev pub hasSource : Control → ℕ
-hasSource k = k .second / 64 % 2
+hasSource k = bit 25 (k .second)
 
 abbrev pub hasHops : Control → ℕ
-hasHops k = k .second / 32 % 2
+hasHops k = bit 26 (k .second)
 
+-- bits 27 and 28 as one number
 abbrev pub stampFormat : Control → ℕ
-stampFormat k = k .second / 8 % 4
+stampFormat k = k .second / weight 28 % 4
 
-abbrev pub bit29 : Control → ℕ
-bit29 k = k .second / 4 % 2
+abbrev pub reserved29 : Control → ℕ
+reserved29 k = bit 29 (k .second)
 
 abbrev pub hasQos : Control → ℕ
-hasQos k = k .second / 2 % 2
+hasQos k = bit 30 (k .second)
 
 abbrev pub isExtended : Control → ℕ
-isExtended k = k .second % 2
+isExtended k = bit 31 (k .second)
 
-abbrev pub bit32 : Control → ℕ
-bit32 k = k .third / 128 % 2
+abbrev pub fourthFollows : Control → ℕ
+fourthFollows k = bit 32 (k .third)
 
 abbrev pub isIpv6 : Control → ℕ
-isIpv6 k = k .third / 64 % 2
+isIpv6 k = bit 33 (k .third)
 
 abbrev pub hasExpanded : Control → ℕ
-hasExpanded k = k .third / 32 % 2
+hasExpanded k = bit 34 (k .third)
 
 abbrev pub isIntermediate : Control → ℕ
-isIntermediate k = k .third / 16 % 2
+isIntermediate k = bit 35 (k .third)
 
-abbrev pub bits36to39 : Control → ℕ
-bits36to39 k = k .third % 16
+-- bits 36 to 39 as one number: what is below bit 35
+abbrev pub unassigned : Control → ℕ
+unassigned k = k .third % weight 35
+
+-- ---- what they forbid
 
 -- what 003 does not allow (tables 3-4, 3-6 and 3-8; page 01, refusal 4): IPv6 addresses that are extended or have no source; reserved and
 -- unassigned bits set, a fourth control octet, no destination
@@ -84,8 +98,10 @@ wrongIpv6 ipv6 extended sourced = eqb ipv6 1 && (eqb extended 1 || eqb sourced 0
 
 unfoldable pub forbidden : Control → Bool
 forbidden k =
-    eqb (bit21 k) 1 || (eqb (hasDestination k) 0 || (eqb (bit29 k) 1 || (eqb (bit32 k) 1
-    || (not (eqb (bits36to39 k) 0) || wrongIpv6 (isIpv6 k) (isExtended k) (hasSource k)))))
+    eqb (reserved21 k) 1 || (eqb (hasDestination k) 0 || (eqb (reserved29 k) 1 || (eqb (fourthFollows k) 1
+    || (not (eqb (unassigned k) 0) || wrongIpv6 (isIpv6 k) (isExtended k) (hasSource k)))))
+
+-- ---- where each element stands
 
 -- octets of one address (table 3-5)
 unfoldable pub addressSize : Control → ℕ

@@ -1,4 +1,5 @@
--- What the contracts cite: a header's form, reading it, building it, sending it on, and the ranges of its fields.
+-- What the contracts cite: a header's limits and form, reading it, building it, sending it on, and the ranges of its fields.
+pub mod Limits
 pub mod Form
 pub mod Read
 pub mod Build

@@ -7,7 +7,10 @@
 // table 3-5 are the five variants of `Addresses`, so that neither can a combination that table 3-6 forbids. What is left for refusal
 // 19 are numbers that are too large for their element. The awkward element is the timestamp with an explicit P-field: its length
 // stands in its own first octet.
+pub mod control_bits;
 pub mod flags;
+pub mod limits;
+pub mod pfield;
 
 use address::Address;
 use address::PathAddress;

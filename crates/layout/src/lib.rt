@@ -6,6 +6,7 @@
 use checks::Check;
 use header::Control;
 use header::Layout;
+use header::control_bits;
 ghost use mathlib.Core.Path.{_≡_};
 ghost use Prim.Native.Nat.{_≤_};
 ghost use Rattle.checks.specs.Order.{checkOf};
@@ -16,13 +17,15 @@ pub fn control_of(s: &[u8]) -> Control
     ensures { λ r. ⌜ r ≡ controlOf (now (s .entry)) ⌝ }
 {
     let first = octets::octet_at(s, 2) % 16;
-    let second = first / 8 % 2 * octets::octet_at(s, 3);
-    let third = second / 128 % 2 * octets::octet_at(s, 4);
+    let more = control_bits::second_follows(first);
+    let second = more * octets::octet_at(s, 3);
+    let most = control_bits::third_follows(second);
+    let third = most * octets::octet_at(s, 4);
     Control {
         first,
         second,
         third,
-        end: 3 + (first / 8 % 2) as usize + (second / 128 % 2) as usize,
+        end: 3 + more as usize + most as usize,
     }
 }
 
@@ -30,25 +33,25 @@ pub fn control_of(s: &[u8]) -> Control
 pub fn check_form(k: Control) -> Check
     ensures { λ r. ⌜ r ≡ checkOf (forbidden k) ⌝ }
 {
-    if k.first / 4 % 2 == 1 {
+    if control_bits::reserved_21(k) == 1 {
         return Check::Failed;
     }
-    if k.first / 2 % 2 == 0 {
+    if control_bits::has_destination(k) == 0 {
         return Check::Failed;
     }
-    if k.second / 4 % 2 == 1 {
+    if control_bits::reserved_29(k) == 1 {
         return Check::Failed;
     }
-    if k.third / 128 % 2 == 1 {
+    if control_bits::fourth_follows(k) == 1 {
         return Check::Failed;
     }
-    if k.third % 16 != 0 {
+    if control_bits::unassigned_bits(k) != 0 {
         return Check::Failed;
     }
     check_ipv6(
-        (k.third / 64 % 2) as u32,
-        (k.second % 2) as u32,
-        (k.second / 64 % 2) as u32,
+        control_bits::is_ipv6(k) as u32,
+        control_bits::is_extended(k) as u32,
+        control_bits::has_source(k) as u32,
     )
 }
 
@@ -72,10 +75,10 @@ pub fn check_ipv6(ipv6: u32, extended: u32, sourced: u32) -> Check
 pub fn address_size(k: Control) -> usize
     ensures { λ r. ⌜ r ≡ addressSize k ⌝ }
 {
-    if k.third / 64 % 2 == 1 {
+    if control_bits::is_ipv6(k) == 1 {
         return 16;
     }
-    if k.second % 2 == 1 {
+    if control_bits::is_extended(k) == 1 {
         return 4;
     }
     1
@@ -88,7 +91,7 @@ pub fn stamp_size(format: u8, first: u8) -> usize
     match format {
         0 => 0,
         1 => 3,
-        2 => 2 + (first / 4 % 4) as usize + (first % 4) as usize,
+        2 => 1 + header::pfield::time_size(first),
         _ => 4,
     }
 }
@@ -99,17 +102,17 @@ pub fn layout_of(s: &[u8], k: Control) -> Layout
     ensures { λ r. ⌜ r ≡ layoutOf (now (s .entry)) k ⌝ }
 {
     let one = address_size(k);
-    let qos = k.end + one + (k.second / 64 % 2) as usize * one;
-    let hops = qos + (k.second / 2 % 2) as usize;
-    let stamp = hops + (k.second / 32 % 2) as usize;
-    let expanded = stamp + stamp_size(k.second / 8 % 4, octets::octet_at(s, stamp));
-    let checksum = expanded + (k.third / 32 % 2) as usize;
+    let qos = k.end + one + control_bits::has_source(k) as usize * one;
+    let hops = qos + control_bits::has_qos(k) as usize;
+    let stamp = hops + control_bits::has_hops(k) as usize;
+    let expanded = stamp + stamp_size(control_bits::format_bits(k), octets::octet_at(s, stamp));
+    let checksum = expanded + control_bits::has_expanded(k) as usize;
     Layout {
         qos,
         hops,
         stamp,
         expanded,
         checksum,
-        size: checksum + 2 * (k.first % 2) as usize,
+        size: checksum + 2 * control_bits::has_checksum(k) as usize,
     }
 }

@@ -14,6 +14,7 @@ use header::Octet;
 use header::Qos;
 use header::Six;
 use header::Timestamp;
+use header::control_bits;
 ghost use mathlib.Core.Path.{_≡_};
 ghost use Prim.Native.Nat.{_≤_, _<_};
 ghost use Rattle.header.specs.Read.{sixOf, addressesOf, qosOf, octetOf, stampOf, lengthOf, fieldsOf};
@@ -35,19 +36,19 @@ fn addresses_at(s: &[u8], k: Control) -> Addresses
     ensures { λ r. ⌜ r ≡ addressesOf (now (s .entry)) k ⌝ }
 {
     let at = k.end;
-    if k.third / 64 % 2 == 1 {
+    if control_bits::is_ipv6(k) == 1 {
         return Addresses::Ipv6(six_at(s, at), six_at(s, at + 16));
     }
-    if k.second % 2 == 1 {
+    if control_bits::is_extended(k) == 1 {
         let destination = octets::word_at(s, at);
-        if k.second / 64 % 2 == 1 {
+        if control_bits::has_source(k) == 1 {
             let source = octets::word_at(s, at + 4);
             return Addresses::ExtendedEndSystem(Address(destination), Address(source));
         }
         return Addresses::ExtendedPath(PathAddress(destination));
     }
     let destination = octets::octet_at(s, at);
-    if k.second / 64 % 2 == 1 {
+    if control_bits::has_source(k) == 1 {
         return Addresses::BasicEndSystem(destination, octets::octet_at(s, at + 1));
     }
     Addresses::BasicPath(destination)
@@ -84,7 +85,7 @@ fn stamp_at(s: &[u8], format: u8, place: usize) -> Timestamp
         1 => Timestamp::Implicit(octets::number_at(s, place, 3)),
         2 => {
             let p = octets::octet_at(s, place);
-            let time_size = 1 + (p / 4 % 4) as usize + (p % 4) as usize;
+            let time_size = header::pfield::time_size(p);
             Timestamp::Explicit(p, octets::number_at(s, place + 1, time_size))
         }
         _ => Timestamp::Binary(octets::number_at(s, place, 4)),
@@ -104,10 +105,10 @@ pub fn fields_at(s: &[u8], k: Control, l: Layout) -> Fields
     ensures { λ r. ⌜ r ≡ fieldsOf (now (s .entry)) k l ⌝ }
 {
     let addresses = addresses_at(s, k);
-    let qos = qos_at(s, k.second / 2 % 2, l.qos);
-    let hops = element_at(s, k.second / 32 % 2, l.hops);
-    let stamp = stamp_at(s, k.second / 8 % 4, l.stamp);
-    let expanded = element_at(s, k.third / 32 % 2, l.expanded);
+    let qos = qos_at(s, control_bits::has_qos(k), l.qos);
+    let hops = element_at(s, control_bits::has_hops(k), l.hops);
+    let stamp = stamp_at(s, control_bits::format_bits(k), l.stamp);
+    let expanded = element_at(s, control_bits::has_expanded(k), l.expanded);
     Fields {
         tpid: octets::octet_at(s, 2) / 16,
         addresses,
@@ -115,7 +116,7 @@ pub fn fields_at(s: &[u8], k: Control, l: Layout) -> Fields
         hops,
         stamp,
         expanded,
-        checksum: k.first % 2,
-        intermediate: k.third / 16 % 2,
+        checksum: control_bits::has_checksum(k),
+        intermediate: control_bits::is_intermediate(k),
     }
 }

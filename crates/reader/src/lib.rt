@@ -11,6 +11,7 @@ use header::Control;
 use header::Header;
 use header::Layout;
 use header::Read;
+use header::control_bits;
 ghost use mathlib.Core.Path.{_≡_};
 ghost use Prim.Native.Nat.{_<_};
 ghost use lib.ListN.{length};
@@ -67,7 +68,7 @@ fn check_sum(s: &[u8], k: Control, l: Layout) -> Check
     requires { ⌜ l .checksum < 64 ⌝ }
     ensures { λ r. ⌜ r ≡ checkOf (wrongChecksum (now (s .entry)) k l) ⌝ }
 {
-    if k.first % 2 != 1 {
+    if control_bits::has_checksum(k) != 1 {
         return Check::Passed;
     }
     let carried = octets::number_at(s, l.checksum, 2);

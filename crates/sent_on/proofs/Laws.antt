@@ -7,6 +7,7 @@ use lib.ListN.{length, take, drop, length-append}
 use lib.Seq.{take-length, length-take-le, take-at}
 use Rattle.octets.specs.Octets.{pasted, fronted}
 use Rattle.octets.proofs.Laws.{pasted-front, put-two}
+use Rattle.header.specs.Limits.{longestHeader}
 use Rattle.header.specs.Form.{controlOf, layoutOf, placesOf, hasHops, hasChecksum}
 use Rattle.header.specs.Build.{checksumOctets}
 use Rattle.header.specs.Onward.{lessened, sentBody, sentOn}
@@ -38,7 +39,7 @@ module _ (s : List ℕ) (fits : placesOf s .size ≤ length s) where
       record { copy = omega arith; hops = omega arith; checksum = omega arith }
 
   -- the body stands in front after two steps, and its checksum behind it after the third
-  places-sent : (l l₁ l₂ l₃ : List ℕ) (r : ℕ) → 50 ≤ length l → Steps s l (controlOf s) (placesOf s) l₁ l₂ l₃ r
+  places-sent : (l l₁ l₂ l₃ : List ℕ) (r : ℕ) → longestHeader ≤ length l → Steps s l (controlOf s) (placesOf s) l₁ l₂ l₃ r
       → (r ≡ placesOf s .size) × (l₃ ≡ fronted (sentOn s) l)
   unfolding sentOn sentBody
   places-sent l l₁ l₂ l₃ r room steps =
@@ -66,5 +67,5 @@ module _ (s : List ℕ) (fits : placesOf s .size ≤ length s) where
     pub bounded : Bounded s p
     bounded = subst⁻¹ (Bounded s) are-places places-bounded
 
-    pub sent : (l l₁ l₂ l₃ : List ℕ) (r : ℕ) → 50 ≤ length l → Steps s l k p l₁ l₂ l₃ r → (r ≡ placesOf s .size) × (l₃ ≡ fronted (sentOn s) l)
+    pub sent : (l l₁ l₂ l₃ : List ℕ) (r : ℕ) → longestHeader ≤ length l → Steps s l k p l₁ l₂ l₃ r → (r ≡ placesOf s .size) × (l₃ ≡ fronted (sentOn s) l)
     sent l l₁ l₂ l₃ r room steps = places-sent l l₁ l₂ l₃ r room (rw (is-control, are-places) at steps)

@@ -6,10 +6,12 @@
 //
 // The awkward case is a hop count of 0. It stays 0: the relay refuses it before it comes here, and as a leaf by itself this function
 // must not bring a used-up datagram back with 255 hops.
+use header::control_bits;
 ghost use mathlib.Core.Path.{_≡_};
 ghost use Prim.Native.Nat.{_-_, _≤_, _<_};
 ghost use lib.ListN.{length};
 ghost use Rattle.octets.specs.Octets.{fronted};
+ghost use Rattle.header.specs.Limits.{longestHeader};
 ghost use Rattle.header.specs.Form.{placesOf};
 ghost use Rattle.header.specs.Onward.{lessened, sentOn};
 
@@ -32,7 +34,7 @@ fn lessen(out: &mut [u8], place: usize, on: u8)
 
 // Writes the header of a datagram as it goes on to the front of the output; answers its length.
 pub fn send_on(s: &[u8], out: &mut [u8]) -> usize
-    requires { ⌜ (50 ≤ length (now out)) × (placesOf (now s) .size ≤ length (now s)) ⌝ }
+    requires { ⌜ (longestHeader ≤ length (now out)) × (placesOf (now s) .size ≤ length (now s)) ⌝ }
     ensures { λ r. ⌜ r ≡ placesOf (now (s .entry)) .size ⌝ }
     ensures { λ _. ⌜ now (out .exit) ≡ fronted (sentOn (now (s .entry))) (now (out .entry)) ⌝ }
 {
@@ -40,6 +42,6 @@ pub fn send_on(s: &[u8], out: &mut [u8]) -> usize
     let places = layout::layout_of(s, control);
     let checksum = places.checksum;
     bytes::copy(&s[..checksum], out);
-    lessen(out, places.hops, control.second / 32 % 2);
-    writer::put_checksum(out, checksum, control.first % 2)
+    lessen(out, places.hops, control_bits::has_hops(control));
+    writer::put_checksum(out, checksum, control_bits::has_checksum(control))
 }

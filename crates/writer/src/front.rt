@@ -5,10 +5,12 @@
 // then says that it follows. So the third control octet is made first, the second from it, the first from that. The awkward case is an
 // octet that says nothing: it is written like the others, as a number of no octets.
 use header::Fields;
+use header::control_bits;
 ghost use mathlib.Core.Path.{_≡_};
 ghost use Prim.Native.Nat.{_+_, _≤_, _<_};
 ghost use lib.ListN.{length};
 ghost use Rattle.octets.specs.Octets.{pasted};
+ghost use Rattle.header.specs.Limits.{lengthLimit};
 ghost use Rattle.header.specs.Build.{present, thirdOctet, secondOctet, frontOctets};
 
 // 1 where a control octet says something and so is present, else 0.
@@ -25,9 +27,9 @@ pub fn third_octet(f: Fields) -> u8
 {
     let addresses = f.addresses;
     let expanded = f.expanded;
-    64 * header::flags::ipv6_flag(addresses)
-        + 32 * header::flags::octet_flag(expanded)
-        + 16 * f.intermediate
+    control_bits::IPV6 * header::flags::ipv6_flag(addresses)
+        + control_bits::EXPANDED * header::flags::octet_flag(expanded)
+        + control_bits::INTERMEDIATE * f.intermediate
 }
 
 // Bits 24 to 31, once the third octet is known.
@@ -39,21 +41,21 @@ pub fn second_octet(f: Fields, third: u8) -> u8
     let hops = f.hops;
     let stamp = f.stamp;
     let qos = f.qos;
-    128 * presence(third)
-        + 64 * header::flags::source_flag(addresses)
-        + 32 * header::flags::octet_flag(hops)
-        + 8 * header::flags::stamp_format(stamp)
-        + 2 * header::flags::qos_flag(qos)
-        + header::flags::extended_flag(addresses)
+    control_bits::THIRD_OCTET * presence(third)
+        + control_bits::SOURCE * header::flags::source_flag(addresses)
+        + control_bits::HOPS * header::flags::octet_flag(hops)
+        + control_bits::STAMP * header::flags::stamp_format(stamp)
+        + control_bits::QOS * header::flags::qos_flag(qos)
+        + control_bits::EXTENDED * header::flags::extended_flag(addresses)
 }
 
 // Version, length field, TP-ID and control field; `shared` is the octet that TP-ID and bits 20 to 23 share.
 pub fn put_front(out: &mut [u8], len: usize, shared: u8, second: u8, third: u8) -> usize
-    requires { ⌜ (5 ≤ length (now out)) × (len < 8192) ⌝ }
+    requires { ⌜ (5 ≤ length (now out)) × (len < lengthLimit) ⌝ }
     ensures { λ r. ⌜ r ≡ 0 + length (frontOctets len shared second third) ⌝ }
     ensures { λ _. ⌜ now (out .exit) ≡ pasted (now (out .entry)) 0 (frontOctets len shared second third) ⌝ }
 {
-    let a = octets::put_number(out, 0, 2, 8192 + len as u64);
+    let a = octets::put_number(out, 0, 2, (header::limits::LENGTH_LIMIT + len) as u64);
     let b = octets::put_number(out, a, 1, shared as u64);
     let c = octets::put_number(out, b, presence(second) as usize, second as u64);
     octets::put_number(out, c, presence(third) as usize, third as u64)

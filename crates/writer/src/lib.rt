@@ -56,7 +56,7 @@ pub fn put_stamp(out: &mut [u8], place: usize, t: Timestamp) -> usize
         Timestamp::Implicit(time) => octets::put_number(out, place, 3, time),
         Timestamp::Explicit(p, time) => {
             let next = octets::put_number(out, place, 1, p as u64);
-            let time_size = 1 + (p / 4 % 4) as usize + (p % 4) as usize;
+            let time_size = header::pfield::time_size(p);
             octets::put_number(out, next, time_size, time)
         }
         Timestamp::Binary(time) => octets::put_number(out, place, 4, time),

@@ -32,20 +32,23 @@ presence-requires c κs = search needs
 presence-requires-2 : tie.Need-presence-requires-2
 presence-requires-2 c κs = search needs
 
+mul-bits : tie.Need-mul-bits
+mul-bits c = omega (arith, bits c)
+
+add-bits : tie.Need-add-bits
+add-bits c = omega (arith, bits c)
+
+mul-bits-2 : tie.Need-mul-bits-2
+mul-bits-2 c = search needs
+
+add-bits-2 : tie.Need-add-bits-2
+add-bits-2 c = omega (arith, bits (c .before), c .before .before .before .before .before .before .pre)
+
 mul-shared : tie.Need-mul-shared
 mul-shared c = search needs
 
-mul-shared-2 : tie.Need-mul-shared-2
-mul-shared-2 c = omega (arith, bits (c .before))
-
 add-shared : tie.Need-add-shared
-add-shared c = omega (arith, bits (c .before), c .before .before .before .before .before .before .pre)
-
-add-shared-2 : tie.Need-add-shared-2
-add-shared-2 c = omega (arith, bits (c .before .before), c .before .before .before .before .before .before .before .pre)
-
-add-shared-3 : tie.Need-add-shared-3
-add-shared-3 c = omega (arith, bits (c .before .before), c .before .before .before .before .before .before .before .pre)
+add-shared c = omega (arith, bits (c .before .before), c .before .before .before .before .before .before .before .pre)
 
 cast-put-rest : tie.Need-cast-put-rest
 cast-put-rest c = search needs
@@ -121,11 +124,12 @@ write-header-spec =
     second-octet-requires
     presence-requires
     presence-requires-2
+    mul-bits
+    add-bits
+    mul-bits-2
+    add-bits-2
     mul-shared
-    mul-shared-2
     add-shared
-    add-shared-2
-    add-shared-3
     cast-put-rest
     add-put-rest
     cast-put-rest-2

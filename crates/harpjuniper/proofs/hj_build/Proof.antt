@@ -1,20 +1,20 @@
 -- `harpjuniper::hj_build` meets its contract: the law of no room, of no fields, or of what the builder answers. Assumes nothing.
 use borrow.Author.Needs.{needs}
-use mathlib.Core.Path.{sym, _∙_}
+use mathlib.Core.Path.{_≡_, sym, _∙_}
+use lib.ListN.{length}
+use Rattle.checks.specs.Order.{checkOf}
+use Rattle.checks.specs.declared.Check.the-variants.{Passed}
+use Rattle.header.specs.Limits.{noRoom}
 use Rattle.harpjuniper.proofs.Laws.{no-room, no-fields, built}
 use Rattle.harpjuniper.proofs.hj_build.Statement.{statement}
 use Rattle.harpjuniper.proofs.hj_build.Tie as tie
 
-refusal-requires : tie.Need-refusal-requires
-refusal-requires c κs = search needs
+-- past the first check
+room : (c : tie.After-enum-told) → checkOf (noRoom (length (c .before .before .before .before .args .output .now))) ≡ Passed
+room c = sym (c .before .before .check-room .ensures) ∙ c .enum-told .given .1
 
-returns : tie.Need-returns
-returns c =
-    let a = c .before .before .before .args in
-    no-room (a .fields) (a .size) (a .output .now) (c .before .if1 .taken) _ (c .refusal .ensures)
-
-check-numbers-requires : tie.Need-check-numbers-requires
-check-numbers-requires c κs = search needs
+check-room-requires : tie.Need-check-room-requires
+check-room-requires c κs = search needs
 
 enum-told : tie.Need-enum-told
 enum-told c = search needs
@@ -22,15 +22,33 @@ enum-told c = search needs
 enum-told-2 : tie.Need-enum-told-2
 enum-told-2 c = search needs
 
+refusal-requires : tie.Need-refusal-requires
+refusal-requires c κs = search needs
+
+returns : tie.Need-returns
+returns c =
+    let checked = c .before .before .before in
+    let a = checked .before .before .args in
+    no-room (a .fields) (a .size) (a .output .now) (sym (checked .check-room .ensures) ∙ c .before .enum-told2 .given .1) _ (c .refusal .ensures)
+
+check-numbers-requires : tie.Need-check-numbers-requires
+check-numbers-requires c κs = search needs
+
+enum-told-3 : tie.Need-enum-told-3
+enum-told-3 c = search needs
+
+enum-told-4 : tie.Need-enum-told-4
+enum-told-4 c = search needs
+
 refusal-requires-2 : tie.Need-refusal-requires-2
 refusal-requires-2 c κs = search needs
 
 returns-2 : tie.Need-returns-2
 returns-2 c =
     let checked = c .before .before .before in
-    let room = checked .before in
-    let a = room .before .before .args in
-    no-fields (a .fields) (a .size) (a .output .now) (room .if1 .left) (sym (checked .check-numbers .ensures) ∙ c .before .enum-told2 .given .1) _ (c .refusal2 .ensures)
+    let roomed = checked .before in
+    let a = roomed .before .before .before .before .args in
+    no-fields (a .fields) (a .size) (a .output .now) (room roomed) (sym (checked .check-numbers .ensures) ∙ c .before .enum-told4 .given .1) _ (c .refusal2 .ensures)
 
 fields-from-requires : tie.Need-fields-from-requires
 fields-from-requires c κs = search needs
@@ -49,20 +67,23 @@ returns-3 c =
     let made = c .before .before .before in
     let told = made .before .before .before in
     let checked = told .before .before in
-    let room = checked .before in
-    let a = room .before .before .args in
-    built (a .fields) (a .size) (a .output .now) (room .if1 .left) (sym (checked .check-numbers .ensures) ∙ told .enum-told .given .1) _ _ _ _
+    let roomed = checked .before in
+    let a = roomed .before .before .before .before .args in
+    built (a .fields) (a .size) (a .output .now) (room roomed) (sym (checked .check-numbers .ensures) ∙ told .enum-told3 .given .1) _ _ _ _
     (made .before .before .fields-from .ensures) (made .build-header .ensures .0) (made .build-header .ensures .1) (c .built-answer .ensures)
 
 pub hj-build-spec : {M : Type 1} → statement M
 hj-build-spec =
     tie.close
     (tie.spec
+    check-room-requires
+    enum-told
+    enum-told-2
     refusal-requires
     returns
     check-numbers-requires
-    enum-told
-    enum-told-2
+    enum-told-3
+    enum-told-4
     refusal-requires-2
     returns-2
     fields-from-requires

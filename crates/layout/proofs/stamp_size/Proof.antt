@@ -6,17 +6,11 @@ use Rattle.header.specs.Form.{stampSize}
 use Rattle.layout.proofs.stamp_size.Statement.{statement}
 use Rattle.layout.proofs.stamp_size.Tie as tie
 
-cast-result : tie.Need-cast-result
-cast-result c = search needs
+time-size-requires : tie.Need-time-size-requires
+time-size-requires c κs = search needs
 
 add-result : tie.Need-add-result
 add-result c = search needs
-
-cast-result-2 : tie.Need-cast-result-2
-cast-result-2 c = search needs
-
-add-result-2 : tie.Need-add-result-2
-add-result-2 c = search needs
 
 returns : tie.Need-returns
 unfolding stampSize
@@ -28,7 +22,7 @@ returns-2 c = simp (c .match .keys2)
 
 returns-3 : tie.Need-returns-3
 unfolding stampSize
-returns-3 c = simp (c .match .keys3) (omega arith)
+returns-3 c = simp (c .before .match .keys3) (omega arith)
 
 returns-4 : tie.Need-returns-4
 unfolding stampSize
@@ -38,10 +32,8 @@ pub stamp-size-spec : {M : Type 1} → statement M
 stamp-size-spec =
     tie.close
     (tie.spec
-    cast-result
+    time-size-requires
     add-result
-    cast-result-2
-    add-result-2
     returns
     returns-2
     returns-3

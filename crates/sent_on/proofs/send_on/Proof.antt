@@ -26,10 +26,16 @@ slice-aggregate-copy c = sym (length-take-le _ _ (found (c .before) .copy))
 copy-requires : tie.Need-copy-requires
 copy-requires c κs = simp length-take (omega (arith, found (c .before .before)))
 
+has-hops-requires : tie.Need-has-hops-requires
+has-hops-requires c κs = search needs
+
 lessen-requires : tie.Need-lessen-requires
 lessen-requires c κs =
     let copy = c .before .before .before .before in
     omega (arith, found (copy .before .before .before), copy .copy .kept)
+
+has-checksum-requires : tie.Need-has-checksum-requires
+has-checksum-requires c κs = search needs
 
 put-checksum-requires : tie.Need-put-checksum-requires
 put-checksum-requires c κs =
@@ -51,8 +57,8 @@ returns c =
     sent s (start .pre .1) _ _ (places .before .control-of .ensures) (places .layout-of .ensures) (start .args .out .now) _ _ _ _ (start .pre .0)
     (record {
       copy = copied s _ _ _ (found places .copy) (copy .copy .ensures .1);
-      less = less .lessen .ensures;
-      sum = put .put-checksum .ensures;
+      less = rw (less .before .has-hops .ensures) at (less .lessen .ensures);
+      sum = rw (put .before .has-checksum .ensures) at (put .put-checksum .ensures);
     })
 
 pub send-on-spec : {M : Type 1} → statement M
@@ -63,7 +69,9 @@ send-on-spec =
     layout-of-requires
     slice-aggregate-copy
     copy-requires
+    has-hops-requires
     lessen-requires
+    has-checksum-requires
     put-checksum-requires
     same-length
     returns)

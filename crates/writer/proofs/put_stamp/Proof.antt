@@ -24,17 +24,8 @@ cast-put-number c = search needs
 put-number-requires-2 : tie.Need-put-number-requires-2
 put-number-requires-2 c κs = search needs
 
-cast-time-size : tie.Need-cast-time-size
-cast-time-size c = search needs
-
-add-time-size : tie.Need-add-time-size
-add-time-size c = search needs
-
-cast-time-size-2 : tie.Need-cast-time-size-2
-cast-time-size-2 c = search needs
-
-add-time-size-2 : tie.Need-add-time-size-2
-add-time-size-2 c = search needs
+time-size-requires : tie.Need-time-size-requires
+time-size-requires c κs = search needs
 
 put-number-requires-3 : tie.Need-put-number-requires-3
 put-number-requires-3 c κs = search needs
@@ -62,8 +53,9 @@ same-length-2 c = search needs
 returns-3 : tie.Need-returns-3
 unfolding stampOctets
 returns-3 c =
-    let first = c .before .before .before .before .before .before in
-    rw (first .before .before .before .t2 .given .1)
+    let sized = c .before .before .before .before in
+    let first = sized .before .before .before in
+    rw (first .before .before .before .t2 .given .1, ← sized .time-size .ensures)
     (put-numbers _ _ _ _ _ _ _ _ _ _ (first .put-number2 .ensures) (c .before .before .put-number3 .ensures) (omega arith))
 
 same-length-3 : tie.Need-same-length-3
@@ -83,10 +75,7 @@ put-stamp-spec =
     enum-known-t-2
     cast-put-number
     put-number-requires-2
-    cast-time-size
-    add-time-size
-    cast-time-size-2
-    add-time-size-2
+    time-size-requires
     put-number-requires-3
     enum-known-t-3
     put-number-requires-4

@@ -15,17 +15,8 @@ check-time-requires c κs = search needs
 enum-known-t-2 : tie.Need-enum-known-t-2
 enum-known-t-2 c = search needs
 
-cast-check-time : tie.Need-cast-check-time
-cast-check-time c = search needs
-
-add-check-time : tie.Need-add-check-time
-add-check-time c = search needs
-
-cast-check-time-2 : tie.Need-cast-check-time-2
-cast-check-time-2 c = search needs
-
-add-check-time-2 : tie.Need-add-check-time-2
-add-check-time-2 c = search needs
+time-size-requires : tie.Need-time-size-requires
+time-size-requires c κs = search needs
 
 check-time-requires-2 : tie.Need-check-time-requires-2
 check-time-requires-2 c κs = search needs
@@ -43,7 +34,7 @@ returns-2 : tie.Need-returns-2
 returns-2 c = rw (c .before .before .t .given .1) (c .check-time .ensures)
 
 returns-3 : tie.Need-returns-3
-returns-3 c = rw (c .before .before .t2 .given .1) (c .check-time2 .ensures)
+returns-3 c = let sized = c .before in rw (sized .before .before .t2 .given .1, ← sized .time-size .ensures) (c .check-time2 .ensures)
 
 returns-4 : tie.Need-returns-4
 returns-4 c = rw (c .before .before .t3 .given .1) (c .check-time3 .ensures)
@@ -56,10 +47,7 @@ check-stamp-spec =
     enum-known-t
     check-time-requires
     enum-known-t-2
-    cast-check-time
-    add-check-time
-    cast-check-time-2
-    add-check-time-2
+    time-size-requires
     check-time-requires-2
     enum-known-t-3
     check-time-requires-3

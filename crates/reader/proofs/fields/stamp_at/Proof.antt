@@ -11,17 +11,8 @@ number-at-requires c κs = search needs
 octet-at-requires : tie.Need-octet-at-requires
 octet-at-requires c κs = search needs
 
-cast-time-size : tie.Need-cast-time-size
-cast-time-size c = search needs
-
-add-time-size : tie.Need-add-time-size
-add-time-size c = search needs
-
-cast-time-size-2 : tie.Need-cast-time-size-2
-cast-time-size-2 c = search needs
-
-add-time-size-2 : tie.Need-add-time-size-2
-add-time-size-2 c = search needs
+time-size-requires : tie.Need-time-size-requires
+time-size-requires c κs = search needs
 
 add-number-at : tie.Need-add-number-at
 add-number-at c = search needs
@@ -42,7 +33,10 @@ returns-2 c = rw (c .number-at .ensures .0) (simp (c .before .match .keys2))
 
 returns-3 : tie.Need-returns-3
 unfolding stampOf
-returns-3 c = rw (c .number-at2 .ensures .0, c .before .octet-at .ensures) (simp (c .before .before .match .keys3))
+returns-3 c =
+    let sized = c .before in
+    let first = sized .before in
+    rw (c .number-at2 .ensures .0, sized .time-size .ensures, first .octet-at .ensures) (simp (first .before .match .keys3))
 
 returns-4 : tie.Need-returns-4
 unfolding stampOf
@@ -56,10 +50,7 @@ stamp-at-spec =
     (tie.spec
     number-at-requires
     octet-at-requires
-    cast-time-size
-    add-time-size
-    cast-time-size-2
-    add-time-size-2
+    time-size-requires
     add-number-at
     number-at-requires-2
     number-at-requires-3

@@ -76,6 +76,9 @@ add-result-4 c =
 extended-flag-requires : tie.Need-extended-flag-requires
 extended-flag-requires c κs = search needs
 
+mul-result-6 : tie.Need-mul-result-6
+mul-result-6 c = omega (arith, extended-le c)
+
 add-result-5 : tie.Need-add-result-5
 add-result-5 c =
     omega
@@ -111,5 +114,6 @@ second-octet-spec =
     mul-result-5
     add-result-4
     extended-flag-requires
+    mul-result-6
     add-result-5
     returns)
