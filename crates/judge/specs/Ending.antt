@@ -1,6 +1,7 @@
 -- All that becomes of a received datagram: page 01, "One received datagram, step by step". Each list of checks is in the page's order, and
 -- the first whose condition holds ends the call with its number. Assumes nothing.
 use Prim.Native.Nat.{ℕ}
+use mathlib.Core.Bool.{Bool}
 use mathlib.Core.List.{List, [], _∷_}
 use lib.Dec.{eqb, ltb}
 use Rattle.checks.specs.Order.{pick, Checks, firstOf}
@@ -31,8 +32,12 @@ abbrev pub orElse : ℕ → Ending → Ending
 orElse n e = pick (eqb n 0) e (refusedBy n)
 
 -- ---- step 1
+-- "Output under 50 octets"
+abbrev pub noRoom : ℕ → Bool
+noRoom room = ltb room 50
+
 unfoldable pub callChecks : Relay → ℕ → ℕ → Checks
-callChecks r port room = (notSetUp r port, 16) ∷ (ltb room 50, 17) ∷ []
+callChecks r port room = (notSetUp r port, 16) ∷ (noRoom room, 17) ∷ []
 
 -- ---- the ending
 abbrev pub ruled : Relay → Arrival → Header → Ending

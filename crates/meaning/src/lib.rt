@@ -5,7 +5,6 @@
 // once sent a dose to another domain). So what a header names is a function of the arrival port's address and the header, stated
 // once here; everything later compares names and never bare octets. The awkward case is an IPv6 header, which is not carried: it
 // names 0.0.0.0, which no check lets through.
-pub mod arrival;
 pub mod asked;
 
 use address::Address;
