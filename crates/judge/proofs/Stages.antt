@@ -15,11 +15,11 @@ use Rattle.header.specs.Read.{readOf}
 use Rattle.header.specs.declared.Header.{Header}
 use Rattle.header.specs.declared.Read.the-variants.{Good}
 use Rattle.header.proofs.Answers.{read-bounds}
-use Rattle.meaning.specs.Names.{aimOf, sourceOf, badAim, badSource}
+use Rattle.meaning.specs.Names.{aimOf, originOf, badAim, badSource}
 use Rattle.meaning.specs.declared.Origin.{Origin}
 use Rattle.header.specs.declared.Addresses.{Addresses}
 use Rattle.meaning.specs.declared.Aim.{Aim}
-use Rattle.meaning.specs.Asked.{precedenceOf}
+use Rattle.meaning.specs.Asked.{precedenceAsked}
 use Rattle.records.specs.declared.Port.{Port}
 use Rattle.state.specs.Relay.{Relay, portIn}
 use Rattle.verdict.specs.declared.Ruling.{Ruling}
@@ -42,7 +42,7 @@ pub aim-told : (port : ℕ) (a : Addresses) {x : Aim} {c : Check} → x ≡ aimO
 aim-told port a e told = told ∙ ap (λ (x : Aim). checkOf (badAim x)) e
 
 pub origin-told : (port : ℕ) (a : Addresses) {x : Origin} {c : Check}
-    → x ≡ sourceOf port a → c ≡ checkOf (badSource x) → c ≡ checkOf (badSource (sourceOf port a))
+    → x ≡ originOf port a → c ≡ checkOf (badSource x) → c ≡ checkOf (badSource (originOf port a))
 origin-told port a e told = told ∙ ap (λ (x : Origin). checkOf (badSource x)) e
 
 -- ---- a good header
@@ -56,7 +56,7 @@ module _ (r : Relay) (at : Arrival) (h : Header) {n : ℕ} (is : n ≡ firstOf (
       → n ≡ 0
       → aim ≡ aimOf (at .address .0) (h .fields .addresses)
       → ruling ≡ ruleOf r at aim h
-      → precedence ≡ precedenceOf (h .fields .qos)
+      → precedence ≡ precedenceAsked (h .fields .qos)
       → _≡_ {A = Ending} (record { refusal = 0; ruling = ruling; precedence = precedence; size = h .size }) (headerEnding r at h)
   unfolding headerEnding
   header-ruled none a x p = by-rest _ _ is none cc

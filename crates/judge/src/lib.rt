@@ -12,6 +12,8 @@ use crate::ruling::Arrival;
 use checks::Check;
 use header::Header;
 use header::Read;
+use verdict::Local;
+use verdict::Onward;
 use verdict::Ruling;
 ghost use mathlib.Core.Path.{_≡_};
 ghost use Prim.Native.Nat.{_<_};
@@ -44,8 +46,8 @@ fn refused(refusal: u32) -> Ending
     ensures { λ r. ⌜ r ≡ refusedBy refusal ⌝ }
 {
     let ruling = Ruling {
-        local: 0,
-        onward: 0,
+        local: Local::No,
+        onward: Onward::NotAsked,
         granted: 0,
         took: 0,
         dropped: 0,
