@@ -4,6 +4,7 @@ use Prim.Native.Nat.{ℕ, _+_, _*_, _%_, _^_}
 use lib.Dec.{eqb}
 use Rattle.checks.specs.Order.{pick}
 use Rattle.queue.specs.declared.Entry.{Entry}
+use Rattle.verdict.specs.Numbers.{localNumber, onwardNumber}
 use Rattle.judge.specs.declared.Ending.{Ending}
 use Rattle.taking.specs.declared.Taking.{Taking}
 use Rattle.taking.specs.declared.Taking.the-variants.{Handed, Refused}
@@ -21,8 +22,8 @@ unfoldable pub receiveNumber : Ending → ℕ
 receiveNumber e =
     partsOf
     (e .refusal % 256)
-    (e .ruling .local % 256)
-    (e .ruling .onward % 256)
+    (localNumber (e .ruling .local) % 256)
+    (onwardNumber (e .ruling .onward) % 256)
     (e .ruling .took % 256)
     (e .ruling .dropped % 256)
     (sentSize (e .ruling .took) (e .size) % 256)

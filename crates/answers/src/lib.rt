@@ -42,11 +42,13 @@ pub fn receive_number(e: Ending) -> u64
     ensures { λ r. ⌜ r ≡ receiveNumber e ⌝ }
 {
     let x = e.ruling;
+    let local = x.local;
+    let onward = x.onward;
     let size = sent_size(x.took, e.size);
     parts(
         part(e.refusal),
-        part(x.local),
-        part(x.onward),
+        part(verdict::local_number(local)),
+        part(verdict::onward_number(onward)),
         part(x.took),
         part(x.dropped),
         part(size),

@@ -5,7 +5,7 @@ use mathlib.Core.List.{List}
 use Rattle.address.specs.declared.Slot.{Slot}
 use Rattle.state.specs.Relay.{Relay}
 use Rattle.judge.specs.declared.Ending.{Ending}
-use Rattle.relay.specs.Outgo.{outputOf}
+use Rattle.relay.specs.Outgo.{sentOutput}
 use Rattle.relay.specs.Received.{receivedState}
 
 module _ {e f : Ending} (same : e ≡ f) where
@@ -13,5 +13,5 @@ module _ {e f : Ending} (same : e ≡ f) where
   done-by r slot is = is ∙ ap (receivedState r slot) same
 
   pub sent-by : (octets lent : List ℕ) {out : List ℕ}
-      → out ≡ outputOf (e .ruling .took) octets lent → out ≡ outputOf (f .ruling .took) octets lent
-  sent-by octets lent is = is ∙ ap (λ (x : Ending). outputOf (x .ruling .took) octets lent) same
+      → out ≡ sentOutput (e .ruling .took) octets lent → out ≡ sentOutput (f .ruling .took) octets lent
+  sent-by octets lent is = is ∙ ap (λ (x : Ending). sentOutput (x .ruling .took) octets lent) same

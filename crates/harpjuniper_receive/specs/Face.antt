@@ -5,7 +5,7 @@ use lib.ListN.{length}
 use Rattle.address.specs.declared.Slot.{Slot}
 use Rattle.state.specs.Relay.{Relay}
 use Rattle.judge.specs.Ending.{endingOf}
-use Rattle.relay.specs.Outgo.{outputOf}
+use Rattle.relay.specs.Outgo.{sentOutput}
 use Rattle.relay.specs.Received.{receivedState}
 use Rattle.answers.specs.Answers.{receiveNumber}
 
@@ -16,4 +16,4 @@ abbrev pub receiveState : Relay → ℕ → ℕ → List ℕ → ℕ → Relay
 receiveState r port slot octets room = receivedState r (record { 0 = slot }) (endingOf r port octets room)
 
 abbrev pub receiveOutput : Relay → ℕ → List ℕ → List ℕ → List ℕ
-receiveOutput r port octets output = outputOf (endingOf r port octets (length output) .ruling .took) octets output
+receiveOutput r port octets output = sentOutput (endingOf r port octets (length output) .ruling .took) octets output

@@ -20,7 +20,7 @@ use Rattle.queue.specs.declared.Head.the-variants.{First, Nothing}
 use Rattle.state.specs.Relay.{Relay, queueIn, counterIn}
 use Rattle.state.specs.Layout.{stateWords, decode, entryOf, queueOf}
 use Rattle.state.proofs.Reading.{taken, queue-read, counter-read}
-use Rattle.taking.specs.Taking.{notSetUp, handed, takeOutcome}
+use Rattle.taking.specs.Taking.{notSetUp, handsOut, takeOutcome}
 use Rattle.taking.specs.declared.Taking.{Taking}
 use Rattle.taking.specs.declared.Taking.the-variants.{Handed, Refused}
 use Rattle.taking.proofs.Port.{is-port}
@@ -56,7 +56,7 @@ queue-fits l h =
     either (λ (x : Taken). Fits (x .head)) (ltb 32 n) tt (first-fits n (queueOf l) (take 32 l) first)
 
 -- ---- so the parts are read back
-outcome-read : (t : Bool) (h : Head) → (t ≡ false → Fits h) → TakeRead (takingNumber (pick t (Refused 16) (handed h))) (pick t (Refused 16) (handed h))
+outcome-read : (t : Bool) (h : Head) → (t ≡ false → Fits h) → TakeRead (takingNumber (pick t (Refused 16) (handsOut h))) (pick t (Refused 16) (handsOut h))
 outcome-read true h f = refusal-parts 16 (omega arith)
 outcome-read false (First e) f = entry-parts (e .slot .0) (e .precedence) (f refl .0) (f refl .1)
 outcome-read false Nothing f = refusal-parts 18 (omega arith)

@@ -20,8 +20,8 @@ use Rattle.header.specs.declared.Read.the-variants.{Good, Refused}
 use Rattle.networks.specs.Networks.{domainOf}
 use Rattle.meaning.specs.Names.{aimOf}
 use Rattle.meaning.specs.declared.Aim.{Aim}
-use Rattle.meaning.specs.declared.Aim.the-variants.{Node, Line}
-use Rattle.meaning.specs.Asked.{precedenceOf}
+use Rattle.meaning.specs.declared.Aim.the-variants.{Node, Path, Uncarried}
+use Rattle.meaning.specs.Asked.{precedenceAsked}
 use Rattle.verdict.specs.Rule.{targetOf}
 use Rattle.verdict.specs.declared.Target.{Target}
 use Rattle.verdict.specs.declared.Target.the-variants as target
@@ -46,9 +46,11 @@ use Rattle.meaning.specs.Arrival.{arrivalChecks}
 use Rattle.taking.specs.Taking.{notSetUp, without, takeOutcome, takenState}
 use Rattle.judge.specs.Ending.{orElse, callChecks, headerEnding, octetsEnding, arrivalAt, endingOf}
 use Rattle.judge.specs.declared.Ending.{Ending}
-use Rattle.tally.specs.Tally.{Row, movesOf, countedAt, countedAll}
+use Rattle.tally.specs.Tally.{Move, movesOf, countedAt, countedAll}
+use Rattle.tally.specs.declared.Counter.{Counter}
+use Rattle.tally.specs.declared.Counter.the-variants as counter
 use Rattle.relay.specs.Outgo.{entered, enteredIf, enteredAll}
-use Rattle.relay.specs.Received.{entryOf, receivedState}
+use Rattle.relay.specs.Received.{newEntry, receivedState}
 use Rattle.records.specs.Fresh.{freshGroup, freshPath}
 use Rattle.routes.specs.Routes.{emptyRoute}
 use Rattle.routes.specs.declared.Route.{Route}
@@ -102,7 +104,8 @@ module _ (r : Relay) where
 
   aim-bare : (x : Aim) (c : Case) (s : Survey) → ruleAim (bare r) x c s ≡ ruleAim r x c s
   aim-bare (Node a) c s = target-bare (targetOf (classOf (a .0)) s) a c s
-  aim-bare (Line p) c s = ap (λ (x : Place). ruledBy target.Path x Lost c s) (path-bare p)
+  aim-bare (Path p) c s = ap (λ (x : Place). ruledBy target.Path x Lost c s) (path-bare p)
+  aim-bare Uncarried c s = refl
 
   rule-bare : (at : Arrival) (x : Aim) (h : Header) → ruleOf (bare r) at x h ≡ ruleOf r at x h
   unfolding ruleOf
@@ -115,7 +118,7 @@ module _ (r : Relay) where
   abbrev ruling-in : Arrival → Header → Ruling → Ending
   ruling-in at h x =
       orElse (firstOf (arrivalChecks (at .address) (h .fields)))
-      (record { refusal = 0; ruling = x; precedence = precedenceOf (h .fields .qos); size = h .size })
+      (record { refusal = 0; ruling = x; precedence = precedenceAsked (h .fields .qos); size = h .size })
 
   header-bare : (at : Arrival) (h : Header) → headerEnding (bare r) at h ≡ headerEnding r at h
   unfolding headerEnding
@@ -138,15 +141,14 @@ module _ (r : Relay) where
 -- ---- what a call makes of the board
 
 -- counting leaves the board
-counted-one : (t : Bool) (r : Relay) (i n : ℕ) → boardOf (pick t (added r i n) r) ≡ boardOf r
-counted-one true r i n = refl
-counted-one false r i n = refl
-
-pub counted-board : (rows : List Row) (r : Relay) → boardOf (countedAll r rows) ≡ boardOf r
+counted-one : (r : Relay) (c : Counter) (n : ℕ) → boardOf (countedAt r c n) ≡ boardOf r
 unfolding countedAt
+counted-one r (counter.At place) n = refl
+counted-one r counter.Nothing n = refl
+
+pub counted-board : (moves : List Move) (r : Relay) → boardOf (countedAll r moves) ≡ boardOf r
 counted-board [] r = refl
-counted-board (row ∷ rows) r =
-    counted-board rows (countedAt r (row .0) (row .1)) ∙ counted-one (ltb (row .0) 15) r (row .0) (row .1)
+counted-board (move ∷ moves) r = counted-board moves (countedAt r (move .0) (move .1)) ∙ counted-one r (move .0) (move .1)
 
 -- an entry is put by the board alone
 abbrev enteredBoard : ℕ → Entry → ℕ → Board → Board
@@ -172,7 +174,7 @@ entered-board took e (suc p) r s same =
 received-board : (r : Relay) (slot : Slot) (e : Ending) → boardOf (receivedState r slot e) ≡ boardOf (receivedState (bare r) slot e)
 unfolding receivedState
 received-board r slot e =
-    entered-board (e .ruling .took) (entryOf slot e) 8 (countedAll r (movesOf e)) (countedAll (bare r) (movesOf e))
+    entered-board (e .ruling .took) (newEntry slot e) 8 (countedAll r (movesOf e)) (countedAll (bare r) (movesOf e))
     (counted-board (movesOf e) r ∙ sym (counted-board (movesOf e) (bare r)))
 
 without-board : (r : Relay) (port : ℕ) (q : Queue) (h : Head) → boardOf (without r port q h) ≡ boardOf (without (bare r) port q h)

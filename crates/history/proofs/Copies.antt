@@ -7,59 +7,62 @@ use lib.Dec.{eqb}
 use Rattle.checks.specs.Order.{pick}
 use Rattle.checks.proofs.Bools.{true-false, and-true}
 use Rattle.sets.specs.Sets.{inSet, onlyPort}
-use Rattle.verdict.specs.Rule.{exceptBy, aloneBy, groupLine, pathLine, routeLine, routerLine, hostLine, lineOf, afterHops, afterDomain, afterSize, grantedOf}
+use Rattle.verdict.specs.Rule.{exceptBy, aloneBy, groupLine, pathLine, routeLine, routerLine, unheardBy, hostLine, lineOf, afterHops, afterDomain, afterSize, grantedOf}
 use Rattle.verdict.specs.declared.Target.{Target}
 use Rattle.verdict.specs.declared.Target.the-variants as target
 use Rattle.verdict.specs.declared.Place.{Place}
 use Rattle.verdict.specs.declared.Place.the-variants.{Held, Missing}
 use Rattle.verdict.specs.declared.Way.{Way}
 use Rattle.verdict.specs.declared.Case.{Case}
-use Rattle.verdict.specs.declared.Line.{Line}
-use Rattle.verdict.specs.declared.Line.the-variants.{Unasked, Refused, Wanted}
+use Rattle.verdict.specs.declared.Local.{Local}
+use Rattle.verdict.specs.declared.Local.the-variants.{No, Delivered, Unknown}
+use Rattle.verdict.specs.declared.Obstacle.the-variants.{HopsUsedUp, NoRoute, LeavesDomain, TooBig}
+use Rattle.verdict.specs.declared.Wish.{Wish}
+use Rattle.verdict.specs.declared.Wish.the-variants.{NotAsked, Refused, Wanted}
 use Rattle.verdict.specs.declared.Survey.{Survey}
 use Rattle.history.proofs.Bits.{in-and, in-except, only-has}
 
 module _ (p : ℕ) where
   -- whatever a line wants has the property that port p is in it only where P
-  abbrev If : Type 0 → Line → Type 0
-  If P Unasked = Unit
+  abbrev If : Type 0 → Wish → Type 0
+  If P NotAsked = Unit
   If P (Refused n) = Unit
   If P (Wanted g) = inSet p g ≡ true → P
 
   module _ (P : Type 0) where
-    pick-if : (t : Bool) (a b : Line) → If P a → If P b → If P (pick t a b)
+    pick-if : (t : Bool) (a b : Wish) → If P a → If P b → If P (pick t a b)
     pick-if true a b f g = f
     pick-if false a b f g = g
 
     fewer : (s t : ℕ) → (inSet p s ≡ true → P) → inSet p (bitAnd s t) ≡ true → P
     fewer s t f h = f (and-true (inSet p s) (inSet p t) (sym (in-and p s t) ∙ h) .0)
 
-    hops-if : (l : Line) (spent : ℕ) → If P l → If P (afterHops l spent)
-    hops-if Unasked spent h = h
+    hops-if : (l : Wish) (spent : ℕ) → If P l → If P (afterHops l spent)
+    hops-if NotAsked spent h = h
     hops-if (Refused n) spent h = h
-    hops-if (Wanted set) spent h = pick-if (eqb spent 0) (Wanted set) (Refused 10) h tt
+    hops-if (Wanted set) spent h = pick-if (eqb spent 0) (Wanted set) (Refused HopsUsedUp) h tt
 
-    domain-if : (l : Line) (basic near : ℕ) → If P l → If P (afterDomain l basic near)
-    domain-if Unasked basic near h = h
+    domain-if : (l : Wish) (basic near : ℕ) → If P l → If P (afterDomain l basic near)
+    domain-if NotAsked basic near h = h
     domain-if (Refused n) basic near h = h
     domain-if (Wanted set) basic near h =
         pick-if (eqb basic 0) (Wanted set) _ h
-        (pick-if (eqb (bitAnd set near) 0) (Refused 13) (Wanted (bitAnd set near)) tt (fewer set near h))
+        (pick-if (eqb (bitAnd set near) 0) (Refused LeavesDomain) (Wanted (bitAnd set near)) tt (fewer set near h))
 
-    size-if : (l : Line) (wide : ℕ) → If P l → If P (afterSize l wide)
-    size-if Unasked wide h = h
+    size-if : (l : Wish) (wide : ℕ) → If P l → If P (afterSize l wide)
+    size-if NotAsked wide h = h
     size-if (Refused n) wide h = h
-    size-if (Wanted set) wide h = pick-if (eqb (bitAnd set wide) 0) (Refused 14) (Wanted (bitAnd set wide)) tt (fewer set wide h)
+    size-if (Wanted set) wide h = pick-if (eqb (bitAnd set wide) 0) (Refused TooBig) (Wanted (bitAnd set wide)) tt (fewer set wide h)
 
-    granted-if : (l : Line) (c : Case) (s : Survey) → If P l → If P (grantedOf l c s)
+    granted-if : (l : Wish) (c : Case) (s : Survey) → If P l → If P (grantedOf l c s)
     unfolding grantedOf
     granted-if l c s h =
         let hops = afterHops l (c .spent) in
-        let domain = afterDomain hops (c .basic) (s .near) in
-        size-if domain (s .wide) (domain-if hops (c .basic) (s .near) (hops-if l (c .spent) h))
+        let domain = afterDomain hops (c .basic) (s .domain) in
+        size-if domain (s .fitting) (domain-if hops (c .basic) (s .domain) (hops-if l (c .spent) h))
 
-    wanted-has : (l : Line) (g : ℕ) → If P l → l ≡ Wanted g → inSet p g ≡ true → P
-    wanted-has Unasked g h e m = true-false cc
+    wanted-has : (l : Wish) (g : ℕ) → If P l → l ≡ Wanted g → inSet p g ≡ true → P
+    wanted-has NotAsked g h e m = true-false cc
     wanted-has (Refused n) g h e m = true-false cc
     wanted-has (Wanted s) g h e m = h (rw (let z : s ≡ g = cc in z) m)
 
@@ -78,38 +81,43 @@ module _ (p : ℕ) where
     unfolding groupLine
     group-not Missing others = tt
     group-not (Held send word) others =
-        pick-if ⊥ (eqb (aloneBy word others) 1) Unasked _ tt
-        (pick-if ⊥ (eqb (exceptBy send (onlyPort p)) 0) (Refused 11) (Wanted (exceptBy send (onlyPort p))) tt (not-itself send))
+        pick-if ⊥ (eqb (aloneBy word others) 1) NotAsked _ tt
+        (pick-if ⊥ (eqb (exceptBy send (onlyPort p)) 0) (Refused NoRoute) (Wanted (exceptBy send (onlyPort p))) tt (not-itself send))
 
     path-not : (x : Place) → If ⊥ (pathLine x (onlyPort p))
     unfolding pathLine
     path-not Missing = tt
     path-not (Held send here) =
         pick-if ⊥ (not (eqb (exceptBy send (onlyPort p)) 0)) (Wanted (exceptBy send (onlyPort p))) _ (not-itself send)
-        (pick-if ⊥ (not (eqb here 0)) Unasked (Refused 11) tt tt)
+        (pick-if ⊥ (not (eqb here 0)) NotAsked (Refused NoRoute) tt tt)
 
-    host-not : (t : Target) (local : ℕ) → If ⊥ (hostLine t local)
+    unheard-not : (local : Local) → If ⊥ (unheardBy local)
+    unheard-not No = tt
+    unheard-not Delivered = tt
+    unheard-not Unknown = tt
+
+    host-not : (t : Target) (local : Local) → If ⊥ (hostLine t local)
     host-not target.Here local = tt
-    host-not target.Broadcast local = pick-if ⊥ (eqb local 0) (Refused 9) Unasked tt tt
-    host-not target.Group local = pick-if ⊥ (eqb local 0) (Refused 9) Unasked tt tt
-    host-not target.Path local = pick-if ⊥ (eqb local 0) (Refused 9) Unasked tt tt
-    host-not target.Route local = pick-if ⊥ (eqb local 0) (Refused 9) Unasked tt tt
+    host-not target.Broadcast local = unheard-not local
+    host-not target.Group local = unheard-not local
+    host-not target.Path local = unheard-not local
+    host-not target.Route local = unheard-not local
 
     router-not : (t : Target) (x : Place) (w : Way) (ready : ℕ) → (t ≡ target.Route → ⊥) → If ⊥ (routerLine t x w (onlyPort p) ready)
     router-not target.Here x w ready n = tt
     router-not target.Broadcast x w ready n =
-        pick-if ⊥ (eqb (exceptBy ready (onlyPort p)) 0) Unasked (Wanted (exceptBy ready (onlyPort p))) tt (not-itself ready)
+        pick-if ⊥ (eqb (exceptBy ready (onlyPort p)) 0) NotAsked (Wanted (exceptBy ready (onlyPort p))) tt (not-itself ready)
     router-not target.Group x w ready n = group-not x (exceptBy ready (onlyPort p))
     router-not target.Path x w ready n = path-not x
     router-not target.Route x w ready n = absurd (n refl)
 
-    line-not : (t : Target) (x : Place) (w : Way) (c : Case) (ready local : ℕ) → c .arrival ≡ onlyPort p → (t ≡ target.Route → ⊥) → If ⊥ (lineOf t x w c ready local)
+    line-not : (t : Target) (x : Place) (w : Way) (c : Case) (ready : ℕ) (local : Local) → c .arrival ≡ onlyPort p → (t ≡ target.Route → ⊥) → If ⊥ (lineOf t x w c ready local)
     unfolding lineOf
     line-not t x w c ready local e n =
         pick-if ⊥ (eqb (c .router) 0) _ _ (host-not t local) (rw e (router-not t x w ready n))
 
     -- The arrival port is wanted by no line but a route's.
-    pub arrival-only-by-route : (t : Target) (x : Place) (w : Way) (c : Case) (ready local g : ℕ)
+    pub arrival-only-by-route : (t : Target) (x : Place) (w : Way) (c : Case) (ready : ℕ) (local : Local) (g : ℕ)
         → c .arrival ≡ onlyPort p
         → (t ≡ target.Route → ⊥)
         → lineOf t x w c ready local ≡ Wanted g

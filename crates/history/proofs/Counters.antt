@@ -26,14 +26,16 @@ use Rattle.state.specs.Relay.{Relay, freshRelay, counterIn, queueIn, withRouter
 use Rattle.taking.specs.Taking.{notSetUp, without, takenState}
 use Rattle.judge.specs.Ending.{endingOf}
 use Rattle.judge.specs.declared.Ending.{Ending}
-use Rattle.tally.specs.Tally.{Row, movesOf, countedAt, countedAll}
+use Rattle.tally.specs.Tally.{Move, movesOf, countedAt, countedAll}
+use Rattle.tally.specs.declared.Counter.{Counter}
+use Rattle.tally.specs.declared.Counter.the-variants as counter
 use Rattle.relay.specs.Outgo.{entered, enteredIf, enteredAll}
-use Rattle.relay.specs.Received.{entryOf, receivedState}
+use Rattle.relay.specs.Received.{newEntry, receivedState}
 use Rattle.refusals.specs.Lists.{portChecks, routeChecks, groupChecks, pathChecks, routerChecks, clearChecks}
 use Rattle.adjust.specs.Settled.{settled, newPort, newRoute, newGroup, newPath}
 use Rattle.history.specs.Calls.{Call, setRouter, setPort, setRoute, setGroup, setPath, clearRoute, clearGroup, clearPath, receives, takes, done, run, after}
 use Rattle.history.specs.Board.{Board, boardOf, next}
-use Rattle.history.specs.Tally.{sumAt, givenBy, tallyFrom, tally}
+use Rattle.history.specs.Tally.{isAt, sumAt, givenBy, tallyFrom, tally}
 use Rattle.history.proofs.Boards.{ending-bare, done-board}
 
 -- the counters of a relay, one by one
@@ -58,39 +60,36 @@ module _ (i : ℕ) (inside : i < 15) where
   fit : (r : Relay) (n : ℕ) → length (counters-of r) ≡ 15 → counterIn r i ≡ n % 2 ^ 32 → Fit r
   fit r n l e = record { fifteen = l; small = rw e (mod-lt n (pow-pos 32)) }
 
-  -- one row counted
-  move-case : (r : Relay) (place n : ℕ) → Fit r → (t u : Bool) → ltb place 15 ≡ t → eqb place i ≡ u
-      → counterIn (pick t (added r place n) r) i ≡ (counterIn r i + pick u n 0) % 2 ^ 32
-  move-case r place n f true true e h =
+  -- one move counted
+  move-case : (r : Relay) (place n : ℕ) → Fit r → (t : Bool) → eqb place i ≡ t → counterIn (added r place n) i ≡ (counterIn r i + pick t n 0) % 2 ^ 32
+  move-case r place n f true h =
       rw (eqb-true place i h) (getD-set-same (counters-of r) i _ 0 (rw (f .fifteen) inside))
-  move-case r place n f true false e h =
+  move-case r place n f false h =
       getD-set-other (counters-of r) place i _ 0 (λ z. eqb-false place i h (sym z)) ∙ none-more (counterIn r i) (f .small)
-  move-case r place n f false true e h =
-      let z : ⊥ = omega (arith, eqb-true place i h, ltb-false place 15 e) in absurd z
-  move-case r place n f false false e h = none-more (counterIn r i) (f .small)
 
-  fifteen-case : (t : Bool) (r : Relay) (place n : ℕ) → length (counters-of r) ≡ 15 → length (counters-of (pick t (added r place n) r)) ≡ 15
-  fifteen-case true r place n l = length-set (counters-of r) place _ ∙ l
-  fifteen-case false r place n l = l
-
-  move-one : (r : Relay) (place n : ℕ) → Fit r → counterIn (countedAt r place n) i ≡ (counterIn r i + pick (eqb place i) n 0) % 2 ^ 32
+  move-one : (r : Relay) (c : Counter) (n : ℕ) → Fit r → counterIn (countedAt r c n) i ≡ (counterIn r i + pick (isAt c i) n 0) % 2 ^ 32
   unfolding countedAt
-  move-one r place n f = move-case r place n f (ltb place 15) (eqb place i) refl refl
+  move-one r (counter.At place) n f = move-case r place n f (eqb place i) refl
+  move-one r counter.Nothing n f = none-more (counterIn r i) (f .small)
 
-  move-fit : (r : Relay) (place n : ℕ) → Fit r → Fit (countedAt r place n)
+  move-fifteen : (r : Relay) (c : Counter) (n : ℕ) → length (counters-of r) ≡ 15 → length (counters-of (countedAt r c n)) ≡ 15
   unfolding countedAt
-  move-fit r place n f = fit (countedAt r place n) _ (fifteen-case (ltb place 15) r place n (f .fifteen)) (move-one r place n f)
+  move-fifteen r (counter.At place) n l = length-set (counters-of r) place _ ∙ l
+  move-fifteen r counter.Nothing n l = l
 
-  -- all rows counted
-  rows-fit : (rows : List Row) (r : Relay) → Fit r → Fit (countedAll r rows)
-  rows-fit [] r f = f
-  rows-fit (row ∷ rows) r f = rows-fit rows (countedAt r (row .0) (row .1)) (move-fit r (row .0) (row .1) f)
+  move-fit : (r : Relay) (c : Counter) (n : ℕ) → Fit r → Fit (countedAt r c n)
+  move-fit r c n f = fit (countedAt r c n) _ (move-fifteen r c n (f .fifteen)) (move-one r c n f)
 
-  rows-sum : (rows : List Row) (r : Relay) → Fit r → counterIn (countedAll r rows) i ≡ (counterIn r i + sumAt rows i) % 2 ^ 32
-  rows-sum [] r f = none-more (counterIn r i) (f .small)
-  rows-sum (row ∷ rows) r f =
-      rows-sum rows (countedAt r (row .0) (row .1)) (move-fit r (row .0) (row .1) f)
-      ∙ then-more (counterIn r i) _ (pick (eqb (row .0) i) (row .1) 0) (sumAt rows i) (move-one r (row .0) (row .1) f)
+  -- all moves counted
+  moves-fit : (moves : List Move) (r : Relay) → Fit r → Fit (countedAll r moves)
+  moves-fit [] r f = f
+  moves-fit (move ∷ moves) r f = moves-fit moves (countedAt r (move .0) (move .1)) (move-fit r (move .0) (move .1) f)
+
+  moves-sum : (moves : List Move) (r : Relay) → Fit r → counterIn (countedAll r moves) i ≡ (counterIn r i + sumAt moves i) % 2 ^ 32
+  moves-sum [] r f = none-more (counterIn r i) (f .small)
+  moves-sum (move ∷ moves) r f =
+      moves-sum moves (countedAt r (move .0) (move .1)) (move-fit r (move .0) (move .1) f)
+      ∙ then-more (counterIn r i) _ (pick (isAt (move .0) i) (move .1) 0) (sumAt moves i) (move-one r (move .0) (move .1) f)
 
 -- ---- what counts nothing
 entered-case : (t : Bool) (r : Relay) (p : ℕ) (e : Entry) → counters-of (pick t r (entered r p e)) ≡ counters-of r
@@ -108,7 +107,7 @@ entered-all took e (suc p) r = entered-one (enteredAll r took e p) took e p ∙ 
 
 received-counters : (r : Relay) (slot : Slot) (e : Ending) → counters-of (receivedState r slot e) ≡ counters-of (countedAll r (movesOf e))
 unfolding receivedState
-received-counters r slot e = entered-all (e .ruling .took) (entryOf slot e) 8 (countedAll r (movesOf e))
+received-counters r slot e = entered-all (e .ruling .took) (newEntry slot e) 8 (countedAll r (movesOf e))
 
 taken-case : (t : Bool) (r : Relay) (port : ℕ) (q : Queue) (h : Head) → counters-of (pick t r (without r port q h)) ≡ counters-of r
 taken-case true r port q h = refl
@@ -157,9 +156,9 @@ module _ (i : ℕ) (inside : i < 15) where
       let counted = countedAll r (movesOf e) in
       let told = received-counters r slot e in
       let same : counterIn (receivedState r slot e) i ≡ counterIn counted i = ap (λ (l : List ℕ). getD l i 0) told in
-      let fits = rows-fit i inside (movesOf e) r f in (
+      let fits = moves-fit i inside (movesOf e) r f in (
         same
-            ∙ rows-sum i inside (movesOf e) r f
+            ∙ moves-sum i inside (movesOf e) r f
             ∙ ap (λ (x : Ending). (counterIn r i + sumAt (movesOf x) i) % 2 ^ 32) (sym (ending-bare r port octets (length output))),
         record { fifteen = ap length told ∙ fits .fifteen; small = rw same (fits .small) },
       )

@@ -20,20 +20,26 @@ use Rattle.header.specs.declared.Read.the-variants as read
 use Rattle.networks.specs.Networks.{domainOf}
 use Rattle.meaning.specs.Names.{aimOf}
 use Rattle.meaning.specs.declared.Aim.{Aim}
-use Rattle.meaning.specs.declared.Aim.the-variants.{Node, Line as PathLine}
+use Rattle.meaning.specs.declared.Aim.the-variants.{Node, Path, Uncarried}
 use Rattle.state.specs.Relay.{Relay, portIn, queueIn}
-use Rattle.survey.specs.Survey.{isSetUp, isWide, isFull, surveyBelow, surveyOf}
+use Rattle.survey.specs.Survey.{isSetUp, isFitting, isFull, surveyBelow, surveyOf}
 use Rattle.survey.specs.declared.Sought.{Sought}
 use Rattle.lookup.specs.Lookup.{pathPlace}
 use Rattle.verdict.specs.Rule.{targetOf, localOf, exceptBy, lineOf, afterHops, afterDomain, afterSize, grantedOf, copiesOf, rulingOf}
 use Rattle.verdict.specs.declared.Target.{Target}
 use Rattle.verdict.specs.declared.Target.the-variants as target
 use Rattle.verdict.specs.declared.Place.{Place}
+use Rattle.verdict.specs.declared.Place.the-variants.{Missing}
 use Rattle.verdict.specs.declared.Way.{Way}
 use Rattle.verdict.specs.declared.Way.the-variants.{Lost}
 use Rattle.verdict.specs.declared.Case.{Case}
-use Rattle.verdict.specs.declared.Line.{Line}
-use Rattle.verdict.specs.declared.Line.the-variants.{Unasked, Refused, Wanted}
+use Rattle.verdict.specs.declared.Local.{Local}
+use Rattle.verdict.specs.declared.Local.the-variants.{No}
+use Rattle.verdict.specs.declared.Onward.{Onward}
+use Rattle.verdict.specs.declared.Onward.the-variants as onward
+use Rattle.verdict.specs.declared.Obstacle.the-variants.{TooBig}
+use Rattle.verdict.specs.declared.Wish.{Wish}
+use Rattle.verdict.specs.declared.Wish.the-variants.{NotAsked, Refused, Wanted}
 use Rattle.verdict.specs.declared.Survey.{Survey}
 use Rattle.verdict.specs.declared.Ruling.{Ruling}
 use Rattle.lookup.specs.Ways.{placeFor, wayFor}
@@ -53,8 +59,8 @@ module _ (r : Relay) (p : ℕ) (inside : p < 8) where
   none-in : inSet p 0 ≡ false
   none-in = ap (λ (n : ℕ). eqb (n % 2) 1) (div-eq-of-lt (pow-pos p))
 
-  fair-none : (local onward : ℕ) → Fair (record { local = local; onward = onward; granted = 0; took = 0; dropped = 0 })
-  fair-none local onward = record { split = simp (none-in); room = λ h. true-false (sym h ∙ none-in) }
+  fair-none : (local : Local) (x : Onward) → Fair (record { local = local; onward = x; granted = 0; took = 0; dropped = 0 })
+  fair-none local x = record { split = simp (none-in); room = λ h. true-false (sym h ∙ none-in) }
 
   -- ---- copies
   split-case : (g f : Bool) → one g ≡ one (g && not f) + one (g && f)
@@ -73,15 +79,15 @@ module _ (r : Relay) (p : ℕ) (inside : p < 8) where
   not-true false h = refl
 
   module _ (q : Sought) where
-    wide-ready : inSet p (surveyOf r q .wide) ≡ true → isSetUp (portIn r p) ≡ true
+    wide-ready : inSet p (surveyOf r q .fitting) ≡ true → isSetUp (portIn r p) ≡ true
     unfolding surveyBelow
-    wide-ready h = and-true (isSetUp (portIn r p)) (isWide (portIn r p) q) (sym (in-gathered (λ (i : ℕ). isSetUp (portIn r i) && isWide (portIn r i) q) p 8 inside) ∙ h) .0
+    wide-ready h = and-true (isSetUp (portIn r p)) (isFitting (portIn r p) q) (sym (in-gathered (λ (i : ℕ). isSetUp (portIn r i) && isFitting (portIn r i) q) p 8 inside) ∙ h) .0
 
     full-is : inSet p (surveyOf r q .full) ≡ (isSetUp (portIn r p) && isFull (queueIn r p .count))
     unfolding surveyBelow
     full-is = in-gathered (λ (i : ℕ). isSetUp (portIn r i) && isFull (queueIn r i .count)) p 8 inside
 
-    fair-copies : (local g : ℕ) → (inSet p g ≡ true → inSet p (surveyOf r q .wide) ≡ true) → Fair (copiesOf local g (surveyOf r q .full))
+    fair-copies : (local : Local) (g : ℕ) → (inSet p g ≡ true → inSet p (surveyOf r q .fitting) ≡ true) → Fair (copiesOf local g (surveyOf r q .full))
     unfolding copiesOf
     fair-copies local g wide =
         let full = surveyOf r q .full in
@@ -96,22 +102,22 @@ module _ (r : Relay) (p : ℕ) (inside : p < 8) where
     wanted-is : (a b : ℕ) → Wanted a ≡ Wanted b → a ≡ b
     wanted-is a b h = cc
 
-    size-case : (t : Bool) (set wide g : ℕ) → pick t (Refused 14) (Wanted (bitAnd set wide)) ≡ Wanted g → g ≡ bitAnd set wide
+    size-case : (t : Bool) (set wide g : ℕ) → pick t (Refused TooBig) (Wanted (bitAnd set wide)) ≡ Wanted g → g ≡ bitAnd set wide
     size-case true set wide g h = true-false cc
     size-case false set wide g h = sym (wanted-is _ _ h)
 
-    size-wide : (x : Line) (wide g : ℕ) → afterSize x wide ≡ Wanted g → inSet p g ≡ true → inSet p wide ≡ true
-    size-wide Unasked wide g h k = true-false cc
+    size-wide : (x : Wish) (wide g : ℕ) → afterSize x wide ≡ Wanted g → inSet p g ≡ true → inSet p wide ≡ true
+    size-wide NotAsked wide g h k = true-false cc
     size-wide (Refused n) wide g h k = true-false cc
     size-wide (Wanted set) wide g h k =
         let is = size-case (eqb (bitAnd set wide) 0) set wide g h in
         and-true (inSet p set) (inSet p wide) (sym (in-and p set wide) ∙ ap (inSet p) (sym is) ∙ k) .1
 
-    fair-line : (local : ℕ) (l : Line) → ((g : ℕ) → l ≡ Wanted g → inSet p g ≡ true → inSet p (surveyOf r q .wide) ≡ true)
+    fair-line : (local : Local) (l : Wish) → ((g : ℕ) → l ≡ Wanted g → inSet p g ≡ true → inSet p (surveyOf r q .fitting) ≡ true)
         → Fair (rulingOf local l (surveyOf r q .full))
     unfolding rulingOf
-    fair-line local Unasked wide = fair-none local 0
-    fair-line local (Refused n) wide = fair-none local n
+    fair-line local NotAsked wide = fair-none local onward.NotAsked
+    fair-line local (Refused o) wide = fair-none local (onward.Refused o)
     fair-line local (Wanted g) wide = fair-copies local g (wide g refl)
 
     fair-ruled : (t : Target) (x : Place) (w : Way) (c : Case) → Fair (ruledBy t x w c (surveyOf r q))
@@ -119,14 +125,15 @@ module _ (r : Relay) (p : ℕ) (inside : p < 8) where
     fair-ruled t x w c =
         let s = surveyOf r q in
         fair-line (localOf t x c) (grantedOf (lineOf t x w c (s .ready) (localOf t x c)) c s)
-        (λ g h k. size-wide (afterDomain (afterHops (lineOf t x w c (s .ready) (localOf t x c)) (c .spent)) (c .basic) (s .near)) (s .wide) g h k)
+        (λ g h k. size-wide (afterDomain (afterHops (lineOf t x w c (s .ready) (localOf t x c)) (c .spent)) (c .basic) (s .domain)) (s .fitting) g h k)
 
     fair-aim : (x : Aim) (c : Case) → Fair (ruleAim r x c (surveyOf r q))
     unfolding ruleTarget
     fair-aim (Node a) c =
         let t = targetOf (classOf (a .0)) (surveyOf r q) in
         fair-ruled t (placeFor r t a (c .arrival)) (wayFor r t a) c
-    fair-aim (PathLine x) c = fair-ruled target.Path (pathPlace r x) Lost c
+    fair-aim (Path x) c = fair-ruled target.Path (pathPlace r x) Lost c
+    fair-aim Uncarried c = fair-ruled target.Route Missing Lost c
 
   fair-rule : (at : Arrival) (x : Aim) (h : Header) → Fair (ruleOf r at x h)
   unfolding ruleOf
@@ -134,7 +141,7 @@ module _ (r : Relay) (p : ℕ) (inside : p < 8) where
 
   -- ---- the whole call
   fair-refused : (n : ℕ) → Fair (refusedBy n .ruling)
-  fair-refused n = fair-none 0 0
+  fair-refused n = fair-none No onward.NotAsked
 
   fair-or : (t : Bool) (n : ℕ) (e : Ending) → Fair (e .ruling) → Fair (pick t e (refusedBy n) .ruling)
   fair-or true n e f = f

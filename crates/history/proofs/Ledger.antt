@@ -22,12 +22,12 @@ use Rattle.records.specs.Fresh.{freshGroup, freshPath}
 use Rattle.routes.specs.Routes.{emptyRoute}
 use Rattle.state.specs.Relay.{Relay, freshRelay, queueIn, withRouter, withPort, withRoute, withGroup, withPath}
 use Rattle.verdict.specs.declared.Ruling.{Ruling}
-use Rattle.taking.specs.Taking.{notSetUp, handed, without, takeOutcome, takenState}
+use Rattle.taking.specs.Taking.{notSetUp, handsOut, without, takeOutcome, takenState}
 use Rattle.judge.specs.Ending.{endingOf}
 use Rattle.judge.specs.declared.Ending.{Ending}
 use Rattle.tally.specs.Tally.{movesOf, countedAll}
 use Rattle.relay.specs.Outgo.{enteredAll}
-use Rattle.relay.specs.Received.{entryOf, receivedState}
+use Rattle.relay.specs.Received.{newEntry, receivedState}
 use Rattle.taking.specs.declared.Taking.{Taking}
 use Rattle.taking.specs.declared.Taking.the-variants.{Refused}
 use Rattle.refusals.specs.Lists.{portChecks, routeChecks, groupChecks, pathChecks, routerChecks, clearChecks}
@@ -88,14 +88,14 @@ module _ (p : ℕ) (inside : p < 8) where
   received-count r slot e l f =
       let counted = countedAll r (movesOf e) in
       let same : queueIn counted p ≡ queueIn r p = ap (λ (x : List Queue). getD x p freshQueue) (counted-queues r e) in
-      let entry = entryOf slot e in
+      let entry = newEntry slot e in
       let took = e .ruling .took in
       ap (λ (x : Queue). x .count) (entered-queue p inside took entry 8 counted (ap length (counted-queues r e) ∙ l) inside ∙ ap (putIf p inside took entry) same)
       ∙ put-case (inSet p took) (queueIn r p) entry (f .room)
 
   received-eight : (r : Relay) (slot : Slot) (e : Ending) → Eight r → Eight (receivedState r slot e)
   unfolding receivedState
-  received-eight r slot e l = eight-entered (e .ruling .took) (entryOf slot e) 8 (countedAll r (movesOf e)) (ap length (counted-queues r e) ∙ l)
+  received-eight r slot e l = eight-entered (e .ruling .took) (newEntry slot e) 8 (countedAll r (movesOf e)) (ap length (counted-queues r e) ∙ l)
 
   received-closes : (r : Relay) (slot : Slot) (e : Ending) → Eight r → Fair r p inside (e .ruling)
       → queueIn r p .count + granted p (e .ruling) ≡ 0 + (queueIn (receivedState r slot e) p .count + dropped p (e .ruling))
@@ -104,7 +104,7 @@ module _ (p : ℕ) (inside : p < 8) where
   -- ---- taking
   take-closes : (r : Relay) (port : ℕ) → Eight r → (t : Bool) (h : Head) → takeOf (queueIn r port) .head ≡ h → (u : Bool) → eqb port p ≡ u
       → queueIn r p .count
-      ≡ pick u (isHanded (pick t (Refused 16) (handed h))) 0
+      ≡ pick u (isHanded (pick t (Refused 16) (handsOut h))) 0
       + queueIn (pick t r (without r port (takeOf (queueIn r port) .queue) h)) p .count
   take-closes r port l true h e true z = omega arith
   take-closes r port l true h e false z = omega arith

@@ -20,23 +20,29 @@ use Rattle.state.specs.Relay.{Relay, queueIn}
 use Rattle.queue.specs.Queue.{takeOf}
 use Rattle.queue.specs.declared.Head.{Head}
 use Rattle.queue.specs.declared.Head.the-variants.{First, Nothing}
-use Rattle.verdict.specs.Rule.{targetOf, hereBy, oursBy, wantedHere, localOf, exceptBy, aloneBy, groupLine, pathLine, routeLine, routerLine, hostLine, lineOf, afterHops, afterDomain, afterSize, grantedOf, copiesOf, rulingOf}
+use Rattle.verdict.specs.Rule.{targetOf, localOf, exceptBy, aloneBy, groupLine, pathLine, routeLine, routerLine, unheardBy, hostLine, lineOf, afterHops, afterDomain, afterSize, grantedOf, copiesOf, rulingOf}
 use Rattle.verdict.specs.declared.Target.{Target}
 use Rattle.verdict.specs.declared.Target.the-variants as target
 use Rattle.verdict.specs.declared.Place.{Place}
 use Rattle.verdict.specs.declared.Place.the-variants.{Held, Missing}
 use Rattle.verdict.specs.declared.Way.{Way}
 use Rattle.verdict.specs.declared.Way.the-variants.{By, Lost}
+use Rattle.verdict.specs.Numbers.{localNumber, obstacleNumber, onwardNumber}
 use Rattle.verdict.specs.declared.Case.{Case}
-use Rattle.verdict.specs.declared.Line.{Line}
-use Rattle.verdict.specs.declared.Line.the-variants.{Unasked, Refused, Wanted}
+use Rattle.verdict.specs.declared.Local.{Local}
+use Rattle.verdict.specs.declared.Local.the-variants.{No, Delivered, Unknown}
+use Rattle.verdict.specs.declared.Obstacle.{Obstacle}
+use Rattle.verdict.specs.declared.Onward.the-variants as onward
+use Rattle.verdict.specs.declared.Obstacle.the-variants.{NotForUs, HopsUsedUp, NoRoute, RouteNotUp, LeavesDomain, TooBig, QueuesFull}
+use Rattle.verdict.specs.declared.Wish.{Wish}
+use Rattle.verdict.specs.declared.Wish.the-variants.{NotAsked, Refused, Wanted}
 use Rattle.verdict.specs.declared.Survey.{Survey}
 use Rattle.verdict.specs.declared.Ruling.{Ruling}
 use Rattle.verdict.proofs.Promises.{no-is-asked}
 use Rattle.networks.specs.Networks.{domainOf}
 use Rattle.meaning.specs.Names.{aimOf}
 use Rattle.meaning.specs.declared.Aim.{Aim}
-use Rattle.meaning.specs.declared.Aim.the-variants.{Node, Line as PathLine}
+use Rattle.meaning.specs.declared.Aim.the-variants.{Node, Path, Uncarried}
 use Rattle.survey.specs.Survey.{surveyOf}
 use Rattle.survey.specs.declared.Sought.{Sought}
 use Rattle.lookup.specs.Lookup.{pathPlace}
@@ -45,8 +51,8 @@ use Rattle.lookup.specs.Ways.{placeFor, wayFor}
 use Rattle.judge.specs.Ruling.{caseOf, soughtOf, ruledBy, ruleTarget, ruleAim, ruleOf}
 use Rattle.judge.specs.declared.ruling.Arrival.{Arrival}
 use Rattle.meaning.specs.Arrival.{arrivalChecks}
-use Rattle.taking.specs.Taking.{notSetUp, handed, takeOutcome}
-use Rattle.judge.specs.Ending.{noRuling, refusedBy, ruled, callChecks, headerEnding, octetsEnding, arrivalAt, endingOf}
+use Rattle.taking.specs.Taking.{notSetUp, handsOut, takeOutcome}
+use Rattle.judge.specs.Ending.{noRuling, refusedBy, ruledEnding, callChecks, headerEnding, octetsEnding, arrivalAt, endingOf}
 use Rattle.judge.specs.declared.Ending.{Ending}
 use Rattle.taking.specs.declared.Taking.the-variants as taking
 use Rattle.refusals.specs.Lists.{portChecks, routeChecks, groupChecks, pathChecks, routerChecks, clearChecks}
@@ -63,13 +69,6 @@ refusals = 16 ∷ 17 ∷ 1 ∷ 2 ∷ 4 ∷ 3 ∷ 5 ∷ 8 ∷ 7 ∷ 6 ∷ []
 abbrev endNumbers : List ℕ
 endNumbers = 0 ∷ refusals
 
-abbrev localNumbers : List ℕ
-localNumbers = 0 ∷ 1 ∷ 26 ∷ []
-
--- of a line that is refused, before any queue is looked at, but for 9
-abbrev lineNumbers : List ℕ
-lineNumbers = 11 ∷ 12 ∷ 10 ∷ 13 ∷ 14 ∷ []
-
 -- ---- the first check that fails gives a number of its list
 abbrev allListed : List ℕ → Checks → Bool
 allListed xs [] = true
@@ -81,22 +80,6 @@ first-listed xs [] z h = z
 first-listed xs (c ∷ cs) z h =
     let both = and-true (listed xs (c .1)) (allListed xs cs) h in
     either (λ n. listed xs n ≡ true) (c .0) (both .0) (first-listed xs cs z (both .1))
-
--- what stands in a list stands in one that has all of it
-abbrev allIn : List ℕ → List ℕ → Bool
-allIn ys [] = true
-allIn ys (x ∷ xs) = listed ys x && allIn ys xs
-
-within-case : (ys : List ℕ) (n x : ℕ) (rest t : Bool) → eqb n x ≡ t → (t || rest) ≡ true → listed ys x ≡ true → (rest ≡ true → listed ys n ≡ true)
-    → listed ys n ≡ true
-within-case ys n x rest true e h here there = rw (eqb-true n x e) here
-within-case ys n x rest false e h here there = there h
-
-within : (xs ys : List ℕ) (n : ℕ) → allIn ys xs ≡ true → listed xs n ≡ true → listed ys n ≡ true
-within [] ys n h k = true-false (sym k)
-within (x ∷ xs) ys n h k =
-    let both = and-true (listed ys x) (allIn ys xs) h in
-    within-case ys n x (listed xs n) (eqb n x) refl k (both .0) (within xs ys n (both .1))
 
 or-right : (t u : Bool) → u ≡ true → (t || u) ≡ true
 or-right true u h = refl
@@ -131,42 +114,55 @@ end-listed r port octets room =
     either EndListed (eqb n 0) (octets-listed r (arrivalAt r port) octets) (first-listed endNumbers (callChecks r port room) refl refl)
 
 -- ---- the local half
-local-listed : (t : Target) (p : Place) (c : Case) → listed localNumbers (localOf t p c) ≡ true
-unfolding localOf
-local-listed t p c =
-    either (λ n. listed localNumbers n ≡ true) (eqb (wantedHere (oursBy t (hereBy p)) (c .intermediate)) 0) refl
-    (either (λ n. listed localNumbers n ≡ true) (eqb (c .assigned) 0) refl refl)
+abbrev isNo : Local → Bool
+isNo No = true
+isNo Delivered = false
+isNo Unknown = false
 
--- ---- the onward half: 9 where the local half is no, and else none but the line's numbers
-abbrev numbered : Bool → Line → Bool
-numbered bare Unasked = true
-numbered bare (Refused n) = (bare && eqb n 9) || listed lineNumbers n
+no-is : (local : Local) → isNo local ≡ true → local ≡ No
+no-is No h = refl
+no-is Delivered h = true-false (sym h)
+no-is Unknown h = true-false (sym h)
+
+-- ---- the onward half: not for us, 9, only where the local half is no
+abbrev isOurs : Obstacle → Bool
+isOurs NotForUs = false
+isOurs HopsUsedUp = true
+isOurs NoRoute = true
+isOurs RouteNotUp = true
+isOurs LeavesDomain = true
+isOurs TooBig = true
+isOurs QueuesFull = true
+
+abbrev numbered : Bool → Wish → Bool
+numbered bare NotAsked = true
+numbered bare (Refused o) = bare || isOurs o
 numbered bare (Wanted set) = true
 
 module _ (bare : Bool) where
-  abbrev Numbered : Line → Type 0
+  abbrev Numbered : Wish → Type 0
   Numbered l = numbered bare l ≡ true
 
-  -- a number of the lines
-  line-number : (n : ℕ) → listed lineNumbers n ≡ true → numbered bare (Refused n) ≡ true
-  line-number n h = or-right (bare && eqb n 9) (listed lineNumbers n) h
+  -- any other obstacle
+  other : (o : Obstacle) → isOurs o ≡ true → numbered bare (Refused o) ≡ true
+  other o h = or-right bare (isOurs o) h
 
   group-numbered : (p : Place) (arrival others : ℕ) → Numbered (groupLine p arrival others)
   unfolding groupLine
-  group-numbered Missing arrival others = line-number 11 refl
+  group-numbered Missing arrival others = other NoRoute refl
   group-numbered (Held send word) arrival others =
-      either Numbered (eqb (aloneBy word others) 1) refl (either Numbered (eqb (exceptBy send arrival) 0) (line-number 11 refl) refl)
+      either Numbered (eqb (aloneBy word others) 1) refl (either Numbered (eqb (exceptBy send arrival) 0) (other NoRoute refl) refl)
 
   path-numbered : (p : Place) (arrival : ℕ) → Numbered (pathLine p arrival)
   unfolding pathLine
-  path-numbered Missing arrival = line-number 11 refl
+  path-numbered Missing arrival = other NoRoute refl
   path-numbered (Held send here) arrival =
-      either Numbered (not (eqb (exceptBy send arrival) 0)) refl (either Numbered (not (eqb here 0)) refl (line-number 11 refl))
+      either Numbered (not (eqb (exceptBy send arrival) 0)) refl (either Numbered (not (eqb here 0)) refl (other NoRoute refl))
 
   route-numbered : (w : Way) → Numbered (routeLine w)
   unfolding routeLine
-  route-numbered Lost = line-number 11 refl
-  route-numbered (By set availability) = either Numbered (eqb availability 1) refl (line-number 12 refl)
+  route-numbered Lost = other NoRoute refl
+  route-numbered (By set availability) = either Numbered (eqb availability 1) refl (other RouteNotUp refl)
 
   router-numbered : (t : Target) (p : Place) (w : Way) (arrival ready : ℕ) → Numbered (routerLine t p w arrival ready)
   router-numbered target.Here p w arrival ready = refl
@@ -175,104 +171,126 @@ module _ (bare : Bool) where
   router-numbered target.Path p w arrival ready = path-numbered p arrival
   router-numbered target.Route p w arrival ready = route-numbered w
 
-  unheard : numbered bare (pick bare (Refused 9) Unasked) ≡ true
-  unheard = pick-unheard bare
-    where
-      pick-unheard : (t : Bool) → numbered t (pick t (Refused 9) Unasked) ≡ true
-      pick-unheard true = refl
-      pick-unheard false = refl
+unheard-numbered : (local : Local) → numbered (isNo local) (unheardBy local) ≡ true
+unheard-numbered No = refl
+unheard-numbered Delivered = refl
+unheard-numbered Unknown = refl
 
-host-numbered : (t : Target) (local : ℕ) → numbered (eqb local 0) (hostLine t local) ≡ true
+host-numbered : (t : Target) (local : Local) → numbered (isNo local) (hostLine t local) ≡ true
 host-numbered target.Here local = refl
-host-numbered target.Broadcast local = unheard (eqb local 0)
-host-numbered target.Group local = unheard (eqb local 0)
-host-numbered target.Path local = unheard (eqb local 0)
-host-numbered target.Route local = unheard (eqb local 0)
+host-numbered target.Broadcast local = unheard-numbered local
+host-numbered target.Group local = unheard-numbered local
+host-numbered target.Path local = unheard-numbered local
+host-numbered target.Route local = unheard-numbered local
 
-line-numbered : (t : Target) (p : Place) (w : Way) (c : Case) (ready local : ℕ) → numbered (eqb local 0) (lineOf t p w c ready local) ≡ true
+line-numbered : (t : Target) (p : Place) (w : Way) (c : Case) (ready : ℕ) (local : Local)
+    → numbered (isNo local) (lineOf t p w c ready local) ≡ true
 unfolding lineOf
-line-numbered t p w c ready local = either (Numbered (eqb local 0)) (eqb (c .router) 0) (host-numbered t local) (router-numbered (eqb local 0) t p w (c .arrival) ready)
+line-numbered t p w c ready local =
+    either (Numbered (isNo local)) (eqb (c .router) 0) (host-numbered t local) (router-numbered (isNo local) t p w (c .arrival) ready)
 
 -- and "no" with "not asked" never occurs
-abbrev good : Bool → Line → Bool
-good bare Unasked = not bare
-good bare (Refused n) = (bare && eqb n 9) || listed lineNumbers n
+abbrev good : Bool → Wish → Bool
+good bare NotAsked = not bare
+good bare (Refused o) = bare || isOurs o
 good bare (Wanted set) = true
 
-line-good : (bare : Bool) (l : Line) → numbered bare l ≡ true → (bare ≡ true → l ≡ Unasked → ⊥) → good bare l ≡ true
-line-good true Unasked h asked = absurd (asked refl refl)
-line-good false Unasked h asked = refl
+line-good : (bare : Bool) (l : Wish) → numbered bare l ≡ true → (bare ≡ true → l ≡ NotAsked → ⊥) → good bare l ≡ true
+line-good true NotAsked h asked = absurd (asked refl refl)
+line-good false NotAsked h asked = refl
 line-good bare (Refused n) h asked = h
 line-good bare (Wanted set) h asked = refl
 
 -- what strikes ports out leaves it so
 module _ (bare : Bool) where
-  abbrev Good : Line → Type 0
+  abbrev Good : Wish → Type 0
   Good l = good bare l ≡ true
 
-  hops-good : (l : Line) (spent : ℕ) → Good l → Good (afterHops l spent)
-  hops-good Unasked spent h = h
+  hops-good : (l : Wish) (spent : ℕ) → Good l → Good (afterHops l spent)
+  hops-good NotAsked spent h = h
   hops-good (Refused n) spent h = h
-  hops-good (Wanted set) spent h = either Good (eqb spent 0) refl (line-number bare 10 refl)
+  hops-good (Wanted set) spent h = either Good (eqb spent 0) refl (other bare HopsUsedUp refl)
 
-  domain-good : (l : Line) (basic near : ℕ) → Good l → Good (afterDomain l basic near)
-  domain-good Unasked basic near h = h
+  domain-good : (l : Wish) (basic near : ℕ) → Good l → Good (afterDomain l basic near)
+  domain-good NotAsked basic near h = h
   domain-good (Refused n) basic near h = h
   domain-good (Wanted set) basic near h =
-      either Good (eqb basic 0) refl (either Good (eqb (bitAnd set near) 0) (line-number bare 13 refl) refl)
+      either Good (eqb basic 0) refl (either Good (eqb (bitAnd set near) 0) (other bare LeavesDomain refl) refl)
 
-  size-good : (l : Line) (wide : ℕ) → Good l → Good (afterSize l wide)
-  size-good Unasked wide h = h
+  size-good : (l : Wish) (wide : ℕ) → Good l → Good (afterSize l wide)
+  size-good NotAsked wide h = h
   size-good (Refused n) wide h = h
-  size-good (Wanted set) wide h = either Good (eqb (bitAnd set wide) 0) (line-number bare 14 refl) refl
+  size-good (Wanted set) wide h = either Good (eqb (bitAnd set wide) 0) (other bare TooBig refl) refl
 
-  granted-good : (l : Line) (c : Case) (s : Survey) → Good l → Good (grantedOf l c s)
+  granted-good : (l : Wish) (c : Case) (s : Survey) → Good l → Good (grantedOf l c s)
   unfolding grantedOf
   granted-good l c s h =
       let hops = afterHops l (c .spent) in
-      let domain = afterDomain hops (c .basic) (s .near) in
-      size-good domain (s .wide) (domain-good hops (c .basic) (s .near) (hops-good l (c .spent) h))
+      let domain = afterDomain hops (c .basic) (s .domain) in
+      size-good domain (s .fitting) (domain-good hops (c .basic) (s .domain) (hops-good l (c .spent) h))
 
 -- ---- the rows of a datagram that was judged
 abbrev Judged : Ruling → Type 0
-Judged x = stands receiveRows (ended 0 (x .local) (x .onward) (x .took)) ≡ true
+Judged x = stands receiveRows (ended 0 (localNumber (x .local)) (onwardNumber (x .onward)) (x .took)) ≡ true
 
--- a port took an entry, or all dropped theirs: 15
-sent-not-delivered : (t : Bool) (took : ℕ) → eqb took 0 ≡ t → stands receiveRows (ended 0 0 (pick t 15 1) took) ≡ true
+-- a port took an entry, or all dropped theirs
+abbrev sent : Bool → ℕ
+sent none = onwardNumber (pick none (onward.Refused QueuesFull) onward.SentOn)
+
+-- not delivered: any obstacle
+refused-not-delivered : (o : Obstacle) → stands receiveRows (ended 0 0 (obstacleNumber o) 0) ≡ true
+refused-not-delivered NotForUs = refl
+refused-not-delivered HopsUsedUp = refl
+refused-not-delivered NoRoute = refl
+refused-not-delivered RouteNotUp = refl
+refused-not-delivered LeavesDomain = refl
+refused-not-delivered TooBig = refl
+refused-not-delivered QueuesFull = refl
+
+sent-not-delivered : (t : Bool) (took : ℕ) → eqb took 0 ≡ t → stands receiveRows (ended 0 0 (sent t) took) ≡ true
 sent-not-delivered true took h = simp (h)
 sent-not-delivered false took h = simp (h)
 
-not-delivered : (l : Line) (full : ℕ) → good true l ≡ true → Judged (rulingOf 0 l full)
+not-delivered : (l : Wish) (full : ℕ) → good true l ≡ true → Judged (rulingOf No l full)
 unfolding rulingOf copiesOf
-not-delivered Unasked full h = true-false (sym h)
-not-delivered (Refused n) full h = row-first _ _ (within (9 ∷ lineNumbers) (9 ∷ 11 ∷ 12 ∷ 10 ∷ 13 ∷ 14 ∷ 15 ∷ []) n refl h)
+not-delivered NotAsked full h = true-false (sym h)
+not-delivered (Refused o) full h = refused-not-delivered o
 not-delivered (Wanted set) full h = sent-not-delivered (eqb (exceptBy set full) 0) (exceptBy set full) refl
 
-module _ (local : ℕ) (bare : eqb local 0 ≡ false) (yes : listed (1 ∷ 26 ∷ []) local ≡ true) where
-  sent-delivered : (t : Bool) (took : ℕ) → eqb took 0 ≡ t → stands receiveRows (ended 0 local (pick t 15 1) took) ≡ true
+-- delivered or 26: any obstacle but that it is not for us
+ours-listed : (o : Obstacle) → isOurs o ≡ true → listed (0 ∷ 11 ∷ 12 ∷ 10 ∷ 13 ∷ 14 ∷ 15 ∷ []) (obstacleNumber o) ≡ true
+ours-listed NotForUs h = true-false (sym h)
+ours-listed HopsUsedUp h = refl
+ours-listed NoRoute h = refl
+ours-listed RouteNotUp h = refl
+ours-listed LeavesDomain h = refl
+ours-listed TooBig h = refl
+ours-listed QueuesFull h = refl
+
+module _ (local : Local) (bare : eqb (localNumber local) 0 ≡ false) (yes : listed (1 ∷ 26 ∷ []) (localNumber local) ≡ true) where
+  sent-delivered : (t : Bool) (took : ℕ) → eqb took 0 ≡ t → stands receiveRows (ended 0 (localNumber local) (sent t) took) ≡ true
   sent-delivered true took h = simp (bare, yes, h)
   sent-delivered false took h = simp (bare, yes, h)
 
-  delivered : (l : Line) (full : ℕ) → good false l ≡ true → Judged (rulingOf local l full)
+  delivered : (l : Wish) (full : ℕ) → good false l ≡ true → Judged (rulingOf local l full)
   unfolding rulingOf copiesOf
-  delivered Unasked full h = simp (bare, yes)
-  delivered (Refused n) full h =
-      let k : listed (0 ∷ 11 ∷ 12 ∷ 10 ∷ 13 ∷ 14 ∷ 15 ∷ []) n ≡ true = within lineNumbers (0 ∷ 11 ∷ 12 ∷ 10 ∷ 13 ∷ 14 ∷ 15 ∷ []) n refl h in
-      simp (bare, yes, k)
+  delivered NotAsked full h = simp (bare, yes)
+  delivered (Refused o) full h = let k = ours-listed o h in simp (bare, yes, k)
   delivered (Wanted set) full h = sent-delivered (eqb (exceptBy set full) 0) (exceptBy set full) refl
 
-local-case : (t : Bool) (local : ℕ) (l : Line) (full : ℕ) → eqb local 0 ≡ t → listed localNumbers local ≡ true → good t l ≡ true → Judged (rulingOf local l full)
-local-case true local l full z h k = rw (eqb-true local 0 z) (not-delivered l full k)
-local-case false local l full z h k = delivered local z (rw z at h) l full k
+local-case : (local : Local) (l : Wish) (full : ℕ) → good (isNo local) l ≡ true → Judged (rulingOf local l full)
+local-case No l full k = not-delivered l full k
+local-case Delivered l full k = delivered Delivered refl refl l full k
+local-case Unknown l full k = delivered Unknown refl refl l full k
 
 judged : (t : Target) (p : Place) (w : Way) (c : Case) (s : Survey) → Judged (ruledBy t p w c s)
 unfolding ruledBy
 judged t p w c s =
     let local = localOf t p c in
     let line = lineOf t p w c (s .ready) local in
-    let bare = eqb local 0 in
-    let asked : bare ≡ true → line ≡ Unasked → ⊥ = λ z. no-is-asked t p w c (s .ready) (eqb-true local 0 z) in
-    local-case bare local (grantedOf line c s) (s .full) refl (local-listed t p c)
+    let bare = isNo local in
+    let asked : bare ≡ true → line ≡ NotAsked → ⊥ = λ z. no-is-asked t p w c (s .ready) (no-is local z) in
+    local-case local (grantedOf line c s) (s .full)
     (granted-good bare line c s (line-good bare line (line-numbered t p w c (s .ready) local) asked))
 
 -- ---- what holds of every ruling holds of every ending
@@ -284,7 +302,8 @@ module _ (P : Ruling → Type 0) (every : (r : Relay) (q : Sought) (t : Target) 
   every-aim r q (Node a) c =
       let t = targetOf (classOf (a .0)) (surveyOf r q) in
       every r q t (placeFor r t a (c .arrival)) (wayFor r t a) c
-  every-aim r q (PathLine x) c = every r q target.Path (pathPlace r x) Lost c
+  every-aim r q (Path x) c = every r q target.Path (pathPlace r x) Lost c
+  every-aim r q Uncarried c = every r q target.Route Missing Lost c
 
   every-rule : (r : Relay) (at : Arrival) (x : Aim) (h : Header) → P (ruleOf r at x h)
   unfolding ruleOf
@@ -298,7 +317,7 @@ module _ (P : Ruling → Type 0) (every : (r : Relay) (q : Sought) (t : Target) 
   unfolding headerEnding
   ended-read r at s (read.Good h) e z =
       let n = firstOf (arrivalChecks (at .address) (h .fields)) in
-      ended-or (eqb n 0) n (ruled r at h) refl (λ k. every-rule r at (aimOf (at .address .0) (h .fields .addresses)) h) z
+      ended-or (eqb n 0) n (ruledEnding r at h) refl (λ k. every-rule r at (aimOf (at .address .0) (h .fields .addresses)) h) z
   ended-read r at s (read.Refused n) e z = absurd (never-zero s (e ∙ ap read.Refused z))
 
   -- of every call that no refusal ended
@@ -335,7 +354,7 @@ ended-case r port octets room true z =
 ended-case r port octets room false z =
     let e = endingOf r port octets room in
     let none = refused-grants-nothing r port octets room (eqb-false (e .refusal) 0 z) in
-    ap (λ (x : Ruling). stands receiveRows (ended (e .refusal) (x .local) (x .onward) (x .took))) none
+    ap (λ (x : Ruling). stands receiveRows (ended (e .refusal) (localNumber (x .local)) (onwardNumber (x .onward)) (x .took))) none
     ∙ refused-row (e .refusal) z (end-listed r port octets room)
 
 -- Every ending stands in the table's rows of a receive.
@@ -343,7 +362,7 @@ pub every-ending-is-listed : (r : Relay) (port : ℕ) (octets : List ℕ) (room 
 every-ending-is-listed r port octets room = ended-case r port octets room _ refl
 
 -- ---- taking
-taken-case : (t : Bool) (h : Head) → stands (numbers (16 ∷ 18 ∷ []) ∷ entries ∷ []) (takenBy (pick t (taking.Refused 16) (handed h))) ≡ true
+taken-case : (t : Bool) (h : Head) → stands (numbers (16 ∷ 18 ∷ []) ∷ entries ∷ []) (takenBy (pick t (taking.Refused 16) (handsOut h))) ≡ true
 taken-case true h = refl
 taken-case false (First x) = refl
 taken-case false Nothing = refl
@@ -368,12 +387,12 @@ call-listed r (receives port slot octets output) = every-ending-is-listed r port
 call-listed r (takes port) = taken-case (notSetUp r port) (takeOf (queueIn r port) .head)
 
 -- "No" with "not asked" never occurs: no row has it.
-unsaid : (x : Ruling) → Judged x → x .local ≡ 0 → x .onward ≡ 0 → ⊥
+unsaid : (x : Ruling) → Judged x → x .local ≡ No → x .onward ≡ onward.NotAsked → ⊥
 unsaid x h z o = true-false (sym h ∙ rw (z, o))
 
 pub never-unsaid : (r : Relay) (port : ℕ) (octets : List ℕ) (room : ℕ)
     → endingOf r port octets room .refusal ≡ 0
-    → endingOf r port octets room .ruling .local ≡ 0
-    → endingOf r port octets room .ruling .onward ≡ 0
+    → endingOf r port octets room .ruling .local ≡ No
+    → endingOf r port octets room .ruling .onward ≡ onward.NotAsked
     → ⊥
 never-unsaid r port octets room h = unsaid (endingOf r port octets room .ruling) (judged-ending r port octets room h)

@@ -20,30 +20,33 @@ use Rattle.header.specs.declared.Addresses.{Addresses}
 use Rattle.header.specs.declared.Header.{Header}
 use Rattle.header.specs.declared.Read.the-variants.{Good}
 use Rattle.networks.specs.Networks.{domainOf}
-use Rattle.meaning.specs.Names.{aimOf, sourceOf, isBasic}
+use Rattle.meaning.specs.Names.{aimOf, originOf, isBasic}
 use Rattle.meaning.specs.declared.Aim.{Aim}
-use Rattle.meaning.specs.declared.Aim.the-variants.{Node, Line as PathLine}
-use Rattle.meaning.proofs.Laws.{same-domain-same-aim, same-domain-same-source, extended-same-aim, extended-same-source}
+use Rattle.meaning.specs.declared.Aim.the-variants.{Node, Path, Uncarried}
+use Rattle.meaning.proofs.Laws.{same-domain-same-aim, same-domain-same-origin, extended-same-aim, extended-same-origin}
 use Rattle.state.specs.Relay.{Relay, portIn}
-use Rattle.survey.specs.Survey.{isSetUp, isNear, surveyBelow, surveyOf}
+use Rattle.survey.specs.Survey.{isSetUp, inDomain, surveyBelow, surveyOf}
 use Rattle.survey.specs.declared.Sought.{Sought}
 use Rattle.lookup.specs.Lookup.{pathPlace}
 use Rattle.verdict.specs.Rule.{targetOf, localOf, lineOf, hopsLeft, sameDomain, afterHops, afterDomain, afterSize, grantedOf, copiesOf, rulingOf}
 use Rattle.verdict.specs.declared.Target.{Target}
 use Rattle.verdict.specs.declared.Target.the-variants as target
 use Rattle.verdict.specs.declared.Place.{Place}
+use Rattle.verdict.specs.declared.Place.the-variants.{Missing}
 use Rattle.verdict.specs.declared.Way.{Way}
 use Rattle.verdict.specs.declared.Way.the-variants.{Lost}
 use Rattle.verdict.specs.declared.Case.{Case}
-use Rattle.verdict.specs.declared.Line.{Line}
-use Rattle.verdict.specs.declared.Line.the-variants.{Unasked, Refused, Wanted}
+use Rattle.verdict.specs.declared.Local.{Local}
+use Rattle.verdict.specs.declared.Obstacle.the-variants.{LeavesDomain, TooBig}
+use Rattle.verdict.specs.declared.Wish.{Wish}
+use Rattle.verdict.specs.declared.Wish.the-variants.{NotAsked, Refused, Wanted}
 use Rattle.verdict.specs.declared.Survey.{Survey}
 use Rattle.verdict.specs.declared.Ruling.{Ruling}
 use Rattle.lookup.specs.Ways.{placeFor, wayFor}
 use Rattle.judge.specs.Ruling.{caseOf, soughtOf, ruledBy, ruleTarget, ruleAim, ruleOf}
 use Rattle.judge.specs.declared.ruling.Arrival.{Arrival}
 use Rattle.meaning.specs.Arrival.{arrivalChecks}
-use Rattle.judge.specs.Ending.{refusedBy, ruled, callChecks, headerEnding, octetsEnding, arrivalAt, endingOf}
+use Rattle.judge.specs.Ending.{refusedBy, ruledEnding, callChecks, headerEnding, octetsEnding, arrivalAt, endingOf}
 use Rattle.judge.specs.declared.Ending.{Ending}
 use Rattle.history.proofs.Bits.{in-and, in-gathered}
 
@@ -56,65 +59,62 @@ module _ (p : ℕ) where
   none-in h = true-false (sym h ∙ ap (λ (n : ℕ). eqb (n % 2) 1) (div-eq-of-lt (pow-pos p)))
 
   -- ---- with addresses of one octet, what is granted is near
-  size-case : (t : Bool) (set wide g : ℕ) → pick t (Refused 14) (Wanted (bitAnd set wide)) ≡ Wanted g → inSet p g ≡ true → inSet p set ≡ true
+  size-case : (t : Bool) (set wide g : ℕ) → pick t (Refused TooBig) (Wanted (bitAnd set wide)) ≡ Wanted g → inSet p g ≡ true → inSet p set ≡ true
   size-case true set wide g h k = true-false cc
   size-case false set wide g h k = and-true (inSet p set) (inSet p wide) (sym (in-and p set wide) ∙ ap (inSet p) (let e : bitAnd set wide ≡ g = cc in e) ∙ k) .0
 
   near-case : (t : Bool) (set near wide g : ℕ)
-      → afterSize (pick t (Refused 13) (Wanted (bitAnd set near))) wide ≡ Wanted g → inSet p g ≡ true → inSet p near ≡ true
+      → afterSize (pick t (Refused LeavesDomain) (Wanted (bitAnd set near))) wide ≡ Wanted g → inSet p g ≡ true → inSet p near ≡ true
   near-case true set near wide g h k = true-false cc
   near-case false set near wide g h k =
       let s = bitAnd set near in
       and-true (inSet p set) (inSet p near) (sym (in-and p set near) ∙ size-case (eqb (bitAnd s wide) 0) s wide g h k) .1
 
-  near-line : (x : Line) (basic near wide g : ℕ) → (basic ≡ 0 → ⊥)
+  near-line : (x : Wish) (basic near wide g : ℕ) → (basic ≡ 0 → ⊥)
       → afterSize (afterDomain x basic near) wide ≡ Wanted g → inSet p g ≡ true → inSet p near ≡ true
-  near-line Unasked basic near wide g b h k = true-false cc
+  near-line NotAsked basic near wide g b h k = true-false cc
   near-line (Refused n) basic near wide g b h k = true-false cc
   near-line (Wanted set) basic near wide g b h k =
       near-case (eqb (bitAnd set near) 0) set near wide g (sym (simp (ne-eqb basic 0 b)) ∙ h) k
 
-  granted-case : (local : ℕ) (l : Line) (full : ℕ) → inSet p (rulingOf local l full .granted) ≡ true → (X : ℕ → Type 0)
+  granted-case : (local : Local) (l : Wish) (full : ℕ) → inSet p (rulingOf local l full .granted) ≡ true → (X : ℕ → Type 0)
       → ((g : ℕ) → l ≡ Wanted g → inSet p g ≡ true → X g) → X (rulingOf local l full .granted)
   unfolding rulingOf copiesOf
-  granted-case local Unasked full h X f = none-in h
+  granted-case local NotAsked full h X f = none-in h
   granted-case local (Refused n) full h X f = none-in h
   granted-case local (Wanted g) full h X f = f g refl h
 
   near-ruled : (t : Target) (x : Place) (w : Way) (c : Case) (s : Survey)
-      → (c .basic ≡ 0 → ⊥) → inSet p (ruledBy t x w c s .granted) ≡ true → inSet p (s .near) ≡ true
+      → (c .basic ≡ 0 → ⊥) → inSet p (ruledBy t x w c s .granted) ≡ true → inSet p (s .domain) ≡ true
   unfolding ruledBy grantedOf
   near-ruled t x w c s b h =
       let line = lineOf t x w c (s .ready) (localOf t x c) in
-      granted-case (localOf t x c) (grantedOf line c s) (s .full) h (λ g. inSet p (s .near) ≡ true)
-      (λ g e k. near-line (afterHops line (c .spent)) (c .basic) (s .near) (s .wide) g b e k)
+      granted-case (localOf t x c) (grantedOf line c s) (s .full) h (λ g. inSet p (s .domain) ≡ true)
+      (λ g e k. near-line (afterHops line (c .spent)) (c .basic) (s .domain) (s .fitting) g b e k)
 
   near-aim : (r : Relay) (x : Aim) (c : Case) (s : Survey)
-      → (c .basic ≡ 0 → ⊥) → inSet p (ruleAim r x c s .granted) ≡ true → inSet p (s .near) ≡ true
+      → (c .basic ≡ 0 → ⊥) → inSet p (ruleAim r x c s .granted) ≡ true → inSet p (s .domain) ≡ true
   unfolding ruleTarget
   near-aim r (Node a) c s b h =
       let t = targetOf (classOf (a .0)) s in
       near-ruled t (placeFor r t a (c .arrival)) (wayFor r t a) c s b h
-  near-aim r (PathLine x) c s b h = near-ruled target.Path (pathPlace r x) Lost c s b h
+  near-aim r (Path x) c s b h = near-ruled target.Path (pathPlace r x) Lost c s b h
+  near-aim r Uncarried c s b h = near-ruled target.Route Missing Lost c s b h
 
   module _ (inside : p < 8) (r : Relay) where
-    near-is : (q : Sought) → inSet p (surveyOf r q .near) ≡ true → domainOf (portIn r p .address) ≡ q .domain
+    near-is : (q : Sought) → inSet p (surveyOf r q .domain) ≡ true → domainOf (portIn r p .address) ≡ q .domain
     unfolding surveyBelow
     near-is q h =
         eqb-true (domainOf (portIn r p .address)) (q .domain)
-        (and-true (isSetUp (portIn r p)) (isNear (portIn r p) q)
-        (sym (in-gathered (λ (i : ℕ). isSetUp (portIn r i) && isNear (portIn r i) q) p 8 inside) ∙ h) .1)
-
-    domain-of : (x : Aim) (domain length : ℕ) → soughtOf x domain length .domain ≡ domain
-    domain-of (Node a) domain length = refl
-    domain-of (PathLine y) domain length = refl
+        (and-true (isSetUp (portIn r p)) (inDomain (portIn r p) q)
+        (sym (in-gathered (λ (i : ℕ). isSetUp (portIn r i) && inDomain (portIn r i) q) p 8 inside) ∙ h) .1)
 
     near-rule : (at : Arrival) (x : Aim) (h : Header) → (isBasic (h .fields .addresses) ≡ 0 → ⊥)
         → inSet p (ruleOf r at x h .granted) ≡ true → domainOf (portIn r p .address) ≡ domainOf (at .address)
     unfolding ruleOf
     near-rule at x h b k =
         let q = soughtOf x (domainOf (at .address)) (h .length) in
-        near-is q (near-aim r x (caseOf (r .router) (at .set) (h .fields)) (surveyOf r q) b k) ∙ domain-of x (domainOf (at .address)) (h .length)
+        near-is q (near-aim r x (caseOf (r .router) (at .set) (h .fields)) (surveyOf r q) b k)
 
     -- ---- the whole call
     granted-or : (t : Bool) (n : ℕ) (e : Ending) → inSet p (pick t e (refusedBy n) .ruling .granted) ≡ true → inSet p (e .ruling .granted) ≡ true
@@ -135,7 +135,7 @@ module _ (p : ℕ) where
       granted-rule =
           let at = arrivalAt r port in
           let n = firstOf (arrivalChecks (at .address) (h .fields)) in
-          granted-or (eqb n 0) n (ruled r at h) granted-header
+          granted-or (eqb n 0) n (ruledEnding r at h) granted-header
 
       -- A one-octet address never goes out into another domain.
       pub stays-in-its-domain : (isBasic (h .fields .addresses) ≡ 0 → ⊥)
@@ -145,13 +145,13 @@ module _ (p : ℕ) where
       -- What the destination, the path and the source name at the port the copy leaves by is what they named where it came in.
       pub names-the-same :
           (aimOf (portIn r p .address .0) (h .fields .addresses) ≡ aimOf (portIn r port .address .0) (h .fields .addresses))
-          × (sourceOf (portIn r p .address .0) (h .fields .addresses) ≡ sourceOf (portIn r port .address .0) (h .fields .addresses))
+          × (originOf (portIn r p .address .0) (h .fields .addresses) ≡ originOf (portIn r port .address .0) (h .fields .addresses))
       names-the-same =
           let out = portIn r p .address .0 in
           let in' = portIn r port .address .0 in
           let a = h .fields .addresses in
           ⊎-elim
-          (λ (e : isBasic a ≡ 0). (extended-same-aim out in' a e, extended-same-source out in' a e))
+          (λ (e : isBasic a ≡ 0). (extended-same-aim out in' a e, extended-same-origin out in' a e))
           (λ (b : isBasic a ≡ 0 → ⊥).
-          (same-domain-same-aim out in' a (stays-in-its-domain b), same-domain-same-source out in' a (stays-in-its-domain b)))
+          (same-domain-same-aim out in' a (stays-in-its-domain b), same-domain-same-origin out in' a (stays-in-its-domain b)))
           (zero-or-not (isBasic a))

@@ -27,7 +27,7 @@ use Rattle.taking.specs.Taking.{notSetUp, without, takenState}
 use Rattle.judge.specs.Ending.{endingOf}
 use Rattle.judge.specs.declared.Ending.{Ending}
 use Rattle.tally.specs.Tally.{movesOf, countedAll}
-use Rattle.relay.specs.Received.{entryOf, receivedState}
+use Rattle.relay.specs.Received.{newEntry, receivedState}
 use Rattle.refusals.specs.Lists.{portChecks, routeChecks, groupChecks, pathChecks, routerChecks, clearChecks}
 use Rattle.adjust.specs.Settled.{newPort, newRoute, newGroup, newPath}
 use Rattle.history.specs.Calls.{Call, setRouter, setPort, setRoute, setGroup, setPath, clearRoute, clearGroup, clearPath, receives, takes, done, run, after}
@@ -74,7 +74,7 @@ module _ (p : ℕ) (inside : p < 8) where
   unfolding receivedState
   received-works r slot e l =
       let counted = countedAll r (movesOf e) in
-      let entry = entryOf slot e in
+      let entry = newEntry slot e in
       let took = e .ruling .took in
       entered-queue p inside took entry 8 counted (ap length (counted-queues r e) ∙ l) inside
       ∙ ap (putIf p inside took entry) (kept r counted (counted-queues r e))

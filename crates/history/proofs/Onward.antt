@@ -7,20 +7,22 @@ use Rattle.verdict.specs.declared.Target.{Target}
 use Rattle.verdict.specs.declared.Place.{Place}
 use Rattle.verdict.specs.declared.Way.{Way}
 use Rattle.verdict.specs.declared.Case.{Case}
-use Rattle.verdict.specs.declared.Line.{Line}
-use Rattle.verdict.specs.declared.Line.the-variants.{Unasked, Refused, Wanted}
+use Rattle.verdict.specs.declared.Local.{Local}
+use Rattle.verdict.specs.declared.Onward.{Onward}
+use Rattle.verdict.specs.declared.Wish.{Wish}
+use Rattle.verdict.specs.declared.Wish.the-variants.{NotAsked, Refused, Wanted}
 use Rattle.verdict.specs.declared.Survey.{Survey}
 use Rattle.verdict.specs.declared.Ruling.{Ruling}
 use Rattle.verdict.proofs.Promises.{tpid-free}
 use Rattle.judge.specs.Ruling.{ruledBy}
 
 -- the onward half of a ruling
-abbrev pub onwardHalf : Ruling → ℕ × (ℕ × (ℕ × ℕ))
+abbrev pub onwardHalf : Ruling → Onward × (ℕ × (ℕ × ℕ))
 onwardHalf x = (x .onward, (x .granted, (x .took, x .dropped)))
 
-any-local : (a b : ℕ) (l : Line) (full : ℕ) → onwardHalf (rulingOf a l full) ≡ onwardHalf (rulingOf b l full)
+any-local : (a b : Local) (l : Wish) (full : ℕ) → onwardHalf (rulingOf a l full) ≡ onwardHalf (rulingOf b l full)
 unfolding rulingOf copiesOf
-any-local a b Unasked full = refl
+any-local a b NotAsked full = refl
 any-local a b (Refused n) full = refl
 any-local a b (Wanted set) full = refl
 
@@ -41,6 +43,6 @@ pub onward-free-of-tpid : (t : Target) (p : Place) (w : Way) (c : Case) (n : ℕ
 unfolding ruledBy grantedOf
 onward-free-of-tpid t p w c n s =
     let d = withAssigned c n in
-    let struck : Line → Line = λ l. afterSize (afterDomain (afterHops l (c .spent)) (c .basic) (s .near)) (s .wide) in
+    let struck : Wish → Wish = λ l. afterSize (afterDomain (afterHops l (c .spent)) (c .basic) (s .domain)) (s .fitting) in
     any-local (localOf t p c) (localOf t p d) (struck (lineOf t p w c (s .ready) (localOf t p c))) (s .full)
-    ∙ ap (λ (l : Line). onwardHalf (rulingOf (localOf t p d) (struck l) (s .full))) (tpid-free t p w c d (s .ready) refl refl refl)
+    ∙ ap (λ (l : Wish). onwardHalf (rulingOf (localOf t p d) (struck l) (s .full))) (tpid-free t p w c d (s .ready) refl refl refl)

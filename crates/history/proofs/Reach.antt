@@ -41,9 +41,11 @@ use Rattle.queue.specs.declared.Queue.{Queue}
 use Rattle.taking.specs.Taking.{notSetUp, without, takenState}
 use Rattle.judge.specs.Ending.{endingOf}
 use Rattle.judge.specs.declared.Ending.{Ending}
-use Rattle.tally.specs.Tally.{Row, movesOf, countedAt, countedAll}
+use Rattle.tally.specs.Tally.{Move, movesOf, countedAt, countedAll}
+use Rattle.tally.specs.declared.Counter.{Counter}
+use Rattle.tally.specs.declared.Counter.the-variants as counter
 use Rattle.relay.specs.Outgo.{entered, enteredIf, enteredAll}
-use Rattle.relay.specs.Received.{entryOf, receivedState}
+use Rattle.relay.specs.Received.{newEntry, receivedState}
 use Rattle.history.specs.Calls.{Call, setRouter, setPort, setRoute, setGroup, setPath, clearRoute, clearGroup, clearPath, receives, takes, done, run, after}
 use Rattle.history.specs.Reach.{Reached}
 use Rattle.history.proofs.Bits.{in-gathered}
@@ -317,15 +319,14 @@ by-settings r s k e = same-kept r s k (ap (λ x. x .0) e) (ap (λ x. x .1 .0) e)
 abbrev pub madeOf : Relay → ℕ × (List Port × (List Group × (List PathPlace × List Route)))
 madeOf r = (r .router, settingsOf r)
 
-counted-case : (t : Bool) (r : Relay) (i n : ℕ) → madeOf (pick t (added r i n) r) ≡ madeOf r
-counted-case true r i n = refl
-counted-case false r i n = refl
-
-counted-made : (rows : List Row) (r : Relay) → madeOf (countedAll r rows) ≡ madeOf r
+counted-case : (r : Relay) (c : Counter) (n : ℕ) → madeOf (countedAt r c n) ≡ madeOf r
 unfolding countedAt
+counted-case r (counter.At place) n = refl
+counted-case r counter.Nothing n = refl
+
+counted-made : (moves : List Move) (r : Relay) → madeOf (countedAll r moves) ≡ madeOf r
 counted-made [] r = refl
-counted-made (row ∷ rows) r =
-    counted-made rows (countedAt r (row .0) (row .1)) ∙ counted-case (ltb (row .0) 15) r (row .0) (row .1)
+counted-made (move ∷ moves) r = counted-made moves (countedAt r (move .0) (move .1)) ∙ counted-case r (move .0) (move .1)
 
 entered-case : (t : Bool) (r : Relay) (p : ℕ) (e : Entry) → madeOf (pick t r (entered r p e)) ≡ madeOf r
 entered-case true r p e = refl
@@ -339,7 +340,7 @@ entered-made took e (suc p) r =
 
 pub received-made : (r : Relay) (slot : Slot) (e : Ending) → madeOf (receivedState r slot e) ≡ madeOf r
 unfolding receivedState
-received-made r slot e = entered-made (e .ruling .took) (entryOf slot e) 8 (countedAll r (movesOf e)) ∙ counted-made (movesOf e) r
+received-made r slot e = entered-made (e .ruling .took) (newEntry slot e) 8 (countedAll r (movesOf e)) ∙ counted-made (movesOf e) r
 
 taken-case : (t : Bool) (r : Relay) (port : ℕ) (q : Queue) (h : Head) → madeOf (pick t r (without r port q h)) ≡ madeOf r
 taken-case true r port q h = refl

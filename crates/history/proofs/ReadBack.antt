@@ -15,6 +15,9 @@ use Rattle.checks.proofs.Laws.{either}
 use Rattle.header.specs.Read.{readChecks, headerOf, readOf}
 use Rattle.header.proofs.Bounds.{header-size}
 use Rattle.state.specs.Relay.{Relay}
+use Rattle.verdict.specs.Numbers.{localNumber, onwardNumber}
+use Rattle.verdict.specs.declared.Local.the-variants.{No}
+use Rattle.verdict.specs.declared.Onward.the-variants.{NotAsked}
 use Rattle.verdict.specs.declared.Ruling.{Ruling}
 use Rattle.judge.specs.declared.ruling.Arrival.{Arrival}
 use Rattle.meaning.specs.Arrival.{arrivalChecks}
@@ -29,8 +32,8 @@ use Rattle.history.proofs.Small.{sets-small}
 
 pub record ReadBack (n : ℕ) (e : Ending) : Type 0 where
   pub refusal : partAt 0 n ≡ e .refusal
-  pub local : partAt 8 n ≡ e .ruling .local
-  pub onward : partAt 16 n ≡ e .ruling .onward
+  pub local : partAt 8 n ≡ localNumber (e .ruling .local)
+  pub onward : partAt 16 n ≡ onwardNumber (e .ruling .onward)
   pub took : partAt 24 n ≡ e .ruling .took
   pub dropped : partAt 32 n ≡ e .ruling .dropped
   -- the octets of the header sent on, 0 where no port took an entry
@@ -108,8 +111,8 @@ same-size false n h = let e : n % 256 ≡ n = mod-eq-of-lt (omega arith) in rw e
 size-low : (t : Bool) (n : ℕ) → n ≤ 50 → pick t 0 n < 256
 size-low t n h = either (λ x. x < 256) t (omega arith) (omega arith)
 
-alone-number : (n size : ℕ) (x : Ruling) → x ≡ record { local = 0; onward = 0; granted = 0; took = 0; dropped = 0 }
-    → partsOf n (x .local) (x .onward) (x .took) (x .dropped) (pick (eqb (x .took) 0) 0 size) ≡ n
+alone-number : (n size : ℕ) (x : Ruling) → x ≡ record { local = No; onward = NotAsked; granted = 0; took = 0; dropped = 0 }
+    → partsOf n (localNumber (x .local)) (onwardNumber (x .onward)) (x .took) (x .dropped) (pick (eqb (x .took) 0) 0 size) ≡ n
 unfolding partsOf
 alone-number n size x h = rw h (omega arith)
 
@@ -120,14 +123,14 @@ read-back r port octets room =
     let e = endingOf r port octets room in
     let x = e .ruling in
     let t = eqb (x .took) 0 in
-    let low = rows-low (e .refusal) (x .local) (x .onward) (x .took) receiveRows refl (every-ending-is-listed r port octets room) in
+    let low = rows-low (e .refusal) (localNumber (x .local)) (onwardNumber (x .onward)) (x .took) receiveRows refl (every-ending-is-listed r port octets room) in
     let small = sets-small r port octets room in
     let short = ending-short r port octets room in
-    let is : receiveNumber e ≡ partsOf (e .refusal) (x .local) (x .onward) (x .took) (x .dropped) (pick t 0 (e .size)) =
+    let is : receiveNumber e ≡ partsOf (e .refusal) (localNumber (x .local)) (onwardNumber (x .onward)) (x .took) (x .dropped) (pick t 0 (e .size)) =
     cc (mod-eq-of-lt (low .0), mod-eq-of-lt (low .1 .0), mod-eq-of-lt (low .1 .1), mod-eq-of-lt (small .took), mod-eq-of-lt (small .dropped), same-size t (e .size) short)
     in
     let parts =
-    six (e .refusal) (x .local) (x .onward) (x .took) (x .dropped) (pick t 0 (e .size)) (low .0) (low .1 .0) (low .1 .1) (small .took)
+    six (e .refusal) (localNumber (x .local)) (onwardNumber (x .onward)) (x .took) (x .dropped) (pick t 0 (e .size)) (low .0) (low .1 .0) (low .1 .1) (small .took)
     (small .dropped) (size-low t (e .size) short)
     in
     record {

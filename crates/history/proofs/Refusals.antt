@@ -24,12 +24,12 @@ use Rattle.queue.specs.declared.Queue.{Queue}
 use Rattle.state.specs.Relay.{Relay, queueIn}
 use Rattle.judge.specs.declared.ruling.Arrival.{Arrival}
 use Rattle.meaning.specs.Arrival.{arrivalChecks}
-use Rattle.taking.specs.Taking.{notSetUp, handed, without, takeOutcome, takenState}
-use Rattle.judge.specs.Ending.{noRuling, refusedBy, ruled, callChecks, headerEnding, octetsEnding, arrivalAt, endingOf}
+use Rattle.taking.specs.Taking.{notSetUp, handsOut, without, takeOutcome, takenState}
+use Rattle.judge.specs.Ending.{noRuling, refusedBy, ruledEnding, callChecks, headerEnding, octetsEnding, arrivalAt, endingOf}
 use Rattle.judge.specs.declared.Ending.{Ending}
 use Rattle.tally.specs.Tally.{movesOf, countedAll, counterFor}
-use Rattle.relay.specs.Outgo.{entered, enteredIf, enteredAll, outputOf}
-use Rattle.relay.specs.Received.{entryOf, receivedState}
+use Rattle.relay.specs.Outgo.{entered, enteredIf, enteredAll, sentOutput}
+use Rattle.relay.specs.Received.{newEntry, receivedState}
 use Rattle.taking.specs.declared.Taking.{Taking}
 use Rattle.taking.specs.declared.Taking.the-variants.{Handed, Refused}
 use Rattle.history.specs.Board.{boardOf}
@@ -51,7 +51,7 @@ bare-octets : (r : Relay) (at : Arrival) (x : Read) → Bare (octetsEnding r at 
 unfolding headerEnding
 bare-octets r at (read.Good h) =
     let n = firstOf (arrivalChecks (at .address) (h .fields)) in
-    bare-or (eqb n 0) n (ruled r at h) (bare-ruled (ruled r at h) refl)
+    bare-or (eqb n 0) n (ruledEnding r at h) (bare-ruled (ruledEnding r at h) refl)
 bare-octets r at (read.Refused n) = λ h. refl
 
 pub refused-grants-nothing : (r : Relay) (port : ℕ) (octets : List ℕ) (room : ℕ)
@@ -77,12 +77,12 @@ nobody-enters e (suc p) r =
 pub nobody-took : (r : Relay) (slot : Slot) (e : Ending) → e .ruling .took ≡ 0 → boardOf (receivedState r slot e) ≡ boardOf r
 unfolding receivedState
 nobody-took r slot e h =
-    ap (λ (took : ℕ). boardOf (enteredAll (countedAll r (movesOf e)) took (entryOf slot e) 8)) h
-    ∙ ap boardOf (nobody-enters (entryOf slot e) 8 (countedAll r (movesOf e)))
+    ap (λ (took : ℕ). boardOf (enteredAll (countedAll r (movesOf e)) took (newEntry slot e) 8)) h
+    ∙ ap boardOf (nobody-enters (newEntry slot e) 8 (countedAll r (movesOf e)))
     ∙ counted-board (movesOf e) r
 
-pub output-as-lent : (e : Ending) (octets lent : List ℕ) → e .ruling .took ≡ 0 → outputOf (e .ruling .took) octets lent ≡ lent
-unfolding outputOf
+pub output-as-lent : (e : Ending) (octets lent : List ℕ) → e .ruling .took ≡ 0 → sentOutput (e .ruling .took) octets lent ≡ lent
+unfolding sentOutput
 output-as-lent e octets lent h = rw h refl
 
 -- A refused datagram leaves settings and queues, and every octet of the output.
@@ -90,20 +90,20 @@ pub refused-leaves :
     (r : Relay) (port : ℕ) (slot : Slot) (octets output : List ℕ)
     → (endingOf r port octets (length output) .refusal ≡ 0 → ⊥)
     → (boardOf (receivedState r slot (endingOf r port octets (length output))) ≡ boardOf r)
-    × (outputOf (endingOf r port octets (length output) .ruling .took) octets output ≡ output)
+    × (sentOutput (endingOf r port octets (length output) .ruling .took) octets output ≡ output)
 refused-leaves r port slot octets output h =
     let e = endingOf r port octets (length output) in
     let z : e .ruling .took ≡ 0 = ap (λ x. x .took) (refused-grants-nothing r port octets (length output) h) in
     (nobody-took r slot e z, output-as-lent e octets output z)
 
 -- 16 and 17 move no counter.
-pub counts-nothing : (i : ℕ) → i < 15 → (given (refusedBy 16) i ≡ 0) × (given (refusedBy 17) i ≡ 0)
+pub counts-nothing : (i : ℕ) → (given (refusedBy 16) i ≡ 0) × (given (refusedBy 17) i ≡ 0)
 unfolding counterFor
-counts-nothing i h = let none = ne-eqb 15 i (λ e. omega arith) in (simp (none), simp (none))
+counts-nothing i = (refl, refl)
 
 -- A refused take leaves the whole relay.
 take-case : (t : Bool) (r : Relay) (port : ℕ) (q : Queue) (h : Head) (n : ℕ)
-    → pick t (Refused 16) (handed h) ≡ Refused n → pick t r (without r port q h) ≡ r
+    → pick t (Refused 16) (handsOut h) ≡ Refused n → pick t r (without r port q h) ≡ r
 take-case true r port q h n e = refl
 take-case false r port q (First x) n e = true-false cc
 take-case false r port q Nothing n e = refl

@@ -13,6 +13,7 @@ use Rattle.checks.specs.Order.{pick}
 use Rattle.checks.proofs.Bools.{true-false}
 use Rattle.address.specs.Mask.{onesBelow, onesOf}
 use Rattle.state.specs.Relay.{Relay, counterIn}
+use Rattle.verdict.specs.Numbers.{localNumber, onwardNumber}
 use Rattle.judge.specs.Ending.{endingOf}
 use Rattle.judge.specs.declared.Ending.{Ending}
 use Rattle.history.specs.Calls.{Call, setRouter, setPort, setRoute, setGroup, setPath, clearRoute, clearGroup, clearPath, receives, takes, after}
@@ -20,7 +21,7 @@ use Rattle.history.specs.Board.{Board, onBoard, freshBoard, next}
 use Rattle.history.specs.Over.{byEnding, sumOver}
 use Rattle.history.specs.Tally.{given, givenBy, tallyFrom}
 use Rattle.history.specs.Ledger.{one}
-use Rattle.history.specs.Sums.{receipt, delivery, sentOn, portsIn, drops, total}
+use Rattle.history.specs.Sums.{receipt, delivery, forwarded, portsIn, drops, total}
 use Rattle.history.specs.Answers.{ended, receiveRows, stands}
 use Rattle.history.proofs.Counters.{counters}
 use Rattle.history.proofs.Named.{receives-counted, delivers-counted, forwards-counted, discards-counted}
@@ -78,17 +79,17 @@ sent-case refusal local onward took true false h k s = refl
 sent-case refusal local onward took false true h k s = refl
 sent-case refusal local onward took false false h k s = true-false (sym (simp (k, h, and-false) at s))
 
-forwards : (r : Relay) (port : ℕ) (octets output : List ℕ) → given (endingOf r port octets (length output)) 10 ≡ sentOn (endingOf r port octets (length output))
+forwards : (r : Relay) (port : ℕ) (octets output : List ℕ) → given (endingOf r port octets (length output)) 10 ≡ forwarded (endingOf r port octets (length output))
 forwards r port octets output =
     let e = endingOf r port octets (length output) in
     let x = e .ruling in
     forwards-counted e
-    ∙ ap one (sent-case (e .refusal) (x .local) (x .onward) (x .took) (eqb (x .took) 0) (eqb (x .onward) 1) refl refl
+    ∙ ap one (sent-case (e .refusal) (localNumber (x .local)) (onwardNumber (x .onward)) (x .took) (eqb (x .took) 0) (eqb (onwardNumber (x .onward)) 1) refl refl
     (every-ending-is-listed r port octets (length output)))
 
 -- npForwDatagrams is the number of datagrams that some port took, not of their copies.
-pub forwards-sum : (cs : List Call) → counterIn (after cs) 10 ≡ total sentOn cs % 2 ^ 32
-forwards-sum = totalled 10 sentOn forwards (omega arith)
+pub forwards-sum : (cs : List Call) → counterIn (after cs) 10 ≡ total forwarded cs % 2 ^ 32
+forwards-sum = totalled 10 forwarded forwards (omega arith)
 
 -- ---- the ones of a set of the eight ports are its ports
 bit-case : (b : ℕ) → b < 2 → one (eqb b 1) ≡ b

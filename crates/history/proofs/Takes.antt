@@ -20,7 +20,7 @@ use Rattle.queue.specs.declared.Entry.{Entry}
 use Rattle.queue.specs.declared.Head.{Head}
 use Rattle.queue.specs.declared.Head.the-variants.{First, Nothing}
 use Rattle.state.specs.Relay.{Relay, freshRelay, queueIn, withQueue}
-use Rattle.taking.specs.Taking.{notSetUp, handed, takeOutcome, takenState}
+use Rattle.taking.specs.Taking.{notSetUp, handsOut, takeOutcome, takenState}
 use Rattle.taking.specs.declared.Taking.the-variants.{Handed, Refused}
 use Rattle.taking.proofs.Port.{is-port}
 use Rattle.history.specs.Calls.{Call, takes, done, run, after}
@@ -57,17 +57,17 @@ no-entries [] h = refl
 no-entries (x ∷ w) h = true-false cc
 
 -- ---- what an outcome shows, and what shows it
-handed-case : (t : Bool) (h : Head) (e : Entry) → pick t (Refused 16) (handed h) ≡ Handed e → (t ≡ false) × (h ≡ First e)
+handed-case : (t : Bool) (h : Head) (e : Entry) → pick t (Refused 16) (handsOut h) ≡ Handed e → (t ≡ false) × (h ≡ First e)
 handed-case true h e k = true-false cc
 handed-case false (First x) e k = (refl, cc)
 handed-case false Nothing e k = true-false cc
 
-none-case : (t : Bool) (h : Head) → pick t (Refused 16) (handed h) ≡ Refused 18 → (t ≡ false) × (h ≡ Nothing)
+none-case : (t : Bool) (h : Head) → pick t (Refused 16) (handsOut h) ≡ Refused 18 → (t ≡ false) × (h ≡ Nothing)
 none-case true h k = true-false cc
 none-case false (First x) k = true-false cc
 none-case false Nothing k = (refl, refl)
 
-closed-case : (t : Bool) (h : Head) → pick t (Refused 16) (handed h) ≡ Refused 16 → t ≡ true
+closed-case : (t : Bool) (h : Head) → pick t (Refused 16) (handsOut h) ≡ Refused 16 → t ≡ true
 closed-case true h k = refl
 closed-case false (First x) k = true-false cc
 closed-case false Nothing k = true-false cc
@@ -90,7 +90,7 @@ module _ (r : Relay) (port : ℕ) where
     is-inside : port < 8
     is-inside = is-port r port refl (ap checkOf ready)
 
-    by-head : (h : Head) → takeOf (queueIn r port) .head ≡ h → takeOutcome r port ≡ handed h
+    by-head : (h : Head) → takeOf (queueIn r port) .head ≡ h → takeOutcome r port ≡ handsOut h
     unfolding takeOutcome
     by-head h k = rw (ready, k)
 

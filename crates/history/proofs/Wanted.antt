@@ -30,12 +30,15 @@ use Rattle.lookup.specs.Ways.{wayOf, placeFor, wayFor}
 use Rattle.state.specs.Relay.{Relay, routeIn, groupIn, pathIn}
 use Rattle.survey.specs.Survey.{surveyBelow, surveyOf}
 use Rattle.survey.specs.declared.Sought.{Sought}
-use Rattle.verdict.specs.Rule.{exceptBy, aloneBy, groupLine, pathLine, routeLine, routerLine, hostLine, lineOf}
+use Rattle.verdict.specs.Rule.{exceptBy, aloneBy, groupLine, pathLine, routeLine, routerLine, unheardBy, hostLine, lineOf}
 use Rattle.verdict.specs.declared.Target.{Target}
 use Rattle.verdict.specs.declared.Target.the-variants as target
 use Rattle.verdict.specs.declared.Case.{Case}
-use Rattle.verdict.specs.declared.Line.{Line}
-use Rattle.verdict.specs.declared.Line.the-variants.{Unasked, Refused, Wanted}
+use Rattle.verdict.specs.declared.Local.{Local}
+use Rattle.verdict.specs.declared.Local.the-variants.{No, Delivered, Unknown}
+use Rattle.verdict.specs.declared.Obstacle.the-variants.{NoRoute, RouteNotUp}
+use Rattle.verdict.specs.declared.Wish.{Wish}
+use Rattle.verdict.specs.declared.Wish.the-variants.{NotAsked, Refused, Wanted}
 use Rattle.verdict.specs.declared.Place.{Place}
 use Rattle.verdict.specs.declared.Place.the-variants.{Held, Missing}
 use Rattle.verdict.specs.declared.Way.{Way}
@@ -145,12 +148,12 @@ module _ (r : Relay) (k : Kept r) (p : ℕ) (inside : p < 8) where
       ready-set-up (ap (λ (q : ℕ). isReady q (readySet r)) (only-that p (x .port) port m) ∙ ready)
 
   -- the lines
-  abbrev GoodLine : Line → Type 0
-  GoodLine Unasked = Unit
+  abbrev GoodLine : Wish → Type 0
+  GoodLine NotAsked = Unit
   GoodLine (Refused n) = Unit
   GoodLine (Wanted g) = inSet p g ≡ true → isSetUp r p ≡ true
 
-  pick-line : (t : Bool) (a b : Line) → GoodLine a → GoodLine b → GoodLine (pick t a b)
+  pick-line : (t : Bool) (a b : Wish) → GoodLine a → GoodLine b → GoodLine (pick t a b)
   pick-line true a b f g = f
   pick-line false a b f g = g
 
@@ -158,27 +161,32 @@ module _ (r : Relay) (k : Kept r) (p : ℕ) (inside : p < 8) where
   unfolding groupLine
   group-line Missing arrival others g = tt
   group-line (Held send word) arrival others g =
-      pick-line (eqb (aloneBy word others) 1) Unasked _ tt
-      (pick-line (eqb (exceptBy send arrival) 0) (Refused 11) (Wanted (exceptBy send arrival)) tt (λ m. g (except-in send arrival m)))
+      pick-line (eqb (aloneBy word others) 1) NotAsked _ tt
+      (pick-line (eqb (exceptBy send arrival) 0) (Refused NoRoute) (Wanted (exceptBy send arrival)) tt (λ m. g (except-in send arrival m)))
 
   path-line : (x : Place) (arrival : ℕ) → Good x → GoodLine (pathLine x arrival)
   unfolding pathLine
   path-line Missing arrival g = tt
   path-line (Held send here) arrival g =
       pick-line (not (eqb (exceptBy send arrival) 0)) (Wanted (exceptBy send arrival)) _ (λ m. g (except-in send arrival m))
-      (pick-line (not (eqb here 0)) Unasked (Refused 11) tt tt)
+      (pick-line (not (eqb here 0)) NotAsked (Refused NoRoute) tt tt)
 
   route-line : (w : Way) → GoodWay w → GoodLine (routeLine w)
   unfolding routeLine
   route-line Lost g = tt
-  route-line (By set availability) g = pick-line (eqb availability 1) (Wanted set) (Refused 12) g tt
+  route-line (By set availability) g = pick-line (eqb availability 1) (Wanted set) (Refused RouteNotUp) g tt
 
-  host-line : (t : Target) (local : ℕ) → GoodLine (hostLine t local)
+  unheard-line : (local : Local) → GoodLine (unheardBy local)
+  unheard-line No = tt
+  unheard-line Delivered = tt
+  unheard-line Unknown = tt
+
+  host-line : (t : Target) (local : Local) → GoodLine (hostLine t local)
   host-line target.Here local = tt
-  host-line target.Broadcast local = pick-line (eqb local 0) (Refused 9) Unasked tt tt
-  host-line target.Group local = pick-line (eqb local 0) (Refused 9) Unasked tt tt
-  host-line target.Path local = pick-line (eqb local 0) (Refused 9) Unasked tt tt
-  host-line target.Route local = pick-line (eqb local 0) (Refused 9) Unasked tt tt
+  host-line target.Broadcast local = unheard-line local
+  host-line target.Group local = unheard-line local
+  host-line target.Path local = unheard-line local
+  host-line target.Route local = unheard-line local
 
   survey-ready : (q : Sought) → inSet p (surveyOf r q .ready) ≡ true → isSetUp r p ≡ true
   unfolding surveyBelow
@@ -189,12 +197,12 @@ module _ (r : Relay) (k : Kept r) (p : ℕ) (inside : p < 8) where
   router-line target.Here x w arrival q g h = tt
   router-line target.Broadcast x w arrival q g h =
       let ready = surveyOf r q .ready in
-      pick-line (eqb (exceptBy ready arrival) 0) Unasked (Wanted (exceptBy ready arrival)) tt (λ m. survey-ready q (except-in ready arrival m))
+      pick-line (eqb (exceptBy ready arrival) 0) NotAsked (Wanted (exceptBy ready arrival)) tt (λ m. survey-ready q (except-in ready arrival m))
   router-line target.Group x w arrival q g h = group-line x arrival (exceptBy (surveyOf r q .ready) arrival) g
   router-line target.Path x w arrival q g h = path-line x arrival g
   router-line target.Route x w arrival q g h = route-line w h
 
-  line-good : (t : Target) (x : Place) (w : Way) (c : Case) (q : Sought) (local : ℕ) → Good x → GoodWay w → GoodLine (lineOf t x w c (surveyOf r q .ready) local)
+  line-good : (t : Target) (x : Place) (w : Way) (c : Case) (q : Sought) (local : Local) → Good x → GoodWay w → GoodLine (lineOf t x w c (surveyOf r q .ready) local)
   unfolding lineOf
   line-good t x w c q local g h = pick-line (eqb (c .router) 0) _ _ (host-line t local) (router-line t x w (c .arrival) q g h)
 
@@ -212,13 +220,13 @@ module _ (r : Relay) (k : Kept r) (p : ℕ) (inside : p < 8) where
   way-good target.Path a = tt
   way-good target.Route a = found-good a (searchOf a (r .routes)) refl
 
-  wanted-is : (l : Line) (g : ℕ) → GoodLine l → l ≡ Wanted g → inSet p g ≡ true → isSetUp r p ≡ true
-  wanted-is Unasked g h e m = true-false cc
+  wanted-is : (l : Wish) (g : ℕ) → GoodLine l → l ≡ Wanted g → inSet p g ≡ true → isSetUp r p ≡ true
+  wanted-is NotAsked g h e m = true-false cc
   wanted-is (Refused n) g h e m = true-false cc
   wanted-is (Wanted s) g h e m = h (rw (let z : s ≡ g = cc in z) m)
 
 -- After any history each port that is wanted for a datagram to an end system or a group is set up, ..
-pub wanted-is-set-up : (cs : List Call) (p : ℕ) → p < 8 → (t : Target) (a : Address) (c : Case) (q : Sought) (local g : ℕ)
+pub wanted-is-set-up : (cs : List Call) (p : ℕ) → p < 8 → (t : Target) (a : Address) (c : Case) (q : Sought) (local : Local) (g : ℕ)
     → lineOf t (placeFor (after cs) t a (c .arrival)) (wayFor (after cs) t a) c (surveyOf (after cs) q .ready) local ≡ Wanted g
     → inSet p g ≡ true
     → isSetUp (after cs) p ≡ true
@@ -229,7 +237,7 @@ wanted-is-set-up cs p inside t a c q local g =
     (line-good r k p inside t (placeFor r t a (c .arrival)) (wayFor r t a) c q local (place-good r k p inside t a (c .arrival)) (way-good r k p inside t a))
 
 -- .. and each that is wanted for one on a path.
-pub wanted-on-path-is-set-up : (cs : List Call) (p : ℕ) → p < 8 → (x : PathAddress) (c : Case) (q : Sought) (local g : ℕ)
+pub wanted-on-path-is-set-up : (cs : List Call) (p : ℕ) → p < 8 → (x : PathAddress) (c : Case) (q : Sought) (local : Local) (g : ℕ)
     → lineOf target.Path (pathPlace (after cs) x) Lost c (surveyOf (after cs) q .ready) local ≡ Wanted g
     → inSet p g ≡ true
     → isSetUp (after cs) p ≡ true

@@ -20,10 +20,11 @@ use Rattle.routes.specs.declared.Found.the-variants.{At}
 use Rattle.routes.specs.declared.Route.{Route}
 use Rattle.routes.proofs.Marked as marked
 use Rattle.verdict.specs.Rule.{routeLine}
-use Rattle.verdict.specs.declared.Line.the-variants.{Refused}
+use Rattle.verdict.specs.declared.Obstacle.the-variants.{RouteNotUp}
+use Rattle.verdict.specs.declared.Wish.the-variants.{Refused}
 use Rattle.lookup.specs.Ways.{wayOf}
 use Rattle.state.specs.Relay.{Relay}
-use Rattle.survey.specs.Survey.{isWide}
+use Rattle.survey.specs.Survey.{isFitting}
 use Rattle.survey.specs.declared.Sought.{Sought}
 use Rattle.records.specs.declared.Port.{Port}
 use Rattle.address.specs.declared.Address.{Address}
@@ -33,6 +34,7 @@ use Rattle.taking.specs.Taking.{notSetUp}
 use Rattle.judge.specs.Ending.{callChecks, endingOf}
 use Rattle.refusals.specs.Lists.{portChecks}
 use Rattle.tally.specs.Tally.{counterFor}
+use Rattle.tally.specs.declared.Counter.the-variants.{At, Nothing}
 
 -- the multicast flag read as the top bit: z = 15 has it low, z = 130 has it high
 pub flag-is-low : (classOf (dotted 10 4 9 15) ≡ class.Multicast) × (classOf (dotted 10 4 9 130) ≡ class.Unicast)
@@ -57,7 +59,7 @@ notUp =
     }
 
 pub taken-though-not-up :
-    routeLine (wayOf (searchOf (record { 0 = dotted 10 4 9 14 }) (marked.A ∷ marked.B ∷ marked.C ∷ notUp ∷ []))) ≡ Refused 12
+    routeLine (wayOf (searchOf (record { 0 = dotted 10 4 9 14 }) (marked.A ∷ marked.B ∷ marked.C ∷ notUp ∷ []))) ≡ Refused RouteNotUp
 unfolding searchOf searchFrom betterOf beaten candidate matched onesOf onesBelow routeLine
 taken-though-not-up = refl
 
@@ -71,12 +73,12 @@ pub hops-of-two : (spentOf (octet.Present 2) ≡ 0) × (spentOf (octet.Present 1
 hops-of-two = (refl, refl)
 
 -- a number counted by the wrong counter: 9 is npInAddrErrors, 13 left domain, and 15 has none
-pub numbers-counted : (counterFor 9 ≡ 6) × ((counterFor 13 ≡ 13) × (counterFor 15 ≡ 15))
+pub numbers-counted : (counterFor 9 ≡ At 6) × ((counterFor 13 ≡ At 13) × (counterFor 15 ≡ Nothing))
 unfolding counterFor
 numbers-counted = (refl, (refl, refl))
 
 -- an MTU that is equal refused: it holds the datagram
-pub mtu-equal-holds : (p : Port) (q : Sought) → p .mtu ≡ q .length → isWide p q ≡ true
+pub mtu-equal-holds : (p : Port) (q : Sought) → p .mtu ≡ q .length → isFitting p q ≡ true
 mtu-equal-holds p q h = simp (le-ltb (p .mtu) (q .length) (omega arith))
 
 -- 17 before 16: a port that is not set up is 16, whatever the room

@@ -16,12 +16,14 @@ use Rattle.address.specs.Mask.{maskOf, maskForm, onesBelow, onesOf}
 use Rattle.address.specs.declared.Slot.{Slot}
 use Rattle.header.specs.Form.{controlOf, forbidden, addressSize, stampSize, layoutOf}
 use Rattle.header.specs.Read.{addressesOf, qosOf, octetOf, stampOf, lengthOf, fieldsOf, headerOf, readChecks, readOf}
-use Rattle.meaning.specs.Names.{aimOf, sourceOf}
+use Rattle.meaning.specs.Names.{aimOf, originOf}
 use Rattle.networks.specs.Networks.{subnetBroadcast, broadcastIn, classBroadcast}
-use Rattle.survey.specs.Survey.{oursAt, surveyBelow}
+use Rattle.survey.specs.Survey.{ownBroadcast, surveyBelow}
 use Rattle.verdict.specs.Rule.{targetOf, localOf, routeLine, lineOf, grantedOf, copiesOf, rulingOf}
 use Rattle.judge.specs.Ruling.{ruledBy, ruleTarget, ruleOf}
 use Rattle.taking.specs.Taking.{notSetUp}
+use Rattle.verdict.specs.declared.Local.the-variants.{No}
+use Rattle.verdict.specs.declared.Onward.the-variants.{SentOn}
 use Rattle.judge.specs.Ending.{callChecks, headerEnding, endingOf}
 use Rattle.judge.specs.declared.Ending.{Ending}
 use Rattle.settings.specs.Refusals.{otherClass, portMaskRefused, formRefused, onesRefused}
@@ -71,7 +73,7 @@ abbrev sentTo : ℕ → Ending
 sentTo set =
     record {
       refusal = 0;
-      ruling = record { local = 0; onward = 1; granted = set; took = set; dropped = 0 };
+      ruling = record { local = No; onward = SentOn; granted = set; took = set; dropped = 0 };
       precedence = 0;
       size = 12;
     }
@@ -87,7 +89,7 @@ pub record Cases : Type 0 where
   pub receipts : (counterIn (after settings) 0 ≡ 0) × (counterIn (after then-a) 0 ≡ 1)
 
 pub cases : Cases
-unfolding firstOf classOf classIn familyOf scpsClass netClass otherClass portMaskRefused formRefused onesRefused maskForm onesOf onesBelow fresh freshRelay readySet routeElsewhere prefixRefused codesRefused sameEntry number controlOf forbidden addressSize stampSize layoutOf addressesOf qosOf octetOf stampOf lengthOf fieldsOf headerOf readChecks readOf aimOf sourceOf subnetBroadcast broadcastIn classBroadcast oursAt surveyBelow targetOf localOf routeLine lineOf grantedOf copiesOf rulingOf ruledBy ruleTarget ruleOf notSetUp callChecks headerEnding endingOf receivedState countedAt counterFor enteredAll enteredIf putOf matched candidate beaten betterOf searchFrom searchOf
+unfolding firstOf classOf classIn familyOf scpsClass netClass otherClass portMaskRefused formRefused onesRefused maskForm onesOf onesBelow fresh freshRelay readySet routeElsewhere prefixRefused codesRefused sameEntry number controlOf forbidden addressSize stampSize layoutOf addressesOf qosOf octetOf stampOf lengthOf fieldsOf headerOf readChecks readOf aimOf originOf subnetBroadcast broadcastIn classBroadcast ownBroadcast surveyBelow targetOf localOf routeLine lineOf grantedOf copiesOf rulingOf ruledBy ruleTarget ruleOf notSetUp callChecks headerEnding endingOf receivedState countedAt counterFor enteredAll enteredIf putOf matched candidate beaten betterOf searchFrom searchOf
 cases = record { a = refl; b = refl; waiting = (refl, refl); receipts = (refl, refl) }
 
 -- ---- verdicts
@@ -104,7 +106,7 @@ module _ (verdict : Verdict) (kept : (r : Relay) (port : ℕ) (octets : List ℕ
   always-refusing wrong = wrong settings 0 (toward 10 4 9 14) 50 (ap (λ e. e .refusal) in-case-a)
 
   -- Nor does it refuse the onward half of all that it judges.
-  pub never-sending-on : ((cs : List Call) (port : ℕ) (octets : List ℕ) (room : ℕ) → verdict (after cs) port octets room .ruling .onward ≡ 1 → ⊥) → ⊥
+  pub never-sending-on : ((cs : List Call) (port : ℕ) (octets : List ℕ) (room : ℕ) → verdict (after cs) port octets room .ruling .onward ≡ SentOn → ⊥) → ⊥
   never-sending-on wrong = wrong settings 0 (toward 10 4 9 14) 50 (ap (λ e. e .ruling .onward) in-case-a)
 
   -- It does not name port 0 alone, whenever it grants a copy.

@@ -10,6 +10,7 @@ use Rattle.queue.specs.declared.Entry.{Entry}
 use Rattle.state.specs.Relay.{Relay}
 use Rattle.refusals.specs.Lists.{portChecks, routeChecks, groupChecks, pathChecks, routerChecks, clearChecks}
 use Rattle.adjust.specs.Settled.{newRoute}
+use Rattle.verdict.specs.Numbers.{localNumber, onwardNumber}
 use Rattle.judge.specs.Ending.{endingOf}
 use Rattle.judge.specs.declared.Ending.{Ending}
 use Rattle.taking.specs.Taking.{takeOutcome}
@@ -27,7 +28,7 @@ pub data Answer : Type 0 where
   entry : Entry → Answer
 
 abbrev pub endedBy : Ending → Answer
-endedBy e = ended (e .refusal) (e .ruling .local) (e .ruling .onward) (e .ruling .took)
+endedBy e = ended (e .refusal) (localNumber (e .ruling .local)) (onwardNumber (e .ruling .onward)) (e .ruling .took)
 
 abbrev pub takenBy : Taking → Answer
 takenBy (Handed e) = entry e

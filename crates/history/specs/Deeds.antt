@@ -13,13 +13,13 @@ use Rattle.queue.specs.declared.Queue.{Queue}
 use Rattle.taking.specs.Taking.{notSetUp}
 use Rattle.judge.specs.Ending.{endingOf}
 use Rattle.judge.specs.declared.Ending.{Ending}
-use Rattle.relay.specs.Received.{entryOf}
+use Rattle.relay.specs.Received.{newEntry}
 use Rattle.history.specs.Calls.{Call, setRouter, setPort, setRoute, setGroup, setPath, clearRoute, clearGroup, clearPath, receives, takes}
 use Rattle.history.specs.Board.{Board, onBoard, freshBoard, next}
 
 -- an entry is put at port p where p took a copy
 abbrev pub putsAt : ℕ → Slot → Ending → List turns.Deed
-putsAt p slot e = pick (inSet p (e .ruling .took)) (turns.puts (entryOf slot e) ∷ []) []
+putsAt p slot e = pick (inSet p (e .ruling .took)) (turns.puts (newEntry slot e) ∷ []) []
 
 abbrev pub deedsBy : ℕ → Board → Call → List turns.Deed
 deedsBy p b (setRouter x) = []

@@ -6,6 +6,7 @@ use mathlib.Core.Bool.{not, _||_}
 use mathlib.Core.List.{List}
 use lib.Dec.{eqb}
 use Rattle.sets.specs.Sets.{inSet}
+use Rattle.verdict.specs.Numbers.{localNumber}
 use Rattle.judge.specs.declared.Ending.{Ending}
 use Rattle.history.specs.Calls.{Call}
 use Rattle.history.specs.Board.{freshBoard}
@@ -18,11 +19,11 @@ abbrev pub receipt : Ending → ℕ
 receipt e = one (not (eqb (e .refusal) 16 || eqb (e .refusal) 17))
 
 abbrev pub delivery : Ending → ℕ
-delivery e = one (eqb (e .ruling .local) 1)
+delivery e = one (eqb (localNumber (e .ruling .local)) 1)
 
 -- at least one port took an entry
-abbrev pub sentOn : Ending → ℕ
-sentOn e = one (not (eqb (e .ruling .took) 0))
+abbrev pub forwarded : Ending → ℕ
+forwarded e = one (not (eqb (e .ruling .took) 0))
 
 -- how many of the first n ports are in a set
 abbrev pub portsIn : ℕ → ℕ → ℕ

@@ -1,6 +1,7 @@
 -- All that becomes of a received datagram: page 01, "One received datagram, step by step". Each list of checks is in the page's order, and
 -- the first whose condition holds ends the call with its number. Assumes nothing.
 use Prim.Native.Nat.{ℕ}
+use mathlib.Core.Bool.{Bool}
 use mathlib.Core.List.{List, [], _∷_}
 use lib.Dec.{eqb, ltb}
 use Rattle.checks.specs.Order.{pick, Checks, firstOf}
@@ -11,7 +12,9 @@ use Rattle.header.specs.declared.Read.{Read}
 use Rattle.header.specs.declared.Read.the-variants as read
 use Rattle.meaning.specs.Names.{aimOf}
 use Rattle.meaning.specs.Arrival.{arrivalChecks}
-use Rattle.meaning.specs.Asked.{precedenceOf}
+use Rattle.meaning.specs.Asked.{precedenceAsked}
+use Rattle.verdict.specs.declared.Local.the-variants.{No}
+use Rattle.verdict.specs.declared.Onward.the-variants.{NotAsked}
 use Rattle.verdict.specs.declared.Ruling.{Ruling}
 use Rattle.state.specs.Relay.{Relay, portIn}
 use Rattle.judge.specs.Ruling.{ruleOf}
@@ -21,7 +24,7 @@ use Rattle.judge.specs.declared.Ending.{Ending}
 
 -- a refusal delivers, grants and drops nothing
 abbrev pub noRuling : Ruling
-noRuling = record { local = 0; onward = 0; granted = 0; took = 0; dropped = 0 }
+noRuling = record { local = No; onward = NotAsked; granted = 0; took = 0; dropped = 0 }
 
 abbrev pub refusedBy : ℕ → Ending
 refusedBy n = record { refusal = n; ruling = noRuling; precedence = 0; size = 0 }
@@ -31,21 +34,25 @@ abbrev pub orElse : ℕ → Ending → Ending
 orElse n e = pick (eqb n 0) e (refusedBy n)
 
 -- ---- step 1
+-- "Output under 50 octets"
+abbrev pub noRoom : ℕ → Bool
+noRoom room = ltb room 50
+
 unfoldable pub callChecks : Relay → ℕ → ℕ → Checks
-callChecks r port room = (notSetUp r port, 16) ∷ (ltb room 50, 17) ∷ []
+callChecks r port room = (notSetUp r port, 16) ∷ (noRoom room, 17) ∷ []
 
 -- ---- the ending
-abbrev pub ruled : Relay → Arrival → Header → Ending
-ruled r at h =
+abbrev pub ruledEnding : Relay → Arrival → Header → Ending
+ruledEnding r at h =
     record {
       refusal = 0;
       ruling = ruleOf r at (aimOf (at .address .0) (h .fields .addresses)) h;
-      precedence = precedenceOf (h .fields .qos);
+      precedence = precedenceAsked (h .fields .qos);
       size = h .size;
     }
 
 unfoldable pub headerEnding : Relay → Arrival → Header → Ending
-headerEnding r at h = orElse (firstOf (arrivalChecks (at .address) (h .fields))) (ruled r at h)
+headerEnding r at h = orElse (firstOf (arrivalChecks (at .address) (h .fields))) (ruledEnding r at h)
 
 -- steps 2 and 3 are the reader's
 abbrev pub octetsEnding : Relay → Arrival → Read → Ending

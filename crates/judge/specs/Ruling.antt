@@ -12,14 +12,17 @@ use Rattle.meaning.specs.Asked.{assignedOf, spentOf}
 use Rattle.state.specs.Relay.{Relay}
 use Rattle.verdict.specs.Rule.{targetOf, localOf, lineOf, grantedOf, rulingOf}
 use Rattle.verdict.specs.declared.Target.{Target}
-use Rattle.verdict.specs.declared.Target.the-variants.{Path}
+use Rattle.verdict.specs.declared.Target.the-variants.{Path, Route}
 use Rattle.verdict.specs.declared.Place.{Place}
+use Rattle.verdict.specs.declared.Place.the-variants.{Missing}
 use Rattle.verdict.specs.declared.Way.{Way}
 use Rattle.verdict.specs.declared.Way.the-variants.{Lost}
 use Rattle.verdict.specs.declared.Case.{Case}
 use Rattle.verdict.specs.declared.Survey.{Survey}
 use Rattle.verdict.specs.declared.Ruling.{Ruling}
 use Rattle.survey.specs.Survey.{surveyOf}
+use Rattle.survey.specs.declared.Destination.{Destination}
+use Rattle.survey.specs.declared.Destination.the-variants as destination
 use Rattle.survey.specs.declared.Sought.{Sought}
 use Rattle.lookup.specs.Lookup.{pathPlace}
 use Rattle.lookup.specs.Ways.{placeFor, wayFor}
@@ -38,9 +41,13 @@ caseOf router arrival f =
     }
 
 -- a path is not compared with any port's address
+abbrev pub destinationOf : Aim → Destination
+destinationOf (aim.Node a) = destination.Node a
+destinationOf (aim.Path p) = destination.Other
+destinationOf aim.Uncarried = destination.Other
+
 abbrev pub soughtOf : Aim → ℕ → ℕ → Sought
-soughtOf (aim.Node a) domain length = record { destination = a; domain = domain; length = length }
-soughtOf (aim.Line p) domain length = record { destination = record { 0 = 0 }; domain = domain; length = length }
+soughtOf x domain length = record { destination = destinationOf x; domain = domain; length = length }
 
 -- ---- the ruling
 unfoldable pub ruledBy : Target → Place → Way → Case → Survey → Ruling
@@ -54,7 +61,8 @@ ruleNode r a c s = ruleTarget r (targetOf (classOf (a .0)) s) a c s
 
 abbrev pub ruleAim : Relay → Aim → Case → Survey → Ruling
 ruleAim r (aim.Node a) c s = ruleNode r a c s
-ruleAim r (aim.Line p) c s = ruledBy Path (pathPlace r p) Lost c s
+ruleAim r (aim.Path p) c s = ruledBy Path (pathPlace r p) Lost c s
+ruleAim r aim.Uncarried c s = ruledBy Route Missing Lost c s
 
 unfoldable pub ruleOf : Relay → Arrival → Aim → Header → Ruling
 ruleOf r at x h =

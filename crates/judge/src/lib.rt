@@ -12,13 +12,17 @@ use crate::ruling::Arrival;
 use checks::Check;
 use header::Header;
 use header::Read;
+use verdict::Local;
+use verdict::Onward;
 use verdict::Ruling;
 ghost use mathlib.Core.Path.{_≡_};
 ghost use Prim.Native.Nat.{_<_};
 ghost use lib.ListN.{length};
+ghost use Rattle.checks.specs.Order.{checkOf};
 ghost use Rattle.header.specs.Read.{readOf};
 ghost use Rattle.state.specs.Layout.{stateWords, decode};
 ghost use Rattle.judge.specs.Ending.{
+  noRoom,
   refusedBy,
   headerEnding,
   octetsEnding,
@@ -42,8 +46,8 @@ fn refused(refusal: u32) -> Ending
     ensures { λ r. ⌜ r ≡ refusedBy refusal ⌝ }
 {
     let ruling = Ruling {
-        local: 0,
-        onward: 0,
+        local: Local::No,
+        onward: Onward::NotAsked,
         granted: 0,
         took: 0,
         dropped: 0,
@@ -56,20 +60,30 @@ fn refused(refusal: u32) -> Ending
     }
 }
 
-// Steps 4 to 6, and the ruling.
+// What the relay carries (8), a domain for addresses of one octet (7), the destination and the source that the header names by its arrival
+// port (6, by two checks), and the ruling.
 fn judge_header(state: &[u32], at: Arrival, h: Header) -> Ending
     requires { ⌜ (length (now state) ≡ stateWords) × (h .length < 8192) ⌝ }
     ensures { λ r. ⌜ r ≡ headerEnding (decode (now (state .entry))) at h ⌝ }
 {
     let f = h.fields;
     let port = at.address;
-    let refusal = meaning::arrival::check_arrival(port, f);
-    if refusal != 0 {
-        return refused(refusal);
-    }
     let addresses = f.addresses;
     let qos = f.qos;
-    let ruling = crate::ruling::rule(state, at, meaning::aim_of(port, addresses), h);
+    let Check::Passed = meaning::check_carried(f) else {
+        return refused(8);
+    };
+    let Check::Passed = meaning::check_domain(port, addresses) else {
+        return refused(7);
+    };
+    let aim = meaning::aim_of(port, addresses);
+    let Check::Passed = meaning::check_aim(aim) else {
+        return refused(6);
+    };
+    let Check::Passed = meaning::check_origin(meaning::origin_of(port, addresses)) else {
+        return refused(6);
+    };
+    let ruling = crate::ruling::rule(state, at, aim, h);
     Ending {
         refusal: 0,
         ruling,
@@ -89,6 +103,16 @@ fn judge_octets(state: &[u32], at: Arrival, octets: &[u8]) -> Ending
     }
 }
 
+// The output holds any header.
+fn check_room(room: usize) -> Check
+    ensures { λ r. ⌜ r ≡ checkOf (noRoom room) ⌝ }
+{
+    if room < ROOM {
+        return Check::Failed;
+    }
+    Check::Passed
+}
+
 // The verdict on the octets that came in by a port, with so much room for output.
 pub fn judge(state: &[u32], port: u32, octets: &[u8], room: usize) -> Ending
     requires { ⌜ length (now state) ≡ stateWords ⌝ }
@@ -97,9 +121,9 @@ pub fn judge(state: &[u32], port: u32, octets: &[u8], room: usize) -> Ending
     let Check::Passed = taking::check_port(state, port) else {
         return refused(16);
     };
-    if room < ROOM {
+    let Check::Passed = check_room(room) else {
         return refused(17);
-    }
+    };
     let p = state_ports::port_of(state, port as usize);
     let address = p.address;
     let at = Arrival {

@@ -3,12 +3,13 @@
 // What the verdict is handed is looked up here: the survey of the ports, the place of the group or the path, the route. Nothing is
 // written, and what a line does not ask is not looked up; the definition says the same, line by line.
 //
-// The awkward case is a path: its number is never compared with a port's address, a broadcast or a route, even where they are equal, so
-// the ports are surveyed for the address 0.0.0.0 and what they say of it is not asked.
+// The awkward cases are destinations that no port could have. A path is ruled by its place alone. What is not carried has been refused
+// before (8); its ruling is that of an address that no place and no route knows.
 use address::Address;
 use header::Fields;
 use header::Header;
 use meaning::Aim;
+use survey::Destination;
 use survey::Sought;
 use verdict::Case;
 use verdict::Place;
@@ -20,7 +21,7 @@ ghost use mathlib.Core.Path.{_≡_};
 ghost use Prim.Native.Nat.{_<_};
 ghost use lib.ListN.{length};
 ghost use Rattle.state.specs.Layout.{stateWords, decode};
-ghost use Rattle.judge.specs.Ruling.{ruledBy, ruleNode, caseOf, soughtOf, ruleAim, ruleOf};
+ghost use Rattle.judge.specs.Ruling.{ruledBy, ruleNode, caseOf, destinationOf, soughtOf, ruleAim, ruleOf};
 
 // Where a datagram came in: the port as a set, and its address.
 pub struct Arrival {
@@ -29,12 +30,12 @@ pub struct Arrival {
 }
 
 // Both halves, of what was looked up.
-fn ruled(t: Target, p: Place, w: Way, c: Case, s: Survey) -> Ruling
+fn ruled_by(t: Target, p: Place, w: Way, c: Case, s: Survey) -> Ruling
     ensures { λ r. ⌜ r ≡ ruledBy t p w c s ⌝ }
 {
     let local = verdict::local_half::local_of(t, p, c);
-    let line = verdict::onward_half::line_of(t, p, w, c, s.ready, local);
-    let granted = verdict::copies::granted_of(line, c, s);
+    let wish = verdict::onward_half::line_of(t, p, w, c, s.ready, local);
+    let granted = verdict::copies::granted_of(wish, c, s);
     verdict::copies::ruling_of(local, granted, s.full)
 }
 
@@ -46,7 +47,7 @@ fn rule_node(state: &[u32], a: Address, c: Case, s: Survey) -> Ruling
     let t = verdict::local_half::target_of(address::class_of(a), s);
     let place = lookup::for_target::place_for(state, t, a, c.arrival);
     let way = lookup::for_target::way_for(state, t, a);
-    ruled(t, place, way, c, s)
+    ruled_by(t, place, way, c, s)
 }
 
 // What the rule asks of the node, the arrival port and the header.
@@ -65,21 +66,26 @@ fn case_of(router: u32, arrival: u32, f: Fields) -> Case
     }
 }
 
+// The destination as the ports are asked for it.
+fn destination_of(aim: Aim) -> Destination
+    ensures { λ r. ⌜ r ≡ destinationOf aim ⌝ }
+{
+    match aim {
+        Aim::Node(a) => Destination::Node(a),
+        Aim::Path(_) => Destination::Other,
+        Aim::Uncarried => Destination::Other,
+    }
+}
+
 // What is asked of the ports.
 fn sought_of(aim: Aim, domain: u32, length: u32) -> Sought
     ensures { λ r. ⌜ r ≡ soughtOf aim domain length ⌝ }
 {
-    match aim {
-        Aim::Node(destination) => Sought {
-            destination,
-            domain,
-            length,
-        },
-        Aim::Line(_) => Sought {
-            destination: Address(0),
-            domain,
-            length,
-        },
+    let destination = destination_of(aim);
+    Sought {
+        destination,
+        domain,
+        length,
     }
 }
 
@@ -90,7 +96,8 @@ fn rule_aim(state: &[u32], aim: Aim, c: Case, s: Survey) -> Ruling
 {
     match aim {
         Aim::Node(a) => rule_node(state, a, c, s),
-        Aim::Line(p) => ruled(Target::Path, lookup::path_place(state, p), Way::Lost, c, s),
+        Aim::Path(p) => ruled_by(Target::Path, lookup::path_place(state, p), Way::Lost, c, s),
+        Aim::Uncarried => ruled_by(Target::Route, Place::Missing, Way::Lost, c, s),
     }
 }
 

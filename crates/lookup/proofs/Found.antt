@@ -4,6 +4,9 @@ use mathlib.Core.Path.{_≡_, refl, sym, ap, _∙_}
 use mathlib.Core.Bool.{Bool, true, false}
 use borrow.Author.Tests.{lt-ltb, le-ltb}
 use Rattle.checks.specs.Order.{pick}
+use Rattle.sets.specs.Sets.{firstBelow}
+use Rattle.sets.proofs.Loops.{firstBelow-found, firstBelow-end}
+use Rattle.records.specs.Held.{holdsGroup, holdsPath}
 use Rattle.address.specs.declared.Address.{Address}
 use Rattle.address.specs.declared.PathAddress.{PathAddress}
 use Rattle.records.specs.declared.Group.{Group}
@@ -17,21 +20,23 @@ use Rattle.lookup.specs.Lookup.{groupFound, pathFound, groupSays, pathSa
 pub test-read : {A B : Type 0} (holds : A → B → Bool) {x y : A} (b : B) {t u : Bool} → t ≡ holds x b → x ≡ y → t ≡ u → holds y b ≡ u
 test-read holds b told same is = ap (λ z. holds z b) (sym same) ∙ sym told ∙ is
 
-module _ {i : ℕ} (r : Relay) where
-  pub group-there : (a : Address) (arrival : ℕ) {g : Group}
-      → i ≡ groupFound r a → i < 16 → g ≡ groupIn r i → groupSays g arrival ≡ groupPlace r a arrival
+module _ {i : ℕ} (r : Relay) (a : Address) (arrival : ℕ) (first : firstBelow (λ (j : ℕ). holdsGroup (groupIn r j) a) i ≡ i) where
+  -- none of the places before, and this one
+  pub group-there : {g : Group} {t : Bool} → i < 16 → g ≡ groupIn r i → t ≡ holdsGroup g a → t ≡ true → groupSays g arrival ≡ groupPlace r a arrival
   unfolding groupPlace
-  group-there a arrival e h same = rw (← e) (simp (lt-ltb i 16 h) (ap (λ (x : Group). groupSays x arrival) same))
+  group-there h same told is =
+      rw (firstBelow-found _ i 16 h first (test-read holdsGroup a told same is)) (simp (lt-ltb i 16 h) (ap (λ (x : Group). groupSays x arrival) same))
 
-  pub group-missing : (a : Address) (arrival : ℕ) → i ≡ groupFound r a → 16 ≤ i → Missing ≡ groupPlace r a arrival
+  -- none at all
+  pub group-missing : 16 ≤ i → i ≤ 16 → Missing ≡ groupPlace r a arrival
   unfolding groupPlace
-  group-missing a arrival e h = rw (← e) (simp (le-ltb i 16 h))
+  group-missing h most = let e : i ≡ groupFound r a = firstBelow-end _ i h (most, first) in rw (← e) (simp (le-ltb i 16 h))
 
-  pub path-there : (p : PathAddress) {x : PathPlace}
-      → i ≡ pathFound r p → i < 16 → x ≡ pathIn r i → pathSays x ≡ pathPlace r p
+module _ {i : ℕ} (r : Relay) (p : PathAddress) (first : firstBelow (λ (j : ℕ). holdsPath (pathIn r j) p) i ≡ i) where
+  pub path-there : {x : PathPlace} {t : Bool} → i < 16 → x ≡ pathIn r i → t ≡ holdsPath x p → t ≡ true → pathSays x ≡ pathPlace r p
   unfolding pathPlace
-  path-there p e h same = rw (← e) (simp (lt-ltb i 16 h) (ap pathSays same))
+  path-there h same told is = rw (firstBelow-found _ i 16 h first (test-read holdsPath p told same is)) (simp (lt-ltb i 16 h) (ap pathSays same))
 
-  pub path-missing : (p : PathAddress) → i ≡ pathFound r p → 16 ≤ i → Missing ≡ pathPlace r p
+  pub path-missing : 16 ≤ i → i ≤ 16 → Missing ≡ pathPlace r p
   unfolding pathPlace
-  path-missing p e h = rw (← e) (simp (le-ltb i 16 h))
+  path-missing h most = let e : i ≡ pathFound r p = firstBelow-end _ i h (most, first) in rw (← e) (simp (le-ltb i 16 h))

@@ -11,52 +11,23 @@ use verdict::Place;
 ghost use mathlib.Core.Path.{_≡_};
 ghost use lib.ListN.{length};
 ghost use Rattle.state.specs.Layout.{stateWords, decode};
-ghost use Rattle.lookup.specs.Lookup.{groupFound, pathFound, groupPlace, pathPlace};
+ghost use Rattle.lookup.specs.Lookup.{groupPlace, pathPlace};
 
-// How many places there are of each kind; as a place, none of them.
+// How many places there are of each kind.
 const PLACES: usize = 16;
-
-// The place of a group.
-fn find_group(state: &[u32], a: Address) -> usize
-    requires { ⌜ length (now state) ≡ stateWords ⌝ }
-    ensures { λ r. ⌜ r ≡ groupFound (decode (now (state .entry))) a ⌝ }
-{
-    let mut i = 0;
-    while i < PLACES {
-        let g = state_places::group_of(state, i);
-        if records::holds_group(g, a) {
-            return i;
-        }
-        i += 1;
-    }
-    i
-}
-
-// The place of a path.
-fn find_path(state: &[u32], p: PathAddress) -> usize
-    requires { ⌜ length (now state) ≡ stateWords ⌝ }
-    ensures { λ r. ⌜ r ≡ pathFound (decode (now (state .entry))) p ⌝ }
-{
-    let mut i = 0;
-    while i < PLACES {
-        let x = state_places::path_of(state, i);
-        if records::holds_path(x, p) {
-            return i;
-        }
-        i += 1;
-    }
-    i
-}
 
 // What the place of a group says; `arrival` is the arrival port as a set.
 pub fn group_place(state: &[u32], a: Address, arrival: u32) -> Place
     requires { ⌜ length (now state) ≡ stateWords ⌝ }
     ensures { λ r. ⌜ r ≡ groupPlace (decode (now (state .entry))) a arrival ⌝ }
 {
-    let i = find_group(state, a);
-    if i < PLACES {
+    let mut i = 0;
+    while i < PLACES {
         let g = state_places::group_of(state, i);
-        return Place::Held(g.send, g.subscribed & arrival);
+        if records::holds_group(g, a) {
+            return Place::Held(g.send, g.subscribed & arrival);
+        }
+        i += 1;
     }
     Place::Missing
 }
@@ -66,10 +37,13 @@ pub fn path_place(state: &[u32], p: PathAddress) -> Place
     requires { ⌜ length (now state) ≡ stateWords ⌝ }
     ensures { λ r. ⌜ r ≡ pathPlace (decode (now (state .entry))) p ⌝ }
 {
-    let i = find_path(state, p);
-    if i < PLACES {
+    let mut i = 0;
+    while i < PLACES {
         let x = state_places::path_of(state, i);
-        return Place::Held(x.send, x.here);
+        if records::holds_path(x, p) {
+            return Place::Held(x.send, x.here);
+        }
+        i += 1;
     }
     Place::Missing
 }

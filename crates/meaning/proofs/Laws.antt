@@ -4,21 +4,21 @@ use mathlib.Core.Path.{_≡_, refl}
 use native.Mathlib.Omega.{arith}
 use Rattle.header.specs.declared.Addresses.{Addresses}
 use Rattle.header.specs.declared.Addresses.the-variants.{BasicPath, ExtendedPath, BasicEndSystem, ExtendedEndSystem, Ipv6}
-use Rattle.meaning.specs.Names.{filledIn, aimOf, sourceOf, isBasic}
-use Rattle.meaning.specs.declared.Aim.the-variants.{Node, Line}
+use Rattle.meaning.specs.Names.{filledIn, aimOf, originOf, isBasic}
+use Rattle.meaning.specs.declared.Aim.the-variants.{Node, Path}
 use Rattle.meaning.specs.declared.Origin.the-variants.{From}
 
 -- what the code hands together
-pub line-filled : (port z v : ℕ) → v ≡ filledIn port z → Line (record { 0 = v }) ≡ aimOf port (BasicPath z)
+pub path-filled : (port z v : ℕ) → v ≡ filledIn port z → Path (record { 0 = v }) ≡ aimOf port (BasicPath z)
 unfolding aimOf
-line-filled port z v e = rw e
+path-filled port z v e = rw e
 
 pub node-filled : (port z s v : ℕ) → v ≡ filledIn port z → Node (record { 0 = v }) ≡ aimOf port (BasicEndSystem z s)
 unfolding aimOf
 node-filled port z s v e = rw e
 
-pub from-filled : (port d z v : ℕ) → v ≡ filledIn port z → From (record { 0 = v }) ≡ sourceOf port (BasicEndSystem d z)
-unfolding sourceOf
+pub from-filled : (port d z v : ℕ) → v ≡ filledIn port z → From (record { 0 = v }) ≡ originOf port (BasicEndSystem d z)
+unfolding originOf
 from-filled port d z v e = rw e
 
 -- the meaning law: at two ports of one domain, the same addresses name the same systems, paths and sources
@@ -30,13 +30,13 @@ same-domain-same-aim port other (BasicEndSystem z s) e = rw e
 same-domain-same-aim port other (ExtendedEndSystem d s) e = refl
 same-domain-same-aim port other (Ipv6 d s) e = refl
 
-pub same-domain-same-source : (port other : ℕ) (a : Addresses) → port / 256 ≡ other / 256 → sourceOf port a ≡ sourceOf other a
-unfolding sourceOf
-same-domain-same-source port other (BasicPath z) e = refl
-same-domain-same-source port other (ExtendedPath p) e = refl
-same-domain-same-source port other (BasicEndSystem d z) e = rw e
-same-domain-same-source port other (ExtendedEndSystem d s) e = refl
-same-domain-same-source port other (Ipv6 d s) e = refl
+pub same-domain-same-origin : (port other : ℕ) (a : Addresses) → port / 256 ≡ other / 256 → originOf port a ≡ originOf other a
+unfolding originOf
+same-domain-same-origin port other (BasicPath z) e = refl
+same-domain-same-origin port other (ExtendedPath p) e = refl
+same-domain-same-origin port other (BasicEndSystem d z) e = rw e
+same-domain-same-origin port other (ExtendedEndSystem d s) e = refl
+same-domain-same-origin port other (Ipv6 d s) e = refl
 
 -- and at any two ports where no address has one octet
 pub extended-same-aim : (port other : ℕ) (a : Addresses) → isBasic a ≡ 0 → aimOf port a ≡ aimOf other a
@@ -47,13 +47,13 @@ extended-same-aim port other (BasicEndSystem z s) e = absurd (omega arith)
 extended-same-aim port other (ExtendedEndSystem d s) e = refl
 extended-same-aim port other (Ipv6 d s) e = refl
 
-pub extended-same-source : (port other : ℕ) (a : Addresses) → isBasic a ≡ 0 → sourceOf port a ≡ sourceOf other a
-unfolding sourceOf
-extended-same-source port other (BasicPath z) e = absurd (omega arith)
-extended-same-source port other (ExtendedPath p) e = refl
-extended-same-source port other (BasicEndSystem d z) e = absurd (omega arith)
-extended-same-source port other (ExtendedEndSystem d s) e = refl
-extended-same-source port other (Ipv6 d s) e = refl
+pub extended-same-origin : (port other : ℕ) (a : Addresses) → isBasic a ≡ 0 → originOf port a ≡ originOf other a
+unfolding originOf
+extended-same-origin port other (BasicPath z) e = absurd (omega arith)
+extended-same-origin port other (ExtendedPath p) e = refl
+extended-same-origin port other (BasicEndSystem d z) e = absurd (omega arith)
+extended-same-origin port other (ExtendedEndSystem d s) e = refl
+extended-same-origin port other (Ipv6 d s) e = refl
 
 -- why that matters: in two domains, one octet names two systems
 pub other-domain-other-node : (port other z : ℕ) → z < 256 → filledIn port z ≡ filledIn other z → port / 256 ≡ other / 256

@@ -4,12 +4,12 @@ use mathlib.Core.List.{[], _∷_}
 use Rattle.checks.specs.Order.{Checks}
 use Rattle.address.specs.declared.Address.{Address}
 use Rattle.header.specs.declared.Fields.{Fields}
-use Rattle.meaning.specs.Names.{aimOf, sourceOf, notCarried, noDomain, badAim, badSource}
+use Rattle.meaning.specs.Names.{aimOf, originOf, notCarried, noDomain, badAim, badSource}
 
 abbrev pub arrivalChecks : Address → Fields → Checks
 arrivalChecks at f =
     (notCarried f, 8)
     ∷ (noDomain (at .0) (f .addresses), 7)
     ∷ (badAim (aimOf (at .0) (f .addresses)), 6)
-    ∷ (badSource (sourceOf (at .0) (f .addresses)), 6)
+    ∷ (badSource (originOf (at .0) (f .addresses)), 6)
     ∷ []

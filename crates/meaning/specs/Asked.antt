@@ -21,6 +21,6 @@ spentOf octet.Absent = 0
 spentOf (octet.Present n) = pick (ltb n 2) 1 0
 
 -- page 01, "Numbers that hold everywhere": "A header without precedence counts as 0"
-abbrev pub precedenceOf : Qos → ℕ
-precedenceOf qos.Absent = 0
-precedenceOf (qos.Present precedence routing program) = precedence
+abbrev pub precedenceAsked : Qos → ℕ
+precedenceAsked qos.Absent = 0
+precedenceAsked (qos.Present precedence routing program) = precedence

@@ -1,6 +1,6 @@
 -- What the addresses of a header name, by the address of the port that it came in by (page 01, steps 4 to 6). Assumes nothing.
 use Prim.Native.Nat.{ℕ, _+_, _*_, _/_, _^_}
-use mathlib.Core.Bool.{Bool, false, not, _&&_, _||_}
+use mathlib.Core.Bool.{Bool, true, false, not, _&&_, _||_}
 use lib.Dec.{eqb}
 use Rattle.address.specs.Class.{classOf, classNumber}
 use Rattle.address.specs.Path.{pathForm, pathNumber}
@@ -11,7 +11,7 @@ use Rattle.header.specs.declared.Addresses.the-variants.{BasicPath, ExtendedPat
 use Rattle.header.specs.declared.Qos.{Qos}
 use Rattle.header.specs.declared.Qos.the-variants as qos
 use Rattle.meaning.specs.declared.Aim.{Aim}
-use Rattle.meaning.specs.declared.Aim.the-variants.{Node, Line}
+use Rattle.meaning.specs.declared.Aim.the-variants.{Node, Path, Uncarried}
 use Rattle.meaning.specs.declared.Origin.{Origin}
 use Rattle.meaning.specs.declared.Origin.the-variants.{From, Unsaid}
 
@@ -21,19 +21,19 @@ filledIn port z = port / 256 * 256 + z
 
 -- what the destination names; a header without a source carries a path
 unfoldable pub aimOf : ℕ → Addresses → Aim
-aimOf port (BasicPath z) = Line (record { 0 = filledIn port z })
-aimOf port (ExtendedPath p) = Line p
+aimOf port (BasicPath z) = Path (record { 0 = filledIn port z })
+aimOf port (ExtendedPath p) = Path p
 aimOf port (BasicEndSystem z s) = Node (record { 0 = filledIn port z })
 aimOf port (ExtendedEndSystem d s) = Node d
-aimOf port (Ipv6 d s) = Node (record { 0 = 0 })
+aimOf port (Ipv6 d s) = Uncarried
 
 -- what the source names, where there is one
-unfoldable pub sourceOf : ℕ → Addresses → Origin
-sourceOf port (BasicPath z) = Unsaid
-sourceOf port (ExtendedPath p) = Unsaid
-sourceOf port (BasicEndSystem d z) = From (record { 0 = filledIn port z })
-sourceOf port (ExtendedEndSystem d s) = From s
-sourceOf port (Ipv6 d s) = Unsaid
+unfoldable pub originOf : ℕ → Addresses → Origin
+originOf port (BasicPath z) = Unsaid
+originOf port (ExtendedPath p) = Unsaid
+originOf port (BasicEndSystem d z) = From (record { 0 = filledIn port z })
+originOf port (ExtendedEndSystem d s) = From s
+originOf port (Ipv6 d s) = Unsaid
 
 abbrev pub isBasic : Addresses → ℕ
 isBasic (BasicPath z) = 1
@@ -63,7 +63,8 @@ badPath v = eqb (pathNumber (pathForm v)) 0
 
 abbrev pub badAim : Aim → Bool
 badAim (Node a) = badClass (a .0)
-badAim (Line p) = badPath (p .0)
+badAim (Path p) = badPath (p .0)
+badAim Uncarried = true
 
 abbrev pub notUnicast : ℕ → Bool
 notUnicast v = not (eqb (classNumber (classOf v)) 1)

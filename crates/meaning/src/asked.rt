@@ -6,7 +6,7 @@
 use header::Octet;
 use header::Qos;
 ghost use mathlib.Core.Path.{_≡_};
-ghost use Rattle.meaning.specs.Asked.{assignedOf, spentOf, precedenceOf};
+ghost use Rattle.meaning.specs.Asked.{assignedOf, spentOf, precedenceAsked};
 
 // 1 where the TP-ID is assigned. 0 is Reserved.
 pub fn assigned_of(tpid: u8) -> u32
@@ -39,7 +39,7 @@ pub fn spent_of(hops: Octet) -> u32
 
 // The precedence, 0 where there is none.
 pub fn precedence_of(qos: Qos) -> u16
-    ensures { λ r. ⌜ r ≡ precedenceOf qos ⌝ }
+    ensures { λ r. ⌜ r ≡ precedenceAsked qos ⌝ }
 {
     match qos {
         Qos::Absent => 0,

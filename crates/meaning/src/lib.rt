@@ -3,9 +3,8 @@
 // An address of four octets names the same system everywhere. An address of one octet names one only together with the domain it
 // stands in: the first three octets of the port that it came in by, and never of a port that it goes out by (page 01, step 5; that slip
 // once sent a dose to another domain). So what a header names is a function of the arrival port's address and the header, stated
-// once here; everything later compares names and never bare octets. The awkward case is an IPv6 header, which is not carried: it
-// names 0.0.0.0, which no check lets through.
-pub mod arrival;
+// once here; everything later compares names and never bare octets. The awkward case is an IPv6 header, which is read and not
+// carried: what it names has a case of its own, which no check lets through.
 pub mod asked;
 
 use address::Address;
@@ -19,7 +18,7 @@ ghost use Rattle.checks.specs.Order.{checkOf};
 ghost use Rattle.meaning.specs.Names.{
   filledIn,
   aimOf,
-  sourceOf,
+  originOf,
   isBasic,
   routingOf,
   notCarried,
@@ -31,10 +30,11 @@ ghost use Rattle.meaning.specs.Names.{
   badSource,
 };
 
-// What a destination names: an end system or group of them, or a path.
+// What a destination names: an end system or a group of them, a path, or a system that is not reached by what is carried here.
 pub enum Aim {
     Node(Address),
-    Line(PathAddress),
+    Path(PathAddress),
+    Uncarried,
 }
 
 // What a source names, where there is one.
@@ -55,17 +55,17 @@ pub fn aim_of(port: Address, a: Addresses) -> Aim
     ensures { λ r. ⌜ r ≡ aimOf (port .0) a ⌝ }
 {
     match a {
-        Addresses::BasicPath(d) => Aim::Line(PathAddress(filled_in(port, d))),
-        Addresses::ExtendedPath(p) => Aim::Line(p),
+        Addresses::BasicPath(d) => Aim::Path(PathAddress(filled_in(port, d))),
+        Addresses::ExtendedPath(p) => Aim::Path(p),
         Addresses::BasicEndSystem(d, _) => Aim::Node(Address(filled_in(port, d))),
         Addresses::ExtendedEndSystem(d, _) => Aim::Node(d),
-        Addresses::Ipv6(_, _) => Aim::Node(Address(0)),
+        Addresses::Ipv6(_, _) => Aim::Uncarried,
     }
 }
 
 // What the source names at a port.
 pub fn origin_of(port: Address, a: Addresses) -> Origin
-    ensures { λ r. ⌜ r ≡ sourceOf (port .0) a ⌝ }
+    ensures { λ r. ⌜ r ≡ originOf (port .0) a ⌝ }
 {
     match a {
         Addresses::BasicPath(_) => Origin::Unsaid,
@@ -127,7 +127,7 @@ pub fn check_domain(port: Address, a: Addresses) -> Check
     Check::Passed
 }
 
-// A class that only a source may have.
+// A source names one system: its class is unicast.
 fn check_unicast(a: Address) -> Check
     ensures { λ r. ⌜ r ≡ checkOf (notUnicast (a .0)) ⌝ }
 {
@@ -143,7 +143,8 @@ pub fn check_aim(aim: Aim) -> Check
 {
     match aim {
         Aim::Node(a) => check_class(a),
-        Aim::Line(p) => check_path(p),
+        Aim::Path(p) => check_path(p),
+        Aim::Uncarried => Check::Failed,
     }
 }
 

@@ -5,9 +5,9 @@ use Rattle.state.specs.Relay.{Relay}
 use Rattle.judge.specs.declared.Ending.{Ending}
 use Rattle.tally.specs.Tally.{movesOf, countedAll}
 use Rattle.relay.specs.Outgo.{enteredAll}
-use Rattle.relay.specs.Received.{entryOf, receivedState}
+use Rattle.relay.specs.Received.{newEntry, receivedState}
 
 pub received : (r : Relay) (slot : Slot) (e : Ending) {a b : Relay}
-    → a ≡ countedAll r (movesOf e) → b ≡ enteredAll a (e .ruling .took) (entryOf slot e) 8 → b ≡ receivedState r slot e
+    → a ≡ countedAll r (movesOf e) → b ≡ enteredAll a (e .ruling .took) (newEntry slot e) 8 → b ≡ receivedState r slot e
 unfolding receivedState
-received r slot e ea eb = eb ∙ ap (λ (x : Relay). enteredAll x (e .ruling .took) (entryOf slot e) 8) ea
+received r slot e ea eb = eb ∙ ap (λ (x : Relay). enteredAll x (e .ruling .took) (newEntry slot e) 8) ea

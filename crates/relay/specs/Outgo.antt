@@ -26,5 +26,5 @@ enteredAll r took e (suc p) = enteredIf (enteredAll r took e p) took e p
 
 -- "If any took one, the output's first octets are the header with hop count less one and checksum redone, where present; later output octets,
 -- and the whole output in every other end, stay as lent."
-unfoldable pub outputOf : ℕ → List ℕ → List ℕ → List ℕ
-outputOf took octets lent = pick (eqb took 0) lent (fronted (sentOn octets) lent)
+unfoldable pub sentOutput : ℕ → List ℕ → List ℕ → List ℕ
+sentOutput took octets lent = pick (eqb took 0) lent (fronted (sentOn octets) lent)

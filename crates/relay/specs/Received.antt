@@ -7,9 +7,9 @@ use Rattle.tally.specs.Tally.{movesOf, countedAll}
 use Rattle.relay.specs.Outgo.{enteredAll}
 
 -- what waits for the datagram at a port that took it
-abbrev pub entryOf : Slot → Ending → Entry
-entryOf slot e = record { slot = slot; precedence = e .precedence }
+abbrev pub newEntry : Slot → Ending → Entry
+newEntry slot e = record { slot = slot; precedence = e .precedence }
 
 -- the counters move, and each port that took a copy has an entry more
 unfoldable pub receivedState : Relay → Slot → Ending → Relay
-receivedState r slot e = enteredAll (countedAll r (movesOf e)) (e .ruling .took) (entryOf slot e) 8
+receivedState r slot e = enteredAll (countedAll r (movesOf e)) (e .ruling .took) (newEntry slot e) 8

@@ -14,7 +14,7 @@ ghost use mathlib.Core.Path.{_≡_};
 ghost use lib.ListN.{length};
 ghost use Rattle.state.specs.Layout.{stateWords, decode};
 ghost use Rattle.judge.specs.Ending.{endingOf};
-ghost use Rattle.relay.specs.Outgo.{outputOf};
+ghost use Rattle.relay.specs.Outgo.{sentOutput};
 ghost use Rattle.relay.specs.Received.{receivedState};
 
 // What becomes of the octets that came in by a port; they are known to the caller by the slot.
@@ -22,7 +22,7 @@ pub fn receive(state: &mut [u32], port: u32, slot: Slot, octets: &[u8], output: 
     requires { ⌜ length (now state) ≡ stateWords ⌝ }
     ensures { λ r. ⌜ r ≡ endingOf (decode (now (state .entry))) port (now (octets .entry)) (length (now (output .entry))) ⌝ }
     ensures { λ r. ⌜ decode (now (state .exit)) ≡ receivedState (decode (now (state .entry))) slot r ⌝ }
-    ensures { λ r. ⌜ now (output .exit) ≡ outputOf (r .ruling .took) (now (octets .entry)) (now (output .entry)) ⌝ }
+    ensures { λ r. ⌜ now (output .exit) ≡ sentOutput (r .ruling .took) (now (octets .entry)) (now (output .entry)) ⌝ }
 {
     let e = judge::judge(state, port, octets, output.len());
     let took = e.ruling.took;

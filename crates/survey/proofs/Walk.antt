@@ -16,21 +16,21 @@ use Rattle.records.specs.declared.Port.{Port}
 use Rattle.state.specs.Relay.{Relay, portIn, queueIn}
 use Rattle.verdict.specs.declared.Survey.{Survey}
 use Rattle.survey.specs.declared.Sought.{Sought}
-use Rattle.survey.specs.Survey.{broadcastIs, oursAt, hasAddress, isWide, isFull, Roomy, joinedBy, seen, surveyBelow, surveyOf}
+use Rattle.survey.specs.Survey.{broadcastIs, isAddressed, ownBroadcast, isBroadcast, isFitting, isFull, Roomy, joinedBy, seen, surveyBelow, surveyOf}
 
 -- ---- a broadcast of ours
-pub ours-subnet : (p : Port) (a x : Address) → x ≡ subnetBroadcast (p .address) (p .mask) → x .0 ≡ a .0 → true ≡ oursAt p a
-unfolding oursAt
-ours-subnet p a x e h = rw (← e) (simp (eq-eqb (x .0) (a .0) h))
+pub own-subnet : (p : Port) (a x : Address) → x ≡ subnetBroadcast (p .address) (p .mask) → x .0 ≡ a .0 → true ≡ ownBroadcast p a
+unfolding ownBroadcast
+own-subnet p a x e h = rw (← e) (simp (eq-eqb (x .0) (a .0) h))
 
-pub ours-class :
+pub own-class :
     (p : Port) (a x : Address) (t : Bool)
     → x ≡ subnetBroadcast (p .address) (p .mask)
     → (x .0 ≡ a .0 → ⊥)
     → t ≡ broadcastIs (classBroadcast (p .address)) a
-    → t ≡ oursAt p a
-unfolding oursAt
-ours-class p a x t e h b = rw (← e) (simp (ne-eqb (x .0) (a .0) h) b)
+    → t ≡ ownBroadcast p a
+unfolding ownBroadcast
+own-class p a x t e h b = rw (← e) (simp (ne-eqb (x .0) (a .0) h) b)
 
 -- ---- one port more
 module _ (s : Survey) (port : ℕ) (p : Port) (waiting : ℕ) (q : Sought) where
@@ -41,18 +41,19 @@ module _ (s : Survey) (port : ℕ) (p : Port) (waiting : ℕ) (q : Sought) where
 
   pub seen-all :
       (p .ready ≡ 0 → ⊥)
-      → {a b c d e f domain : ℕ} {ours : Bool}
+      → {a b c d e f domain : ℕ} {addressed broadcast : Bool}
       → a ≡ joinedBy (s .ready) true port
-      → b ≡ joinedBy (s .own) (hasAddress p q) port
-      → ours ≡ oursAt p (q .destination)
-      → c ≡ joinedBy (s .ours) ours port
+      → addressed ≡ isAddressed (p .address) (q .destination)
+      → b ≡ joinedBy (s .addressed) addressed port
+      → broadcast ≡ isBroadcast p (q .destination)
+      → c ≡ joinedBy (s .broadcast) broadcast port
       → domain ≡ domainOf (p .address)
-      → d ≡ joinedBy (s .near) (eqb domain (q .domain)) port
-      → e ≡ joinedBy (s .wide) (isWide p q) port
+      → d ≡ joinedBy (s .domain) (eqb domain (q .domain)) port
+      → e ≡ joinedBy (s .fitting) (isFitting p q) port
       → f ≡ joinedBy (s .full) (isFull waiting) port
-      → _≡_ {A = Survey} (record { ready = a; own = b; ours = c; near = d; wide = e; full = f }) (seen s port p waiting q)
+      → _≡_ {A = Survey} (record { ready = a; addressed = b; broadcast = c; domain = d; fitting = e; full = f }) (seen s port p waiting q)
   unfolding seen
-  seen-all h ea eb to ec td ed ee ef = simp (ne-eqb (p .ready) 0 h, ea, eb, ec, to, ed, td, ee, ef)
+  seen-all h ea ta eb tb ec td ed ee ef = simp (ne-eqb (p .ready) 0 h, ea, eb, ta, ec, tb, ed, td, ee, ef)
 
 -- ---- one turn
 below-128 : (n i : ℕ) → i < 8 → n < 2 ^ i → n < 128

@@ -12,6 +12,8 @@ use Rattle.networks.specs.declared.Broadcast.the-variants.{At, None}
 use Rattle.records.specs.declared.Port.{Port}
 use Rattle.state.specs.Relay.{Relay, portIn, queueIn}
 use Rattle.verdict.specs.declared.Survey.{Survey}
+use Rattle.survey.specs.declared.Destination.{Destination}
+use Rattle.survey.specs.declared.Destination.the-variants.{Node, Other}
 use Rattle.survey.specs.declared.Sought.{Sought}
 
 abbrev pub broadcastIs : Broadcast → Address → Bool
@@ -20,22 +22,29 @@ broadcastIs None a = false
 
 -- "net broadcast of a port's class network, a port's own subnet with host bits all ones under that port's mask, or 10.255.255.255 with a port
 -- in 10"
-unfoldable pub oursAt : Port → Address → Bool
-oursAt p a = eqb (subnetBroadcast (p .address) (p .mask) .0) (a .0) || broadcastIs (classBroadcast (p .address)) a
+unfoldable pub ownBroadcast : Port → Address → Bool
+ownBroadcast p a = eqb (subnetBroadcast (p .address) (p .mask) .0) (a .0) || broadcastIs (classBroadcast (p .address)) a
 
 -- ---- what is asked of a port that is set up, with so many entries waiting
 abbrev pub isSetUp : Port → Bool
 isSetUp p = not (eqb (p .ready) 0)
 
-abbrev pub hasAddress : Port → Sought → Bool
-hasAddress p q = eqb (p .address .0) (q .destination .0)
+-- "the destination equals any port's address"
+abbrev pub isAddressed : Address → Destination → Bool
+isAddressed own (Node a) = eqb (own .0) (a .0)
+isAddressed own Other = false
 
-abbrev pub isNear : Port → Sought → Bool
-isNear p q = eqb (domainOf (p .address)) (q .domain)
+-- "is a broadcast of ours"
+abbrev pub isBroadcast : Port → Destination → Bool
+isBroadcast p (Node a) = ownBroadcast p a
+isBroadcast p Other = false
+
+abbrev pub inDomain : Port → Sought → Bool
+inDomain p q = eqb (domainOf (p .address)) (q .domain)
 
 -- an MTU equal to the length is good
-abbrev pub isWide : Port → Sought → Bool
-isWide p q = not (ltb (p .mtu) (q .length))
+abbrev pub isFitting : Port → Sought → Bool
+isFitting p q = not (ltb (p .mtu) (q .length))
 
 abbrev pub isFull : ℕ → Bool
 isFull waiting = not (ltb waiting 32)
@@ -48,10 +57,10 @@ unfoldable pub surveyBelow : Relay → Sought → ℕ → Survey
 surveyBelow r q n =
     record {
       ready = portsBelow r (λ (p : ℕ). true) n;
-      own = portsBelow r (λ (p : ℕ). hasAddress (portIn r p) q) n;
-      ours = portsBelow r (λ (p : ℕ). oursAt (portIn r p) (q .destination)) n;
-      near = portsBelow r (λ (p : ℕ). isNear (portIn r p) q) n;
-      wide = portsBelow r (λ (p : ℕ). isWide (portIn r p) q) n;
+      addressed = portsBelow r (λ (p : ℕ). isAddressed (portIn r p .address) (q .destination)) n;
+      broadcast = portsBelow r (λ (p : ℕ). isBroadcast (portIn r p) (q .destination)) n;
+      domain = portsBelow r (λ (p : ℕ). inDomain (portIn r p) q) n;
+      fitting = portsBelow r (λ (p : ℕ). isFitting (portIn r p) q) n;
       full = portsBelow r (λ (p : ℕ). isFull (queueIn r p .count)) n;
     }
 
@@ -61,7 +70,7 @@ surveyOf r q = surveyBelow r q 8
 -- ---- one turn of the walk
 -- room for one more port in each set
 abbrev pub Roomy : Survey → Type 0
-Roomy s = (s .ready < 128) × ((s .own < 128) × ((s .ours < 128) × ((s .near < 128) × ((s .wide < 128) × (s .full < 128)))))
+Roomy s = (s .ready < 128) × ((s .addressed < 128) × ((s .broadcast < 128) × ((s .domain < 128) × ((s .fitting < 128) × (s .full < 128)))))
 
 -- the set with the port, where the test says so
 abbrev pub joinedBy : ℕ → Bool → ℕ → ℕ
@@ -72,9 +81,9 @@ unfoldable pub seen : Survey → ℕ → Port → ℕ → Sought → Survey
 seen s port p waiting q =
     record {
       ready = joinedBy (s .ready) (isSetUp p && true) port;
-      own = joinedBy (s .own) (isSetUp p && hasAddress p q) port;
-      ours = joinedBy (s .ours) (isSetUp p && oursAt p (q .destination)) port;
-      near = joinedBy (s .near) (isSetUp p && isNear p q) port;
-      wide = joinedBy (s .wide) (isSetUp p && isWide p q) port;
+      addressed = joinedBy (s .addressed) (isSetUp p && isAddressed (p .address) (q .destination)) port;
+      broadcast = joinedBy (s .broadcast) (isSetUp p && isBroadcast p (q .destination)) port;
+      domain = joinedBy (s .domain) (isSetUp p && inDomain p q) port;
+      fitting = joinedBy (s .fitting) (isSetUp p && isFitting p q) port;
       full = joinedBy (s .full) (isSetUp p && isFull waiting) port;
     }

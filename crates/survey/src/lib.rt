@@ -3,7 +3,7 @@
 // The verdict asks sets of ports: which are set up, which have the destination's address, of which it is a broadcast, which lie in the
 // arrival port's domain, which have an MTU that holds the datagram, which have a full queue. One walk over the ports gathers all six, so
 // that each port's words are looked at once. Only ports that are set up are in any of the sets: whatever else a state says of a port
-// that is not set up, nothing is granted to it.
+// that is not set up, nothing is granted to it. A path is no address: its number is compared with no port's, even where they are equal.
 //
 // The awkward case is a port in net 10, of which two addresses are broadcasts: that of its own subnet, 10.x.y.255, and 10.255.255.255.
 use address::Address;
@@ -14,11 +14,17 @@ ghost use mathlib.Core.Path.{_≡_};
 ghost use Prim.Native.Nat.{_≤_, _<_};
 ghost use lib.ListN.{length};
 ghost use Rattle.state.specs.Layout.{stateWords, decode};
-ghost use Rattle.survey.specs.Survey.{broadcastIs, oursAt, Roomy, joinedBy, seen, surveyOf};
+ghost use Rattle.survey.specs.Survey.{broadcastIs, isAddressed, ownBroadcast, isBroadcast, Roomy, joinedBy, seen, surveyOf};
+
+// The destination: an end system's address or a group's, or none that a port could have.
+pub enum Destination {
+    Node(Address),
+    Other,
+}
 
 // What is asked: the destination, the arrival port's domain, and the length field.
 pub struct Sought {
-    pub destination: Address,
+    pub destination: Destination,
     pub domain: u32,
     pub length: u32,
 }
@@ -28,6 +34,16 @@ const PORTS: usize = 8;
 
 // How many entries a queue holds.
 const ENTRIES: u32 = 32;
+
+// Whether the destination is a port's own address.
+fn is_addressed(own: Address, d: Destination) -> bool
+    ensures { λ r. ⌜ r ≡ isAddressed own d ⌝ }
+{
+    match d {
+        Destination::Node(a) => own.0 == a.0,
+        Destination::Other => false,
+    }
+}
 
 fn broadcast_is(b: Broadcast, a: Address) -> bool
     ensures { λ r. ⌜ r ≡ broadcastIs b a ⌝ }
@@ -39,14 +55,24 @@ fn broadcast_is(b: Broadcast, a: Address) -> bool
 }
 
 // Whether the address is a broadcast of a port's subnet or class network.
-fn is_ours(p: Port, a: Address) -> bool
-    ensures { λ r. ⌜ r ≡ oursAt p a ⌝ }
+fn own_broadcast(p: Port, a: Address) -> bool
+    ensures { λ r. ⌜ r ≡ ownBroadcast p a ⌝ }
 {
     let own = p.address;
     if networks::subnet_broadcast(own, p.mask).0 == a.0 {
         return true;
     }
     broadcast_is(networks::class_broadcast(own), a)
+}
+
+// Whether the destination is a broadcast of a port's.
+fn is_broadcast(p: Port, d: Destination) -> bool
+    ensures { λ r. ⌜ r ≡ isBroadcast p d ⌝ }
+{
+    match d {
+        Destination::Node(a) => own_broadcast(p, a),
+        Destination::Other => false,
+    }
 }
 
 // A set with one more port, where a test says so.
@@ -68,14 +94,14 @@ fn see(s: Survey, port: u32, p: Port, waiting: u32, q: Sought) -> Survey
     if p.ready == 0 {
         return s;
     }
-    let a = q.destination;
+    let d = q.destination;
     let own = p.address;
     Survey {
         ready: with_port(s.ready, true, port),
-        own: with_port(s.own, own.0 == a.0, port),
-        ours: with_port(s.ours, is_ours(p, a), port),
-        near: with_port(s.near, networks::domain_of(own) == q.domain, port),
-        wide: with_port(s.wide, !(p.mtu < q.length), port),
+        addressed: with_port(s.addressed, is_addressed(own, d), port),
+        broadcast: with_port(s.broadcast, is_broadcast(p, d), port),
+        domain: with_port(s.domain, networks::domain_of(own) == q.domain, port),
+        fitting: with_port(s.fitting, !(p.mtu < q.length), port),
         full: with_port(s.full, !(waiting < ENTRIES), port),
     }
 }
@@ -87,10 +113,10 @@ pub fn survey(state: &[u32], q: Sought) -> Survey
 {
     let mut s = Survey {
         ready: 0,
-        own: 0,
-        ours: 0,
-        near: 0,
-        wide: 0,
+        addressed: 0,
+        broadcast: 0,
+        domain: 0,
+        fitting: 0,
         full: 0,
     };
     let mut i = 0;

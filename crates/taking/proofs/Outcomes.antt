@@ -13,7 +13,7 @@ use Rattle.queue.specs.declared.Queue.{Queue}
 use Rattle.queue.specs.declared.Taken.{Taken}
 use Rattle.state.specs.Relay.{Relay, queueIn, withQueue}
 use Rattle.taking.specs.declared.Taking.the-variants.{Handed, Refused}
-use Rattle.taking.specs.Taking.{notSetUp, handed, without, takeOutcome, takenState}
+use Rattle.taking.specs.Taking.{notSetUp, handsOut, without, takeOutcome, takenState}
 
 module _ (r : Relay) (port : ℕ) {c : Check} (told : c ≡ checkOf (notSetUp r port)) where
   pub no-port : c ≡ Failed → (Refused 16 ≡ takeOutcome r port) × (r ≡ takenState r port)

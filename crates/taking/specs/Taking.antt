@@ -17,12 +17,12 @@ unfoldable pub notSetUp : Relay → ℕ → Bool
 notSetUp r port = not (ltb port 8) || eqb (portIn r port .ready) 0
 
 -- "16 if not set up, 18 if nothing waits, else the first entry, removed"
-abbrev pub handed : Head → Taking
-handed (First e) = Handed e
-handed Nothing = Refused 18
+abbrev pub handsOut : Head → Taking
+handsOut (First e) = Handed e
+handsOut Nothing = Refused 18
 
 unfoldable pub takeOutcome : Relay → ℕ → Taking
-takeOutcome r port = pick (notSetUp r port) (Refused 16) (handed (takeOf (queueIn r port) .head))
+takeOutcome r port = pick (notSetUp r port) (Refused 16) (handsOut (takeOf (queueIn r port) .head))
 
 -- the queue without what was handed out
 abbrev pub without : Relay → ℕ → Queue → Head → Relay

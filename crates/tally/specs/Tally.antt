@@ -1,16 +1,23 @@
 -- The counters that an ending moves: page 01, "Refusal numbers" and what stands below its table. The counters' order is that of the state
--- (specs/Relay.antt of the crate state); place 15 is none. Assumes nothing.
-use Prim.Native.Nat.{ℕ}
+-- (specs/Relay.antt of the crate state). Assumes nothing.
+use Prim.Native.Nat.{ℕ, _<_}
 use mathlib.Core.Bool.{_||_}
 use mathlib.Core.List.{List, [], _∷_}
-use lib.Dec.{eqb, ltb}
+use lib.Dec.{eqb}
 use Rattle.checks.specs.Order.{pick}
 use Rattle.address.specs.Mask.{onesOf}
 use Rattle.state.specs.Relay.{Relay, added}
+use Rattle.verdict.specs.Numbers.{localNumber, obstacleNumber}
+use Rattle.verdict.specs.declared.Local.{Local}
+use Rattle.verdict.specs.declared.Local.the-variants.{No, Delivered, Unknown}
+use Rattle.verdict.specs.declared.Onward.{Onward}
+use Rattle.verdict.specs.declared.Onward.the-variants.{NotAsked, SentOn, Refused}
 use Rattle.verdict.specs.declared.Ruling.{Ruling}
 use Rattle.judge.specs.declared.Ending.{Ending}
+use Rattle.tally.specs.declared.Counter.{Counter}
+use Rattle.tally.specs.declared.Counter.the-variants.{At, Nothing}
 
--- a refusal's number and its counter, or a counter and how much more it counts
+-- a refusal's number and the place of its counter
 abbrev pub Row : Type 0
 Row = ℕ × ℕ
 
@@ -34,45 +41,59 @@ numbered =
     ∷ (26, 7)
     ∷ []
 
--- the counter of a number, 15 where the table has none
-abbrev pub inTable : List Row → ℕ → ℕ
-inTable [] n = 15
-inTable (row ∷ rows) n = pick (eqb n (row .0)) (row .1) (inTable rows n)
+-- the counter of a number, where the table has one
+abbrev pub inTable : List Row → ℕ → Counter
+inTable [] n = Nothing
+inTable (row ∷ rows) n = pick (eqb n (row .0)) (At (row .1)) (inTable rows n)
 
-unfoldable pub counterFor : ℕ → ℕ
+unfoldable pub counterFor : ℕ → Counter
 counterFor n = inTable numbered n
 
 -- "These two count nothing. All later ends count one in npInReceives."
-abbrev pub receiptCounter : ℕ → ℕ
-receiptCounter refusal = pick (eqb refusal 16 || eqb refusal 17) 15 0
+abbrev pub receiptCounter : ℕ → Counter
+receiptCounter refusal = pick (eqb refusal 16 || eqb refusal 17) Nothing (At 0)
 
 -- "npInDelivers counts deliveries"
-abbrev pub localCounter : ℕ → ℕ
-localCounter local = pick (eqb local 1) 8 (counterFor local)
+abbrev pub localCounter : Local → Counter
+localCounter No = Nothing
+localCounter Delivered = At 8
+localCounter Unknown = counterFor (localNumber Unknown)
 
 -- "npForwDatagrams datagrams with at least one entry taken"
-abbrev pub onwardCounter : ℕ → ℕ
-onwardCounter onward = pick (eqb onward 1) 10 (counterFor onward)
+abbrev pub onwardCounter : Onward → Counter
+onwardCounter NotAsked = Nothing
+onwardCounter SentOn = At 10
+onwardCounter (Refused o) = counterFor (obstacleNumber o)
 
 -- "npOutDiscards counts dropped copies, also when another port took its copy"
-abbrev pub discardCounter : ℕ → ℕ
-discardCounter dropped = pick (eqb dropped 0) 15 12
+abbrev pub discardCounter : ℕ → Counter
+discardCounter dropped = pick (eqb dropped 0) Nothing (At 12)
+
+-- a counter, and how much more it counts
+abbrev pub Move : Type 0
+Move = Counter × ℕ
 
 -- what a ruling counts, and all that an ending counts
-abbrev pub rulingMoves : Ruling → List Row
+abbrev pub rulingMoves : Ruling → List Move
 rulingMoves x =
     (localCounter (x .local), 1)
     ∷ (onwardCounter (x .onward), 1)
     ∷ (discardCounter (x .dropped), onesOf (x .dropped))
     ∷ []
 
-abbrev pub movesOf : Ending → List Row
+abbrev pub movesOf : Ending → List Move
 movesOf e = (receiptCounter (e .refusal), 1) ∷ (counterFor (e .refusal), 1) ∷ rulingMoves (e .ruling)
 
--- n more at a counter, where it is one
-unfoldable pub countedAt : Relay → ℕ → ℕ → Relay
-countedAt r place n = pick (ltb place 15) (added r place n) r
+-- one of the fifteen, or none
+abbrev pub Inside : Counter → Type 0
+Inside (At place) = place < 15
+Inside Nothing = Unit
 
-abbrev pub countedAll : Relay → List Row → Relay
+-- n more at a counter, where there is one
+unfoldable pub countedAt : Relay → Counter → ℕ → Relay
+countedAt r (At place) n = added r place n
+countedAt r Nothing n = r
+
+abbrev pub countedAll : Relay → List Move → Relay
 countedAll r [] = r
-countedAll r (row ∷ rows) = countedAll (countedAt r (row .0) (row .1)) rows
+countedAll r (move ∷ moves) = countedAll (countedAt r (move .0) (move .1)) moves

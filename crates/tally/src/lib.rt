@@ -2,10 +2,12 @@
 //
 // There are fifteen, and each end of a call but two counts in the first. A refusal's number has its counter by page 01's table; the local
 // half counts a delivery or an unknown TP-ID; the onward half counts a datagram sent on, once however many ports took it, or its number;
-// and each copy that was dropped counts by itself. A counter is told by its place, and 15 is none: what does not count moves nothing.
+// and each copy that was dropped counts by itself. A counter is told by its place; what does not count has none, and moves nothing.
 //
 // The awkward case is 15, every queue full: the number itself has no counter, its copies have.
 use judge::Ending;
+use verdict::Local;
+use verdict::Onward;
 use verdict::Ruling;
 ghost use mathlib.Core.Path.{_≡_};
 ghost use lib.ListN.{length};
@@ -17,80 +19,86 @@ ghost use Rattle.tally.specs.Tally.{
   localCounter,
   onwardCounter,
   discardCounter,
+  Inside,
   countedAt,
   countedAll,
   rulingMoves,
   movesOf,
 };
 
-// How many counters there are; as a place, none of them.
-const COUNTERS: u32 = 15;
+// A counter, by its place among the fifteen; or none.
+pub enum Counter {
+    At(u32),
+    Nothing,
+}
 
 // The counter of a refusal's number.
-fn counter_for(number: u32) -> u32
+fn counter_for(number: u32) -> Counter
     ensures { λ r. ⌜ r ≡ counterFor number ⌝ }
 {
     match number {
-        1 => 1,
-        2 => 2,
-        3 => 1,
-        4 => 3,
-        5 => 4,
-        6 => 3,
-        7 => 3,
-        8 => 5,
-        9 => 6,
-        10 => 9,
-        11 => 11,
-        12 => 11,
-        13 => 13,
-        14 => 14,
-        26 => 7,
-        _ => COUNTERS,
+        1 => Counter::At(1),
+        2 => Counter::At(2),
+        3 => Counter::At(1),
+        4 => Counter::At(3),
+        5 => Counter::At(4),
+        6 => Counter::At(3),
+        7 => Counter::At(3),
+        8 => Counter::At(5),
+        9 => Counter::At(6),
+        10 => Counter::At(9),
+        11 => Counter::At(11),
+        12 => Counter::At(11),
+        13 => Counter::At(13),
+        14 => Counter::At(14),
+        26 => Counter::At(7),
+        _ => Counter::Nothing,
     }
 }
 
 // npInReceives, but for a call that 16 or 17 ended.
-fn receipt_counter(refusal: u32) -> u32
+fn receipt_counter(refusal: u32) -> Counter
     ensures { λ r. ⌜ r ≡ receiptCounter refusal ⌝ }
 {
     if refusal == 16 {
-        return COUNTERS;
+        return Counter::Nothing;
     }
     if refusal == 17 {
-        return COUNTERS;
+        return Counter::Nothing;
     }
-    0
+    Counter::At(0)
 }
 
-// npInDelivers for a delivery, else the number's.
-fn local_counter(local: u32) -> u32
+// npInDelivers for a delivery, the number's for 26.
+fn local_counter(local: Local) -> Counter
     ensures { λ r. ⌜ r ≡ localCounter local ⌝ }
 {
-    if local == 1 {
-        return 8;
+    match local {
+        Local::No => Counter::Nothing,
+        Local::Delivered => Counter::At(8),
+        Local::Unknown => counter_for(26),
     }
-    counter_for(local)
 }
 
-// npForwDatagrams for a datagram sent on, else the number's.
-fn onward_counter(onward: u32) -> u32
+// npForwDatagrams for a datagram sent on, the number's for an obstacle.
+fn onward_counter(onward: Onward) -> Counter
     ensures { λ r. ⌜ r ≡ onwardCounter onward ⌝ }
 {
-    if onward == 1 {
-        return 10;
+    match onward {
+        Onward::NotAsked => Counter::Nothing,
+        Onward::SentOn => Counter::At(10),
+        Onward::Refused(obstacle) => counter_for(verdict::obstacle_number(obstacle)),
     }
-    counter_for(onward)
 }
 
 // npOutDiscards, where a copy was dropped.
-fn discard_counter(dropped: u32) -> u32
+fn discard_counter(dropped: u32) -> Counter
     ensures { λ r. ⌜ r ≡ discardCounter dropped ⌝ }
 {
     if dropped == 0 {
-        return COUNTERS;
+        return Counter::Nothing;
     }
-    12
+    Counter::At(12)
 }
 
 // How many ports a set has.
@@ -100,14 +108,14 @@ fn ports_in(set: u32) -> u32
     u32::count_ones(set)
 }
 
-// n more at a counter, where it is one.
-fn count_at(state: &mut [u32], place: u32, n: u32)
-    requires { ⌜ length (now state) ≡ stateWords ⌝ }
-    ensures { λ _. ⌜ decode (now (state .exit)) ≡ countedAt (decode (now (state .entry))) place n ⌝ }
+// n more at a counter, where there is one.
+fn count_at(state: &mut [u32], counter: Counter, n: u32)
+    requires { ⌜ (length (now state) ≡ stateWords) × Inside counter ⌝ }
+    ensures { λ _. ⌜ decode (now (state .exit)) ≡ countedAt (decode (now (state .entry))) counter n ⌝ }
 {
-    if COUNTERS <= place {
+    let Counter::At(place) = counter else {
         return;
-    }
+    };
     state_ports::add_count(state, place as usize, n);
 }
 
@@ -116,9 +124,11 @@ fn count_ruling(state: &mut [u32], ruling: Ruling)
     requires { ⌜ length (now state) ≡ stateWords ⌝ }
     ensures { λ _. ⌜ decode (now (state .exit)) ≡ countedAll (decode (now (state .entry))) (rulingMoves ruling) ⌝ }
 {
+    let local = ruling.local;
+    let onward = ruling.onward;
     let dropped = ports_in(ruling.dropped);
-    count_at(state, local_counter(ruling.local), 1);
-    count_at(state, onward_counter(ruling.onward), 1);
+    count_at(state, local_counter(local), 1);
+    count_at(state, onward_counter(onward), 1);
     count_at(state, discard_counter(ruling.dropped), dropped);
 }
 

@@ -8,7 +8,7 @@ use lib.Bits.{and-le-l}
 use borrow.Author.Tests.{eqb-true, eqb-false}
 use Rattle.checks.specs.Order.{pick}
 use Rattle.checks.proofs.Bools.{true-false}
-use Rattle.verdict.specs.Rule.{hereBy, oursBy, localOf, exceptBy, groupLine, pathLine, routeLine, routerLine, hostLine, lineOf, copiesOf}
+use Rattle.verdict.specs.Rule.{hereBy, oursBy, localOf, exceptBy, unheardBy, groupLine, pathLine, routeLine, routerLine, hostLine, lineOf, copiesOf}
 use Rattle.verdict.specs.declared.Target.{Target}
 use Rattle.verdict.specs.declared.Target.the-variants.{Here, Broadcast, Group, Path, Route}
 use Rattle.verdict.specs.declared.Place.{Place}
@@ -16,78 +16,83 @@ use Rattle.verdict.specs.declared.Place.the-variants.{Held, Missing}
 use Rattle.verdict.specs.declared.Way.{Way}
 use Rattle.verdict.specs.declared.Way.the-variants.{By, Lost}
 use Rattle.verdict.specs.declared.Case.{Case}
-use Rattle.verdict.specs.declared.Line.{Line}
-use Rattle.verdict.specs.declared.Line.the-variants.{Unasked, Refused, Wanted}
+use Rattle.verdict.specs.declared.Local.{Local}
+use Rattle.verdict.specs.declared.Local.the-variants.{No, Delivered, Unknown}
+use Rattle.verdict.specs.declared.Obstacle.{Obstacle}
+use Rattle.verdict.specs.declared.Obstacle.the-variants.{NotForUs, NoRoute, RouteNotUp}
+use Rattle.verdict.specs.declared.Wish.{Wish}
+use Rattle.verdict.specs.declared.Wish.the-variants.{NotAsked, Refused, Wanted}
 
 -- every copy granted is taken or dropped, and none is both
-pub ledger : (local granted full : ℕ) → copiesOf local granted full .took + copiesOf local granted full .dropped ≡ copiesOf local granted full .granted
+pub ledger : (local : Local) (granted full : ℕ) → copiesOf local granted full .took + copiesOf local granted full .dropped ≡ copiesOf local granted full .granted
 unfolding copiesOf
 ledger local granted full = omega (arith, and-le-l granted full)
 
 -- ---- "no" with "not asked" never occurs
 
-refused-asked : {X : Type 0} (n : ℕ) → Refused n ≡ Unasked → X
-refused-asked n e = true-false cc
+refused-asked : {X : Type 0} (o : Obstacle) → Refused o ≡ NotAsked → X
+refused-asked o e = true-false cc
 
-wanted-asked : {X : Type 0} (n : ℕ) → Wanted n ≡ Unasked → X
+wanted-asked : {X : Type 0} (n : ℕ) → Wanted n ≡ NotAsked → X
 wanted-asked n e = true-false cc
 
-would-case : (t u v : Bool) → _≡_ {A = ℕ} (pick (eqb (pick (t && u) 0 1) 0) 0 (pick v 26 1)) 0 → t ≡ true
+would-case : (t u v : Bool) → pick (eqb (pick (t && u) 0 1) 0) No (pick v Unknown Delivered) ≡ No → t ≡ true
 would-case true u v h = refl
-would-case false true true h = absurd (omega arith)
-would-case false true false h = absurd (omega arith)
-would-case false false true h = absurd (omega arith)
-would-case false false false h = absurd (omega arith)
+would-case false true true h = true-false cc
+would-case false true false h = true-false cc
+would-case false false true h = true-false cc
+would-case false false false h = true-false cc
 
 -- where the local half is no, the target is not ours
-no-ours : (t : Target) (p : Place) (c : Case) → localOf t p c ≡ 0 → oursBy t (hereBy p) ≡ 0
+no-ours : (t : Target) (p : Place) (c : Case) → localOf t p c ≡ No → oursBy t (hereBy p) ≡ 0
 unfolding localOf
 no-ours t p c h = eqb-true (oursBy t (hereBy p)) 0 (would-case (eqb (oursBy t (hereBy p)) 0) (eqb (c .intermediate) 0) (eqb (c .assigned) 0) h)
 
-group-case : (t u v : Bool) (set : ℕ) → pick (eqb (pick (not t && u) 1 0) 1) Unasked (pick v (Refused 11) (Wanted set)) ≡ Unasked → t ≡ false
-group-case true u true set h = refused-asked 11 h
+group-case : (t u v : Bool) (set : ℕ) → pick (eqb (pick (not t && u) 1 0) 1) NotAsked (pick v (Refused NoRoute) (Wanted set)) ≡ NotAsked → t ≡ false
+group-case true u true set h = refused-asked NoRoute h
 group-case true u false set h = wanted-asked set h
 group-case false u v set h = refl
 
-path-case : (t u : Bool) (set : ℕ) → pick (not t) (Wanted set) (pick (not u) Unasked (Refused 11)) ≡ Unasked → u ≡ false
-path-case true true set h = refused-asked 11 h
+path-case : (t u : Bool) (set : ℕ) → pick (not t) (Wanted set) (pick (not u) NotAsked (Refused NoRoute)) ≡ NotAsked → u ≡ false
+path-case true true set h = refused-asked NoRoute h
 path-case true false set h = refl
 path-case false u set h = wanted-asked set h
 
-route-case : {X : Type 0} (t : Bool) (set : ℕ) → pick t (Wanted set) (Refused 12) ≡ Unasked → X
+route-case : {X : Type 0} (t : Bool) (set : ℕ) → pick t (Wanted set) (Refused RouteNotUp) ≡ NotAsked → X
 route-case true set h = wanted-asked set h
-route-case false set h = refused-asked 12 h
+route-case false set h = refused-asked RouteNotUp h
 
-host-case : (t : Bool) → pick t (Refused 9) Unasked ≡ Unasked → t ≡ false
-host-case true h = refused-asked 9 h
-host-case false h = refl
+unheard-asked : (local : Local) → local ≡ No → unheardBy local ≡ NotAsked → ⊥
+unheard-asked No z h = refused-asked NotForUs h
+unheard-asked Delivered z h = true-false cc
+unheard-asked Unknown z h = true-false cc
 
-router-asked : (t : Target) (p : Place) (w : Way) (arrival ready : ℕ) → oursBy t (hereBy p) ≡ 0 → routerLine t p w arrival ready ≡ Unasked → ⊥
+router-asked : (t : Target) (p : Place) (w : Way) (arrival ready : ℕ) → oursBy t (hereBy p) ≡ 0 → routerLine t p w arrival ready ≡ NotAsked → ⊥
 unfolding groupLine pathLine routeLine
 router-asked Here p w arrival ready o h = omega arith
 router-asked Broadcast p w arrival ready o h = omega arith
-router-asked Group Missing w arrival ready o h = refused-asked 11 h
+router-asked Group Missing w arrival ready o h = refused-asked NoRoute h
 router-asked Group (Held send word) w arrival ready o h =
     eqb-false word 0 (group-case (eqb word 0) (eqb (exceptBy ready arrival) 0) (eqb (exceptBy send arrival) 0) (exceptBy send arrival) h) o
-router-asked Path Missing w arrival ready o h = refused-asked 11 h
+router-asked Path Missing w arrival ready o h = refused-asked NoRoute h
 router-asked Path (Held send word) w arrival ready o h =
     eqb-false word 0 (path-case (eqb (exceptBy send arrival) 0) (eqb word 0) (exceptBy send arrival) h) o
-router-asked Route p Lost arrival ready o h = refused-asked 11 h
+router-asked Route p Lost arrival ready o h = refused-asked NoRoute h
 router-asked Route p (By set availability) arrival ready o h = route-case (eqb availability 1) set h
 
-host-asked : (t : Target) (p : Place) (local : ℕ) → oursBy t (hereBy p) ≡ 0 → local ≡ 0 → hostLine t local ≡ Unasked → ⊥
+host-asked : (t : Target) (p : Place) (local : Local) → oursBy t (hereBy p) ≡ 0 → local ≡ No → hostLine t local ≡ NotAsked → ⊥
 host-asked Here p local o z h = omega arith
 host-asked Broadcast p local o z h = omega arith
-host-asked Group p local o z h = eqb-false local 0 (host-case (eqb local 0) h) z
-host-asked Path p local o z h = eqb-false local 0 (host-case (eqb local 0) h) z
-host-asked Route p local o z h = eqb-false local 0 (host-case (eqb local 0) h) z
+host-asked Group p local o z h = unheard-asked local z h
+host-asked Path p local o z h = unheard-asked local z h
+host-asked Route p local o z h = unheard-asked local z h
 
-line-case : (t : Bool) (a b : Line) → (a ≡ Unasked → ⊥) → (b ≡ Unasked → ⊥) → pick t a b ≡ Unasked → ⊥
+line-case : (t : Bool) (a b : Wish) → (a ≡ NotAsked → ⊥) → (b ≡ NotAsked → ⊥) → pick t a b ≡ NotAsked → ⊥
 line-case true a b p q h = p h
 line-case false a b p q h = q h
 
 -- a datagram that is not for this node is always asked of the onward half (page 01; our ruling: "no" with "not asked" cannot occur)
-pub no-is-asked : (t : Target) (p : Place) (w : Way) (c : Case) (ready : ℕ) → localOf t p c ≡ 0 → lineOf t p w c ready (localOf t p c) ≡ Unasked → ⊥
+pub no-is-asked : (t : Target) (p : Place) (w : Way) (c : Case) (ready : ℕ) → localOf t p c ≡ No → lineOf t p w c ready (localOf t p c) ≡ NotAsked → ⊥
 unfolding lineOf
 no-is-asked t p w c ready z h =
     let o = no-ours t p c z in
@@ -96,21 +101,22 @@ no-is-asked t p w c ready z h =
 
 -- ---- the onward half does not depend on the TP-ID
 
-local-zero : (t u v : Bool) → eqb (pick (eqb (pick (t && u) 0 1) 0) 0 (pick v 26 1)) 0 ≡ (t && u)
-local-zero true true v = refl
-local-zero true false true = refl
-local-zero true false false = refl
-local-zero false true true = refl
-local-zero false true false = refl
-local-zero false false true = refl
-local-zero false false false = refl
+-- what a host says of what is not its own depends on whether it would be delivered, and not on the TP-ID
+unheard-case : (t u v : Bool) → unheardBy (pick (eqb (pick (t && u) 0 1) 0) No (pick v Unknown Delivered)) ≡ pick (t && u) (Refused NotForUs) NotAsked
+unheard-case true true v = refl
+unheard-case true false true = refl
+unheard-case true false false = refl
+unheard-case false true true = refl
+unheard-case false true false = refl
+unheard-case false false true = refl
+unheard-case false false false = refl
 
-host-same : (t : Target) (a b : ℕ) → eqb a 0 ≡ eqb b 0 → hostLine t a ≡ hostLine t b
+host-same : (t : Target) (a b : Local) → unheardBy a ≡ unheardBy b → hostLine t a ≡ hostLine t b
 host-same Here a b e = refl
-host-same Broadcast a b e = rw e
-host-same Group a b e = rw e
-host-same Path a b e = rw e
-host-same Route a b e = rw e
+host-same Broadcast a b e = e
+host-same Group a b e = e
+host-same Path a b e = e
+host-same Route a b e = e
 
 -- two cases that differ in the TP-ID alone have the same line
 pub tpid-free : (t : Target) (p : Place) (w : Way) (c d : Case) (ready : ℕ) → c .arrival ≡ d .arrival → c .router ≡ d .router → c .intermediate ≡ d .intermediate
@@ -118,6 +124,6 @@ pub tpid-free : (t : Target) (p : Place) (w : Way) (c d : Case) (ready : ℕ) �
 unfolding lineOf localOf
 tpid-free t p w c d ready a r i =
     let x = eqb (oursBy t (hereBy p)) 0 in
-    let z : eqb (localOf t p c) 0 ≡ eqb (localOf t p d) 0 =
-    local-zero x (eqb (c .intermediate) 0) (eqb (c .assigned) 0) ∙ (rw i (sym (local-zero x (eqb (d .intermediate) 0) (eqb (d .assigned) 0)))) in
+    let z : unheardBy (localOf t p c) ≡ unheardBy (localOf t p d) =
+    unheard-case x (eqb (c .intermediate) 0) (eqb (c .assigned) 0) ∙ (rw i (sym (unheard-case x (eqb (d .intermediate) 0) (eqb (d .assigned) 0)))) in
     rw (a, r, host-same t (localOf t p c) (localOf t p d) z)

@@ -15,8 +15,12 @@ use Rattle.verdict.specs.declared.Place.the-variants.{Held, Missing}
 use Rattle.verdict.specs.declared.Way.{Way}
 use Rattle.verdict.specs.declared.Way.the-variants.{By, Lost}
 use Rattle.verdict.specs.declared.Case.{Case}
-use Rattle.verdict.specs.declared.Line.{Line}
-use Rattle.verdict.specs.declared.Line.the-variants.{Unasked, Refused, Wanted}
+use Rattle.verdict.specs.declared.Obstacle.the-variants.{NotForUs, HopsUsedUp, NoRoute, RouteNotUp, LeavesDomain, TooBig, QueuesFull}
+use Rattle.verdict.specs.declared.Wish.{Wish}
+use Rattle.verdict.specs.declared.Wish.the-variants.{NotAsked, Refused, Wanted}
+use Rattle.verdict.specs.declared.Local.{Local}
+use Rattle.verdict.specs.declared.Local.the-variants.{No, Delivered, Unknown}
+use Rattle.verdict.specs.declared.Onward.the-variants as onward
 use Rattle.verdict.specs.declared.Ruling.{Ruling}
 
 -- ---- which line fits first
@@ -40,11 +44,11 @@ overBroadcast Route = Broadcast
 
 -- a port's own address first, then the limited broadcast, then a broadcast of ours, then its class
 unfoldable pub targetOf : Class → Survey → Target
-targetOf c s = pick (not (eqb (s .own) 0)) Here (pick (not (eqb (s .ours) 0)) (overBroadcast (classTarget c)) (classTarget c))
+targetOf c s = pick (not (eqb (s .addressed) 0)) Here (pick (not (eqb (s .broadcast) 0)) (overBroadcast (classTarget c)) (classTarget c))
 
 -- ---- the local half
 
--- what the place for the group or path says: subscribed on the arrival port, or delivered here
+-- what the place for the group or path says, 0 where it says no: the arrival port where it is subscribed, or delivered here
 abbrev pub hereBy : Place → ℕ
 hereBy (Held send here) = here
 hereBy Missing = 0
@@ -60,9 +64,9 @@ oursBy Route here = 0
 abbrev pub wantedHere : ℕ → ℕ → ℕ
 wantedHere ours intermediate = pick (eqb ours 0 && eqb intermediate 0) 0 1
 
--- 0 no; 26 where it would be delivered and its TP-ID is not assigned; else 1
-unfoldable pub localOf : Target → Place → Case → ℕ
-localOf t p c = pick (eqb (wantedHere (oursBy t (hereBy p)) (c .intermediate)) 0) 0 (pick (eqb (c .assigned) 0) 26 1)
+-- "If it would be delivered and its TP-ID is not assigned in table 3-2, the local half is 26"
+unfoldable pub localOf : Target → Place → Case → Local
+localOf t p c = pick (eqb (wantedHere (oursBy t (hereBy p)) (c .intermediate)) 0) No (pick (eqb (c .assigned) 0) Unknown Delivered)
 
 -- ---- the lines of the onward half
 
@@ -70,94 +74,97 @@ localOf t p c = pick (eqb (wantedHere (oursBy t (hereBy p)) (c .intermediate)) 0
 abbrev pub exceptBy : ℕ → ℕ → ℕ
 exceptBy set others = set - bitAnd set others
 
-abbrev pub broadcastLine : ℕ → Line
-broadcastLine set = pick (eqb set 0) Unasked (Wanted set)
+abbrev pub broadcastLine : ℕ → Wish
+broadcastLine set = pick (eqb set 0) NotAsked (Wanted set)
 
 -- subscribed on the arrival port, and no other port is set up
 abbrev pub aloneBy : ℕ → ℕ → ℕ
 aloneBy subscribed others = pick (not (eqb subscribed 0) && eqb others 0) 1 0
 
 -- the group's set without the arrival port; `others` are the other ports set up
-unfoldable pub groupLine : Place → ℕ → ℕ → Line
-groupLine Missing arrival others = Refused 11
+unfoldable pub groupLine : Place → ℕ → ℕ → Wish
+groupLine Missing arrival others = Refused NoRoute
 groupLine (Held send subscribed) arrival others =
-    pick (eqb (aloneBy subscribed others) 1) Unasked (pick (eqb (exceptBy send arrival) 0) (Refused 11) (Wanted (exceptBy send arrival)))
+    pick (eqb (aloneBy subscribed others) 1) NotAsked (pick (eqb (exceptBy send arrival) 0) (Refused NoRoute) (Wanted (exceptBy send arrival)))
 
 -- the path's set without the arrival port
-unfoldable pub pathLine : Place → ℕ → Line
-pathLine Missing arrival = Refused 11
+unfoldable pub pathLine : Place → ℕ → Wish
+pathLine Missing arrival = Refused NoRoute
 pathLine (Held send here) arrival =
-    pick (not (eqb (exceptBy send arrival) 0)) (Wanted (exceptBy send arrival)) (pick (not (eqb here 0)) Unasked (Refused 11))
+    pick (not (eqb (exceptBy send arrival) 0)) (Wanted (exceptBy send arrival)) (pick (not (eqb here 0)) NotAsked (Refused NoRoute))
 
 -- the route taken, if it is up
-unfoldable pub routeLine : Way → Line
-routeLine Lost = Refused 11
-routeLine (By set availability) = pick (eqb availability 1) (Wanted set) (Refused 12)
+unfoldable pub routeLine : Way → Wish
+routeLine Lost = Refused NoRoute
+routeLine (By set availability) = pick (eqb availability 1) (Wanted set) (Refused RouteNotUp)
 
-abbrev pub routerLine : Target → Place → Way → ℕ → ℕ → Line
-routerLine Here p w arrival ready = Unasked
+abbrev pub routerLine : Target → Place → Way → ℕ → ℕ → Wish
+routerLine Here p w arrival ready = NotAsked
 routerLine Broadcast p w arrival ready = broadcastLine (exceptBy ready arrival)
 routerLine Group p w arrival ready = groupLine p arrival (exceptBy ready arrival)
 routerLine Path p w arrival ready = pathLine p arrival
 routerLine Route p w arrival ready = routeLine w
 
 -- a host: not asked where the local half is delivered or 26, else 9
-abbrev pub unheardBy : ℕ → Line
-unheardBy local = pick (eqb local 0) (Refused 9) Unasked
+abbrev pub unheardBy : Local → Wish
+unheardBy No = Refused NotForUs
+unheardBy Delivered = NotAsked
+unheardBy Unknown = NotAsked
 
-abbrev pub hostLine : Target → ℕ → Line
-hostLine Here local = Unasked
+abbrev pub hostLine : Target → Local → Wish
+hostLine Here local = NotAsked
 hostLine Broadcast local = unheardBy local
 hostLine Group local = unheardBy local
 hostLine Path local = unheardBy local
 hostLine Route local = unheardBy local
 
-unfoldable pub lineOf : Target → Place → Way → Case → ℕ → ℕ → Line
+unfoldable pub lineOf : Target → Place → Way → Case → ℕ → Local → Wish
 lineOf t p w c ready local = pick (eqb (c .router) 0) (hostLine t local) (routerLine t p w (c .arrival) ready)
 
 -- ---- with ports wanted: 10, 13, 14, in this order
 
-abbrev pub hopsLeft : ℕ → ℕ → Line
-hopsLeft set spent = pick (eqb spent 0) (Wanted set) (Refused 10)
+abbrev pub hopsLeft : ℕ → ℕ → Wish
+hopsLeft set spent = pick (eqb spent 0) (Wanted set) (Refused HopsUsedUp)
 
-abbrev pub sameDomain : ℕ → ℕ → ℕ → Line
-sameDomain set basic near = pick (eqb basic 0) (Wanted set) (pick (eqb (bitAnd set near) 0) (Refused 13) (Wanted (bitAnd set near)))
+abbrev pub sameDomain : ℕ → ℕ → ℕ → Wish
+sameDomain set basic domain =
+    pick (eqb basic 0) (Wanted set) (pick (eqb (bitAnd set domain) 0) (Refused LeavesDomain) (Wanted (bitAnd set domain)))
 
-abbrev pub wideEnough : ℕ → ℕ → Line
-wideEnough set wide = pick (eqb (bitAnd set wide) 0) (Refused 14) (Wanted (bitAnd set wide))
+abbrev pub largeEnough : ℕ → ℕ → Wish
+largeEnough set fitting = pick (eqb (bitAnd set fitting) 0) (Refused TooBig) (Wanted (bitAnd set fitting))
 
 -- what is not wanted stays as it is
-abbrev pub afterHops : Line → ℕ → Line
-afterHops Unasked spent = Unasked
-afterHops (Refused n) spent = Refused n
+abbrev pub afterHops : Wish → ℕ → Wish
+afterHops NotAsked spent = NotAsked
+afterHops (Refused o) spent = Refused o
 afterHops (Wanted set) spent = hopsLeft set spent
 
-abbrev pub afterDomain : Line → ℕ → ℕ → Line
-afterDomain Unasked basic near = Unasked
-afterDomain (Refused n) basic near = Refused n
-afterDomain (Wanted set) basic near = sameDomain set basic near
+abbrev pub afterDomain : Wish → ℕ → ℕ → Wish
+afterDomain NotAsked basic domain = NotAsked
+afterDomain (Refused o) basic domain = Refused o
+afterDomain (Wanted set) basic domain = sameDomain set basic domain
 
-abbrev pub afterSize : Line → ℕ → Line
-afterSize Unasked wide = Unasked
-afterSize (Refused n) wide = Refused n
-afterSize (Wanted set) wide = wideEnough set wide
+abbrev pub afterSize : Wish → ℕ → Wish
+afterSize NotAsked fitting = NotAsked
+afterSize (Refused o) fitting = Refused o
+afterSize (Wanted set) fitting = largeEnough set fitting
 
-unfoldable pub grantedOf : Line → Case → Survey → Line
-grantedOf l c s = afterSize (afterDomain (afterHops l (c .spent)) (c .basic) (s .near)) (s .wide)
+unfoldable pub grantedOf : Wish → Case → Survey → Wish
+grantedOf w c s = afterSize (afterDomain (afterHops w (c .spent)) (c .basic) (s .domain)) (s .fitting)
 
 -- ---- the copies: a port whose queue is not full takes one, the others drop theirs; all dropped: 15
 
-unfoldable pub copiesOf : ℕ → ℕ → ℕ → Ruling
+unfoldable pub copiesOf : Local → ℕ → ℕ → Ruling
 copiesOf local granted full =
     record {
       local = local;
-      onward = pick (eqb (exceptBy granted full) 0) 15 1;
+      onward = pick (eqb (exceptBy granted full) 0) (onward.Refused QueuesFull) onward.SentOn;
       granted = granted;
       took = exceptBy granted full;
       dropped = bitAnd granted full;
     }
 
-unfoldable pub rulingOf : ℕ → Line → ℕ → Ruling
-rulingOf local Unasked full = record { local = local; onward = 0; granted = 0; took = 0; dropped = 0 }
-rulingOf local (Refused n) full = record { local = local; onward = n; granted = 0; took = 0; dropped = 0 }
+unfoldable pub rulingOf : Local → Wish → ℕ → Ruling
+rulingOf local NotAsked full = record { local = local; onward = onward.NotAsked; granted = 0; took = 0; dropped = 0 }
+rulingOf local (Refused o) full = record { local = local; onward = onward.Refused o; granted = 0; took = 0; dropped = 0 }
 rulingOf local (Wanted set) full = copiesOf local set full

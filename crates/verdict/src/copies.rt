@@ -2,92 +2,95 @@
 //
 // Three rules strike ports out, in the order 10, 13, 14: no hops left, another domain with addresses of one octet, an MTU that is too
 // small. What is left is granted. A port whose queue is full drops its copy. All this is arithmetic on sets of ports, numbers in which
-// port p is 2 to the power of p (crate verdict, which has the definitions). The awkward case is a set that becomes empty: the rule
+// port p is 2 to the power of p. The awkward case is a set that becomes empty: the rule
 // that struck out its last port gives the number, and full queues alone give 15, with every copy granted and dropped.
 use crate::Case;
-use crate::Line;
+use crate::Local;
+use crate::Obstacle;
+use crate::Onward;
 use crate::Ruling;
 use crate::Survey;
+use crate::Wish;
 ghost use mathlib.Core.Path.{_≡_};
-ghost use Rattle.verdict.specs.Rule.{hopsLeft, sameDomain, wideEnough, afterHops, afterDomain, afterSize, grantedOf, copiesOf, rulingOf};
+ghost use Rattle.verdict.specs.Rule.{hopsLeft, sameDomain, largeEnough, afterHops, afterDomain, afterSize, grantedOf, copiesOf, rulingOf};
 
 // Hops left, else 10.
-fn hops_left(set: u32, spent: u32) -> Line
+fn hops_left(set: u32, spent: u32) -> Wish
     ensures { λ r. ⌜ r ≡ hopsLeft set spent ⌝ }
 {
     if spent != 0 {
-        return Line::Refused(10);
+        return Wish::Refused(Obstacle::HopsUsedUp);
     }
-    Line::Wanted(set)
+    Wish::Wanted(set)
 }
 
 // With addresses of one octet, the ports of the arrival port's domain alone; none left is 13.
-fn same_domain(set: u32, basic: u32, near: u32) -> Line
-    ensures { λ r. ⌜ r ≡ sameDomain set basic near ⌝ }
+fn same_domain(set: u32, basic: u32, domain: u32) -> Wish
+    ensures { λ r. ⌜ r ≡ sameDomain set basic domain ⌝ }
 {
     if basic == 0 {
-        return Line::Wanted(set);
+        return Wish::Wanted(set);
     }
-    let left = set & near;
+    let left = set & domain;
     if left == 0 {
-        return Line::Refused(13);
+        return Wish::Refused(Obstacle::LeavesDomain);
     }
-    Line::Wanted(left)
+    Wish::Wanted(left)
 }
 
 // The ports whose MTU holds the datagram; none left is 14.
-fn wide_enough(set: u32, wide: u32) -> Line
-    ensures { λ r. ⌜ r ≡ wideEnough set wide ⌝ }
+fn large_enough(set: u32, fitting: u32) -> Wish
+    ensures { λ r. ⌜ r ≡ largeEnough set fitting ⌝ }
 {
-    let left = set & wide;
+    let left = set & fitting;
     if left == 0 {
-        return Line::Refused(14);
+        return Wish::Refused(Obstacle::TooBig);
     }
-    Line::Wanted(left)
+    Wish::Wanted(left)
 }
 
 // Each strikes ports out of those that are wanted, and leaves what is not wanted as it is.
-fn after_hops(l: Line, spent: u32) -> Line
-    ensures { λ r. ⌜ r ≡ afterHops l spent ⌝ }
+fn after_hops(w: Wish, spent: u32) -> Wish
+    ensures { λ r. ⌜ r ≡ afterHops w spent ⌝ }
 {
-    match l {
-        Line::Unasked => Line::Unasked,
-        Line::Refused(number) => Line::Refused(number),
-        Line::Wanted(set) => hops_left(set, spent),
+    match w {
+        Wish::NotAsked => Wish::NotAsked,
+        Wish::Refused(obstacle) => Wish::Refused(obstacle),
+        Wish::Wanted(set) => hops_left(set, spent),
     }
 }
 
-fn after_domain(l: Line, basic: u32, near: u32) -> Line
-    ensures { λ r. ⌜ r ≡ afterDomain l basic near ⌝ }
+fn after_domain(w: Wish, basic: u32, domain: u32) -> Wish
+    ensures { λ r. ⌜ r ≡ afterDomain w basic domain ⌝ }
 {
-    match l {
-        Line::Unasked => Line::Unasked,
-        Line::Refused(number) => Line::Refused(number),
-        Line::Wanted(set) => same_domain(set, basic, near),
+    match w {
+        Wish::NotAsked => Wish::NotAsked,
+        Wish::Refused(obstacle) => Wish::Refused(obstacle),
+        Wish::Wanted(set) => same_domain(set, basic, domain),
     }
 }
 
-fn after_size(l: Line, wide: u32) -> Line
-    ensures { λ r. ⌜ r ≡ afterSize l wide ⌝ }
+fn after_size(w: Wish, fitting: u32) -> Wish
+    ensures { λ r. ⌜ r ≡ afterSize w fitting ⌝ }
 {
-    match l {
-        Line::Unasked => Line::Unasked,
-        Line::Refused(number) => Line::Refused(number),
-        Line::Wanted(set) => wide_enough(set, wide),
+    match w {
+        Wish::NotAsked => Wish::NotAsked,
+        Wish::Refused(obstacle) => Wish::Refused(obstacle),
+        Wish::Wanted(set) => large_enough(set, fitting),
     }
 }
 
 // The ports that are granted a copy, of those that are wanted: 10, then 13, then 14.
-pub fn granted_of(wanted: Line, c: Case, s: Survey) -> Line
+pub fn granted_of(wanted: Wish, c: Case, s: Survey) -> Wish
     ensures { λ r. ⌜ r ≡ grantedOf wanted c s ⌝ }
 {
     let hops = after_hops(wanted, c.spent);
-    let domain = after_domain(hops, c.basic, s.near);
-    after_size(domain, s.wide)
+    let domain = after_domain(hops, c.basic, s.domain);
+    after_size(domain, s.fitting)
 }
 
 // The copies granted: each port whose queue is not full takes one, the others drop theirs; all dropped is 15.
-fn copies_of(local: u32, granted: u32, full: u32) -> Ruling
+fn copies_of(local: Local, granted: u32, full: u32) -> Ruling
     ensures { λ r. ⌜ r ≡ copiesOf local granted full ⌝ }
 {
     let dropped = granted & full;
@@ -95,7 +98,7 @@ fn copies_of(local: u32, granted: u32, full: u32) -> Ruling
     if took == 0 {
         return Ruling {
             local,
-            onward: 15,
+            onward: Onward::Refused(Obstacle::QueuesFull),
             granted,
             took,
             dropped,
@@ -103,7 +106,7 @@ fn copies_of(local: u32, granted: u32, full: u32) -> Ruling
     }
     Ruling {
         local,
-        onward: 1,
+        onward: Onward::SentOn,
         granted,
         took,
         dropped,
@@ -111,24 +114,24 @@ fn copies_of(local: u32, granted: u32, full: u32) -> Ruling
 }
 
 // The ruling, by the local half and what the onward half granted.
-pub fn ruling_of(local: u32, granted: Line, full: u32) -> Ruling
+pub fn ruling_of(local: Local, granted: Wish, full: u32) -> Ruling
     ensures { λ r. ⌜ r ≡ rulingOf local granted full ⌝ }
 {
     match granted {
-        Line::Unasked => Ruling {
+        Wish::NotAsked => Ruling {
             local,
-            onward: 0,
+            onward: Onward::NotAsked,
             granted: 0,
             took: 0,
             dropped: 0,
         },
-        Line::Refused(number) => Ruling {
+        Wish::Refused(obstacle) => Ruling {
             local,
-            onward: number,
+            onward: Onward::Refused(obstacle),
             granted: 0,
             took: 0,
             dropped: 0,
         },
-        Line::Wanted(set) => copies_of(local, set, full),
+        Wish::Wanted(set) => copies_of(local, set, full),
     }
 }

@@ -1,15 +1,19 @@
 // The rules for one datagram that has been read: what becomes of it here, and which ports it is wanted on.
 //
 // The rule is pure. It is handed what others looked up (which ports are set up, which have the destination's address, what the
-// places for groups and paths hold, which route was found, which queues are full) as small numbers. The kinds that it is told in, the
-// definitions of both halves and the laws between them stand here; module `local_half` says what a destination is to this node, module
-// `onward_half` which line of the onward half fits, module `copies` which of the ports wanted are granted, took or drop a copy. Nothing is written; the relay
-// applies the ruling. A set of ports is a number in which port p is 2 to the power of p.
+// places for groups and paths hold, which route was found, which queues are full) as small numbers. The kinds that it is told in and
+// answers in stand here; module `local_half` says what a destination is to this node, module `onward_half` which line of the onward half
+// fits, module `copies` which of the ports wanted are granted, take or drop a copy. Nothing is written; the relay applies the ruling. A
+// set of ports is a number in which port p is 2 to the power of p.
+//
+// The awkward case is a number of page 01 that both halves use, 1: delivered in one, sent on in the other. So each half is a kind of its
+// own, and has its number (0, 1, 26; 0, 1, 9 to 15) by a function.
 pub mod copies;
 pub mod local_half;
 pub mod onward_half;
 
 ghost use mathlib.Core.Path.{_≡_};
+ghost use Rattle.verdict.specs.Numbers.{localNumber, obstacleNumber, onwardNumber};
 ghost use Rattle.verdict.specs.Rule.{exceptBy};
 
 // Which line of the onward half a destination falls under, apart from what a host makes of it.
@@ -21,14 +25,14 @@ pub enum Target {
     Route,
 }
 
-// What the ports say of a destination: the ports set up, those with its address, those it is a broadcast of, those in the domain of
-// the arrival port, those whose MTU holds the datagram, those with a full queue.
+// What the ports say of a datagram: the ports set up, those with the destination's address, those it is a broadcast of, those in the
+// domain of the arrival port, those whose MTU holds the datagram, those with a full queue.
 pub struct Survey {
     pub ready: u32,
-    pub own: u32,
-    pub ours: u32,
-    pub near: u32,
-    pub wide: u32,
+    pub addressed: u32,
+    pub broadcast: u32,
+    pub domain: u32,
+    pub fitting: u32,
     pub full: u32,
 }
 
@@ -56,21 +60,82 @@ pub struct Case {
     pub spent: u32,
 }
 
-// What the lines of the onward half answer.
-pub enum Line {
-    Unasked,
-    Refused(u32),
+// The local half. Unknown: it would be delivered, and its TP-ID is not assigned.
+pub enum Local {
+    No,
+    Delivered,
+    Unknown,
+}
+
+// What keeps a datagram from being sent on.
+pub enum Obstacle {
+    NotForUs,
+    HopsUsedUp,
+    NoRoute,
+    RouteNotUp,
+    LeavesDomain,
+    TooBig,
+    QueuesFull,
+}
+
+// What a line of the onward half makes of a datagram, before any queue is looked at: it is wanted on the ports of a set.
+pub enum Wish {
+    NotAsked,
+    Refused(Obstacle),
     Wanted(u32),
 }
 
-// The ruling: the local half (0 no, 1 delivered, 26), the onward half (0 not asked, 1 sent on, or its number), and the ports that are
-// granted a copy, that took it and that dropped it.
+// The onward half. SentOn: some port took an entry.
+pub enum Onward {
+    NotAsked,
+    SentOn,
+    Refused(Obstacle),
+}
+
+// The ruling: both halves, and the ports that are granted a copy, that took it and that dropped it.
 pub struct Ruling {
-    pub local: u32,
-    pub onward: u32,
+    pub local: Local,
+    pub onward: Onward,
     pub granted: u32,
     pub took: u32,
     pub dropped: u32,
+}
+
+// Page 01's number of a local half.
+pub fn local_number(local: Local) -> u32
+    ensures { λ r. ⌜ r ≡ localNumber local ⌝ }
+{
+    match local {
+        Local::No => 0,
+        Local::Delivered => 1,
+        Local::Unknown => 26,
+    }
+}
+
+// Page 01's number of an obstacle.
+pub fn obstacle_number(obstacle: Obstacle) -> u32
+    ensures { λ r. ⌜ r ≡ obstacleNumber obstacle ⌝ }
+{
+    match obstacle {
+        Obstacle::NotForUs => 9,
+        Obstacle::HopsUsedUp => 10,
+        Obstacle::NoRoute => 11,
+        Obstacle::RouteNotUp => 12,
+        Obstacle::LeavesDomain => 13,
+        Obstacle::TooBig => 14,
+        Obstacle::QueuesFull => 15,
+    }
+}
+
+// Page 01's number of an onward half.
+pub fn onward_number(onward: Onward) -> u32
+    ensures { λ r. ⌜ r ≡ onwardNumber onward ⌝ }
+{
+    match onward {
+        Onward::NotAsked => 0,
+        Onward::SentOn => 1,
+        Onward::Refused(obstacle) => obstacle_number(obstacle),
+    }
 }
 
 // A set of ports without those of another.

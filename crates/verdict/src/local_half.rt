@@ -5,6 +5,7 @@
 //
 // The awkward case is a group: it is ours by what its place says of the arrival port, and not by its address.
 use crate::Case;
+use crate::Local;
 use crate::Place;
 use crate::Survey;
 use crate::Target;
@@ -44,16 +45,16 @@ fn over_broadcast(t: Target) -> Target
 pub fn target_of(class: Class, s: Survey) -> Target
     ensures { λ r. ⌜ r ≡ targetOf class s ⌝ }
 {
-    if s.own != 0 {
+    if s.addressed != 0 {
         return Target::Here;
     }
-    if s.ours != 0 {
+    if s.broadcast != 0 {
         return over_broadcast(class_target(class));
     }
     class_target(class)
 }
 
-// 1 where a place says yes: delivered here, or subscribed on the arrival port.
+// What a place says of this node, 0 where it says no: delivered here, or the set of the arrival port where that is subscribed.
 fn here_by(p: Place) -> u32
     ensures { λ r. ⌜ r ≡ hereBy p ⌝ }
 {
@@ -63,7 +64,7 @@ fn here_by(p: Place) -> u32
     }
 }
 
-// 1 where the target makes the datagram ours, by what its place says.
+// Not 0 where the target makes the datagram ours, by what its place says.
 fn ours_by(t: Target, here: u32) -> u32
     ensures { λ r. ⌜ r ≡ oursBy t here ⌝ }
 {
@@ -89,16 +90,16 @@ fn wanted_here(ours: u32, intermediate: u32) -> u32
     0
 }
 
-// The local half: 0 no, 1 delivered, 26 where it would be delivered and its TP-ID is not assigned.
-pub fn local_of(t: Target, p: Place, c: Case) -> u32
+// The local half.
+pub fn local_of(t: Target, p: Place, c: Case) -> Local
     ensures { λ r. ⌜ r ≡ localOf t p c ⌝ }
 {
     let ours = ours_by(t, here_by(p));
     if wanted_here(ours, c.intermediate) == 0 {
-        return 0;
+        return Local::No;
     }
     if c.assigned == 0 {
-        return 26;
+        return Local::Unknown;
     }
-    1
+    Local::Delivered
 }

@@ -5,21 +5,23 @@
 // The awkward case is the multicast line: subscribed on the arrival port with no other port set up is "not asked" and comes before the
 // test of the group's set.
 use crate::Case;
-use crate::Line;
+use crate::Local;
+use crate::Obstacle;
 use crate::Place;
 use crate::Target;
 use crate::Way;
+use crate::Wish;
 ghost use mathlib.Core.Path.{_≡_};
 ghost use Rattle.verdict.specs.Rule.{broadcastLine, aloneBy, groupLine, pathLine, routeLine, routerLine, unheardBy, hostLine, lineOf};
 
 // A broadcast of ours goes to every other port that is set up; not asked if there is none.
-fn broadcast_line(set: u32) -> Line
+fn broadcast_line(set: u32) -> Wish
     ensures { λ r. ⌜ r ≡ broadcastLine set ⌝ }
 {
     if set == 0 {
-        return Line::Unasked;
+        return Wish::NotAsked;
     }
-    Line::Wanted(set)
+    Wish::Wanted(set)
 }
 
 // 1 where the arrival port is subscribed and no other port is set up.
@@ -36,59 +38,59 @@ fn alone(subscribed: u32, others: u32) -> u32
 }
 
 // A group's set without the arrival port; 11 where it is empty or there is no group.
-fn group_line(p: Place, arrival: u32, others: u32) -> Line
+fn group_line(p: Place, arrival: u32, others: u32) -> Wish
     ensures { λ r. ⌜ r ≡ groupLine p arrival others ⌝ }
 {
     let Place::Held(send, subscribed) = p else {
-        return Line::Refused(11);
+        return Wish::Refused(Obstacle::NoRoute);
     };
     if alone(subscribed, others) == 1 {
-        return Line::Unasked;
+        return Wish::NotAsked;
     }
     let set = crate::except(send, arrival);
     if set == 0 {
-        return Line::Refused(11);
+        return Wish::Refused(Obstacle::NoRoute);
     }
-    Line::Wanted(set)
+    Wish::Wanted(set)
 }
 
 // A path's set without the arrival port; where that is empty, not asked if the path is delivered here, else 11.
-fn path_line(p: Place, arrival: u32) -> Line
+fn path_line(p: Place, arrival: u32) -> Wish
     ensures { λ r. ⌜ r ≡ pathLine p arrival ⌝ }
 {
     let Place::Held(send, here) = p else {
-        return Line::Refused(11);
+        return Wish::Refused(Obstacle::NoRoute);
     };
     let set = crate::except(send, arrival);
     if set != 0 {
-        return Line::Wanted(set);
+        return Wish::Wanted(set);
     }
     if here != 0 {
-        return Line::Unasked;
+        return Wish::NotAsked;
     }
-    Line::Refused(11)
+    Wish::Refused(Obstacle::NoRoute)
 }
 
 // The route taken, where it is up. Its port may be the arrival port.
-fn route_line(w: Way) -> Line
+fn route_line(w: Way) -> Wish
     ensures { λ r. ⌜ r ≡ routeLine w ⌝ }
 {
     let Way::By(set, availability) = w else {
-        return Line::Refused(11);
+        return Wish::Refused(Obstacle::NoRoute);
     };
     if availability != 1 {
-        return Line::Refused(12);
+        return Wish::Refused(Obstacle::RouteNotUp);
     }
-    Line::Wanted(set)
+    Wish::Wanted(set)
 }
 
 // What a router makes of a target.
-fn router_line(t: Target, p: Place, w: Way, arrival: u32, ready: u32) -> Line
+fn router_line(t: Target, p: Place, w: Way, arrival: u32, ready: u32) -> Wish
     ensures { λ r. ⌜ r ≡ routerLine t p w arrival ready ⌝ }
 {
     let others = crate::except(ready, arrival);
     match t {
-        Target::Here => Line::Unasked,
+        Target::Here => Wish::NotAsked,
         Target::Broadcast => broadcast_line(others),
         Target::Group => group_line(p, arrival, others),
         Target::Path => path_line(p, arrival),
@@ -97,22 +99,23 @@ fn router_line(t: Target, p: Place, w: Way, arrival: u32, ready: u32) -> Line
 }
 
 // What a host says of what is not its own: 9, unless it is delivered or 26.
-fn unheard(local: u32) -> Line
+fn unheard(local: Local) -> Wish
     ensures { λ r. ⌜ r ≡ unheardBy local ⌝ }
 {
-    if local == 0 {
-        return Line::Refused(9);
+    match local {
+        Local::No => Wish::Refused(Obstacle::NotForUs),
+        Local::Delivered => Wish::NotAsked,
+        Local::Unknown => Wish::NotAsked,
     }
-    Line::Unasked
 }
 
 // What a host makes of a target: it sends nothing on.
-fn host_line(t: Target, local: u32) -> Line
+fn host_line(t: Target, local: Local) -> Wish
     ensures { λ r. ⌜ r ≡ hostLine t local ⌝ }
 {
     let other = unheard(local);
     match t {
-        Target::Here => Line::Unasked,
+        Target::Here => Wish::NotAsked,
         Target::Broadcast => other,
         Target::Group => other,
         Target::Path => other,
@@ -121,7 +124,7 @@ fn host_line(t: Target, local: u32) -> Line
 }
 
 // The first line of the onward half that fits.
-pub fn line_of(t: Target, p: Place, w: Way, c: Case, ready: u32, local: u32) -> Line
+pub fn line_of(t: Target, p: Place, w: Way, c: Case, ready: u32, local: Local) -> Wish
     ensures { λ r. ⌜ r ≡ lineOf t p w c ready local ⌝ }
 {
     if c.router == 0 {

@@ -10,8 +10,14 @@ sent-size-requires c κs = search needs
 part-requires : tie.Need-part-requires
 part-requires c κs = search needs
 
+local-number-requires : tie.Need-local-number-requires
+local-number-requires c κs = search needs
+
 part-requires-2 : tie.Need-part-requires-2
 part-requires-2 c κs = search needs
+
+onward-number-requires : tie.Need-onward-number-requires
+onward-number-requires c κs = search needs
 
 part-requires-3 : tie.Need-part-requires-3
 part-requires-3 c κs = search needs
@@ -29,7 +35,7 @@ parts-requires : tie.Need-parts-requires
 parts-requires c κs = search needs
 
 returns : tie.Need-returns
-returns c = received (c .before .before .before .before .before .before .before .before .before .args .e) (c .before .before .before .before .before .before .before .sent-size .ensures) (c .before .before .before .before .before .before .part .ensures) (c .before .before .before .before .before .part2 .ensures) (c .before .before .before .before .part3 .ensures) (c .before .before .before .part4 .ensures) (c .before .before .part5 .ensures) (c .before .part6 .ensures) (c .parts .ensures)
+returns c = received (c .before .before .before .before .before .before .before .before .before .before .before .args .e) (c .before .before .before .before .before .before .before .before .before .sent-size .ensures) (c .before .before .before .before .before .before .before .before .part .ensures) (c .before .before .before .before .before .before .before .local-number .ensures) (c .before .before .before .before .before .before .part2 .ensures) (c .before .before .before .before .before .onward-number .ensures) (c .before .before .before .before .part3 .ensures) (c .before .before .before .part4 .ensures) (c .before .before .part5 .ensures) (c .before .part6 .ensures) (c .parts .ensures)
 
 pub receive-number-spec : {M : Type 1} → statement M
 receive-number-spec =
@@ -37,7 +43,9 @@ receive-number-spec =
     (tie.spec
     sent-size-requires
     part-requires
+    local-number-requires
     part-requires-2
+    onward-number-requires
     part-requires-3
     part-requires-4
     part-requires-5

@@ -1,20 +1,77 @@
--- `judge::judge_header` meets its contract. Assumes nothing.
-use Rattle.judge.proofs.Stages.{header-refused, header-ruled}
+-- `judge::judge_header` meets its contract: the checks gone through one by one. Assumes nothing.
+use native.Mathlib.Omega.{arith}
+use mathlib.Core.Path.{refl}
+use Rattle.checks.proofs.Steps.{fails-here, passes, none-left}
+use Rattle.judge.proofs.Stages.{aim-told, origin-told, header-refused, header-ruled}
 use borrow.Author.Needs.{needs}
 use Rattle.judge.proofs.judge_header.Statement.{statement}
 use Rattle.judge.proofs.judge_header.Tie as tie
 
-check-arrival-requires : tie.Need-check-arrival-requires
-check-arrival-requires c κs = search needs
+check-carried-requires : tie.Need-check-carried-requires
+check-carried-requires c κs = search needs
+
+enum-told : tie.Need-enum-told
+enum-told c = search needs
+
+enum-told-2 : tie.Need-enum-told-2
+enum-told-2 c = search needs
 
 refused-requires : tie.Need-refused-requires
 refused-requires c κs = search needs
 
 returns : tie.Need-returns
-returns c = header-refused _ _ _ (c .before .before .check-arrival .ensures) (c .before .if1 .taken) (c .refused .ensures)
+returns c = header-refused _ _ _ (fails-here _ _ _ (c .before .before .before .check-carried .ensures) (c .before .enum-told2 .given .1)) (λ z. omega arith) (c .refused .ensures)
+
+check-domain-requires : tie.Need-check-domain-requires
+check-domain-requires c κs = search needs
+
+enum-told-3 : tie.Need-enum-told-3
+enum-told-3 c = search needs
+
+enum-told-4 : tie.Need-enum-told-4
+enum-told-4 c = search needs
+
+refused-requires-2 : tie.Need-refused-requires-2
+refused-requires-2 c κs = search needs
+
+returns-2 : tie.Need-returns-2
+returns-2 c = header-refused _ _ _ (passes _ _ _ (c .before .before .before .before .before .before .check-carried .ensures) (c .before .before .before .before .enum-told .given .1) (fails-here _ _ _ (c .before .before .before .check-domain .ensures) (c .before .enum-told4 .given .1))) (λ z. omega arith) (c .refused2 .ensures)
 
 aim-of-requires : tie.Need-aim-of-requires
 aim-of-requires c κs = search needs
+
+check-aim-requires : tie.Need-check-aim-requires
+check-aim-requires c κs = search needs
+
+enum-told-5 : tie.Need-enum-told-5
+enum-told-5 c = search needs
+
+enum-told-6 : tie.Need-enum-told-6
+enum-told-6 c = search needs
+
+refused-requires-3 : tie.Need-refused-requires-3
+refused-requires-3 c κs = search needs
+
+returns-3 : tie.Need-returns-3
+returns-3 c = header-refused _ _ _ (passes _ _ _ (c .before .before .before .before .before .before .before .before .before .before .check-carried .ensures) (c .before .before .before .before .before .before .before .before .enum-told .given .1) (passes _ _ _ (c .before .before .before .before .before .before .before .check-domain .ensures) (c .before .before .before .before .before .enum-told3 .given .1) (fails-here _ _ _ (aim-told _ _ (c .before .before .before .before .aim-of .ensures) (c .before .before .before .check-aim .ensures)) (c .before .enum-told6 .given .1)))) (λ z. omega arith) (c .refused3 .ensures)
+
+origin-of-requires : tie.Need-origin-of-requires
+origin-of-requires c κs = search needs
+
+check-origin-requires : tie.Need-check-origin-requires
+check-origin-requires c κs = search needs
+
+enum-told-7 : tie.Need-enum-told-7
+enum-told-7 c = search needs
+
+enum-told-8 : tie.Need-enum-told-8
+enum-told-8 c = search needs
+
+refused-requires-4 : tie.Need-refused-requires-4
+refused-requires-4 c κs = search needs
+
+returns-4 : tie.Need-returns-4
+returns-4 c = header-refused _ _ _ (passes _ _ _ (c .before .before .before .before .before .before .before .before .before .before .before .before .before .before .check-carried .ensures) (c .before .before .before .before .before .before .before .before .before .before .before .before .enum-told .given .1) (passes _ _ _ (c .before .before .before .before .before .before .before .before .before .before .before .check-domain .ensures) (c .before .before .before .before .before .before .before .before .before .enum-told3 .given .1) (passes _ _ _ (aim-told _ _ (c .before .before .before .before .before .before .before .before .aim-of .ensures) (c .before .before .before .before .before .before .before .check-aim .ensures)) (c .before .before .before .before .before .enum-told5 .given .1) (fails-here _ _ _ (origin-told _ _ (c .before .before .before .before .origin-of .ensures) (c .before .before .before .check-origin .ensures)) (c .before .enum-told8 .given .1))))) (λ z. omega arith) (c .refused4 .ensures)
 
 rule-requires : tie.Need-rule-requires
 rule-requires c κs = search needs
@@ -22,17 +79,35 @@ rule-requires c κs = search needs
 precedence-of-requires : tie.Need-precedence-of-requires
 precedence-of-requires c κs = search needs
 
-returns-2 : tie.Need-returns-2
-returns-2 c = header-ruled _ _ _ (c .before .before .before .before .check-arrival .ensures) (c .before .before .before .if1 .left) (c .before .before .aim-of .ensures) (c .before .rule .ensures) (c .precedence-of .ensures)
+returns-5 : tie.Need-returns-5
+returns-5 c = header-ruled _ _ _ (passes _ _ _ (c .before .before .before .before .before .before .before .before .before .before .before .before .before .before .before .check-carried .ensures) (c .before .before .before .before .before .before .before .before .before .before .before .before .before .enum-told .given .1) (passes _ _ _ (c .before .before .before .before .before .before .before .before .before .before .before .before .check-domain .ensures) (c .before .before .before .before .before .before .before .before .before .before .enum-told3 .given .1) (passes _ _ _ (aim-told _ _ (c .before .before .before .before .before .before .before .before .before .aim-of .ensures) (c .before .before .before .before .before .before .before .before .check-aim .ensures)) (c .before .before .before .before .before .before .enum-told5 .given .1) (passes _ _ _ (origin-told _ _ (c .before .before .before .before .before .origin-of .ensures) (c .before .before .before .before .check-origin .ensures)) (c .before .before .enum-told7 .given .1) none-left)))) refl (c .before .before .before .before .before .before .before .before .before .aim-of .ensures) (c .before .rule .ensures) (c .precedence-of .ensures)
 
 pub judge-header-spec : {M : Type 1} → statement M
 judge-header-spec =
     tie.close
     (tie.spec
-    check-arrival-requires
+    check-carried-requires
+    enum-told
+    enum-told-2
     refused-requires
     returns
+    check-domain-requires
+    enum-told-3
+    enum-told-4
+    refused-requires-2
+    returns-2
     aim-of-requires
+    check-aim-requires
+    enum-told-5
+    enum-told-6
+    refused-requires-3
+    returns-3
+    origin-of-requires
+    check-origin-requires
+    enum-told-7
+    enum-told-8
+    refused-requires-4
+    returns-4
     rule-requires
     precedence-of-requires
-    returns-2)
+    returns-5)

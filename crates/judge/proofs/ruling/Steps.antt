@@ -19,7 +19,8 @@ use Rattle.verdict.specs.declared.Place.{Place}
 use Rattle.verdict.specs.declared.Way.{Way}
 use Rattle.verdict.specs.declared.Way.the-variants.{Lost}
 use Rattle.verdict.specs.declared.Case.{Case}
-use Rattle.verdict.specs.declared.Line.{Line}
+use Rattle.verdict.specs.declared.Local.{Local}
+use Rattle.verdict.specs.declared.Wish.{Wish}
 use Rattle.verdict.specs.declared.Survey.{Survey}
 use Rattle.verdict.specs.declared.Ruling.{Ruling}
 use Rattle.judge.specs.declared.ruling.Arrival.{Arrival}
@@ -28,10 +29,10 @@ use Rattle.judge.specs.Ruling.{ruledBy, ruleTarget, ruleNode, caseOf, so
 
 module _ {out : Ruling} where
   pub halves :
-      (t : Target) (p : Place) (w : Way) (c : Case) (s : Survey) {local : ℕ} {line granted : Line}
+      (t : Target) (p : Place) (w : Way) (c : Case) (s : Survey) {local : Local} {wish granted : Wish}
       → local ≡ localOf t p c
-      → line ≡ lineOf t p w c (s .ready) local
-      → granted ≡ grantedOf line c s
+      → wish ≡ lineOf t p w c (s .ready) local
+      → granted ≡ grantedOf wish c s
       → out ≡ rulingOf local granted (s .full)
       → out ≡ ruledBy t p w c s
   unfolding ruledBy

@@ -1,6 +1,6 @@
 -- `meaning::aim_of` meets its contract: each answer by the law of its return. Assumes nothing.
 use Rattle.meaning.specs.Names.{aimOf}
-use Rattle.meaning.proofs.Laws.{line-filled, node-filled}
+use Rattle.meaning.proofs.Laws.{path-filled, node-filled}
 use borrow.Author.Needs.{needs}
 use Rattle.meaning.proofs.aim_of.Statement.{statement}
 use Rattle.meaning.proofs.aim_of.Tie as tie
@@ -27,7 +27,7 @@ enum-told : tie.Need-enum-told
 enum-told c = search needs
 
 returns : tie.Need-returns
-returns c = rw (c .before .before .a .given .1) (line-filled _ _ _ (c .filled-in .ensures))
+returns c = rw (c .before .before .a .given .1) (path-filled _ _ _ (c .filled-in .ensures))
 
 returns-2 : tie.Need-returns-2
 unfolding aimOf

@@ -15,11 +15,17 @@ enum-known-aim-2 c = search needs
 check-path-requires : tie.Need-check-path-requires
 check-path-requires c κs = search needs
 
+enum-told : tie.Need-enum-told
+enum-told c = search needs
+
 returns : tie.Need-returns
 returns c = rw (c .before .before .aim .given .1) (c .check-class .ensures)
 
 returns-2 : tie.Need-returns-2
 returns-2 c = rw (c .before .before .aim2 .given .1) (c .check-path .ensures)
+
+returns-3 : tie.Need-returns-3
+returns-3 c = search needs
 
 pub check-aim-spec : {M : Type 1} → statement M
 check-aim-spec =
@@ -29,5 +35,7 @@ check-aim-spec =
     check-class-requires
     enum-known-aim-2
     check-path-requires
+    enum-told
     returns
-    returns-2)
+    returns-2
+    returns-3)

@@ -1,5 +1,5 @@
 -- `meaning::origin_of` meets its contract: each answer by the law of its return. Assumes nothing.
-use Rattle.meaning.specs.Names.{sourceOf}
+use Rattle.meaning.specs.Names.{originOf}
 use Rattle.meaning.proofs.Laws.{from-filled}
 use borrow.Author.Needs.{needs}
 use Rattle.meaning.proofs.origin_of.Statement.{statement}
@@ -24,22 +24,22 @@ enum-told-3 : tie.Need-enum-told-3
 enum-told-3 c = search needs
 
 returns : tie.Need-returns
-unfolding sourceOf
+unfolding originOf
 returns c = rw (c .enum-told .given .1)
 
 returns-2 : tie.Need-returns-2
-unfolding sourceOf
+unfolding originOf
 returns-2 c = rw (c .enum-told2 .given .1)
 
 returns-3 : tie.Need-returns-3
 returns-3 c = rw (c .before .before .a .given .1) (from-filled _ _ _ _ (c .filled-in .ensures))
 
 returns-4 : tie.Need-returns-4
-unfolding sourceOf
+unfolding originOf
 returns-4 c = rw (c .before .a2 .given .1)
 
 returns-5 : tie.Need-returns-5
-unfolding sourceOf
+unfolding originOf
 returns-5 c = rw (c .enum-told3 .given .1)
 
 pub origin-of-spec : {M : Type 1} → statement M

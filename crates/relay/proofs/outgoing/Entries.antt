@@ -14,7 +14,7 @@ use Rattle.queue.specs.declared.Entry.{Entry}
 use Rattle.queue.specs.declared.Queue.{Queue}
 use Rattle.queue.specs.declared.Put.{Put}
 use Rattle.state.specs.Relay.{Relay, queueIn, withQueue}
-use Rattle.relay.specs.Outgo.{entered, enteredIf, enteredAll, outputOf}
+use Rattle.relay.specs.Outgo.{entered, enteredIf, enteredAll, sentOutput}
 
 pub one-entered :
     (r : Relay) (p : ℕ) (e : Entry) {s : Relay} {q : Queue} {put : Put}
@@ -50,11 +50,11 @@ pub all-entered : (r : Relay) (took : ℕ) (e : Entry) (p : ℕ) {s : Relay} →
 all-entered r took e p h l es = es ∙ ap (enteredAll r took e) (let z : p ≡ 8 = omega arith in z)
 
 -- ---- the header
-pub not-sent : (took : ℕ) (octets lent : List ℕ) → took ≡ 0 → lent ≡ outputOf took octets lent
-unfolding outputOf
+pub not-sent : (took : ℕ) (octets lent : List ℕ) → took ≡ 0 → lent ≡ sentOutput took octets lent
+unfolding sentOutput
 not-sent took octets lent h = simp (eq-eqb took 0 h)
 
 pub sent : (took : ℕ) (octets lent : List ℕ) {out : List ℕ}
-    → (took ≡ 0 → ⊥) → out ≡ fronted (sentOn octets) lent → out ≡ outputOf took octets lent
-unfolding outputOf
+    → (took ≡ 0 → ⊥) → out ≡ fronted (sentOn octets) lent → out ≡ sentOutput took octets lent
+unfolding sentOutput
 sent took octets lent h e = simp (ne-eqb took 0 h) e

@@ -1,5 +1,5 @@
 -- `tally::count` meets its contract. Assumes nothing.
-use Rattle.tally.proofs.Moves.{ending-moved}
+use Rattle.tally.proofs.Moves.{receipt-told, number-told, ending-moved}
 use borrow.Author.Needs.{needs}
 use Rattle.tally.proofs.count.Statement.{statement}
 use Rattle.tally.proofs.count.Tie as tie
@@ -8,13 +8,13 @@ receipt-counter-requires : tie.Need-receipt-counter-requires
 receipt-counter-requires c κs = search needs
 
 count-at-requires : tie.Need-count-at-requires
-count-at-requires c κs = search needs
+count-at-requires c κs = (search needs, receipt-told (c .before .before .before .before .args .e .refusal) (c .receipt-counter .ensures))
 
 counter-for-requires : tie.Need-counter-for-requires
 counter-for-requires c κs = search needs
 
 count-at-requires-2 : tie.Need-count-at-requires-2
-count-at-requires-2 c κs = search needs
+count-at-requires-2 c κs = (search needs, number-told (c .before .before .before .before .before .before .before .before .before .args .e .refusal) (c .counter-for .ensures))
 
 count-ruling-requires : tie.Need-count-ruling-requires
 count-ruling-requires c κs = search needs

@@ -1,5 +1,5 @@
 -- `tally::count_ruling` meets its contract: three moves one after the other. Assumes nothing.
-use Rattle.tally.proofs.Moves.{ruling-moved}
+use Rattle.tally.proofs.Moves.{local-told, onward-told, discard-told, ruling-moved}
 use borrow.Author.Needs.{needs}
 use Rattle.tally.proofs.count_ruling.Statement.{statement}
 use Rattle.tally.proofs.count_ruling.Tie as tie
@@ -11,19 +11,19 @@ local-counter-requires : tie.Need-local-counter-requires
 local-counter-requires c κs = search needs
 
 count-at-requires : tie.Need-count-at-requires
-count-at-requires c κs = search needs
+count-at-requires c κs = (search needs, local-told (c .before .before .before .before .args .ruling .local) (c .local-counter .ensures))
 
 onward-counter-requires : tie.Need-onward-counter-requires
 onward-counter-requires c κs = search needs
 
 count-at-requires-2 : tie.Need-count-at-requires-2
-count-at-requires-2 c κs = search needs
+count-at-requires-2 c κs = (search needs, onward-told (c .before .before .before .before .before .before .before .before .before .args .ruling .onward) (c .onward-counter .ensures))
 
 discard-counter-requires : tie.Need-discard-counter-requires
 discard-counter-requires c κs = search needs
 
 count-at-requires-3 : tie.Need-count-at-requires-3
-count-at-requires-3 c κs = search needs
+count-at-requires-3 c κs = (search needs, discard-told (c .before .before .before .before .before .before .before .before .before .before .before .before .before .before .args .ruling .dropped) (c .discard-counter .ensures))
 
 same-length : tie.Need-same-length
 same-length c = search needs

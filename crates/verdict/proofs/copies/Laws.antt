@@ -4,12 +4,15 @@ use mathlib.Core.Path.{_≡_}
 use lib.Bits.{bitAnd}
 use borrow.Author.Tests.{eq-eqb, ne-eqb}
 use Rattle.verdict.specs.Rule.{exceptBy, copiesOf}
+use Rattle.verdict.specs.declared.Local.{Local}
+use Rattle.verdict.specs.declared.Obstacle.the-variants.{QueuesFull}
+use Rattle.verdict.specs.declared.Onward.the-variants.{SentOn, Refused}
 
-module _ (local granted full took : ℕ) (is : took ≡ exceptBy granted full) where
-  pub copies-none : took ≡ 0 → record { local = local; onward = 15; granted = granted; took = took; dropped = bitAnd granted full } ≡ copiesOf local granted full
+module _ (local : Local) (granted full took : ℕ) (is : took ≡ exceptBy granted full) where
+  pub copies-none : took ≡ 0 → record { local = local; onward = Refused QueuesFull; granted = granted; took = took; dropped = bitAnd granted full } ≡ copiesOf local granted full
   unfolding copiesOf
   copies-none h = rw (← is) (simp (eq-eqb took 0 h))
 
-  pub copies-some : (took ≡ 0 → ⊥) → record { local = local; onward = 1; granted = granted; took = took; dropped = bitAnd granted full } ≡ copiesOf local granted full
+  pub copies-some : (took ≡ 0 → ⊥) → record { local = local; onward = SentOn; granted = granted; took = took; dropped = bitAnd granted full } ≡ copiesOf local granted full
   unfolding copiesOf
   copies-some h = rw (← is) (simp (ne-eqb took 0 h))

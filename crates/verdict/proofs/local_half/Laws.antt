@@ -9,33 +9,34 @@ use Rattle.verdict.specs.declared.Target.the-variants.{Here}
 use Rattle.verdict.specs.declared.Survey.{Survey}
 use Rattle.verdict.specs.declared.Case.{Case}
 use Rattle.verdict.specs.declared.Place.{Place}
+use Rattle.verdict.specs.declared.Local.the-variants.{No, Delivered, Unknown}
 
 module _ (class : Class) (s : Survey) where
-  pub ours-itself : (s .own ≡ 0 → ⊥) → Here ≡ targetOf class s
+  pub ours-itself : (s .addressed ≡ 0 → ⊥) → Here ≡ targetOf class s
   unfolding targetOf
-  ours-itself h = simp (ne-eqb (s .own) 0 h)
+  ours-itself h = simp (ne-eqb (s .addressed) 0 h)
 
-  module _ (not-own : s .own ≡ 0) {t : Target} (is : t ≡ classTarget class) where
-    pub broadcast-of-ours : {out : Target} → (s .ours ≡ 0 → ⊥) → out ≡ overBroadcast t → out ≡ targetOf class s
+  module _ (not-own : s .addressed ≡ 0) {t : Target} (is : t ≡ classTarget class) where
+    pub broadcast-of-ours : {out : Target} → (s .broadcast ≡ 0 → ⊥) → out ≡ overBroadcast t → out ≡ targetOf class s
     unfolding targetOf
-    broadcast-of-ours h e = simp (eq-eqb (s .own) 0 not-own, ne-eqb (s .ours) 0 h) (e ∙ rw (is))
+    broadcast-of-ours h e = simp (eq-eqb (s .addressed) 0 not-own, ne-eqb (s .broadcast) 0 h) (e ∙ rw (is))
 
-    pub by-class : s .ours ≡ 0 → t ≡ targetOf class s
+    pub by-class : s .broadcast ≡ 0 → t ≡ targetOf class s
     unfolding targetOf
-    by-class h = simp (eq-eqb (s .own) 0 not-own, eq-eqb (s .ours) 0 h) is
+    by-class h = simp (eq-eqb (s .addressed) 0 not-own, eq-eqb (s .broadcast) 0 h) is
 
 module _ (t : Target) (p : Place) (c : Case) (here ours would : ℕ) (h : here ≡ hereBy p) (o : ours ≡ oursBy t here) (w : would ≡ wantedHere ours (c .intermediate)) where
   is : would ≡ wantedHere (oursBy t (hereBy p)) (c .intermediate)
   is = w ∙ rw (o, h)
 
-  pub local-no : would ≡ 0 → 0 ≡ localOf t p c
+  pub local-no : would ≡ 0 → No ≡ localOf t p c
   unfolding localOf
   local-no z = rw (← is) (simp (eq-eqb would 0 z))
 
-  pub local-unknown : (would ≡ 0 → ⊥) → c .assigned ≡ 0 → 26 ≡ localOf t p c
+  pub local-unknown : (would ≡ 0 → ⊥) → c .assigned ≡ 0 → Unknown ≡ localOf t p c
   unfolding localOf
   local-unknown z a = rw (← is) (simp (ne-eqb would 0 z, eq-eqb (c .assigned) 0 a))
 
-  pub local-yes : (would ≡ 0 → ⊥) → (c .assigned ≡ 0 → ⊥) → 1 ≡ localOf t p c
+  pub local-yes : (would ≡ 0 → ⊥) → (c .assigned ≡ 0 → ⊥) → Delivered ≡ localOf t p c
   unfolding localOf
   local-yes z a = rw (← is) (simp (ne-eqb would 0 z, ne-eqb (c .assigned) 0 a))

@@ -9,10 +9,12 @@ use Rattle.verdict.specs.declared.Place.the-variants.{Held}
 use Rattle.verdict.specs.declared.Way.{Way}
 use Rattle.verdict.specs.declared.Way.the-variants.{By}
 use Rattle.verdict.specs.declared.Case.{Case}
-use Rattle.verdict.specs.declared.Line.{Line}
-use Rattle.verdict.specs.declared.Line.the-variants.{Unasked, Refused, Wanted}
+use Rattle.verdict.specs.declared.Local.{Local}
+use Rattle.verdict.specs.declared.Obstacle.the-variants.{NoRoute, RouteNotUp}
+use Rattle.verdict.specs.declared.Wish.{Wish}
+use Rattle.verdict.specs.declared.Wish.the-variants.{NotAsked, Refused, Wanted}
 
-pub route-down : (set availability : ℕ) → (availability ≡ 1 → ⊥) → Refused 12 ≡ routeLine (By set availability)
+pub route-down : (set availability : ℕ) → (availability ≡ 1 → ⊥) → Refused RouteNotUp ≡ routeLine (By set availability)
 unfolding routeLine
 route-down set availability h = simp (ne-eqb availability 1 h)
 
@@ -25,20 +27,20 @@ module _ (send word arrival set : ℕ) (is : set ≡ exceptBy send arrival) wher
   unfolding pathLine
   path-some h = rw (← is) (simp (ne-eqb set 0 h))
 
-  pub path-here : set ≡ 0 → (word ≡ 0 → ⊥) → Unasked ≡ pathLine (Held send word) arrival
+  pub path-here : set ≡ 0 → (word ≡ 0 → ⊥) → NotAsked ≡ pathLine (Held send word) arrival
   unfolding pathLine
   path-here h w = rw (← is) (simp (eq-eqb set 0 h, ne-eqb word 0 w))
 
-  pub path-none : set ≡ 0 → word ≡ 0 → Refused 11 ≡ pathLine (Held send word) arrival
+  pub path-none : set ≡ 0 → word ≡ 0 → Refused NoRoute ≡ pathLine (Held send word) arrival
   unfolding pathLine
   path-none h w = rw (← is) (simp (eq-eqb set 0 h, eq-eqb word 0 w))
 
   module _ (others by : ℕ) (a : by ≡ aloneBy word others) where
-    pub group-alone : by ≡ 1 → Unasked ≡ groupLine (Held send word) arrival others
+    pub group-alone : by ≡ 1 → NotAsked ≡ groupLine (Held send word) arrival others
     unfolding groupLine
     group-alone h = rw (← a) (simp (eq-eqb by 1 h))
 
-    pub group-none : (by ≡ 1 → ⊥) → set ≡ 0 → Refused 11 ≡ groupLine (Held send word) arrival others
+    pub group-none : (by ≡ 1 → ⊥) → set ≡ 0 → Refused NoRoute ≡ groupLine (Held send word) arrival others
     unfolding groupLine
     group-none h z = rw (← a, ← is) (simp (ne-eqb by 1 h, eq-eqb set 0 z))
 
@@ -46,7 +48,7 @@ module _ (send word arrival set : ℕ) (is : set ≡ exceptBy send arrival) wher
     unfolding groupLine
     group-some h z = rw (← a, ← is) (simp (ne-eqb by 1 h, ne-eqb set 0 z))
 
-module _ (t : Target) (p : Place) (w : Way) (c : Case) (ready local : ℕ) {out : Line} where
+module _ (t : Target) (p : Place) (w : Way) (c : Case) (ready : ℕ) (local : Local) {out : Wish} where
   pub of-host : c .router ≡ 0 → out ≡ hostLine t local → out ≡ lineOf t p w c ready local
   unfolding lineOf
   of-host h e = simp (eq-eqb (c .router) 0 h) e

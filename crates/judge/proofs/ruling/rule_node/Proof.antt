@@ -16,11 +16,11 @@ place-for-requires c κs = search needs
 way-for-requires : tie.Need-way-for-requires
 way-for-requires c κs = search needs
 
-ruled-requires : tie.Need-ruled-requires
-ruled-requires c κs = search needs
+ruled-by-requires : tie.Need-ruled-by-requires
+ruled-by-requires c κs = search needs
 
 returns : tie.Need-returns
-returns c = node _ _ _ _ (c .before .before .before .before .class-of .ensures) (c .before .before .before .target-of .ensures) (c .before .before .place-for .ensures) (c .before .way-for .ensures) (c .ruled .ensures)
+returns c = node _ _ _ _ (c .before .before .before .before .class-of .ensures) (c .before .before .before .target-of .ensures) (c .before .before .place-for .ensures) (c .before .way-for .ensures) (c .ruled-by .ensures)
 
 pub rule-node-spec : {M : Type 1} → statement M
 rule-node-spec =
@@ -30,5 +30,5 @@ rule-node-spec =
     target-of-requires
     place-for-requires
     way-for-requires
-    ruled-requires
+    ruled-by-requires
     returns)

@@ -6,11 +6,11 @@ use Rattle.verdict.proofs.copies.after_domain.Tie as tie
 enum-told : tie.Need-enum-told
 enum-told c = search needs
 
-enum-known-l : tie.Need-enum-known-l
-enum-known-l c = search needs
+enum-known-w : tie.Need-enum-known-w
+enum-known-w c = search needs
 
-enum-known-l-2 : tie.Need-enum-known-l-2
-enum-known-l-2 c = search needs
+enum-known-w-2 : tie.Need-enum-known-w-2
+enum-known-w-2 c = search needs
 
 same-domain-requires : tie.Need-same-domain-requires
 same-domain-requires c κs = search needs
@@ -19,18 +19,18 @@ returns : tie.Need-returns
 returns c = search needs
 
 returns-2 : tie.Need-returns-2
-returns-2 c = rw (c .before .l .given .1)
+returns-2 c = rw (c .before .w .given .1)
 
 returns-3 : tie.Need-returns-3
-returns-3 c = rw (c .before .before .l2 .given .1) (c .same-domain .ensures)
+returns-3 c = rw (c .before .before .w2 .given .1) (c .same-domain .ensures)
 
 pub after-domain-spec : {M : Type 1} → statement M
 after-domain-spec =
     tie.close
     (tie.spec
     enum-told
-    enum-known-l
-    enum-known-l-2
+    enum-known-w
+    enum-known-w-2
     same-domain-requires
     returns
     returns-2

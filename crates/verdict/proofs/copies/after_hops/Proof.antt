@@ -6,11 +6,11 @@ use Rattle.verdict.proofs.copies.after_hops.Tie as tie
 enum-told : tie.Need-enum-told
 enum-told c = search needs
 
-enum-known-l : tie.Need-enum-known-l
-enum-known-l c = search needs
+enum-known-w : tie.Need-enum-known-w
+enum-known-w c = search needs
 
-enum-known-l-2 : tie.Need-enum-known-l-2
-enum-known-l-2 c = search needs
+enum-known-w-2 : tie.Need-enum-known-w-2
+enum-known-w-2 c = search needs
 
 hops-left-requires : tie.Need-hops-left-requires
 hops-left-requires c κs = search needs
@@ -19,12 +19,12 @@ returns : tie.Need-returns
 returns c = search needs
 
 returns-2 : tie.Need-returns-2
-returns-2 c = rw (c .before .l .given .1)
+returns-2 c = rw (c .before .w .given .1)
 
 returns-3 : tie.Need-returns-3
-returns-3 c = rw (c .before .before .l2 .given .1) (c .hops-left .ensures)
+returns-3 c = rw (c .before .before .w2 .given .1) (c .hops-left .ensures)
 
 pub after-hops-spec : {M : Type 1} → statement M
 after-hops-spec =
     tie.close
-    (tie.spec enum-told enum-known-l enum-known-l-2 hops-left-requires returns returns-2 returns-3)
+    (tie.spec enum-told enum-known-w enum-known-w-2 hops-left-requires returns returns-2 returns-3)

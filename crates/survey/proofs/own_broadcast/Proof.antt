@@ -1,17 +1,17 @@
--- `survey::is_ours` meets its contract. Assumes nothing.
+-- `survey::own_broadcast` meets its contract. Assumes nothing.
 use mathlib.Core.Path.{ap, _∙_}
 use Rattle.networks.specs.declared.Broadcast.{Broadcast}
 use Rattle.survey.specs.Survey.{broadcastIs}
 use borrow.Author.Needs.{needs}
-use Rattle.survey.proofs.Walk.{ours-subnet, ours-class}
-use Rattle.survey.proofs.is_ours.Statement.{statement}
-use Rattle.survey.proofs.is_ours.Tie as tie
+use Rattle.survey.proofs.Walk.{own-subnet, own-class}
+use Rattle.survey.proofs.own_broadcast.Statement.{statement}
+use Rattle.survey.proofs.own_broadcast.Tie as tie
 
 subnet-broadcast-requires : tie.Need-subnet-broadcast-requires
 subnet-broadcast-requires c κs = search needs
 
 returns : tie.Need-returns
-returns c = ours-subnet _ _ _ (c .before .before .before .subnet-broadcast .ensures) (c .if1 .taken)
+returns c = own-subnet _ _ _ (c .before .before .before .subnet-broadcast .ensures) (c .if1 .taken)
 
 class-broadcast-requires : tie.Need-class-broadcast-requires
 class-broadcast-requires c κs = search needs
@@ -21,9 +21,9 @@ broadcast-is-requires c κs = search needs
 
 returns-2 : tie.Need-returns-2
 returns-2 c =
-    ours-class _ _ _ _ (c .before .before .before .before .before .subnet-broadcast .ensures) (c .before .before .if1 .left)
+    own-class _ _ _ _ (c .before .before .before .before .before .subnet-broadcast .ensures) (c .before .before .if1 .left)
     (c .broadcast-is .ensures ∙ ap (λ (b : Broadcast). broadcastIs b (c .before .before .before .before .before .before .before .args .a)) (c .before .class-broadcast .ensures))
 
-pub is-ours-spec : {M : Type 1} → statement M
-is-ours-spec =
+pub own-broadcast-spec : {M : Type 1} → statement M
+own-broadcast-spec =
     tie.close (tie.spec subnet-broadcast-requires returns class-broadcast-requires broadcast-is-requires returns-2)

@@ -1,2 +1,0 @@
--- What the checks of a good header were told of.
-mod Told
