@@ -25,7 +25,8 @@ use Rattle.meaning.specs.declared.Aim.{Aim}
 use Rattle.meaning.specs.declared.Aim.the-variants.{Node, Line as PathLine}
 use Rattle.meaning.proofs.Laws.{same-domain-same-aim, same-domain-same-source, extended-same-aim, extended-same-source}
 use Rattle.state.specs.Relay.{Relay, portIn}
-use Rattle.survey.specs.Survey.{isSetUp, isNear, surveyBelow, surveyOf}
+use Rattle.records.specs.SetUp.{isSetUp}
+use Rattle.survey.specs.Survey.{isNear, surveyBelow, surveyOf}
 use Rattle.survey.specs.declared.Sought.{Sought}
 use Rattle.lookup.specs.Lookup.{pathPlace}
 use Rattle.verdict.specs.Rule.{targetOf, localOf, lineOf, hopsLeft, sameDomain, afterHops, afterDomain, afterSize, grantedOf, copiesOf, rulingOf}

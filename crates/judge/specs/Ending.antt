@@ -2,6 +2,7 @@
 -- the first whose condition holds ends the call with its number. Assumes nothing.
 use Prim.Native.Nat.{ℕ}
 use mathlib.Core.List.{List, [], _∷_}
+use mathlib.Core.Bool.{not}
 use lib.Dec.{eqb, ltb}
 use Rattle.checks.specs.Order.{pick, Checks, firstOf}
 use Rattle.sets.specs.Sets.{onlyPort}
@@ -13,10 +14,9 @@ use Rattle.meaning.specs.Names.{aimOf}
 use Rattle.meaning.specs.Arrival.{arrivalChecks}
 use Rattle.meaning.specs.Asked.{precedenceOf}
 use Rattle.verdict.specs.declared.Ruling.{Ruling}
-use Rattle.state.specs.Relay.{Relay, portIn}
+use Rattle.state.specs.Relay.{Relay, portIn, portSetUp}
 use Rattle.judge.specs.Ruling.{ruleOf}
 use Rattle.judge.specs.declared.ruling.Arrival.{Arrival}
-use Rattle.taking.specs.Taking.{notSetUp}
 use Rattle.judge.specs.declared.Ending.{Ending}
 
 -- a refusal delivers, grants and drops nothing
@@ -32,7 +32,7 @@ orElse n e = pick (eqb n 0) e (refusedBy n)
 
 -- ---- step 1
 unfoldable pub callChecks : Relay → ℕ → ℕ → Checks
-callChecks r port room = (notSetUp r port, 16) ∷ (ltb room 50, 17) ∷ []
+callChecks r port room = (not (portSetUp r port), 16) ∷ (ltb room 50, 17) ∷ []
 
 -- ---- the ending
 abbrev pub ruled : Relay → Arrival → Header → Ending
