@@ -4,26 +4,26 @@
 use native.Mathlib.Omega.{arith}
 use Prim.Native.Nat.{ℕ, zero, suc, _+_, _-_, _*_, _^_, _<_}
 use mathlib.Core.Path.{_≡_, refl, ap}
-use mathlib.Core.Bool.{Bool, true, false}
+use mathlib.Core.Bool.{Bool, true, false, not}
 use mathlib.Core.List.{List, [], _∷_, map}
 use lib.Dec.{eqb, ltb}
 use lib.ListN.{length, take, drop, getD}
 use lib.Seq.{getD-take, getD-drop}
 use borrow.Author.Tests.{ltb-true}
-use Rattle.checks.specs.Order.{pick, checkOf}
+use Rattle.checks.specs.Order.{pick}
 use Rattle.checks.proofs.Laws.{either}
 use Rattle.queue.specs.Queue.{takenFrom, takeOf}
 use Rattle.queue.specs.declared.Queue.{Queue}
 use Rattle.queue.specs.declared.Taken.{Taken}
 use Rattle.queue.specs.declared.Head.{Head}
 use Rattle.queue.specs.declared.Head.the-variants.{First, Nothing}
-use Rattle.state.specs.Relay.{Relay, queueIn, counterIn}
+use Rattle.state.specs.Relay.{Relay, queueIn, counterIn, portSetUp}
 use Rattle.state.specs.Layout.{stateWords, decode, entryOf, queueOf}
 use Rattle.state.proofs.Reading.{taken, queue-read, counter-read}
-use Rattle.taking.specs.Taking.{notSetUp, handsOut, takeOutcome}
+use Rattle.taking.specs.Taking.{handsOut, takeOutcome}
 use Rattle.taking.specs.declared.Taking.{Taking}
 use Rattle.taking.specs.declared.Taking.the-variants.{Handed, Refused}
-use Rattle.taking.proofs.Port.{is-port}
+use Rattle.state_ports.proofs.SetUp.{is-port}
 use Rattle.answers.specs.Answers.{refusalNumber, takingNumber}
 use Rattle.answers.proofs.Digits.{Three, entry-parts, refusal-parts, Two, value-parts, refusal-above}
 use Rattle.lent_state.specs.View.{Held, Other, lent, byLent, told}
@@ -56,10 +56,11 @@ queue-fits l h =
     either (λ (x : Taken). Fits (x .head)) (ltb 32 n) tt (first-fits n (queueOf l) (take 32 l) first)
 
 -- ---- so the parts are read back
-outcome-read : (t : Bool) (h : Head) → (t ≡ false → Fits h) → TakeRead (takingNumber (pick t (Refused 16) (handsOut h))) (pick t (Refused 16) (handsOut h))
-outcome-read true h f = refusal-parts 16 (omega arith)
-outcome-read false (First e) f = entry-parts (e .slot .0) (e .precedence) (f refl .0) (f refl .1)
-outcome-read false Nothing f = refusal-parts 18 (omega arith)
+outcome-read : (s : Bool) (h : Head) → (s ≡ true → Fits h)
+    → TakeRead (takingNumber (pick (not s) (Refused 16) (handsOut h))) (pick (not s) (Refused 16) (handsOut h))
+outcome-read false h f = refusal-parts 16 (omega arith)
+outcome-read true (First e) f = entry-parts (e .slot .0) (e .precedence) (f refl .0) (f refl .1)
+outcome-read true Nothing f = refusal-parts 18 (omega arith)
 
 -- a value below 2^32 where there is one to answer, else 21
 module _ (w : List ℕ) (value : Relay → ℕ) where
@@ -90,14 +91,14 @@ module _ (w : List ℕ) (words : Words w) (port : ℕ) where
       let at = 161 + port * 33 in
       rw (getD-take (at + 33 - at) (drop at w) i 0 (omega arith), getD-drop at w i 0) (words (at + i))
 
-  head-fits : notSetUp (decode w) port ≡ false → Fits (takeOf (queueIn (decode w) port) .head)
+  head-fits : portSetUp (decode w) port ≡ true → Fits (takeOf (queueIn (decode w) port) .head)
   head-fits ready =
-      let inside : port < 8 = is-port (decode w) port refl (ap checkOf ready) in
+      let inside : port < 8 = is-port (decode w) port ready in
       rw (← queue-read w port (queueOf piece) inside refl) (queue-fits piece (piece-word 0 (omega arith)))
 
   held-read : TakeRead (takeAnswer (decode w) port) (takeOutcome (decode w) port)
   unfolding takeOutcome
-  held-read = outcome-read (notSetUp (decode w) port) (takeOf (queueIn (decode w) port) .head) head-fits
+  held-read = outcome-read (portSetUp (decode w) port) (takeOf (queueIn (decode w) port) .head) head-fits
 
   lent-read : (t : Bool)
       → TakeRead

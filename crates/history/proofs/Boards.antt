@@ -1,7 +1,7 @@
 -- No rule reads a counter: what a call makes of the settings and the queues is what it makes of them on the board. Assumes nothing.
 use Prim.Native.Nat.{ℕ, zero, suc}
 use mathlib.Core.Path.{_≡_, refl, sym, ap, _∙_}
-use mathlib.Core.Bool.{Bool, true, false}
+use mathlib.Core.Bool.{Bool, true, false, not}
 use mathlib.Core.List.{List, [], _∷_}
 use lib.ListN.{length}
 use lib.Bits.{bitAnd}
@@ -36,14 +36,14 @@ use Rattle.queue.specs.declared.Entry.{Entry}
 use Rattle.queue.specs.declared.Head.{Head}
 use Rattle.queue.specs.declared.Head.the-variants.{First, Nothing}
 use Rattle.queue.specs.declared.Queue.{Queue}
-use Rattle.state.specs.Relay.{Relay, groupIn, pathIn, queueIn, withRouter, withPort, withRoute, withGroup, withPath, added}
+use Rattle.state.specs.Relay.{Relay, portIn, groupIn, pathIn, queueIn, withRouter, withPort, withRoute, withGroup, withPath, added, portSetUp}
 use Rattle.survey.specs.Survey.{surveyBelow, surveyOf}
 use Rattle.records.specs.Held.{holdsGroup, holdsPath}
 use Rattle.lookup.specs.Lookup.{groupFound, pathFound, groupSays, pathSays, groupPlace, pathPlace}
 use Rattle.judge.specs.Ruling.{caseOf, soughtOf, ruledBy, ruleTarget, ruleAim, ruleOf}
 use Rattle.judge.specs.declared.ruling.Arrival.{Arrival}
 use Rattle.meaning.specs.Arrival.{arrivalChecks}
-use Rattle.taking.specs.Taking.{notSetUp, without, takeOutcome, takenState}
+use Rattle.taking.specs.Taking.{without, takeOutcome, takenState}
 use Rattle.judge.specs.Ending.{orElse, callChecks, headerEnding, octetsEnding, arrivalAt, endingOf}
 use Rattle.judge.specs.declared.Ending.{Ending}
 use Rattle.tally.specs.Tally.{Move, movesOf, countedAt, countedAll}
@@ -54,7 +54,8 @@ use Rattle.relay.specs.Received.{newEntry, receivedState}
 use Rattle.records.specs.Fresh.{freshGroup, freshPath}
 use Rattle.routes.specs.Routes.{emptyRoute}
 use Rattle.routes.specs.declared.Route.{Route}
-use Rattle.refusals.specs.Ready.{isSetUp, readySet}
+use Rattle.records.specs.SetUp.{isSetUp}
+use Rattle.refusals.specs.Ready.{readySet}
 use Rattle.refusals.specs.Elsewhere.{otherRoute, otherGroup, otherPath, routeElsewhere, groupElsewhere, pathElsewhere}
 use Rattle.adjust.specs.Settled.{settled, newPort, newRoute, newGroup, newPath}
 use Rattle.refusals.specs.Lists.{routeChecks, groupChecks, pathChecks}
@@ -129,7 +130,7 @@ module _ (r : Relay) where
   octets-bare at (Refused n) = refl
 
   calls-bare : (port room : ℕ) → callChecks (bare r) port room ≡ callChecks r port room
-  unfolding callChecks notSetUp
+  unfolding callChecks portSetUp
   calls-bare port room = refl
 
   pub ending-bare : (port : ℕ) (octets : List ℕ) (room : ℕ) → endingOf (bare r) port octets room ≡ endingOf r port octets room
@@ -187,12 +188,12 @@ taken-one true r port q h = refl
 taken-one false r port q h = without-board r port q h
 
 taken-board : (r : Relay) (port : ℕ) → boardOf (takenState r port) ≡ boardOf (takenState (bare r) port)
-unfolding takenState notSetUp
-taken-board r port = taken-one (notSetUp r port) r port (takeOf (queueIn r port) .queue) (takeOf (queueIn r port) .head)
+unfolding takenState portSetUp
+taken-board r port = taken-one (not (portSetUp r port)) r port (takeOf (queueIn r port) .queue) (takeOf (queueIn r port) .head)
 
 -- ---- settings
 module _ (r : Relay) where
-  set-up-bare : (n : ℕ) → portSet (isSetUp (bare r)) n ≡ portSet (isSetUp r) n
+  set-up-bare : (n : ℕ) → portSet (λ (p : ℕ). isSetUp (portIn (bare r) p)) n ≡ portSet (λ (q : ℕ). isSetUp (portIn r q)) n
   set-up-bare n = refl
 
   ready-bare : readySet (bare r) ≡ readySet r
@@ -258,5 +259,5 @@ done-board r (receives port slot octets output) =
 done-board r (takes port) = taken-board r port
 
 pub outcome-bare : (r : Relay) (port : ℕ) → takeOutcome (bare r) port ≡ takeOutcome r port
-unfolding takeOutcome notSetUp
+unfolding takeOutcome portSetUp
 outcome-bare r port = refl

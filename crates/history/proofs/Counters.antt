@@ -4,7 +4,7 @@ use native.Mathlib.Omega.{arith}
 use native.Mathlib.Nat.{add-zero, add-assoc, mod-add-mod, mod-eq-of-lt, mod-lt}
 use Prim.Native.Nat.{ℕ, zero, suc, _+_, _%_, _^_, _<_}
 use mathlib.Core.Path.{_≡_, refl, sym, ap, _∙_}
-use mathlib.Core.Bool.{Bool, true, false}
+use mathlib.Core.Bool.{Bool, true, false, not}
 use mathlib.Core.List.{List, [], _∷_}
 use lib.ListN.{length, getD, length-set, getD-replicate}
 use lib.Seq.{getD-set-same, getD-set-other}
@@ -22,8 +22,8 @@ use Rattle.queue.specs.declared.Head.the-variants.{First, Nothing}
 use Rattle.queue.specs.declared.Queue.{Queue}
 use Rattle.records.specs.Fresh.{freshGroup, freshPath}
 use Rattle.routes.specs.Routes.{emptyRoute}
-use Rattle.state.specs.Relay.{Relay, freshRelay, counterIn, queueIn, withRouter, withPort, withRoute, withGroup, withPath, added}
-use Rattle.taking.specs.Taking.{notSetUp, without, takenState}
+use Rattle.state.specs.Relay.{Relay, freshRelay, counterIn, queueIn, withRouter, withPort, withRoute, withGroup, withPath, added, portSetUp}
+use Rattle.taking.specs.Taking.{without, takenState}
 use Rattle.judge.specs.Ending.{endingOf}
 use Rattle.judge.specs.declared.Ending.{Ending}
 use Rattle.tally.specs.Tally.{Move, movesOf, countedAt, countedAll}
@@ -116,7 +116,7 @@ taken-case false r port q Nothing = refl
 
 taken-counters : (r : Relay) (port : ℕ) → counters-of (takenState r port) ≡ counters-of r
 unfolding takenState
-taken-counters r port = taken-case (notSetUp r port) r port (takeOf (queueIn r port) .queue) (takeOf (queueIn r port) .head)
+taken-counters r port = taken-case (not (portSetUp r port)) r port (takeOf (queueIn r port) .queue) (takeOf (queueIn r port) .head)
 
 settled-case : (t : Bool) (r s : Relay) → counters-of s ≡ counters-of r → counters-of (pick t s r) ≡ counters-of r
 settled-case true r s e = e

@@ -22,7 +22,8 @@ use Rattle.meaning.specs.Names.{aimOf}
 use Rattle.meaning.specs.declared.Aim.{Aim}
 use Rattle.meaning.specs.declared.Aim.the-variants.{Node, Path, Uncarried}
 use Rattle.state.specs.Relay.{Relay, portIn, queueIn}
-use Rattle.survey.specs.Survey.{isSetUp, isFitting, isFull, surveyBelow, surveyOf}
+use Rattle.records.specs.SetUp.{isSetUp}
+use Rattle.survey.specs.Survey.{isFitting, isFull, surveyBelow, surveyOf}
 use Rattle.survey.specs.declared.Sought.{Sought}
 use Rattle.lookup.specs.Lookup.{pathPlace}
 use Rattle.verdict.specs.Rule.{targetOf, localOf, exceptBy, lineOf, afterHops, afterDomain, afterSize, grantedOf, copiesOf, rulingOf}

@@ -3,7 +3,7 @@
 use native.Mathlib.Omega.{arith}
 use Prim.Native.Nat.{ℕ, _+_, _<_}
 use mathlib.Core.Path.{_≡_, refl, sym, ap, _∙_}
-use mathlib.Core.Bool.{Bool, true, false}
+use mathlib.Core.Bool.{Bool, true, false, not}
 use mathlib.Core.List.{List, [], _∷_}
 use lib.ListN.{length, getD, set, length-set, getD-replicate}
 use lib.Seq.{getD-set-same, getD-set-other}
@@ -20,9 +20,9 @@ use Rattle.queue.specs.declared.Head.the-variants.{First, Nothing}
 use Rattle.queue.specs.declared.Queue.{Queue}
 use Rattle.records.specs.Fresh.{freshGroup, freshPath}
 use Rattle.routes.specs.Routes.{emptyRoute}
-use Rattle.state.specs.Relay.{Relay, freshRelay, queueIn, withRouter, withPort, withRoute, withGroup, withPath}
+use Rattle.state.specs.Relay.{Relay, freshRelay, queueIn, withRouter, withPort, withRoute, withGroup, withPath, portSetUp}
 use Rattle.verdict.specs.declared.Ruling.{Ruling}
-use Rattle.taking.specs.Taking.{notSetUp, handsOut, without, takeOutcome, takenState}
+use Rattle.taking.specs.Taking.{handsOut, without, takeOutcome, takenState}
 use Rattle.judge.specs.Ending.{endingOf}
 use Rattle.judge.specs.declared.Ending.{Ending}
 use Rattle.tally.specs.Tally.{movesOf, countedAll}
@@ -125,11 +125,11 @@ module _ (p : ℕ) (inside : p < 8) where
   taken-closes : (r : Relay) (port : ℕ) → Eight r
       → queueIn r p .count ≡ pick (eqb port p) (isHanded (takeOutcome r port)) 0 + queueIn (takenState r port) p .count
   unfolding takeOutcome takenState
-  taken-closes r port l = take-closes r port l (notSetUp r port) (takeOf (queueIn r port) .head) refl (eqb port p) refl
+  taken-closes r port l = take-closes r port l (not (portSetUp r port)) (takeOf (queueIn r port) .head) refl (eqb port p) refl
 
   taken-all-eight : (r : Relay) (port : ℕ) → Eight r → Eight (takenState r port)
   unfolding takenState
-  taken-all-eight r port l = taken-eight (notSetUp r port) r port (takeOf (queueIn r port) .queue) (takeOf (queueIn r port) .head) l
+  taken-all-eight r port l = taken-eight (not (portSetUp r port)) r port (takeOf (queueIn r port) .queue) (takeOf (queueIn r port) .head) l
 
   -- ---- each call, and then all
   pub one-call : (r : Relay) (c : Call) → Eight r → Closes r c

@@ -16,7 +16,7 @@ use Rattle.header.specs.Read.{readChecks, headerOf, readOf}
 use Rattle.header.specs.declared.Header.{Header}
 use Rattle.header.specs.declared.Read.{Read}
 use Rattle.header.specs.declared.Read.the-variants as read
-use Rattle.state.specs.Relay.{Relay, queueIn}
+use Rattle.state.specs.Relay.{Relay, queueIn, portSetUp}
 use Rattle.queue.specs.Queue.{takeOf}
 use Rattle.queue.specs.declared.Head.{Head}
 use Rattle.queue.specs.declared.Head.the-variants.{First, Nothing}
@@ -51,7 +51,7 @@ use Rattle.lookup.specs.Ways.{placeFor, wayFor}
 use Rattle.judge.specs.Ruling.{caseOf, soughtOf, ruledBy, ruleTarget, ruleAim, ruleOf}
 use Rattle.judge.specs.declared.ruling.Arrival.{Arrival}
 use Rattle.meaning.specs.Arrival.{arrivalChecks}
-use Rattle.taking.specs.Taking.{notSetUp, handsOut, takeOutcome}
+use Rattle.taking.specs.Taking.{handsOut, takeOutcome}
 use Rattle.judge.specs.Ending.{noRuling, refusedBy, ruledEnding, callChecks, headerEnding, octetsEnding, arrivalAt, endingOf}
 use Rattle.judge.specs.declared.Ending.{Ending}
 use Rattle.taking.specs.declared.Taking.the-variants as taking
@@ -384,7 +384,7 @@ call-listed r (clearRoute i) = number-row (0 ∷ 21 ∷ []) (clearChecks i 64) r
 call-listed r (clearGroup i) = number-row (0 ∷ 21 ∷ []) (clearChecks i 16) refl refl
 call-listed r (clearPath i) = number-row (0 ∷ 21 ∷ []) (clearChecks i 16) refl refl
 call-listed r (receives port slot octets output) = every-ending-is-listed r port octets (length output)
-call-listed r (takes port) = taken-case (notSetUp r port) (takeOf (queueIn r port) .head)
+call-listed r (takes port) = taken-case (not (portSetUp r port)) (takeOf (queueIn r port) .head)
 
 -- "No" with "not asked" never occurs: no row has it.
 unsaid : (x : Ruling) → Judged x → x .local ≡ No → x .onward ≡ onward.NotAsked → ⊥

@@ -25,7 +25,8 @@ use Rattle.meaning.specs.declared.Aim.{Aim}
 use Rattle.meaning.specs.declared.Aim.the-variants.{Node, Path, Uncarried}
 use Rattle.meaning.proofs.Laws.{same-domain-same-aim, same-domain-same-origin, extended-same-aim, extended-same-origin}
 use Rattle.state.specs.Relay.{Relay, portIn}
-use Rattle.survey.specs.Survey.{isSetUp, inDomain, surveyBelow, surveyOf}
+use Rattle.records.specs.SetUp.{isSetUp}
+use Rattle.survey.specs.Survey.{inDomain, surveyBelow, surveyOf}
 use Rattle.survey.specs.declared.Sought.{Sought}
 use Rattle.lookup.specs.Lookup.{pathPlace}
 use Rattle.verdict.specs.Rule.{targetOf, localOf, lineOf, hopsLeft, sameDomain, afterHops, afterDomain, afterSize, grantedOf, copiesOf, rulingOf}

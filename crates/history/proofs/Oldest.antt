@@ -2,7 +2,7 @@
 -- number of their entering; and the queue is sound. The theorems are `hands-out-oldest` and `queue-sound`, at the end. Assumes nothing.
 use Prim.Native.Nat.{ℕ, _<_}
 use mathlib.Core.Path.{_≡_, refl, sym, ap, _∙_}
-use mathlib.Core.Bool.{Bool, true, false}
+use mathlib.Core.Bool.{Bool, true, false, not}
 use mathlib.Core.List.{List, [], _∷_, _++_}
 use lib.ListN.{length, getD, set, getD-replicate}
 use lib.Seq.{getD-set-same, getD-set-other}
@@ -22,8 +22,8 @@ use Rattle.queue.specs.declared.Head.the-variants.{First, Nothing}
 use Rattle.queue.specs.declared.Queue.{Queue}
 use Rattle.records.specs.Fresh.{freshGroup, freshPath}
 use Rattle.routes.specs.Routes.{emptyRoute}
-use Rattle.state.specs.Relay.{Relay, freshRelay, queueIn, withRouter, withPort, withRoute, withGroup, withPath}
-use Rattle.taking.specs.Taking.{notSetUp, without, takenState}
+use Rattle.state.specs.Relay.{Relay, freshRelay, queueIn, withRouter, withPort, withRoute, withGroup, withPath, portSetUp}
+use Rattle.taking.specs.Taking.{without, takenState}
 use Rattle.judge.specs.Ending.{endingOf}
 use Rattle.judge.specs.declared.Ending.{Ending}
 use Rattle.tally.specs.Tally.{movesOf, countedAll}
@@ -97,12 +97,12 @@ module _ (p : ℕ) (inside : p < 8) where
       getD-set-other (queues-of r) port p (takeOf (queueIn r port) .queue) freshQueue (λ w. eqb-false port p z (sym w))
 
   taken-works : (r : Relay) (port : ℕ) → Eight r
-      → queueIn (takenState r port) p ≡ worked (queueIn r p) (pick (eqb port p) (pick (notSetUp r port) [] (turns.takes ∷ [])) [])
+      → queueIn (takenState r port) p ≡ worked (queueIn r p) (pick (eqb port p) (pick (not (portSetUp r port)) [] (turns.takes ∷ [])) [])
   unfolding takenState
-  taken-works r port l = take-works r port l (notSetUp r port) (takeOf (queueIn r port) .head) refl (eqb port p) refl
+  taken-works r port l = take-works r port l (not (portSetUp r port)) (takeOf (queueIn r port) .head) refl (eqb port p) refl
 
   call-works : (r : Relay) (c : Call) → Eight r → Works r c
-  unfolding notSetUp
+  unfolding portSetUp
   call-works r (setRouter x) l = kept r (done r (setRouter x)) (settled-queues (firstOf (routerChecks x)) r (withRouter r x) refl)
   call-works r (setPort q address mask mtu) l =
       kept r (done r (setPort q address mask mtu))

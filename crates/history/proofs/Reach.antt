@@ -15,8 +15,9 @@ use Rattle.checks.proofs.Bools.{true-false, and-true, or-false}
 use Rattle.checks.proofs.Laws.{zero-none, none-zero}
 use Rattle.sets.specs.Sets.{inSet, onlyPort, portSet}
 use Rattle.settings.specs.Sets.{isReady, namesOther, setRefused}
-use Rattle.state.specs.Relay.{Relay, freshRelay, portIn, routeIn, groupIn, pathIn, queueIn, withRouter, withPort, withRoute, withGroup, withPath, added}
-use Rattle.refusals.specs.Ready.{isSetUp, readySet}
+use Rattle.state.specs.Relay.{Relay, freshRelay, portIn, routeIn, groupIn, pathIn, queueIn, withRouter, withPort, withRoute, withGroup, withPath, added, portSetUp}
+use Rattle.records.specs.SetUp.{isSetUp}
+use Rattle.refusals.specs.Ready.{readySet}
 use Rattle.refusals.specs.Record.{recordChecks}
 use Rattle.settings.specs.Refusals.{portClassRefused, portMaskRefused, mtuRefused, groupClassRefused, pathClassRefused}
 use Rattle.records.specs.Fresh.{freshPort, freshGroup, freshPath}
@@ -38,7 +39,7 @@ use Rattle.queue.specs.declared.Entry.{Entry}
 use Rattle.queue.specs.declared.Head.{Head}
 use Rattle.queue.specs.declared.Head.the-variants.{First, Nothing}
 use Rattle.queue.specs.declared.Queue.{Queue}
-use Rattle.taking.specs.Taking.{notSetUp, without, takenState}
+use Rattle.taking.specs.Taking.{without, takenState}
 use Rattle.judge.specs.Ending.{endingOf}
 use Rattle.judge.specs.declared.Ending.{Ending}
 use Rattle.tally.specs.Tally.{Move, movesOf, countedAt, countedAll}
@@ -84,11 +85,11 @@ record-grows a b g x h =
     none-zero (recordChecks b x) (ap not ready, none .1)
 
 -- a port is ready where it is set up
-pub ready-is : (r : Relay) (p : ℕ) → p < 8 → isReady p (readySet r) ≡ isSetUp r p
+pub ready-is : (r : Relay) (p : ℕ) → p < 8 → isReady p (readySet r) ≡ isSetUp (portIn r p)
 unfolding readySet
-ready-is r p h = simp (lt-ltb p 8 h) (in-gathered (isSetUp r) p 8 h)
+ready-is r p h = simp (lt-ltb p 8 h) (in-gathered (λ (q : ℕ). isSetUp (portIn r q)) p 8 h)
 
-ready-below : (r : Relay) (n : ℕ) → portSet (isSetUp r) n ≡ portSet (λ (p : ℕ). not (eqb (getD (r .ports) p freshPort .ready) 0)) n
+ready-below : (r : Relay) (n : ℕ) → portSet (λ (q : ℕ). isSetUp (portIn r q)) n ≡ portSet (λ (p : ℕ). not (eqb (getD (r .ports) p freshPort .ready) 0)) n
 ready-below r n = refl
 
 ready-list : (r : Relay) → readySet r ≡ portSet (λ (p : ℕ). not (eqb (getD (r .ports) p freshPort .ready) 0)) 8
@@ -104,7 +105,7 @@ same-grows a b e p h = ap (isReady p) e ∙ h
 
 -- ---- what one part says, and how it is kept where ports only grow
 abbrev PortsGood : Relay → Type 0
-PortsGood r = (p : ℕ) → p < 8 → isSetUp r p ≡ true
+PortsGood r = (p : ℕ) → p < 8 → isSetUp (portIn r p) ≡ true
     → (portClassRefused (portIn r p .address) ≡ false)
     × ((portMaskRefused (portIn r p .address) (portIn r p .mask) ≡ false) × (mtuRefused (portIn r p .mtu) ≡ false))
 
@@ -188,7 +189,7 @@ module _ (r : Relay) (k : Kept r) where
     port-none =
         numbered-five _ _ _ _ _ 21 25 22 24 35 (λ z. omega arith) (λ z. omega arith) (λ z. omega arith) (λ z. omega arith) (λ z. omega arith) taken
 
-    set-up-case : (q : ℕ) → q < 8 → isSetUp r q ≡ true → (t : Bool) → eqb q p ≡ t → isSetUp (withPort r p (newPort a m u)) q ≡ true
+    set-up-case : (q : ℕ) → q < 8 → isSetUp (portIn r q) ≡ true → (t : Bool) → eqb q p ≡ t → isSetUp (portIn (withPort r p (newPort a m u)) q) ≡ true
     set-up-case q h z true e =
         let same = eqb-true q p e in
         ap (λ (x : Port). not (eqb (x .ready) 0))
@@ -349,7 +350,7 @@ taken-case false r port q Nothing = refl
 
 pub taken-made : (r : Relay) (port : ℕ) → madeOf (takenState r port) ≡ madeOf r
 unfolding takenState
-taken-made r port = taken-case (notSetUp r port) r port (takeOf (queueIn r port) .queue) (takeOf (queueIn r port) .head)
+taken-made r port = taken-case (not (portSetUp r port)) r port (takeOf (queueIn r port) .queue) (takeOf (queueIn r port) .head)
 
 pub received-settings : (r : Relay) (slot : Slot) (e : Ending) → settingsOf (receivedState r slot e) ≡ settingsOf r
 received-settings r slot e = ap (λ x. x .1) (received-made r slot e)

@@ -2,7 +2,7 @@
 use native.Mathlib.Omega.{arith}
 use Prim.Native.Nat.{ℕ, zero, suc, _<_}
 use mathlib.Core.Path.{_≡_, refl, sym, ap, _∙_}
-use mathlib.Core.Bool.{Bool, true, false}
+use mathlib.Core.Bool.{Bool, true, false, not}
 use mathlib.Core.List.{List, []}
 use lib.ListN.{length}
 use lib.Bits.{bitAnd, and-zero-l}
@@ -21,10 +21,10 @@ use Rattle.queue.specs.declared.Entry.{Entry}
 use Rattle.queue.specs.declared.Head.{Head}
 use Rattle.queue.specs.declared.Head.the-variants.{First, Nothing}
 use Rattle.queue.specs.declared.Queue.{Queue}
-use Rattle.state.specs.Relay.{Relay, queueIn}
+use Rattle.state.specs.Relay.{Relay, queueIn, portSetUp}
 use Rattle.judge.specs.declared.ruling.Arrival.{Arrival}
 use Rattle.meaning.specs.Arrival.{arrivalChecks}
-use Rattle.taking.specs.Taking.{notSetUp, handsOut, without, takeOutcome, takenState}
+use Rattle.taking.specs.Taking.{handsOut, without, takeOutcome, takenState}
 use Rattle.judge.specs.Ending.{noRuling, refusedBy, ruledEnding, callChecks, headerEnding, octetsEnding, arrivalAt, endingOf}
 use Rattle.judge.specs.declared.Ending.{Ending}
 use Rattle.tally.specs.Tally.{movesOf, countedAll, counterFor}
@@ -110,4 +110,4 @@ take-case false r port q Nothing n e = refl
 
 pub refused-take-leaves : (r : Relay) (port n : ℕ) → takeOutcome r port ≡ Refused n → takenState r port ≡ r
 unfolding takeOutcome takenState
-refused-take-leaves r port n e = take-case (notSetUp r port) r port (takeOf (queueIn r port) .queue) (takeOf (queueIn r port) .head) n e
+refused-take-leaves r port n e = take-case (not (portSetUp r port)) r port (takeOf (queueIn r port) .queue) (takeOf (queueIn r port) .head) n e

@@ -8,7 +8,8 @@ use lib.Dec.{eqb}
 use Rattle.checks.proofs.Laws.{either}
 use Rattle.sets.proofs.Loops.{portSet-below}
 use Rattle.state.specs.Relay.{Relay, portIn}
-use Rattle.survey.specs.Survey.{isSetUp, isFitting, surveyBelow, surveyOf}
+use Rattle.records.specs.SetUp.{isSetUp}
+use Rattle.survey.specs.Survey.{isFitting, surveyBelow, surveyOf}
 use Rattle.survey.specs.declared.Sought.{Sought}
 use Rattle.verdict.specs.Rule.{localOf, lineOf, afterHops, afterDomain, afterSize, grantedOf, copiesOf, rulingOf}
 use Rattle.verdict.specs.declared.Target.{Target}

@@ -4,12 +4,12 @@
 use native.Mathlib.Omega.{arith}
 use Prim.Native.Nat.{ℕ, _<_}
 use mathlib.Core.Path.{_≡_, refl, sym, ap, _∙_}
-use mathlib.Core.Bool.{Bool, true, false}
+use mathlib.Core.Bool.{Bool, true, false, not}
 use mathlib.Core.Logic.{_↔_}
 use mathlib.Core.List.{List, [], _∷_, _++_, map, append-assoc, append-nil}
 use lib.Seq.{getD-set-same}
 use borrow.Author.Tests.{eq-eqb}
-use Rattle.checks.specs.Order.{pick, checkOf}
+use Rattle.checks.specs.Order.{pick}
 use Rattle.checks.proofs.Bools.{true-false}
 use Rattle.queue.specs.Order.{Each}
 use Rattle.queue.specs.Queue.{takeOf, waiting, headOf}
@@ -19,10 +19,10 @@ use Rattle.queue.proofs.Turns.{followed, follows-take, take-nothing}
 use Rattle.queue.specs.declared.Entry.{Entry}
 use Rattle.queue.specs.declared.Head.{Head}
 use Rattle.queue.specs.declared.Head.the-variants.{First, Nothing}
-use Rattle.state.specs.Relay.{Relay, freshRelay, queueIn, withQueue}
-use Rattle.taking.specs.Taking.{notSetUp, handsOut, takeOutcome, takenState}
+use Rattle.state.specs.Relay.{Relay, freshRelay, queueIn, withQueue, portSetUp}
+use Rattle.taking.specs.Taking.{handsOut, takeOutcome, takenState}
 use Rattle.taking.specs.declared.Taking.the-variants.{Handed, Refused}
-use Rattle.taking.proofs.Port.{is-port}
+use Rattle.state_ports.proofs.SetUp.{is-port}
 use Rattle.history.specs.Calls.{Call, takes, done, run, after}
 use Rattle.history.specs.Board.{boardOf, freshBoard}
 use Rattle.history.specs.Deeds.{deedsBy, deeds, lineAt}
@@ -57,38 +57,38 @@ no-entries [] h = refl
 no-entries (x ∷ w) h = true-false cc
 
 -- ---- what an outcome shows, and what shows it
-handed-case : (t : Bool) (h : Head) (e : Entry) → pick t (Refused 16) (handsOut h) ≡ Handed e → (t ≡ false) × (h ≡ First e)
-handed-case true h e k = true-false cc
-handed-case false (First x) e k = (refl, cc)
-handed-case false Nothing e k = true-false cc
+handed-case : (s : Bool) (h : Head) (e : Entry) → pick (not s) (Refused 16) (handsOut h) ≡ Handed e → (s ≡ true) × (h ≡ First e)
+handed-case false h e k = true-false cc
+handed-case true (First x) e k = (refl, cc)
+handed-case true Nothing e k = true-false cc
 
-none-case : (t : Bool) (h : Head) → pick t (Refused 16) (handsOut h) ≡ Refused 18 → (t ≡ false) × (h ≡ Nothing)
-none-case true h k = true-false cc
-none-case false (First x) k = true-false cc
-none-case false Nothing k = (refl, refl)
+none-case : (s : Bool) (h : Head) → pick (not s) (Refused 16) (handsOut h) ≡ Refused 18 → (s ≡ true) × (h ≡ Nothing)
+none-case false h k = true-false cc
+none-case true (First x) k = true-false cc
+none-case true Nothing k = (refl, refl)
 
-closed-case : (t : Bool) (h : Head) → pick t (Refused 16) (handsOut h) ≡ Refused 16 → t ≡ true
-closed-case true h k = refl
-closed-case false (First x) k = true-false cc
-closed-case false Nothing k = true-false cc
+closed-case : (s : Bool) (h : Head) → pick (not s) (Refused 16) (handsOut h) ≡ Refused 16 → s ≡ false
+closed-case false h k = refl
+closed-case true (First x) k = true-false cc
+closed-case true Nothing k = true-false cc
 
 module _ (r : Relay) (port : ℕ) where
   -- 16 is answered exactly where the port is not set up
-  pub take-not-set-up : (takeOutcome r port ≡ Refused 16) ↔ (notSetUp r port ≡ true)
+  pub take-not-set-up : (takeOutcome r port ≡ Refused 16) ↔ (portSetUp r port ≡ false)
   unfolding takeOutcome
-  take-not-set-up = (closed-case (notSetUp r port) (takeOf (queueIn r port) .head), λ h. rw h)
+  take-not-set-up = (closed-case (portSetUp r port) (takeOf (queueIn r port) .head), λ h. rw h)
 
-  shows-handed : (e : Entry) → takeOutcome r port ≡ Handed e → (notSetUp r port ≡ false) × (takeOf (queueIn r port) .head ≡ First e)
+  shows-handed : (e : Entry) → takeOutcome r port ≡ Handed e → (portSetUp r port ≡ true) × (takeOf (queueIn r port) .head ≡ First e)
   unfolding takeOutcome
-  shows-handed e k = handed-case (notSetUp r port) (takeOf (queueIn r port) .head) e k
+  shows-handed e k = handed-case (portSetUp r port) (takeOf (queueIn r port) .head) e k
 
-  shows-none : takeOutcome r port ≡ Refused 18 → (notSetUp r port ≡ false) × (takeOf (queueIn r port) .head ≡ Nothing)
+  shows-none : takeOutcome r port ≡ Refused 18 → (portSetUp r port ≡ true) × (takeOf (queueIn r port) .head ≡ Nothing)
   unfolding takeOutcome
-  shows-none k = none-case (notSetUp r port) (takeOf (queueIn r port) .head) k
+  shows-none k = none-case (portSetUp r port) (takeOf (queueIn r port) .head) k
 
-  module _ (ready : notSetUp r port ≡ false) where
+  module _ (ready : portSetUp r port ≡ true) where
     is-inside : port < 8
-    is-inside = is-port r port refl (ap checkOf ready)
+    is-inside = is-port r port ready
 
     by-head : (h : Head) → takeOf (queueIn r port) .head ≡ h → takeOutcome r port ≡ handsOut h
     unfolding takeOutcome
@@ -121,11 +121,11 @@ unfolding turns.run
 run-both [] es h = refl
 run-both (d ∷ ds) es h = run-both ds es (turns.after h d)
 
-take-deed : (r : Relay) (port : ℕ) → notSetUp r port ≡ false → deedsBy port (boardOf r) (takes port) ≡ turns.takes ∷ []
-unfolding notSetUp
+take-deed : (r : Relay) (port : ℕ) → portSetUp r port ≡ true → deedsBy port (boardOf r) (takes port) ≡ turns.takes ∷ []
+unfolding portSetUp
 take-deed r port ready = rw (eq-eqb port port refl, ready)
 
-line-later : (cs : List Call) (port : ℕ) → notSetUp (after cs) port ≡ false
+line-later : (cs : List Call) (port : ℕ) → portSetUp (after cs) port ≡ true
     → lineAt port (cs ++ (takes port ∷ [])) ≡ turns.after (lineAt port cs) turns.takes
 unfolding turns.run
 line-later cs port ready =
@@ -135,7 +135,7 @@ line-later cs port ready =
 
 -- ---- after a history
 module _ (cs : List Call) (port : ℕ) where
-  module _ (ready : notSetUp (after cs) port ≡ false) where
+  module _ (ready : portSetUp (after cs) port ≡ true) where
     head-waits : takeOf (queueIn (after cs) port) .head ≡ headOf (waiting (queueIn (after cs) port))
     head-waits = take-head (queueIn (after cs) port) (queue-sound port (is-inside (after cs) port ready) cs .bounded)
 
@@ -162,12 +162,12 @@ module _ (cs : List Call) (port : ℕ) where
         }
 
   -- where the port is set up and entries wait, the first is handed out
-  pub take-hands-out : (first : turns.Entered) (rest : List turns.Entered) → notSetUp (after cs) port ≡ false → lineAt port cs .line ≡ first ∷ rest
+  pub take-hands-out : (first : turns.Entered) (rest : List turns.Entered) → portSetUp (after cs) port ≡ true → lineAt port cs .line ≡ first ∷ rest
       → takeOutcome (after cs) port ≡ Handed (first .entry)
   take-hands-out first rest ready is = by-head (after cs) port ready (First (first .entry)) (heads ready (first ∷ rest) is)
 
   -- 18 is answered exactly where the port is set up and nothing waits there
-  pub take-finds-nothing : (takeOutcome (after cs) port ≡ Refused 18) ↔ ((notSetUp (after cs) port ≡ false) × (waiting (queueIn (after cs) port) ≡ []))
+  pub take-finds-nothing : (takeOutcome (after cs) port ≡ Refused 18) ↔ ((portSetUp (after cs) port ≡ true) × (waiting (queueIn (after cs) port) ≡ []))
   take-finds-nothing = (
     λ k. let s = shows-none (after cs) port k in (s .0, no-entries _ (sym (head-waits (s .0)) ∙ s .1)),
     λ h. by-head (after cs) port (h .0) Nothing (head-waits (h .0) ∙ ap headOf (h .1)),

@@ -24,10 +24,11 @@ use Rattle.routes.specs.declared.Found.{Found}
 use Rattle.routes.specs.declared.Found.the-variants.{At, No}
 use Rattle.routes.specs.declared.Route.{Route}
 use Rattle.routes.proofs.Longest.{search-found}
-use Rattle.refusals.specs.Ready.{isSetUp, readySet}
+use Rattle.records.specs.SetUp.{isSetUp}
+use Rattle.refusals.specs.Ready.{readySet}
 use Rattle.refusals.specs.Record.{recordChecks}
 use Rattle.lookup.specs.Ways.{wayOf, placeFor, wayFor}
-use Rattle.state.specs.Relay.{Relay, routeIn, groupIn, pathIn}
+use Rattle.state.specs.Relay.{Relay, portIn, routeIn, groupIn, pathIn}
 use Rattle.survey.specs.Survey.{surveyBelow, surveyOf}
 use Rattle.survey.specs.declared.Sought.{Sought}
 use Rattle.verdict.specs.Rule.{exceptBy, aloneBy, groupLine, pathLine, routeLine, routerLine, unheardBy, hostLine, lineOf}
@@ -90,7 +91,7 @@ set-ready s ready p h l m = names-ready 32 s ready p h (omega arith) m
 
 -- ---- what is wanted is set up
 module _ (r : Relay) (k : Kept r) (p : ℕ) (inside : p < 8) where
-  ready-set-up : isReady p (readySet r) ≡ true → isSetUp r p ≡ true
+  ready-set-up : isReady p (readySet r) ≡ true → isSetUp (portIn r p) ≡ true
   ready-set-up h = sym (ready-is r p inside) ∙ h
 
   except-in : (g f : ℕ) → inSet p (exceptBy g f) ≡ true → inSet p g ≡ true
@@ -99,11 +100,11 @@ module _ (r : Relay) (k : Kept r) (p : ℕ) (inside : p < 8) where
   -- what a place may send to
   abbrev Good : Place → Type 0
   Good Missing = Unit
-  Good (Held send word) = inSet p send ≡ true → isSetUp r p ≡ true
+  Good (Held send word) = inSet p send ≡ true → isSetUp (portIn r p) ≡ true
 
   abbrev GoodWay : Way → Type 0
   GoodWay Lost = Unit
-  GoodWay (By set availability) = inSet p set ≡ true → isSetUp r p ≡ true
+  GoodWay (By set availability) = inSet p set ≡ true → isSetUp (portIn r p) ≡ true
 
   pick-good : (t : Bool) (a b : Place) → (t ≡ true → Good a) → Good b → Good (pick t a b)
   pick-good true a b f g = f refl
@@ -151,7 +152,7 @@ module _ (r : Relay) (k : Kept r) (p : ℕ) (inside : p < 8) where
   abbrev GoodLine : Wish → Type 0
   GoodLine NotAsked = Unit
   GoodLine (Refused n) = Unit
-  GoodLine (Wanted g) = inSet p g ≡ true → isSetUp r p ≡ true
+  GoodLine (Wanted g) = inSet p g ≡ true → isSetUp (portIn r p) ≡ true
 
   pick-line : (t : Bool) (a b : Wish) → GoodLine a → GoodLine b → GoodLine (pick t a b)
   pick-line true a b f g = f
@@ -188,10 +189,10 @@ module _ (r : Relay) (k : Kept r) (p : ℕ) (inside : p < 8) where
   host-line target.Path local = unheard-line local
   host-line target.Route local = unheard-line local
 
-  survey-ready : (q : Sought) → inSet p (surveyOf r q .ready) ≡ true → isSetUp r p ≡ true
+  survey-ready : (q : Sought) → inSet p (surveyOf r q .ready) ≡ true → isSetUp (portIn r p) ≡ true
   unfolding surveyBelow
   survey-ready q h =
-      and-true (isSetUp r p) true (sym (in-gathered (λ (i : ℕ). isSetUp r i && true) p 8 inside) ∙ h) .0
+      and-true (isSetUp (portIn r p)) true (sym (in-gathered (λ (i : ℕ). isSetUp (portIn r i) && true) p 8 inside) ∙ h) .0
 
   router-line : (t : Target) (x : Place) (w : Way) (arrival : ℕ) (q : Sought) → Good x → GoodWay w → GoodLine (routerLine t x w arrival (surveyOf r q .ready))
   router-line target.Here x w arrival q g h = tt
@@ -220,7 +221,7 @@ module _ (r : Relay) (k : Kept r) (p : ℕ) (inside : p < 8) where
   way-good target.Path a = tt
   way-good target.Route a = found-good a (searchOf a (r .routes)) refl
 
-  wanted-is : (l : Wish) (g : ℕ) → GoodLine l → l ≡ Wanted g → inSet p g ≡ true → isSetUp r p ≡ true
+  wanted-is : (l : Wish) (g : ℕ) → GoodLine l → l ≡ Wanted g → inSet p g ≡ true → isSetUp (portIn r p) ≡ true
   wanted-is NotAsked g h e m = true-false cc
   wanted-is (Refused n) g h e m = true-false cc
   wanted-is (Wanted s) g h e m = h (rw (let z : s ≡ g = cc in z) m)
@@ -229,7 +230,7 @@ module _ (r : Relay) (k : Kept r) (p : ℕ) (inside : p < 8) where
 pub wanted-is-set-up : (cs : List Call) (p : ℕ) → p < 8 → (t : Target) (a : Address) (c : Case) (q : Sought) (local : Local) (g : ℕ)
     → lineOf t (placeFor (after cs) t a (c .arrival)) (wayFor (after cs) t a) c (surveyOf (after cs) q .ready) local ≡ Wanted g
     → inSet p g ≡ true
-    → isSetUp (after cs) p ≡ true
+    → isSetUp (portIn (after cs) p) ≡ true
 wanted-is-set-up cs p inside t a c q local g =
     let r = after cs in
     let k = kept-after cs in
@@ -240,7 +241,7 @@ wanted-is-set-up cs p inside t a c q local g =
 pub wanted-on-path-is-set-up : (cs : List Call) (p : ℕ) → p < 8 → (x : PathAddress) (c : Case) (q : Sought) (local : Local) (g : ℕ)
     → lineOf target.Path (pathPlace (after cs) x) Lost c (surveyOf (after cs) q .ready) local ≡ Wanted g
     → inSet p g ≡ true
-    → isSetUp (after cs) p ≡ true
+    → isSetUp (portIn (after cs) p) ≡ true
 wanted-on-path-is-set-up cs p inside x c q local g =
     let r = after cs in
     let k = kept-after cs in

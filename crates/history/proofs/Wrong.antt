@@ -23,14 +23,13 @@ use Rattle.verdict.specs.Rule.{routeLine}
 use Rattle.verdict.specs.declared.Obstacle.the-variants.{RouteNotUp}
 use Rattle.verdict.specs.declared.Wish.the-variants.{Refused}
 use Rattle.lookup.specs.Ways.{wayOf}
-use Rattle.state.specs.Relay.{Relay}
+use Rattle.state.specs.Relay.{Relay, portSetUp}
 use Rattle.survey.specs.Survey.{isFitting}
 use Rattle.survey.specs.declared.Sought.{Sought}
 use Rattle.records.specs.declared.Port.{Port}
 use Rattle.address.specs.declared.Address.{Address}
 use Rattle.address.specs.declared.Mask.{Mask}
 use Rattle.settings.specs.Refusals.{placeRefused, portClassRefused}
-use Rattle.taking.specs.Taking.{notSetUp}
 use Rattle.judge.specs.Ending.{callChecks, endingOf}
 use Rattle.refusals.specs.Lists.{portChecks}
 use Rattle.tally.specs.Tally.{counterFor}
@@ -83,7 +82,7 @@ mtu-equal-holds p q h = simp (le-ltb (p .mtu) (q .length) (omega arith))
 
 -- 17 before 16: a port that is not set up is 16, whatever the room
 pub sixteen-comes-first : (r : Relay) (port : ℕ) (octets : List ℕ) (room : ℕ)
-    → notSetUp r port ≡ true → endingOf r port octets room .refusal ≡ 16
+    → portSetUp r port ≡ false → endingOf r port octets room .refusal ≡ 16
 unfolding endingOf callChecks firstOf
 sixteen-comes-first r port octets room h = simp (h)
 

@@ -21,7 +21,6 @@ use Rattle.networks.specs.Networks.{subnetBroadcast, broadcastIn, classBroadcas
 use Rattle.survey.specs.Survey.{ownBroadcast, surveyBelow}
 use Rattle.verdict.specs.Rule.{targetOf, localOf, routeLine, lineOf, grantedOf, copiesOf, rulingOf}
 use Rattle.judge.specs.Ruling.{ruledBy, ruleTarget, ruleOf}
-use Rattle.taking.specs.Taking.{notSetUp}
 use Rattle.verdict.specs.declared.Local.the-variants.{No}
 use Rattle.verdict.specs.declared.Onward.the-variants.{SentOn}
 use Rattle.judge.specs.Ending.{callChecks, headerEnding, endingOf}
@@ -33,7 +32,7 @@ use Rattle.routes.specs.Refusals.{prefixRefused, codesRefused}
 use Rattle.routes.specs.Routes.{matched, candidate, sameEntry}
 use Rattle.routes.specs.Search.{beaten, betterOf, searchFrom, searchOf}
 use Rattle.queue.specs.Queue.{fresh, putOf}
-use Rattle.state.specs.Relay.{Relay, freshRelay, queueIn, counterIn}
+use Rattle.state.specs.Relay.{Relay, freshRelay, queueIn, counterIn, portSetUp}
 use Rattle.tally.specs.Tally.{counterFor, countedAt}
 use Rattle.relay.specs.Outgo.{enteredIf, enteredAll}
 use Rattle.relay.specs.Received.{receivedState}
@@ -89,7 +88,7 @@ pub record Cases : Type 0 where
   pub receipts : (counterIn (after settings) 0 ≡ 0) × (counterIn (after then-a) 0 ≡ 1)
 
 pub cases : Cases
-unfolding firstOf classOf classIn familyOf scpsClass netClass otherClass portMaskRefused formRefused onesRefused maskForm onesOf onesBelow fresh freshRelay readySet routeElsewhere prefixRefused codesRefused sameEntry number controlOf forbidden addressSize stampSize layoutOf addressesOf qosOf octetOf stampOf lengthOf fieldsOf headerOf readChecks readOf aimOf originOf subnetBroadcast broadcastIn classBroadcast ownBroadcast surveyBelow targetOf localOf routeLine lineOf grantedOf copiesOf rulingOf ruledBy ruleTarget ruleOf notSetUp callChecks headerEnding endingOf receivedState countedAt counterFor enteredAll enteredIf putOf matched candidate beaten betterOf searchFrom searchOf
+unfolding firstOf classOf classIn familyOf scpsClass netClass otherClass portMaskRefused formRefused onesRefused maskForm onesOf onesBelow fresh freshRelay readySet routeElsewhere prefixRefused codesRefused sameEntry number controlOf forbidden addressSize stampSize layoutOf addressesOf qosOf octetOf stampOf lengthOf fieldsOf headerOf readChecks readOf aimOf originOf subnetBroadcast broadcastIn classBroadcast ownBroadcast surveyBelow targetOf localOf routeLine lineOf grantedOf copiesOf rulingOf ruledBy ruleTarget ruleOf portSetUp callChecks headerEnding endingOf receivedState countedAt counterFor enteredAll enteredIf putOf matched candidate beaten betterOf searchFrom searchOf
 cases = record { a = refl; b = refl; waiting = (refl, refl); receipts = (refl, refl) }
 
 -- ---- verdicts

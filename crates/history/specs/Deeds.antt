@@ -2,6 +2,7 @@
 -- highest precedence is handed out first, the oldest within one"). Assumes nothing.
 use Prim.Native.Nat.{ℕ}
 use mathlib.Core.List.{List, [], _∷_, _++_}
+use mathlib.Core.Bool.{not}
 use lib.ListN.{length}
 use lib.Dec.{eqb}
 use Rattle.checks.specs.Order.{pick}
@@ -10,7 +11,7 @@ use Rattle.address.specs.declared.Slot.{Slot}
 use Rattle.queue.specs.Queue.{putOf, takeOf}
 use Rattle.queue.specs.Turns as turns
 use Rattle.queue.specs.declared.Queue.{Queue}
-use Rattle.taking.specs.Taking.{notSetUp}
+use Rattle.state.specs.Relay.{portSetUp}
 use Rattle.judge.specs.Ending.{endingOf}
 use Rattle.judge.specs.declared.Ending.{Ending}
 use Rattle.relay.specs.Received.{newEntry}
@@ -31,7 +32,7 @@ deedsBy p b (clearRoute place) = []
 deedsBy p b (clearGroup place) = []
 deedsBy p b (clearPath place) = []
 deedsBy p b (receives port slot octets output) = putsAt p slot (endingOf (onBoard b) port octets (length output))
-deedsBy p b (takes port) = pick (eqb port p) (pick (notSetUp (onBoard b) port) [] (turns.takes ∷ [])) []
+deedsBy p b (takes port) = pick (eqb port p) (pick (not (portSetUp (onBoard b) port)) [] (turns.takes ∷ [])) []
 
 -- over the calls, from a board on
 abbrev pub deeds : ℕ → Board → List Call → List turns.Deed

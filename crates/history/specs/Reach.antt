@@ -14,12 +14,13 @@ use Rattle.routes.specs.Routes.{isFilled, sameEntry, emptyRoute}
 use Rattle.settings.specs.Refusals.{portClassRefused, portMaskRefused, mtuRefused, groupClassRefused, pathClassRefused}
 use Rattle.settings.specs.Sets.{setRefused}
 use Rattle.state.specs.Relay.{Relay, portIn, routeIn, groupIn, pathIn}
-use Rattle.refusals.specs.Ready.{isSetUp, readySet}
+use Rattle.records.specs.SetUp.{isSetUp}
+use Rattle.refusals.specs.Ready.{readySet}
 use Rattle.refusals.specs.Record.{recordChecks}
 
 pub record Reached (r : Relay) : Type 0 where
   -- a port that is set up has a unicast address, a good mask and MTU
-  pub ports : (p : ℕ) → p < 8 → isSetUp r p ≡ true
+  pub ports : (p : ℕ) → p < 8 → isSetUp (portIn r p) ≡ true
       → (portClassRefused (portIn r p .address) ≡ false)
       × ((portMaskRefused (portIn r p .address) (portIn r p .mask) ≡ false) × (mtuRefused (portIn r p .mtu) ≡ false))
   -- a filled route's port is set up, its prefix and codes are good

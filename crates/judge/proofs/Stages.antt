@@ -2,6 +2,7 @@
 use native.Mathlib.Omega.{arith}
 use Prim.Native.Nat.{ℕ, _<_}
 use mathlib.Core.Path.{_≡_, refl, sym, ap, _∙_}
+use mathlib.Core.Bool.{not}
 use mathlib.Core.List.{List}
 use lib.ListN.{getD}
 use borrow.Author.Tests.{eq-eqb, ne-eqb}
@@ -21,12 +22,11 @@ use Rattle.header.specs.declared.Addresses.{Addresses}
 use Rattle.meaning.specs.declared.Aim.{Aim}
 use Rattle.meaning.specs.Asked.{precedenceAsked}
 use Rattle.records.specs.declared.Port.{Port}
-use Rattle.state.specs.Relay.{Relay, portIn}
+use Rattle.state.specs.Relay.{Relay, portIn, portSetUp}
 use Rattle.verdict.specs.declared.Ruling.{Ruling}
 use Rattle.judge.specs.Ruling.{ruleOf}
 use Rattle.judge.specs.declared.ruling.Arrival.{Arrival}
 use Rattle.judge.specs.declared.Ending.{Ending}
-use Rattle.taking.specs.Taking.{notSetUp}
 use Rattle.meaning.specs.Arrival.{arrivalChecks}
 use Rattle.judge.specs.Ending.{noRoom, refusedBy, orElse, callChecks, headerEnding, octetsEnding, arrivalAt, endingOf}
 
@@ -66,7 +66,7 @@ pub short-length : (s : List ℕ) (h : Header) → ((i : ℕ) → getD s i 0 < 2
 short-length s h small e = read-bounds s h small e .1 .1 .1 .1
 
 -- ---- the whole
-module _ (r : Relay) (port : ℕ) (octets : List ℕ) (room : ℕ) {e : Ending} {c : Check} (told : c ≡ checkOf (notSetUp r port)) where
+module _ (r : Relay) (port : ℕ) (octets : List ℕ) (room : ℕ) {e : Ending} {c : Check} (told : c ≡ checkOf (not (portSetUp r port))) where
   pub no-port : c ≡ Failed → e ≡ refusedBy 16 → e ≡ endingOf r port octets room
   unfolding endingOf callChecks
   no-port fails is = by-number _ _ (fails-here _ _ _ told fails) (λ z. omega arith) is

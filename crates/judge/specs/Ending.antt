@@ -1,8 +1,8 @@
 -- All that becomes of a received datagram: page 01, "One received datagram, step by step". Each list of checks is in the page's order, and
 -- the first whose condition holds ends the call with its number. Assumes nothing.
 use Prim.Native.Nat.{ℕ}
-use mathlib.Core.Bool.{Bool}
 use mathlib.Core.List.{List, [], _∷_}
+use mathlib.Core.Bool.{Bool, not}
 use lib.Dec.{eqb, ltb}
 use Rattle.checks.specs.Order.{pick, Checks, firstOf}
 use Rattle.sets.specs.Sets.{onlyPort}
@@ -16,10 +16,9 @@ use Rattle.meaning.specs.Asked.{precedenceAsked}
 use Rattle.verdict.specs.declared.Local.the-variants.{No}
 use Rattle.verdict.specs.declared.Onward.the-variants.{NotAsked}
 use Rattle.verdict.specs.declared.Ruling.{Ruling}
-use Rattle.state.specs.Relay.{Relay, portIn}
+use Rattle.state.specs.Relay.{Relay, portIn, portSetUp}
 use Rattle.judge.specs.Ruling.{ruleOf}
 use Rattle.judge.specs.declared.ruling.Arrival.{Arrival}
-use Rattle.taking.specs.Taking.{notSetUp}
 use Rattle.judge.specs.declared.Ending.{Ending}
 
 -- a refusal delivers, grants and drops nothing
@@ -39,7 +38,7 @@ abbrev pub noRoom : ℕ → Bool
 noRoom room = ltb room 50
 
 unfoldable pub callChecks : Relay → ℕ → ℕ → Checks
-callChecks r port room = (notSetUp r port, 16) ∷ (noRoom room, 17) ∷ []
+callChecks r port room = (not (portSetUp r port), 16) ∷ (noRoom room, 17) ∷ []
 
 -- ---- the ending
 abbrev pub ruledEnding : Relay → Arrival → Header → Ending

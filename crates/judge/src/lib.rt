@@ -118,7 +118,7 @@ pub fn judge(state: &[u32], port: u32, octets: &[u8], room: usize) -> Ending
     requires { ⌜ length (now state) ≡ stateWords ⌝ }
     ensures { λ r. ⌜ r ≡ endingOf (decode (now (state .entry))) port (now (octets .entry)) room ⌝ }
 {
-    let Check::Passed = taking::check_port(state, port) else {
+    let Check::Passed = state_ports::check_port(state, port) else {
         return refused(16);
     };
     let Check::Passed = check_room(room) else {

@@ -11,9 +11,11 @@ ghost use mathlib.Core.Bool.{not};
 ghost use Prim.Native.Nat.{_<_, _^_};
 ghost use lib.ListN.{length};
 ghost use Rattle.checks.specs.Order.{pick, checkOf, firstOf};
+ghost use Rattle.records.specs.SetUp.{isSetUp};
 ghost use Rattle.settings.specs.Sets.{isReady};
 ghost use Rattle.state.specs.Layout.{stateWords, decode};
-ghost use Rattle.refusals.specs.Ready.{isSetUp, readySet};
+ghost use Rattle.state.specs.Relay.{portIn};
+ghost use Rattle.refusals.specs.Ready.{readySet};
 ghost use Rattle.refusals.specs.Record.{recordChecks};
 
 // How many ports there are.
@@ -22,7 +24,7 @@ const PORTS: usize = 8;
 // Port p as a set of its own where it is set up, else the empty set.
 fn ready_bit(state: &[u32], p: usize) -> u32
     requires { ⌜ (length (now state) ≡ stateWords) × (p < 8) ⌝ }
-    ensures { λ r. ⌜ r ≡ pick (isSetUp (decode (now (state .entry))) p) (2 ^ p) 0 ⌝ }
+    ensures { λ r. ⌜ r ≡ pick (isSetUp (portIn (decode (now (state .entry))) p)) (2 ^ p) 0 ⌝ }
 {
     if state_ports::port_of(state, p).ready == 0 {
         return 0;

@@ -3,8 +3,10 @@
 -- unsupported, npInAddrErrors, npInUnknownProtos, npInDelivers, npForwHopDiscard, npForwDatagrams, npOutNoRoutes, npOutDiscards,
 -- left domain, too big (page 01, "Refusal numbers"). Assumes nothing.
 use Prim.Native.Nat.{ℕ, _+_, _%_, _^_}
+use mathlib.Core.Bool.{Bool, _&&_}
 use mathlib.Core.List.{List}
 use lib.ListN.{getD, set, replicate}
+use lib.Dec.{ltb}
 use Rattle.queue.specs.declared.Queue.{Queue}
 use Rattle.queue.specs.Queue.{fresh as freshQueue}
 use Rattle.routes.specs.declared.Route.{Route}
@@ -13,6 +15,7 @@ use Rattle.records.specs.declared.Port.{Port}
 use Rattle.records.specs.declared.Group.{Group}
 use Rattle.records.specs.declared.PathPlace.{PathPlace}
 use Rattle.records.specs.Fresh.{freshPort, freshGroup, freshPath}
+use Rattle.records.specs.SetUp.{isSetUp}
 
 -- what will be one mission's
 pub record Mission : Type 0 where
@@ -62,6 +65,10 @@ counterIn r i = getD (r .mission .counters) i 0
 
 abbrev pub routeIn : Relay → ℕ → Route
 routeIn r i = getD (r .routes) i emptyRoute
+
+-- a port's number that calls may name: "0 to 7", and set up
+unfoldable pub portSetUp : Relay → ℕ → Bool
+portSetUp r p = ltb p 8 && isSetUp (portIn r p)
 
 -- ---- one field anew
 abbrev pub allPorts : Relay → List Port → Relay

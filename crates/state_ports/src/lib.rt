@@ -8,9 +8,12 @@ ghost use mathlib.Core.Path.{_≡_};
 ghost use Prim.Native.Nat.{_<_};
 ghost use lib.ListN.{length};
 ghost use Rattle.state.specs.Layout.{stateWords, decode, portOf, portWords};
-ghost use Rattle.state.specs.Relay.{portIn, counterIn, withRouter, withPort, added, freshRelay};
+ghost use mathlib.Core.Bool.{not};
+ghost use Rattle.checks.specs.Order.{checkOf};
+ghost use Rattle.state.specs.Relay.{portIn, portSetUp, counterIn, withRouter, withPort, added, freshRelay};
 use address::Address;
 use address::Mask;
+use checks::Check;
 use records::Port;
 
 // How many words the state has.
@@ -70,6 +73,21 @@ pub fn port_of(state: &[u32], p: usize) -> Port
     let from = PORTS + p * PORT_WORDS;
     let to = from + PORT_WORDS;
     read_port(&state[from..to])
+}
+
+// The port is one of the eight, and set up: what receiving asks of the port that a datagram came in by, and taking of its own.
+pub fn check_port(state: &[u32], port: u32) -> Check
+    requires { ⌜ length (now state) ≡ stateWords ⌝ }
+    ensures { λ r. ⌜ r ≡ checkOf (not (portSetUp (decode (now (state .entry))) port)) ⌝ }
+{
+    if 8 <= port {
+        return Check::Failed;
+    }
+    let p = port_of(state, port as usize);
+    if p.ready == 0 {
+        return Check::Failed;
+    }
+    Check::Passed
 }
 
 pub fn put_port(state: &mut [u32], p: usize, x: Port)

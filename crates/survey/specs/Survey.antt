@@ -9,6 +9,7 @@ use Rattle.address.specs.declared.Address.{Address}
 use Rattle.networks.specs.Networks.{domainOf, subnetBroadcast, classBroadcast}
 use Rattle.networks.specs.declared.Broadcast.{Broadcast}
 use Rattle.networks.specs.declared.Broadcast.the-variants.{At, None}
+use Rattle.records.specs.SetUp.{isSetUp}
 use Rattle.records.specs.declared.Port.{Port}
 use Rattle.state.specs.Relay.{Relay, portIn, queueIn}
 use Rattle.verdict.specs.declared.Survey.{Survey}
@@ -26,9 +27,6 @@ unfoldable pub ownBroadcast : Port → Address → Bool
 ownBroadcast p a = eqb (subnetBroadcast (p .address) (p .mask) .0) (a .0) || broadcastIs (classBroadcast (p .address)) a
 
 -- ---- what is asked of a port that is set up, with so many entries waiting
-abbrev pub isSetUp : Port → Bool
-isSetUp p = not (eqb (p .ready) 0)
-
 -- "the destination equals any port's address"
 abbrev pub isAddressed : Address → Destination → Bool
 isAddressed own (Node a) = eqb (own .0) (a .0)

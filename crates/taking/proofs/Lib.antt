@@ -1,3 +1,2 @@
--- What taking hands together: a port that is set up, and the outcomes.
-pub mod Port
+-- What taking hands together: the outcomes.
 pub mod Outcomes

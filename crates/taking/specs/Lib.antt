@@ -1,2 +1,2 @@
--- What the contracts cite: a port that is set up, and taking from it.
+-- What the contracts cite: taking from a port.
 pub mod Taking

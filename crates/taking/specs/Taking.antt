@@ -1,20 +1,15 @@
 -- Taking from a port: page 01, "Taking from a port". Assumes nothing.
 use Prim.Native.Nat.{ℕ}
-use mathlib.Core.Bool.{Bool, not, _||_}
-use lib.Dec.{eqb, ltb}
+use mathlib.Core.Bool.{not}
 use Rattle.checks.specs.Order.{pick}
 use Rattle.queue.specs.Queue.{takeOf}
 use Rattle.queue.specs.declared.Head.{Head}
 use Rattle.queue.specs.declared.Head.the-variants.{First, Nothing}
 use Rattle.queue.specs.declared.Queue.{Queue}
 use Rattle.queue.specs.declared.Taken.{Taken}
-use Rattle.state.specs.Relay.{Relay, portIn, queueIn, withQueue}
+use Rattle.state.specs.Relay.{Relay, portSetUp, queueIn, withQueue}
 use Rattle.taking.specs.declared.Taking.{Taking}
 use Rattle.taking.specs.declared.Taking.the-variants.{Handed, Refused}
-
--- "Port not set up, or over 7"
-unfoldable pub notSetUp : Relay → ℕ → Bool
-notSetUp r port = not (ltb port 8) || eqb (portIn r port .ready) 0
 
 -- "16 if not set up, 18 if nothing waits, else the first entry, removed"
 abbrev pub handsOut : Head → Taking
@@ -22,7 +17,7 @@ handsOut (First e) = Handed e
 handsOut Nothing = Refused 18
 
 unfoldable pub takeOutcome : Relay → ℕ → Taking
-takeOutcome r port = pick (notSetUp r port) (Refused 16) (handsOut (takeOf (queueIn r port) .head))
+takeOutcome r port = pick (not (portSetUp r port)) (Refused 16) (handsOut (takeOf (queueIn r port) .head))
 
 -- the queue without what was handed out
 abbrev pub without : Relay → ℕ → Queue → Head → Relay
@@ -33,4 +28,4 @@ abbrev pub afterTaking : Relay → ℕ → Taken → Relay
 afterTaking r port t = without r port (t .queue) (t .head)
 
 unfoldable pub takenState : Relay → ℕ → Relay
-takenState r port = pick (notSetUp r port) r (afterTaking r port (takeOf (queueIn r port)))
+takenState r port = pick (not (portSetUp r port)) r (afterTaking r port (takeOf (queueIn r port)))

@@ -1,6 +1,6 @@
 -- `judge::judge` meets its contract. Assumes nothing.
 use native.Mathlib.Omega.{arith}
-use Rattle.taking.proofs.Port.{is-port}
+use Rattle.state_ports.proofs.SetUp.{passed-port}
 use Rattle.judge.proofs.Stages.{no-port, no-room, judged}
 use borrow.Author.Needs.{needs}
 use Rattle.judge.proofs.judge.Statement.{statement}
@@ -37,7 +37,7 @@ returns-2 : tie.Need-returns-2
 returns-2 c = no-room _ _ _ _ (c .before .before .before .before .before .before .check-port .ensures) (c .before .before .before .before .enum-told .given .1) (c .before .before .before .check-room .ensures) (c .before .enum-told4 .given .1) (c .refused2 .ensures)
 
 port-of-requires : tie.Need-port-of-requires
-port-of-requires c κs = let inside = is-port _ _ (c .before .before .before .before .before .check-port .ensures) (c .before .before .before .enum-told .given .1) in (c .before .before .before .before .before .before .before .before .pre, omega (arith, inside))
+port-of-requires c κs = let inside = passed-port _ _ (c .before .before .before .before .before .check-port .ensures) (c .before .before .before .enum-told .given .1) in (c .before .before .before .before .before .before .before .before .pre, omega (arith, inside))
 
 only-port-requires : tie.Need-only-port-requires
 only-port-requires c κs = search needs

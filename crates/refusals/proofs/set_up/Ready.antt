@@ -12,14 +12,15 @@ use Rattle.records.specs.declared.Port.{Port}
 use Rattle.sets.specs.Sets.{portSet}
 use Rattle.sets.proofs.Loops.{portSet-next, portSet-below}
 use Rattle.state.specs.Relay.{Relay, portIn}
-use Rattle.refusals.specs.Ready.{isSetUp, readySet}
+use Rattle.records.specs.SetUp.{isSetUp}
+use Rattle.refusals.specs.Ready.{readySet}
 
 -- ---- one port
 module _ (r : Relay) (p : ℕ) (x : Port) where
-  pub bit-out : x ≡ portIn r p → x .ready ≡ 0 → 0 ≡ pick (isSetUp r p) (2 ^ p) 0
+  pub bit-out : x ≡ portIn r p → x .ready ≡ 0 → 0 ≡ pick (isSetUp (portIn r p)) (2 ^ p) 0
   bit-out e z = rw (← e, z)
 
-  pub bit-in : (b : ℕ) → x ≡ portIn r p → x .ready ≢ 0 → b ≡ 2 ^ p → b ≡ pick (isSetUp r p) (2 ^ p) 0
+  pub bit-in : (b : ℕ) → x ≡ portIn r p → x .ready ≢ 0 → b ≡ 2 ^ p → b ≡ pick (isSetUp (portIn r p)) (2 ^ p) 0
   bit-in b e nz is = rw (← e, ne-eqb _ _ nz) is
 
 -- a one shifted by a port's number is not cut
@@ -33,15 +34,15 @@ pick-small : (t : Bool) (p : ℕ) → p < 8 → pick t (2 ^ p) 0 ≤ 128
 pick-small true p h = pow-mono {i = p} {j = 7} (omega arith)
 pick-small false p h = omega arith
 
-module _ (r : Relay) (set p : ℕ) (so-far : set ≡ portSet (isSetUp r) p) where
-  pub room : (b : ℕ) → p < 8 → b ≡ pick (isSetUp r p) (2 ^ p) 0 → set + b < 1000
+module _ (r : Relay) (set p : ℕ) (so-far : set ≡ portSet (λ (q : ℕ). isSetUp (portIn r q)) p) where
+  pub room : (b : ℕ) → p < 8 → b ≡ pick (isSetUp (portIn r p)) (2 ^ p) 0 → set + b < 1000
   room b h e =
       let small : 2 ^ p ≤ 128 = pow-mono {i = p} {j = 7} (omega arith) in
-      rw (so-far, e) (omega (arith, portSet-below (isSetUp r) p, pick-small (isSetUp r p) p h))
+      rw (so-far, e) (omega (arith, portSet-below (λ (q : ℕ). isSetUp (portIn r q)) p, pick-small (isSetUp (portIn r p)) p h))
 
-  pub turn : (b : ℕ) → b ≡ pick (isSetUp r p) (2 ^ p) 0 → set + b ≡ portSet (isSetUp r) (p + 1)
-  turn b e = rw (so-far, e) (sym (portSet-next (isSetUp r) p))
+  pub turn : (b : ℕ) → b ≡ pick (isSetUp (portIn r p)) (2 ^ p) 0 → set + b ≡ portSet (λ (q : ℕ). isSetUp (portIn r q)) (p + 1)
+  turn b e = rw (so-far, e) (sym (portSet-next (λ (q : ℕ). isSetUp (portIn r q)) p))
 
   pub gathered : p ≡ 8 → set ≡ readySet r
   unfolding readySet
-  gathered e = so-far ∙ ap (portSet (isSetUp r)) e
+  gathered e = so-far ∙ ap (portSet (λ (q : ℕ). isSetUp (portIn r q))) e

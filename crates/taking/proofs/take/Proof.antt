@@ -1,5 +1,5 @@
 -- `taking::take` meets its contract. Assumes nothing.
-use Rattle.taking.proofs.Port.{is-port}
+use Rattle.state_ports.proofs.SetUp.{passed-port}
 use Rattle.taking.proofs.Outcomes.{no-port, nothing-waits, one-handed}
 use borrow.Author.Needs.{needs}
 use Rattle.taking.proofs.take.Statement.{statement}
@@ -21,7 +21,7 @@ returns : tie.Need-returns
 returns c = no-port _ _ (c .before .before .check-port .ensures) (c .enum-told2 .given .1)
 
 queue-of-requires : tie.Need-queue-of-requires
-queue-of-requires c κs = (c .before .before .before .before .before .before .pre, is-port _ _ (c .before .before .before .check-port .ensures) (c .before .enum-told .given .1))
+queue-of-requires c κs = (c .before .before .before .before .before .before .pre, passed-port _ _ (c .before .before .before .check-port .ensures) (c .before .enum-told .given .1))
 
 take-requires : tie.Need-take-requires
 take-requires c κs = search needs
@@ -39,7 +39,7 @@ returns-2 : tie.Need-returns-2
 returns-2 c = nothing-waits _ _ (c .before .before .before .before .before .before .before .check-port .ensures) (c .before .before .before .before .before .enum-told .given .1) (c .before .before .before .queue-of .ensures) (c .before .before .take .ensures) (c .enum-told3 .given .1)
 
 put-queue-requires : tie.Need-put-queue-requires
-put-queue-requires c κs = (c .before .before .before .before .before .before .before .before .before .before .before .before .before .pre, is-port _ _ (c .before .before .before .before .before .before .before .before .before .before .check-port .ensures) (c .before .before .before .before .before .before .before .before .enum-told .given .1))
+put-queue-requires c κs = (c .before .before .before .before .before .before .before .before .before .before .before .before .before .pre, passed-port _ _ (c .before .before .before .before .before .before .before .before .before .before .check-port .ensures) (c .before .before .before .before .before .before .before .before .enum-told .given .1))
 
 same-length-3 : tie.Need-same-length-3
 same-length-3 c = search needs

@@ -1,17 +1,18 @@
 -- `refusals::set_up::ready_ports` meets its contract: the set so far is that of the first p ports. Assumes nothing.
 use native.Mathlib.Omega.{arith}
-use Prim.Native.Nat.{_-_, _≤_}
+use Prim.Native.Nat.{ℕ, _-_, _≤_}
 use mathlib.Core.Path.{_≡_, refl}
 use borrow.Author.Needs.{needs}
 use Rattle.sets.specs.Sets.{portSet}
 use Rattle.state.specs.Layout.{decode}
-use Rattle.refusals.specs.Ready.{isSetUp}
+use Rattle.records.specs.SetUp.{isSetUp}
+use Rattle.state.specs.Relay.{portIn}
 use Rattle.refusals.proofs.set_up.Ready.{room, turn, gathered}
 use Rattle.refusals.proofs.set_up.ready_ports.Statement.{statement}
 use Rattle.refusals.proofs.set_up.ready_ports.Tie as tie
 
 abbrev Inv-loop : tie.InvT-loop
-Inv-loop state set₀ p₀ set p = (p ≤ 8) × (set ≡ portSet (isSetUp (decode state)) p)
+Inv-loop state set₀ p₀ set p = (p ≤ 8) × (set ≡ portSet (λ (q : ℕ). isSetUp (portIn (decode state) q)) p)
 
 abbrev μ-loop : tie.MeasureT-loop
 μ-loop state set₀ p₀ set p = 8 - p

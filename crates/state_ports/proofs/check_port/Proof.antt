@@ -1,8 +1,8 @@
--- `taking::check_port` meets its contract. Assumes nothing.
-use Rattle.taking.proofs.Port.{over-seven, not-ready, set-up}
+-- `state_ports::check_port` meets its contract. Assumes nothing.
+use Rattle.state_ports.proofs.SetUp.{over-seven, not-ready, set-up}
 use borrow.Author.Needs.{needs}
-use Rattle.taking.proofs.check_port.Statement.{statement}
-use Rattle.taking.proofs.check_port.Tie as tie
+use Rattle.state_ports.proofs.check_port.Statement.{statement}
+use Rattle.state_ports.proofs.check_port.Tie as tie
 
 returns : tie.Need-returns
 returns c = over-seven _ _ (c .if1 .taken)

@@ -1,0 +1,2 @@
+-- A port that is set up, over plain variables.
+pub mod SetUp
