@@ -49,7 +49,7 @@ use Rattle.judge.specs.declared.Ending.{Ending}
 use Rattle.tally.specs.Tally.{Move, movesOf, countedAt, countedAll}
 use Rattle.tally.specs.declared.Counter.{Counter}
 use Rattle.tally.specs.declared.Counter.the-variants as counter
-use Rattle.relay.specs.Outgo.{entered, enteredIf, enteredAll}
+use Rattle.relay.specs.Outgoing.{entered, enteredIf, enteredAll}
 use Rattle.relay.specs.Received.{newEntry, receivedState}
 use Rattle.records.specs.Fresh.{freshGroup, freshPath}
 use Rattle.routes.specs.Routes.{emptyRoute}
@@ -58,7 +58,7 @@ use Rattle.refusals.specs.Ready.{isSetUp, readySet}
 use Rattle.refusals.specs.Elsewhere.{otherRoute, otherGroup, otherPath, routeElsewhere, groupElsewhere, pathElsewhere}
 use Rattle.adjust.specs.Settled.{settled, newPort, newRoute, newGroup, newPath}
 use Rattle.refusals.specs.Lists.{routeChecks, groupChecks, pathChecks}
-use Rattle.history.specs.Calls.{Call, setRouter, setPort, setRoute, setGroup, setPath, clearRoute, clearGroup, clearPath, receives, takes, done, run}
+use Rattle.history.specs.Calls.{Call, setRouter, setPort, setRoute, setGroup, setPath, clearRoute, clearGroup, clearPath, receives, takes, done, runFrom}
 use Rattle.history.specs.Board.{Board, boardOf, onBoard, next}
 
 -- the same board, with no counters

@@ -28,7 +28,7 @@ use Rattle.taking.specs.Taking.{notSetUp, handsOut, without, takeOutcome, taken
 use Rattle.judge.specs.Ending.{noRuling, refusedBy, ruledEnding, callChecks, headerEnding, octetsEnding, arrivalAt, endingOf}
 use Rattle.judge.specs.declared.Ending.{Ending}
 use Rattle.tally.specs.Tally.{movesOf, countedAll, counterFor}
-use Rattle.relay.specs.Outgo.{entered, enteredIf, enteredAll, sentOutput}
+use Rattle.relay.specs.Outgoing.{entered, enteredIf, enteredAll, sentOutput}
 use Rattle.relay.specs.Received.{newEntry, receivedState}
 use Rattle.taking.specs.declared.Taking.{Taking}
 use Rattle.taking.specs.declared.Taking.the-variants.{Handed, Refused}

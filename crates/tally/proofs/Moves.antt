@@ -17,14 +17,14 @@ use Rattle.verdict.specs.declared.Ruling.{Ruling}
 use Rattle.judge.specs.declared.Ending.{Ending}
 use Rattle.tally.specs.declared.Counter.{Counter}
 use Rattle.tally.specs.declared.Counter.the-variants.{At, Nothing}
-use Rattle.tally.specs.Tally.{Row, numbered, inTable, Inside, counterFor, receiptCounter, localCounter, onwardCounter, discardCounter, rulingMoves, movesOf, countedAt, countedAll}
+use Rattle.tally.specs.Tally.{CounterRow, numbered, inTable, Inside, counterFor, receiptCounter, localCounter, onwardCounter, discardCounter, rulingMoves, movesOf, countedAt, countedAll}
 
 -- ---- each counter is one of the fifteen, or none
-abbrev AllInside : List Row → Type 0
+abbrev AllInside : List CounterRow → Type 0
 AllInside [] = Unit
 AllInside (row ∷ rows) = (row .1 < 15) × AllInside rows
 
-in-table : (rows : List Row) (n : ℕ) → AllInside rows → Inside (inTable rows n)
+in-table : (rows : List CounterRow) (n : ℕ) → AllInside rows → Inside (inTable rows n)
 in-table [] n h = tt
 in-table (row ∷ rows) n h = either Inside (eqb n (row .0)) (h .0) (in-table rows n (h .1))
 
