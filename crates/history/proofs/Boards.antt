@@ -36,7 +36,7 @@ use Rattle.queue.specs.declared.Entry.{Entry}
 use Rattle.queue.specs.declared.Head.{Head}
 use Rattle.queue.specs.declared.Head.the-variants.{First, Nothing}
 use Rattle.queue.specs.declared.Queue.{Queue}
-use Rattle.state.specs.Relay.{Relay, groupIn, pathIn, queueIn, withRouter, withPort, withRoute, withGroup, withPath, added}
+use Rattle.state.specs.Relay.{Relay, groupIn, pathIn, queueIn, withRouter, withPort, withRoute, withGroup, withPath}
 use Rattle.survey.specs.Survey.{surveyBelow, surveyOf}
 use Rattle.records.specs.Held.{holdsGroup, holdsPath}
 use Rattle.lookup.specs.Lookup.{groupFound, pathFound, groupSays, pathSays, groupPlace, pathPlace}
@@ -58,7 +58,7 @@ use Rattle.refusals.specs.Ready.{isSetUp, readySet}
 use Rattle.refusals.specs.Elsewhere.{otherRoute, otherGroup, otherPath, routeElsewhere, groupElsewhere, pathElsewhere}
 use Rattle.adjust.specs.Settled.{settled, newPort, newRoute, newGroup, newPath}
 use Rattle.refusals.specs.Lists.{routeChecks, groupChecks, pathChecks}
-use Rattle.history.specs.Calls.{Call, setRouter, setPort, setRoute, setGroup, setPath, clearRoute, clearGroup, clearPath, receives, takes, done, runFrom}
+use Rattle.history.specs.Calls.{Call, setRouter, setPort, setRoute, setGroup, setPath, clearRoute, clearGroup, clearPath, receives, takes, done}
 use Rattle.history.specs.Board.{Board, boardOf, onBoard, next}
 
 -- the same board, with no counters

@@ -15,7 +15,7 @@ use Rattle.checks.proofs.Bools.{true-false, and-true, or-false}
 use Rattle.checks.proofs.Laws.{zero-none, none-zero}
 use Rattle.sets.specs.Sets.{inSet, onlyPort, portSet}
 use Rattle.settings.specs.Sets.{isReady, namesOther, setRefused}
-use Rattle.state.specs.Relay.{Relay, freshRelay, portIn, routeIn, groupIn, pathIn, queueIn, withRouter, withPort, withRoute, withGroup, withPath, added}
+use Rattle.state.specs.Relay.{Relay, freshRelay, portIn, routeIn, groupIn, pathIn, queueIn, withRouter, withPort, withRoute, withGroup, withPath}
 use Rattle.refusals.specs.Ready.{isSetUp, readySet}
 use Rattle.refusals.specs.Record.{recordChecks}
 use Rattle.settings.specs.Refusals.{portClassRefused, portMaskRefused, mtuRefused, groupClassRefused, pathClassRefused}

@@ -1,13 +1,12 @@
 -- Demand 1: a refused call leaves settings, queues and lent octets as they were, and 16 and 17 move no counter. Assumes nothing.
-use native.Mathlib.Omega.{arith}
-use Prim.Native.Nat.{ℕ, zero, suc, _<_}
+use Prim.Native.Nat.{ℕ, zero, suc}
 use mathlib.Core.Path.{_≡_, refl, sym, ap, _∙_}
 use mathlib.Core.Bool.{Bool, true, false}
 use mathlib.Core.List.{List, []}
 use lib.ListN.{length}
 use lib.Bits.{bitAnd, and-zero-l}
 use lib.Dec.{eqb}
-use borrow.Author.Tests.{eq-eqb, ne-eqb}
+use borrow.Author.Tests.{eq-eqb}
 use Rattle.checks.specs.Order.{pick, firstOf}
 use Rattle.checks.proofs.Bools.{true-false}
 use Rattle.sets.specs.Sets.{onlyPort}
