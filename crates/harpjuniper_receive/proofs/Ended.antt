@@ -5,7 +5,7 @@ use mathlib.Core.List.{List}
 use Rattle.address.specs.declared.Slot.{Slot}
 use Rattle.state.specs.Relay.{Relay}
 use Rattle.judge.specs.declared.Ending.{Ending}
-use Rattle.relay.specs.Outgo.{sentOutput}
+use Rattle.relay.specs.Outgoing.{sentOutput}
 use Rattle.relay.specs.Received.{receivedState}
 
 module _ {e f : Ending} (same : e ≡ f) where

@@ -5,7 +5,7 @@ use lib.ListN.{length}
 use Rattle.address.specs.declared.Slot.{Slot}
 use Rattle.state.specs.Relay.{Relay}
 use Rattle.judge.specs.Ending.{endingOf}
-use Rattle.relay.specs.Outgo.{sentOutput}
+use Rattle.relay.specs.Outgoing.{sentOutput}
 use Rattle.relay.specs.Received.{receivedState}
 use Rattle.answers.specs.Answers.{receiveNumber}
 

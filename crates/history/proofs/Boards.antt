@@ -36,7 +36,7 @@ use Rattle.queue.specs.declared.Entry.{Entry}
 use Rattle.queue.specs.declared.Head.{Head}
 use Rattle.queue.specs.declared.Head.the-variants.{First, Nothing}
 use Rattle.queue.specs.declared.Queue.{Queue}
-use Rattle.state.specs.Relay.{Relay, portIn, groupIn, pathIn, queueIn, withRouter, withPort, withRoute, withGroup, withPath, added, portSetUp}
+use Rattle.state.specs.Relay.{Relay, portIn, groupIn, pathIn, queueIn, withRouter, withPort, withRoute, withGroup, withPath, portSetUp}
 use Rattle.survey.specs.Survey.{surveyBelow, surveyOf}
 use Rattle.records.specs.Held.{holdsGroup, holdsPath}
 use Rattle.lookup.specs.Lookup.{groupFound, pathFound, groupSays, pathSays, groupPlace, pathPlace}
@@ -49,7 +49,7 @@ use Rattle.judge.specs.declared.Ending.{Ending}
 use Rattle.tally.specs.Tally.{Move, movesOf, countedAt, countedAll}
 use Rattle.tally.specs.declared.Counter.{Counter}
 use Rattle.tally.specs.declared.Counter.the-variants as counter
-use Rattle.relay.specs.Outgo.{entered, enteredIf, enteredAll}
+use Rattle.relay.specs.Outgoing.{entered, enteredIf, enteredAll}
 use Rattle.relay.specs.Received.{newEntry, receivedState}
 use Rattle.records.specs.Fresh.{freshGroup, freshPath}
 use Rattle.routes.specs.Routes.{emptyRoute}
@@ -59,7 +59,7 @@ use Rattle.refusals.specs.Ready.{readySet}
 use Rattle.refusals.specs.Elsewhere.{otherRoute, otherGroup, otherPath, routeElsewhere, groupElsewhere, pathElsewhere}
 use Rattle.adjust.specs.Settled.{settled, newPort, newRoute, newGroup, newPath}
 use Rattle.refusals.specs.Lists.{routeChecks, groupChecks, pathChecks}
-use Rattle.history.specs.Calls.{Call, setRouter, setPort, setRoute, setGroup, setPath, clearRoute, clearGroup, clearPath, receives, takes, done, run}
+use Rattle.history.specs.Calls.{Call, setRouter, setPort, setRoute, setGroup, setPath, clearRoute, clearGroup, clearPath, receives, takes, done}
 use Rattle.history.specs.Board.{Board, boardOf, onBoard, next}
 
 -- the same board, with no counters

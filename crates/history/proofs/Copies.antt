@@ -42,17 +42,17 @@ module _ (p : ℕ) where
     hops-if (Refused n) spent h = h
     hops-if (Wanted set) spent h = pick-if (eqb spent 0) (Wanted set) (Refused HopsUsedUp) h tt
 
-    domain-if : (l : Wish) (basic near : ℕ) → If P l → If P (afterDomain l basic near)
-    domain-if NotAsked basic near h = h
-    domain-if (Refused n) basic near h = h
-    domain-if (Wanted set) basic near h =
+    domain-if : (l : Wish) (basic domain : ℕ) → If P l → If P (afterDomain l basic domain)
+    domain-if NotAsked basic domain h = h
+    domain-if (Refused n) basic domain h = h
+    domain-if (Wanted set) basic domain h =
         pick-if (eqb basic 0) (Wanted set) _ h
-        (pick-if (eqb (bitAnd set near) 0) (Refused LeavesDomain) (Wanted (bitAnd set near)) tt (fewer set near h))
+        (pick-if (eqb (bitAnd set domain) 0) (Refused LeavesDomain) (Wanted (bitAnd set domain)) tt (fewer set domain h))
 
-    size-if : (l : Wish) (wide : ℕ) → If P l → If P (afterSize l wide)
-    size-if NotAsked wide h = h
-    size-if (Refused n) wide h = h
-    size-if (Wanted set) wide h = pick-if (eqb (bitAnd set wide) 0) (Refused TooBig) (Wanted (bitAnd set wide)) tt (fewer set wide h)
+    size-if : (l : Wish) (fitting : ℕ) → If P l → If P (afterSize l fitting)
+    size-if NotAsked fitting h = h
+    size-if (Refused n) fitting h = h
+    size-if (Wanted set) fitting h = pick-if (eqb (bitAnd set fitting) 0) (Refused TooBig) (Wanted (bitAnd set fitting)) tt (fewer set fitting h)
 
     granted-if : (l : Wish) (c : Case) (s : Survey) → If P l → If P (grantedOf l c s)
     unfolding grantedOf

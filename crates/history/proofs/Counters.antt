@@ -9,9 +9,9 @@ use mathlib.Core.List.{List, [], _∷_}
 use lib.ListN.{length, getD, length-set, getD-replicate}
 use lib.Seq.{getD-set-same, getD-set-other}
 use lib.Bits.{bitAnd}
-use lib.Dec.{eqb, ltb}
+use lib.Dec.{eqb}
 use lib.Pow.{pow-pos}
-use borrow.Author.Tests.{eqb-true, eqb-false, ltb-true, ltb-false}
+use borrow.Author.Tests.{eqb-true, eqb-false, ltb-true}
 use Rattle.checks.specs.Order.{pick, Checks, firstOf}
 use Rattle.sets.specs.Sets.{onlyPort}
 use Rattle.address.specs.declared.Slot.{Slot}
@@ -29,11 +29,11 @@ use Rattle.judge.specs.declared.Ending.{Ending}
 use Rattle.tally.specs.Tally.{Move, movesOf, countedAt, countedAll}
 use Rattle.tally.specs.declared.Counter.{Counter}
 use Rattle.tally.specs.declared.Counter.the-variants as counter
-use Rattle.relay.specs.Outgo.{entered, enteredIf, enteredAll}
+use Rattle.relay.specs.Outgoing.{entered, enteredIf, enteredAll}
 use Rattle.relay.specs.Received.{newEntry, receivedState}
 use Rattle.refusals.specs.Lists.{portChecks, routeChecks, groupChecks, pathChecks, routerChecks, clearChecks}
 use Rattle.adjust.specs.Settled.{settled, newPort, newRoute, newGroup, newPath}
-use Rattle.history.specs.Calls.{Call, setRouter, setPort, setRoute, setGroup, setPath, clearRoute, clearGroup, clearPath, receives, takes, done, run, after}
+use Rattle.history.specs.Calls.{Call, setRouter, setPort, setRoute, setGroup, setPath, clearRoute, clearGroup, clearPath, receives, takes, done, runFrom, relayAfter}
 use Rattle.history.specs.Board.{Board, boardOf, next}
 use Rattle.history.specs.Tally.{isAt, sumAt, givenBy, tallyFrom, tally}
 use Rattle.history.proofs.Boards.{ending-bare, done-board}
@@ -164,7 +164,7 @@ module _ (i : ℕ) (inside : i < 15) where
       )
   one-call r (takes port) f = kept r _ f (taken-counters r port)
 
-  all-calls : (cs : List Call) (r : Relay) → Fit i inside r → counterIn (run r cs) i ≡ (counterIn r i + tallyFrom (boardOf r) cs i) % 2 ^ 32
+  all-calls : (cs : List Call) (r : Relay) → Fit i inside r → counterIn (runFrom r cs) i ≡ (counterIn r i + tallyFrom (boardOf r) cs i) % 2 ^ 32
   all-calls [] r f = none-more (counterIn r i) (f .small)
   all-calls (c ∷ cs) r f =
       let step = one-call r c f in
@@ -184,7 +184,7 @@ module _ (i : ℕ) (inside : i < 15) where
   fresh-fit = record { fifteen = fresh-fifteen; small = omega (arith, fresh-zero) }
 
   -- After any history counter i is what the rules give over the history, modulo 2^32.
-  pub counters : (cs : List Call) → counterIn (after cs) i ≡ tally cs i % 2 ^ 32
+  pub counters : (cs : List Call) → counterIn (relayAfter cs) i ≡ tally cs i % 2 ^ 32
   counters cs =
       all-calls cs freshRelay fresh-fit
       ∙ ap (λ (n : ℕ). n % 2 ^ 32) (let e : counterIn freshRelay i + tally cs i ≡ tally cs i = omega (arith, fresh-zero) in e)

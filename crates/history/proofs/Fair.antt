@@ -43,7 +43,7 @@ use Rattle.verdict.specs.declared.Wish.{Wish}
 use Rattle.verdict.specs.declared.Wish.the-variants.{NotAsked, Refused, Wanted}
 use Rattle.verdict.specs.declared.Survey.{Survey}
 use Rattle.verdict.specs.declared.Ruling.{Ruling}
-use Rattle.lookup.specs.Ways.{placeFor, wayFor}
+use Rattle.lookup.specs.ForTarget.{placeFor, wayFor}
 use Rattle.judge.specs.Ruling.{caseOf, soughtOf, ruledBy, ruleTarget, ruleAim, ruleOf}
 use Rattle.judge.specs.declared.ruling.Arrival.{Arrival}
 use Rattle.meaning.specs.Arrival.{arrivalChecks}
@@ -80,9 +80,9 @@ module _ (r : Relay) (p : ℕ) (inside : p < 8) where
   not-true false h = refl
 
   module _ (q : Sought) where
-    wide-ready : inSet p (surveyOf r q .fitting) ≡ true → isSetUp (portIn r p) ≡ true
+    fitting-ready : inSet p (surveyOf r q .fitting) ≡ true → isSetUp (portIn r p) ≡ true
     unfolding surveyBelow
-    wide-ready h = and-true (isSetUp (portIn r p)) (isFitting (portIn r p) q) (sym (in-gathered (λ (i : ℕ). isSetUp (portIn r i) && isFitting (portIn r i) q) p 8 inside) ∙ h) .0
+    fitting-ready h = and-true (isSetUp (portIn r p)) (isFitting (portIn r p) q) (sym (in-gathered (λ (i : ℕ). isSetUp (portIn r i) && isFitting (portIn r i) q) p 8 inside) ∙ h) .0
 
     full-is : inSet p (surveyOf r q .full) ≡ (isSetUp (portIn r p) && isFull (queueIn r p .count))
     unfolding surveyBelow
@@ -90,43 +90,43 @@ module _ (r : Relay) (p : ℕ) (inside : p < 8) where
 
     fair-copies : (local : Local) (g : ℕ) → (inSet p g ≡ true → inSet p (surveyOf r q .fitting) ≡ true) → Fair (copiesOf local g (surveyOf r q .full))
     unfolding copiesOf
-    fair-copies local g wide =
+    fair-copies local g fitting =
         let full = surveyOf r q .full in
         record {
           split = rw (in-except p g full, in-and p g full) (split-case (inSet p g) (inSet p full));
           room = λ h.
               let k = and-true (inSet p g) (not (inSet p full)) (sym (in-except p g full) ∙ h) in
-              room-case (isSetUp (portIn r p)) (ltb (queueIn r p .count) 32) (wide-ready (wide (k .0))) (sym full-is ∙ not-true (inSet p full) (k .1));
+              room-case (isSetUp (portIn r p)) (ltb (queueIn r p .count) 32) (fitting-ready (fitting (k .0))) (sym full-is ∙ not-true (inSet p full) (k .1));
         }
 
     -- ---- what is granted has an MTU that holds the datagram
     wanted-is : (a b : ℕ) → Wanted a ≡ Wanted b → a ≡ b
     wanted-is a b h = cc
 
-    size-case : (t : Bool) (set wide g : ℕ) → pick t (Refused TooBig) (Wanted (bitAnd set wide)) ≡ Wanted g → g ≡ bitAnd set wide
-    size-case true set wide g h = true-false cc
-    size-case false set wide g h = sym (wanted-is _ _ h)
+    size-case : (t : Bool) (set fitting g : ℕ) → pick t (Refused TooBig) (Wanted (bitAnd set fitting)) ≡ Wanted g → g ≡ bitAnd set fitting
+    size-case true set fitting g h = true-false cc
+    size-case false set fitting g h = sym (wanted-is _ _ h)
 
-    size-wide : (x : Wish) (wide g : ℕ) → afterSize x wide ≡ Wanted g → inSet p g ≡ true → inSet p wide ≡ true
-    size-wide NotAsked wide g h k = true-false cc
-    size-wide (Refused n) wide g h k = true-false cc
-    size-wide (Wanted set) wide g h k =
-        let is = size-case (eqb (bitAnd set wide) 0) set wide g h in
-        and-true (inSet p set) (inSet p wide) (sym (in-and p set wide) ∙ ap (inSet p) (sym is) ∙ k) .1
+    size-fitting : (x : Wish) (fitting g : ℕ) → afterSize x fitting ≡ Wanted g → inSet p g ≡ true → inSet p fitting ≡ true
+    size-fitting NotAsked fitting g h k = true-false cc
+    size-fitting (Refused n) fitting g h k = true-false cc
+    size-fitting (Wanted set) fitting g h k =
+        let is = size-case (eqb (bitAnd set fitting) 0) set fitting g h in
+        and-true (inSet p set) (inSet p fitting) (sym (in-and p set fitting) ∙ ap (inSet p) (sym is) ∙ k) .1
 
     fair-line : (local : Local) (l : Wish) → ((g : ℕ) → l ≡ Wanted g → inSet p g ≡ true → inSet p (surveyOf r q .fitting) ≡ true)
         → Fair (rulingOf local l (surveyOf r q .full))
     unfolding rulingOf
-    fair-line local NotAsked wide = fair-none local onward.NotAsked
-    fair-line local (Refused o) wide = fair-none local (onward.Refused o)
-    fair-line local (Wanted g) wide = fair-copies local g (wide g refl)
+    fair-line local NotAsked fitting = fair-none local onward.NotAsked
+    fair-line local (Refused o) fitting = fair-none local (onward.Refused o)
+    fair-line local (Wanted g) fitting = fair-copies local g (fitting g refl)
 
     fair-ruled : (t : Target) (x : Place) (w : Way) (c : Case) → Fair (ruledBy t x w c (surveyOf r q))
     unfolding ruledBy grantedOf
     fair-ruled t x w c =
         let s = surveyOf r q in
         fair-line (localOf t x c) (grantedOf (lineOf t x w c (s .ready) (localOf t x c)) c s)
-        (λ g h k. size-wide (afterDomain (afterHops (lineOf t x w c (s .ready) (localOf t x c)) (c .spent)) (c .basic) (s .domain)) (s .fitting) g h k)
+        (λ g h k. size-fitting (afterDomain (afterHops (lineOf t x w c (s .ready) (localOf t x c)) (c .spent)) (c .basic) (s .domain)) (s .fitting) g h k)
 
     fair-aim : (x : Aim) (c : Case) → Fair (ruleAim r x c (surveyOf r q))
     unfolding ruleTarget

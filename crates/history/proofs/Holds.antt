@@ -18,7 +18,7 @@ use Rattle.judge.specs.Ending.{endingOf}
 use Rattle.refusals.specs.Lists.{portChecks, routeChecks, groupChecks, pathChecks, routerChecks, clearChecks}
 use Rattle.adjust.specs.Settled.{settled, newPort, newRoute, newGroup, newPath}
 use Rattle.adjust.proofs.Taken.{unchanged}
-use Rattle.history.specs.Calls.{Call, setRouter, setPort, setRoute, setGroup, setPath, clearRoute, clearGroup, clearPath, receives, takes, done, run}
+use Rattle.history.specs.Calls.{Call, setRouter, setPort, setRoute, setGroup, setPath, clearRoute, clearGroup, clearPath, receives, takes, done, runFrom}
 use Rattle.history.specs.Parts.{Part, theRouter, thePort, theRoute, theGroup, thePath, none, partOf, router, port, route, group, path, settingIn}
 use Rattle.history.proofs.Reach.{madeOf, received-made, taken-made}
 
@@ -106,6 +106,6 @@ module _ (r : Relay) where
 
 -- A setting stands as it was after any calls of which none is about it.
 pub holds-until-changed : (part : Part) (cs : List Call) (r : Relay) → Each (λ (c : Call). partOf c ≡ part → ⊥) cs
-    → settingIn (run r cs) part ≡ settingIn r part
+    → settingIn (runFrom r cs) part ≡ settingIn r part
 holds-until-changed part [] r others = refl
 holds-until-changed part (c ∷ cs) r others = holds-until-changed part cs (done r c) (others .1) ∙ one-holds r c part (others .0)

@@ -25,7 +25,7 @@ use Rattle.refusals.specs.Elsewhere.{otherRoute, otherGroup, otherPath, routeEl
 use Rattle.refusals.specs.Lists.{portChecks, routeChecks, groupChecks, pathChecks, routerChecks, clearChecks}
 use Rattle.adjust.specs.Settled.{settled, newPort, newRoute, newGroup, newPath}
 use Rattle.judge.specs.Ending.{endingOf}
-use Rattle.history.specs.Calls.{Call, setRouter, setPort, setRoute, setGroup, setPath, clearRoute, clearGroup, clearPath, receives, takes, done, run, after}
+use Rattle.history.specs.Calls.{Call, setRouter, setPort, setRoute, setGroup, setPath, clearRoute, clearGroup, clearPath, receives, takes, done, runFrom, relayAfter}
 use Rattle.history.specs.Reach.{sameGroup, samePath, Unique, KeysUnique}
 use Rattle.history.proofs.Reach.{Kept, settingsOf, numbered-five, received-settings, taken-settings, one-kept, fresh-kept}
 
@@ -189,7 +189,7 @@ module _ (r : Relay) (k : Kept r) (u : KeysUnique r) where
       by-settings r (done r (receives port slot octets output)) u (received-settings r slot (endingOf r port octets (length output)))
   one-unique (takes port) = by-settings r (done r (takes port)) u (taken-settings r port)
 
-all-unique : (cs : List Call) (r : Relay) → Kept r → KeysUnique r → KeysUnique (run r cs)
+all-unique : (cs : List Call) (r : Relay) → Kept r → KeysUnique r → KeysUnique (runFrom r cs)
 all-unique [] r k u = u
 all-unique (c ∷ cs) r k u = all-unique cs (done r c) (one-kept r c k) (one-unique r k u c)
 
@@ -203,5 +203,5 @@ fresh-unique =
     }
 
 -- After any history no two places hold the same entry.
-pub keys-unique : (cs : List Call) → KeysUnique (after cs)
+pub keys-unique : (cs : List Call) → KeysUnique (relayAfter cs)
 keys-unique cs = all-unique cs freshRelay fresh-kept fresh-unique

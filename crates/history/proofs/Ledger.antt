@@ -26,13 +26,13 @@ use Rattle.taking.specs.Taking.{handsOut, without, takeOutcome, takenState}
 use Rattle.judge.specs.Ending.{endingOf}
 use Rattle.judge.specs.declared.Ending.{Ending}
 use Rattle.tally.specs.Tally.{movesOf, countedAll}
-use Rattle.relay.specs.Outgo.{enteredAll}
+use Rattle.relay.specs.Outgoing.{enteredAll}
 use Rattle.relay.specs.Received.{newEntry, receivedState}
 use Rattle.taking.specs.declared.Taking.{Taking}
 use Rattle.taking.specs.declared.Taking.the-variants.{Refused}
 use Rattle.refusals.specs.Lists.{portChecks, routeChecks, groupChecks, pathChecks, routerChecks, clearChecks}
 use Rattle.adjust.specs.Settled.{settled, newPort, newRoute, newGroup, newPath}
-use Rattle.history.specs.Calls.{Call, setRouter, setPort, setRoute, setGroup, setPath, clearRoute, clearGroup, clearPath, receives, takes, done, run, after}
+use Rattle.history.specs.Calls.{Call, setRouter, setPort, setRoute, setGroup, setPath, clearRoute, clearGroup, clearPath, receives, takes, done, runFrom, relayAfter}
 use Rattle.history.specs.Board.{Board, boardOf, freshBoard, next}
 use Rattle.history.specs.Over.{sumOver}
 use Rattle.history.specs.Ledger.{one, granted, dropped, byRuling, isHanded, handedOut}
@@ -161,7 +161,7 @@ module _ (p : ℕ) (inside : p < 8) where
 
   all-calls : (cs : List Call) (r : Relay) → Eight r
       → queueIn r p .count + sumOver (byRuling (granted p)) (boardOf r) cs
-      ≡ sumOver (handedOut p) (boardOf r) cs + (queueIn (run r cs) p .count + sumOver (byRuling (dropped p)) (boardOf r) cs)
+      ≡ sumOver (handedOut p) (boardOf r) cs + (queueIn (runFrom r cs) p .count + sumOver (byRuling (dropped p)) (boardOf r) cs)
   all-calls [] r l = omega arith
   all-calls (c ∷ cs) r l =
       let step = one-call r c l in
@@ -183,5 +183,5 @@ module _ (p : ℕ) (inside : p < 8) where
   -- Copies granted to port p over the history = handed out there + waiting there now + dropped there because 32 waited.
   pub ledger : (cs : List Call)
       → sumOver (byRuling (granted p)) freshBoard cs
-      ≡ sumOver (handedOut p) freshBoard cs + (queueIn (after cs) p .count + sumOver (byRuling (dropped p)) freshBoard cs)
+      ≡ sumOver (handedOut p) freshBoard cs + (queueIn (relayAfter cs) p .count + sumOver (byRuling (dropped p)) freshBoard cs)
   ledger cs = omega (arith, all-calls cs freshRelay fresh-eight, fresh-none)

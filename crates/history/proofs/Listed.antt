@@ -47,7 +47,7 @@ use Rattle.survey.specs.Survey.{surveyOf}
 use Rattle.survey.specs.declared.Sought.{Sought}
 use Rattle.lookup.specs.Lookup.{pathPlace}
 use Rattle.header.proofs.Refusals.{never-zero}
-use Rattle.lookup.specs.Ways.{placeFor, wayFor}
+use Rattle.lookup.specs.ForTarget.{placeFor, wayFor}
 use Rattle.judge.specs.Ruling.{caseOf, soughtOf, ruledBy, ruleTarget, ruleAim, ruleOf}
 use Rattle.judge.specs.declared.ruling.Arrival.{Arrival}
 use Rattle.meaning.specs.Arrival.{arrivalChecks}
@@ -211,16 +211,16 @@ module _ (bare : Bool) where
   hops-good (Refused n) spent h = h
   hops-good (Wanted set) spent h = either Good (eqb spent 0) refl (other bare HopsUsedUp refl)
 
-  domain-good : (l : Wish) (basic near : ℕ) → Good l → Good (afterDomain l basic near)
-  domain-good NotAsked basic near h = h
-  domain-good (Refused n) basic near h = h
-  domain-good (Wanted set) basic near h =
-      either Good (eqb basic 0) refl (either Good (eqb (bitAnd set near) 0) (other bare LeavesDomain refl) refl)
+  domain-good : (l : Wish) (basic domain : ℕ) → Good l → Good (afterDomain l basic domain)
+  domain-good NotAsked basic domain h = h
+  domain-good (Refused n) basic domain h = h
+  domain-good (Wanted set) basic domain h =
+      either Good (eqb basic 0) refl (either Good (eqb (bitAnd set domain) 0) (other bare LeavesDomain refl) refl)
 
-  size-good : (l : Wish) (wide : ℕ) → Good l → Good (afterSize l wide)
-  size-good NotAsked wide h = h
-  size-good (Refused n) wide h = h
-  size-good (Wanted set) wide h = either Good (eqb (bitAnd set wide) 0) (other bare TooBig refl) refl
+  size-good : (l : Wish) (fitting : ℕ) → Good l → Good (afterSize l fitting)
+  size-good NotAsked fitting h = h
+  size-good (Refused n) fitting h = h
+  size-good (Wanted set) fitting h = either Good (eqb (bitAnd set fitting) 0) (other bare TooBig refl) refl
 
   granted-good : (l : Wish) (c : Case) (s : Survey) → Good l → Good (grantedOf l c s)
   unfolding grantedOf

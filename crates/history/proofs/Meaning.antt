@@ -43,7 +43,7 @@ use Rattle.verdict.specs.declared.Wish.{Wish}
 use Rattle.verdict.specs.declared.Wish.the-variants.{NotAsked, Refused, Wanted}
 use Rattle.verdict.specs.declared.Survey.{Survey}
 use Rattle.verdict.specs.declared.Ruling.{Ruling}
-use Rattle.lookup.specs.Ways.{placeFor, wayFor}
+use Rattle.lookup.specs.ForTarget.{placeFor, wayFor}
 use Rattle.judge.specs.Ruling.{caseOf, soughtOf, ruledBy, ruleTarget, ruleAim, ruleOf}
 use Rattle.judge.specs.declared.ruling.Arrival.{Arrival}
 use Rattle.meaning.specs.Arrival.{arrivalChecks}
@@ -59,24 +59,24 @@ module _ (p : ℕ) where
   none-in : {X : Type 0} → inSet p 0 ≡ true → X
   none-in h = true-false (sym h ∙ ap (λ (n : ℕ). eqb (n % 2) 1) (div-eq-of-lt (pow-pos p)))
 
-  -- ---- with addresses of one octet, what is granted is near
-  size-case : (t : Bool) (set wide g : ℕ) → pick t (Refused TooBig) (Wanted (bitAnd set wide)) ≡ Wanted g → inSet p g ≡ true → inSet p set ≡ true
-  size-case true set wide g h k = true-false cc
-  size-case false set wide g h k = and-true (inSet p set) (inSet p wide) (sym (in-and p set wide) ∙ ap (inSet p) (let e : bitAnd set wide ≡ g = cc in e) ∙ k) .0
+  -- ---- with addresses of one octet, what is granted is in the domain
+  size-case : (t : Bool) (set fitting g : ℕ) → pick t (Refused TooBig) (Wanted (bitAnd set fitting)) ≡ Wanted g → inSet p g ≡ true → inSet p set ≡ true
+  size-case true set fitting g h k = true-false cc
+  size-case false set fitting g h k = and-true (inSet p set) (inSet p fitting) (sym (in-and p set fitting) ∙ ap (inSet p) (let e : bitAnd set fitting ≡ g = cc in e) ∙ k) .0
 
-  near-case : (t : Bool) (set near wide g : ℕ)
-      → afterSize (pick t (Refused LeavesDomain) (Wanted (bitAnd set near))) wide ≡ Wanted g → inSet p g ≡ true → inSet p near ≡ true
-  near-case true set near wide g h k = true-false cc
-  near-case false set near wide g h k =
-      let s = bitAnd set near in
-      and-true (inSet p set) (inSet p near) (sym (in-and p set near) ∙ size-case (eqb (bitAnd s wide) 0) s wide g h k) .1
+  domain-case : (t : Bool) (set domain fitting g : ℕ)
+      → afterSize (pick t (Refused LeavesDomain) (Wanted (bitAnd set domain))) fitting ≡ Wanted g → inSet p g ≡ true → inSet p domain ≡ true
+  domain-case true set domain fitting g h k = true-false cc
+  domain-case false set domain fitting g h k =
+      let s = bitAnd set domain in
+      and-true (inSet p set) (inSet p domain) (sym (in-and p set domain) ∙ size-case (eqb (bitAnd s fitting) 0) s fitting g h k) .1
 
-  near-line : (x : Wish) (basic near wide g : ℕ) → (basic ≡ 0 → ⊥)
-      → afterSize (afterDomain x basic near) wide ≡ Wanted g → inSet p g ≡ true → inSet p near ≡ true
-  near-line NotAsked basic near wide g b h k = true-false cc
-  near-line (Refused n) basic near wide g b h k = true-false cc
-  near-line (Wanted set) basic near wide g b h k =
-      near-case (eqb (bitAnd set near) 0) set near wide g (sym (simp (ne-eqb basic 0 b)) ∙ h) k
+  domain-line : (x : Wish) (basic domain fitting g : ℕ) → (basic ≡ 0 → ⊥)
+      → afterSize (afterDomain x basic domain) fitting ≡ Wanted g → inSet p g ≡ true → inSet p domain ≡ true
+  domain-line NotAsked basic domain fitting g b h k = true-false cc
+  domain-line (Refused n) basic domain fitting g b h k = true-false cc
+  domain-line (Wanted set) basic domain fitting g b h k =
+      domain-case (eqb (bitAnd set domain) 0) set domain fitting g (sym (simp (ne-eqb basic 0 b)) ∙ h) k
 
   granted-case : (local : Local) (l : Wish) (full : ℕ) → inSet p (rulingOf local l full .granted) ≡ true → (X : ℕ → Type 0)
       → ((g : ℕ) → l ≡ Wanted g → inSet p g ≡ true → X g) → X (rulingOf local l full .granted)
@@ -85,37 +85,37 @@ module _ (p : ℕ) where
   granted-case local (Refused n) full h X f = none-in h
   granted-case local (Wanted g) full h X f = f g refl h
 
-  near-ruled : (t : Target) (x : Place) (w : Way) (c : Case) (s : Survey)
+  domain-ruled : (t : Target) (x : Place) (w : Way) (c : Case) (s : Survey)
       → (c .basic ≡ 0 → ⊥) → inSet p (ruledBy t x w c s .granted) ≡ true → inSet p (s .domain) ≡ true
   unfolding ruledBy grantedOf
-  near-ruled t x w c s b h =
+  domain-ruled t x w c s b h =
       let line = lineOf t x w c (s .ready) (localOf t x c) in
       granted-case (localOf t x c) (grantedOf line c s) (s .full) h (λ g. inSet p (s .domain) ≡ true)
-      (λ g e k. near-line (afterHops line (c .spent)) (c .basic) (s .domain) (s .fitting) g b e k)
+      (λ g e k. domain-line (afterHops line (c .spent)) (c .basic) (s .domain) (s .fitting) g b e k)
 
-  near-aim : (r : Relay) (x : Aim) (c : Case) (s : Survey)
+  domain-aim : (r : Relay) (x : Aim) (c : Case) (s : Survey)
       → (c .basic ≡ 0 → ⊥) → inSet p (ruleAim r x c s .granted) ≡ true → inSet p (s .domain) ≡ true
   unfolding ruleTarget
-  near-aim r (Node a) c s b h =
+  domain-aim r (Node a) c s b h =
       let t = targetOf (classOf (a .0)) s in
-      near-ruled t (placeFor r t a (c .arrival)) (wayFor r t a) c s b h
-  near-aim r (Path x) c s b h = near-ruled target.Path (pathPlace r x) Lost c s b h
-  near-aim r Uncarried c s b h = near-ruled target.Route Missing Lost c s b h
+      domain-ruled t (placeFor r t a (c .arrival)) (wayFor r t a) c s b h
+  domain-aim r (Path x) c s b h = domain-ruled target.Path (pathPlace r x) Lost c s b h
+  domain-aim r Uncarried c s b h = domain-ruled target.Route Missing Lost c s b h
 
   module _ (inside : p < 8) (r : Relay) where
-    near-is : (q : Sought) → inSet p (surveyOf r q .domain) ≡ true → domainOf (portIn r p .address) ≡ q .domain
+    domain-is : (q : Sought) → inSet p (surveyOf r q .domain) ≡ true → domainOf (portIn r p .address) ≡ q .domain
     unfolding surveyBelow
-    near-is q h =
+    domain-is q h =
         eqb-true (domainOf (portIn r p .address)) (q .domain)
         (and-true (isSetUp (portIn r p)) (inDomain (portIn r p) q)
         (sym (in-gathered (λ (i : ℕ). isSetUp (portIn r i) && inDomain (portIn r i) q) p 8 inside) ∙ h) .1)
 
-    near-rule : (at : Arrival) (x : Aim) (h : Header) → (isBasic (h .fields .addresses) ≡ 0 → ⊥)
+    domain-rule : (at : Arrival) (x : Aim) (h : Header) → (isBasic (h .fields .addresses) ≡ 0 → ⊥)
         → inSet p (ruleOf r at x h .granted) ≡ true → domainOf (portIn r p .address) ≡ domainOf (at .address)
     unfolding ruleOf
-    near-rule at x h b k =
+    domain-rule at x h b k =
         let q = soughtOf x (domainOf (at .address)) (h .length) in
-        near-is q (near-aim r x (caseOf (r .router) (at .set) (h .fields)) (surveyOf r q) b k)
+        domain-is q (domain-aim r x (caseOf (r .router) (at .set) (h .fields)) (surveyOf r q) b k)
 
     -- ---- the whole call
     granted-or : (t : Bool) (n : ℕ) (e : Ending) → inSet p (pick t e (refusedBy n) .ruling .granted) ≡ true → inSet p (e .ruling .granted) ≡ true
@@ -141,7 +141,7 @@ module _ (p : ℕ) where
       -- A one-octet address never goes out into another domain.
       pub stays-in-its-domain : (isBasic (h .fields .addresses) ≡ 0 → ⊥)
           → domainOf (portIn r p .address) ≡ domainOf (portIn r port .address)
-      stays-in-its-domain b = near-rule (arrivalAt r port) (aimOf (portIn r port .address .0) (h .fields .addresses)) h b granted-rule
+      stays-in-its-domain b = domain-rule (arrivalAt r port) (aimOf (portIn r port .address .0) (h .fields .addresses)) h b granted-rule
 
       -- What the destination, the path and the source name at the port the copy leaves by is what they named where it came in.
       pub names-the-same :

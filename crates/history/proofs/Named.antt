@@ -20,12 +20,12 @@ use Rattle.verdict.specs.declared.Onward.the-variants as onward
 use Rattle.judge.specs.declared.Ending.{Ending}
 use Rattle.tally.specs.declared.Counter.{Counter}
 use Rattle.tally.specs.declared.Counter.the-variants as counter
-use Rattle.tally.specs.Tally.{Row, numbered, inTable, counterFor, receiptCounter, localCounter, onwardCounter, discardCounter}
+use Rattle.tally.specs.Tally.{CounterRow, numbered, inTable, counterFor, receiptCounter, localCounter, onwardCounter, discardCounter}
 use Rattle.history.specs.Tally.{isAt, given}
 use Rattle.history.specs.Ledger.{one}
 
 -- no row of the table gives counter i
-abbrev misses : List Row → ℕ → Bool
+abbrev misses : List CounterRow → ℕ → Bool
 misses [] i = true
 misses (row ∷ rows) i = not (eqb (row .1) i) && misses rows i
 
@@ -33,7 +33,7 @@ not-true : (t : Bool) → not t ≡ true → t ≡ false
 not-true true h = true-false (sym h)
 not-true false h = refl
 
-in-no-row : (rows : List Row) (i n : ℕ) → misses rows i ≡ true → isAt (inTable rows n) i ≡ false
+in-no-row : (rows : List CounterRow) (i n : ℕ) → misses rows i ≡ true → isAt (inTable rows n) i ≡ false
 in-no-row [] i n h = refl
 in-no-row (row ∷ rows) i n h =
     let both = and-true (not (eqb (row .1) i)) (misses rows i) h in

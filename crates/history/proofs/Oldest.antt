@@ -30,7 +30,7 @@ use Rattle.tally.specs.Tally.{movesOf, countedAll}
 use Rattle.relay.specs.Received.{newEntry, receivedState}
 use Rattle.refusals.specs.Lists.{portChecks, routeChecks, groupChecks, pathChecks, routerChecks, clearChecks}
 use Rattle.adjust.specs.Settled.{newPort, newRoute, newGroup, newPath}
-use Rattle.history.specs.Calls.{Call, setRouter, setPort, setRoute, setGroup, setPath, clearRoute, clearGroup, clearPath, receives, takes, done, run, after}
+use Rattle.history.specs.Calls.{Call, setRouter, setPort, setRoute, setGroup, setPath, clearRoute, clearGroup, clearPath, receives, takes, done, runFrom, relayAfter}
 use Rattle.history.specs.Board.{Board, boardOf, freshBoard, next}
 use Rattle.history.specs.Deeds.{putsAt, deedsBy, deeds, lineAt, worked}
 use Rattle.history.proofs.Boards.{ending-bare, done-board}
@@ -127,7 +127,7 @@ module _ (p : ℕ) (inside : p < 8) where
       ∙ ap (λ (e : Ending). worked (queueIn r p) (putsAt p slot e)) (sym (ending-bare r port octets (length output)))
   call-works r (takes port) l = taken-works r port l
 
-  calls-work : (cs : List Call) (r : Relay) → Eight r → queueIn (run r cs) p ≡ worked (queueIn r p) (deeds p (boardOf r) cs)
+  calls-work : (cs : List Call) (r : Relay) → Eight r → queueIn (runFrom r cs) p ≡ worked (queueIn r p) (deeds p (boardOf r) cs)
   calls-work [] r l = refl
   calls-work (c ∷ cs) r l =
       calls-work cs (done r c) (one-call p inside r c l .1)
@@ -146,7 +146,7 @@ module _ (p : ℕ) (inside : p < 8) where
   unfolding freshRelay
   fresh-queue = getD-replicate {A = Queue} 8 p freshQueue freshQueue inside
 
-  pub queue-follows : (cs : List Call) → queueIn (after cs) p ≡ lineAt p cs .queue
+  pub queue-follows : (cs : List Call) → queueIn (relayAfter cs) p ≡ lineAt p cs .queue
   queue-follows cs =
       calls-work cs freshRelay (fresh-eight p inside)
       ∙ ap (λ (q : Queue). worked q (deeds p freshBoard cs)) fresh-queue
@@ -154,9 +154,9 @@ module _ (p : ℕ) (inside : p < 8) where
 
   -- The head of port p's queue after any history is the oldest of the highest precedence that waits there.
   pub hands-out-oldest : (cs : List Call) (first : turns.Entered) (rest : List turns.Entered) → lineAt p cs .line ≡ first ∷ rest
-      → (takeOf (queueIn (after cs) p) .head ≡ First (first .entry)) × Each (turns.Before first) rest
+      → (takeOf (queueIn (relayAfter cs) p) .head ≡ First (first .entry)) × Each (turns.Before first) rest
   hands-out-oldest cs first rest is = rw (queue-follows cs) (oldest-of-highest (deeds p freshBoard cs) first rest is)
 
   -- After any history the queue has at most 32 entries, in order, and free places behind them.
-  pub queue-sound : (cs : List Call) → Sound (queueIn (after cs) p)
+  pub queue-sound : (cs : List Call) → Sound (queueIn (relayAfter cs) p)
   queue-sound cs = rw (queue-follows cs) (followed (deeds p freshBoard cs) .sound)

@@ -20,7 +20,7 @@ use Rattle.queue.specs.declared.Head.the-variants.{First, Nothing}
 use Rattle.queue.specs.declared.Queue.{Queue}
 use Rattle.queue.specs.declared.Taken.{Taken}
 use Rattle.state.specs.Relay.{Relay, queueIn}
-use Rattle.relay.specs.Outgo.{entered, enteredIf, enteredAll}
+use Rattle.relay.specs.Outgoing.{entered, enteredIf, enteredAll}
 use Rattle.history.proofs.Bits.{only-in}
 
 -- the eight queues

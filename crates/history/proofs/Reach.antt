@@ -15,7 +15,7 @@ use Rattle.checks.proofs.Bools.{true-false, and-true, or-false}
 use Rattle.checks.proofs.Laws.{zero-none, none-zero}
 use Rattle.sets.specs.Sets.{inSet, onlyPort, portSet}
 use Rattle.settings.specs.Sets.{isReady, namesOther, setRefused}
-use Rattle.state.specs.Relay.{Relay, freshRelay, portIn, routeIn, groupIn, pathIn, queueIn, withRouter, withPort, withRoute, withGroup, withPath, added, portSetUp}
+use Rattle.state.specs.Relay.{Relay, freshRelay, portIn, routeIn, groupIn, pathIn, queueIn, withRouter, withPort, withRoute, withGroup, withPath, portSetUp}
 use Rattle.records.specs.SetUp.{isSetUp}
 use Rattle.refusals.specs.Ready.{readySet}
 use Rattle.refusals.specs.Record.{recordChecks}
@@ -45,9 +45,9 @@ use Rattle.judge.specs.declared.Ending.{Ending}
 use Rattle.tally.specs.Tally.{Move, movesOf, countedAt, countedAll}
 use Rattle.tally.specs.declared.Counter.{Counter}
 use Rattle.tally.specs.declared.Counter.the-variants as counter
-use Rattle.relay.specs.Outgo.{entered, enteredIf, enteredAll}
+use Rattle.relay.specs.Outgoing.{entered, enteredIf, enteredAll}
 use Rattle.relay.specs.Received.{newEntry, receivedState}
-use Rattle.history.specs.Calls.{Call, setRouter, setPort, setRoute, setGroup, setPath, clearRoute, clearGroup, clearPath, receives, takes, done, run, after}
+use Rattle.history.specs.Calls.{Call, setRouter, setPort, setRoute, setGroup, setPath, clearRoute, clearGroup, clearPath, receives, takes, done, runFrom, relayAfter}
 use Rattle.history.specs.Reach.{Reached}
 use Rattle.history.proofs.Bits.{in-gathered}
 
@@ -381,7 +381,7 @@ one-kept r (receives port slot octets output) k =
     by-settings r (done r (receives port slot octets output)) k (received-settings r slot (endingOf r port octets (length output)))
 one-kept r (takes port) k = by-settings r (done r (takes port)) k (taken-settings r port)
 
-all-kept : (cs : List Call) (r : Relay) → Kept r → Kept (run r cs)
+all-kept : (cs : List Call) (r : Relay) → Kept r → Kept (runFrom r cs)
 all-kept [] r k = k
 all-kept (c ∷ cs) r k = all-kept cs (done r c) (one-kept r c k)
 
@@ -402,9 +402,9 @@ fresh-kept =
           };
     }
 
-pub kept-after : (cs : List Call) → Kept (after cs)
+pub kept-after : (cs : List Call) → Kept (relayAfter cs)
 kept-after cs = all-kept cs freshRelay fresh-kept
 
 -- After any history the settings are good: each record stands by the tests that took it.
-pub reached : (cs : List Call) → Reached (after cs)
+pub reached : (cs : List Call) → Reached (relayAfter cs)
 reached cs = kept-after cs .good

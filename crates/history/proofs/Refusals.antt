@@ -1,13 +1,12 @@
 -- Demand 1: a refused call leaves settings, queues and lent octets as they were, and 16 and 17 move no counter. Assumes nothing.
-use native.Mathlib.Omega.{arith}
-use Prim.Native.Nat.{ℕ, zero, suc, _<_}
+use Prim.Native.Nat.{ℕ, zero, suc}
 use mathlib.Core.Path.{_≡_, refl, sym, ap, _∙_}
 use mathlib.Core.Bool.{Bool, true, false, not}
 use mathlib.Core.List.{List, []}
 use lib.ListN.{length}
 use lib.Bits.{bitAnd, and-zero-l}
 use lib.Dec.{eqb}
-use borrow.Author.Tests.{eq-eqb, ne-eqb}
+use borrow.Author.Tests.{eq-eqb}
 use Rattle.checks.specs.Order.{pick, firstOf}
 use Rattle.checks.proofs.Bools.{true-false}
 use Rattle.sets.specs.Sets.{onlyPort}
@@ -28,7 +27,7 @@ use Rattle.taking.specs.Taking.{handsOut, without, takeOutcome, takenState}
 use Rattle.judge.specs.Ending.{noRuling, refusedBy, ruledEnding, callChecks, headerEnding, octetsEnding, arrivalAt, endingOf}
 use Rattle.judge.specs.declared.Ending.{Ending}
 use Rattle.tally.specs.Tally.{movesOf, countedAll, counterFor}
-use Rattle.relay.specs.Outgo.{entered, enteredIf, enteredAll, sentOutput}
+use Rattle.relay.specs.Outgoing.{entered, enteredIf, enteredAll, sentOutput}
 use Rattle.relay.specs.Received.{newEntry, receivedState}
 use Rattle.taking.specs.declared.Taking.{Taking}
 use Rattle.taking.specs.declared.Taking.the-variants.{Handed, Refused}

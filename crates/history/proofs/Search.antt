@@ -25,7 +25,7 @@ use Rattle.routes.proofs.Longest.{Contiguous, Distinct, maskAt, CandidateAt, ta
 use Rattle.state.specs.Relay.{Relay}
 use Rattle.refusals.specs.Ready.{readySet}
 use Rattle.refusals.specs.Record.{recordChecks}
-use Rattle.history.specs.Calls.{Call, after}
+use Rattle.history.specs.Calls.{Call, relayAfter}
 use Rattle.history.proofs.Reach.{Kept, kept-after}
 use Rattle.history.proofs.Keys.{keys-unique}
 
@@ -39,25 +39,25 @@ within : (P : ℕ → Type 0) (n : ℕ) → ((q : ℕ) → q < n → P q) → ((
 within P n below over q = by-cases (decLe n q) (λ h. over q h) (λ h. below q (lt-of-not-le h))
 
 module _ (cs : List Call) where
-  beyond : (q : ℕ) → 64 ≤ q → routeAt (after cs .routes) q ≡ emptyRoute
-  beyond q h = past-end (after cs .routes) q emptyRoute (rw (kept-after cs .routes) h)
+  beyond : (q : ℕ) → 64 ≤ q → routeAt (relayAfter cs .routes) q ≡ emptyRoute
+  beyond q h = past-end (relayAfter cs .routes) q emptyRoute (rw (kept-after cs .routes) h)
 
-  good-prefix : (q : ℕ) → isFilled (routeAt (after cs .routes) q) ≡ true
-      → prefixRefused (routeAt (after cs .routes) q .prefix) (routeAt (after cs .routes) q .mask) ≡ false
+  good-prefix : (q : ℕ) → isFilled (routeAt (relayAfter cs .routes) q) ≡ true
+      → prefixRefused (routeAt (relayAfter cs .routes) q .prefix) (routeAt (relayAfter cs .routes) q .mask) ≡ false
   good-prefix =
       within
       (λ q.
-      isFilled (routeAt (after cs .routes) q) ≡ true
-      → prefixRefused (routeAt (after cs .routes) q .prefix) (routeAt (after cs .routes) q .mask) ≡ false)
+      isFilled (routeAt (relayAfter cs .routes) q) ≡ true
+      → prefixRefused (routeAt (relayAfter cs .routes) q .prefix) (routeAt (relayAfter cs .routes) q .mask) ≡ false)
       64
       (λ q l h.
-      zero-none (recordChecks (readySet (after cs)) (routeAt (after cs .routes) q)) ((λ z. omega arith), ((λ z. omega arith), ((λ z. omega arith), tt)))
+      zero-none (recordChecks (readySet (relayAfter cs)) (routeAt (relayAfter cs .routes) q)) ((λ z. omega arith), ((λ z. omega arith), ((λ z. omega arith), tt)))
       (kept-after cs .good .routes q l h)
       .1 .0)
       (λ q g h. true-false (sym h ∙ ap isFilled (beyond q g)))
 
-  pub masks-contiguous : Contiguous (after cs .routes)
-  masks-contiguous = taken-contiguous (after cs .routes) good-prefix
+  pub masks-contiguous : Contiguous (relayAfter cs .routes)
+  masks-contiguous = taken-contiguous (relayAfter cs .routes) good-prefix
 
   -- two places that hold the same entry are filled, and so within the list
   filled-both : (x y : Route) → sameEntry x y ≡ true → (isFilled x ≡ true) × (isFilled y ≡ true)
@@ -66,25 +66,25 @@ module _ (cs : List Call) where
       let k = and-true (isFilled x) (isFilled y && (eqb (x .prefix .0) (y .prefix .0) && eqb (x .mask .0) (y .mask .0))) h in
       (k .0, and-true (isFilled y) (eqb (x .prefix .0) (y .prefix .0) && eqb (x .mask .0) (y .mask .0)) (k .1) .0)
 
-  filled-inside : (q : ℕ) → isFilled (routeAt (after cs .routes) q) ≡ true → q < 64
+  filled-inside : (q : ℕ) → isFilled (routeAt (relayAfter cs .routes) q) ≡ true → q < 64
   filled-inside =
-      within (λ q. isFilled (routeAt (after cs .routes) q) ≡ true → q < 64) 64 (λ q l h. l) (λ q g h. true-false (sym h ∙ ap isFilled (beyond q g)))
+      within (λ q. isFilled (routeAt (relayAfter cs .routes) q) ≡ true → q < 64) 64 (λ q l h. l) (λ q g h. true-false (sym h ∙ ap isFilled (beyond q g)))
 
-  same-place : (p q : ℕ) → sameEntry (routeAt (after cs .routes) p) (routeAt (after cs .routes) q) ≡ true → (t : Bool) → eqb p q ≡ t → p ≡ q
+  same-place : (p q : ℕ) → sameEntry (routeAt (relayAfter cs .routes) p) (routeAt (relayAfter cs .routes) q) ≡ true → (t : Bool) → eqb p q ≡ t → p ≡ q
   same-place p q h true e = eqb-true p q e
   same-place p q h false e =
-      let f = filled-both (routeAt (after cs .routes) p) (routeAt (after cs .routes) q) h in
+      let f = filled-both (routeAt (relayAfter cs .routes) p) (routeAt (relayAfter cs .routes) q) h in
       true-false (sym h ∙ keys-unique cs .routes p q (filled-inside p (f .0)) (filled-inside q (f .1)) (eqb-false p q e))
 
-  pub routes-distinct : Distinct (after cs .routes)
+  pub routes-distinct : Distinct (relayAfter cs .routes)
   routes-distinct p q h = same-place p q h (eqb p q) refl
 
   -- No entry that matches has more mask ones than the route taken.
-  pub taken-has-most-ones : (a : Address) {p n : ℕ} {r : Route} → searchOf a (after cs .routes) ≡ At p n r
-      → (q : ℕ) → CandidateAt a (after cs .routes) q → onesOf (maskAt (after cs .routes) q) ≤ n
-  taken-has-most-ones a e = search-most-ones a (after cs .routes) masks-contiguous e
+  pub taken-has-most-ones : (a : Address) {p n : ℕ} {r : Route} → searchOf a (relayAfter cs .routes) ≡ At p n r
+      → (q : ℕ) → CandidateAt a (relayAfter cs .routes) q → onesOf (maskAt (relayAfter cs .routes) q) ≤ n
+  taken-has-most-ones a e = search-most-ones a (relayAfter cs .routes) masks-contiguous e
 
   -- And none other has as many: the answer is unique.
-  pub taken-is-the-only : (a : Address) {p n : ℕ} {r : Route} → searchOf a (after cs .routes) ≡ At p n r
-      → (q : ℕ) → CandidateAt a (after cs .routes) q → onesOf (maskAt (after cs .routes) q) ≡ n → q ≡ p
-  taken-is-the-only a e = search-only a (after cs .routes) masks-contiguous routes-distinct e
+  pub taken-is-the-only : (a : Address) {p n : ℕ} {r : Route} → searchOf a (relayAfter cs .routes) ≡ At p n r
+      → (q : ℕ) → CandidateAt a (relayAfter cs .routes) q → onesOf (maskAt (relayAfter cs .routes) q) ≡ n → q ≡ p
+  taken-is-the-only a e = search-only a (relayAfter cs .routes) masks-contiguous routes-distinct e

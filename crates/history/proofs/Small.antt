@@ -36,10 +36,10 @@ wantedBy (Refused n) = 0
 wantedBy (Wanted set) = set
 
 -- the MTU leaves only ports that are set up
-size-small : (l : Wish) (wide : ℕ) → wantedBy (afterSize l wide) ≤ wide
-size-small NotAsked wide = omega arith
-size-small (Refused n) wide = omega arith
-size-small (Wanted set) wide = either (λ l. wantedBy l ≤ wide) (eqb (bitAnd set wide) 0) (omega arith) (and-le-r set wide)
+size-small : (l : Wish) (fitting : ℕ) → wantedBy (afterSize l fitting) ≤ fitting
+size-small NotAsked fitting = omega arith
+size-small (Refused n) fitting = omega arith
+size-small (Wanted set) fitting = either (λ l. wantedBy l ≤ fitting) (eqb (bitAnd set fitting) 0) (omega arith) (and-le-r set fitting)
 
 ruling-small : (local : Local) (l : Wish) (full : ℕ) → wantedBy l < 256 → Small (rulingOf local l full)
 unfolding rulingOf copiesOf
@@ -48,9 +48,9 @@ ruling-small local (Refused n) full h = record { granted = h; took = h; dropped 
 ruling-small local (Wanted set) full h =
     record { granted = h; took = omega arith; dropped = omega (arith, and-le-l set full) }
 
-wide-small : (r : Relay) (q : Sought) → surveyOf r q .fitting < 256
+fitting-small : (r : Relay) (q : Sought) → surveyOf r q .fitting < 256
 unfolding surveyBelow
-wide-small r q = portSet-below (λ (p : ℕ). isSetUp (portIn r p) && isFitting (portIn r p) q) 8
+fitting-small r q = portSet-below (λ (p : ℕ). isSetUp (portIn r p) && isFitting (portIn r p) q) 8
 
 ruled-small : (r : Relay) (q : Sought) (t : Target) (p : Place) (w : Way) (c : Case) → Small (ruledBy t p w c (surveyOf r q))
 unfolding ruledBy grantedOf
@@ -58,7 +58,7 @@ ruled-small r q t p w c =
     let s = surveyOf r q in
     let local = localOf t p c in
     let line = afterDomain (afterHops (lineOf t p w c (s .ready) local) (c .spent)) (c .basic) (s .domain) in
-    ruling-small local (afterSize line (s .fitting)) (s .full) (omega (arith, size-small line (s .fitting), wide-small r q))
+    ruling-small local (afterSize line (s .fitting)) (s .full) (omega (arith, size-small line (s .fitting), fitting-small r q))
 
 pub sets-small : (r : Relay) (port : ℕ) (octets : List ℕ) (room : ℕ) → Small (endingOf r port octets room .ruling)
 sets-small = of-any-ending Small ruled-small (record { granted = omega arith; took = omega arith; dropped = omega arith })

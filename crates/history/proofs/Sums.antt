@@ -16,12 +16,12 @@ use Rattle.state.specs.Relay.{Relay, counterIn}
 use Rattle.verdict.specs.Numbers.{localNumber, onwardNumber}
 use Rattle.judge.specs.Ending.{endingOf}
 use Rattle.judge.specs.declared.Ending.{Ending}
-use Rattle.history.specs.Calls.{Call, setRouter, setPort, setRoute, setGroup, setPath, clearRoute, clearGroup, clearPath, receives, takes, after}
+use Rattle.history.specs.Calls.{Call, setRouter, setPort, setRoute, setGroup, setPath, clearRoute, clearGroup, clearPath, receives, takes, relayAfter}
 use Rattle.history.specs.Board.{Board, onBoard, freshBoard, next}
 use Rattle.history.specs.Over.{byEnding, sumOver}
 use Rattle.history.specs.Tally.{given, givenBy, tallyFrom}
 use Rattle.history.specs.Ledger.{one}
-use Rattle.history.specs.Sums.{receipt, delivery, forwarded, portsIn, drops, total}
+use Rattle.history.specs.Sums.{receipt, delivery, forwarded, portsIn, drops, totalOver}
 use Rattle.history.specs.Answers.{ended, receiveRows, stands}
 use Rattle.history.proofs.Counters.{counters}
 use Rattle.history.proofs.Named.{receives-counted, delivers-counted, forwards-counted, discards-counted}
@@ -47,7 +47,7 @@ module _ (i : ℕ) (f : Ending → ℕ)
   all-calls [] b = refl
   all-calls (c ∷ cs) b = rw (one-call b c, all-calls cs (next b c))
 
-  totalled : i < 15 → (cs : List Call) → counterIn (after cs) i ≡ total f cs % 2 ^ 32
+  totalled : i < 15 → (cs : List Call) → counterIn (relayAfter cs) i ≡ totalOver f cs % 2 ^ 32
   totalled inside cs = counters i inside cs ∙ ap (λ (n : ℕ). n % 2 ^ 32) (all-calls cs freshBoard)
 
 -- npInReceives is the number of receives that did not end in 16 or 17.
@@ -58,11 +58,11 @@ receipt-case false = refl
 receipts : (e : Ending) → given e 0 ≡ receipt e
 receipts e = receives-counted e ∙ receipt-case (eqb (e .refusal) 16 || eqb (e .refusal) 17)
 
-pub receives-sum : (cs : List Call) → counterIn (after cs) 0 ≡ total receipt cs % 2 ^ 32
+pub receives-sum : (cs : List Call) → counterIn (relayAfter cs) 0 ≡ totalOver receipt cs % 2 ^ 32
 receives-sum = totalled 0 receipt (λ r port octets output. receipts (endingOf r port octets (length output))) (omega arith)
 
 -- npInDelivers is the number of datagrams that were delivered.
-pub delivers-sum : (cs : List Call) → counterIn (after cs) 8 ≡ total delivery cs % 2 ^ 32
+pub delivers-sum : (cs : List Call) → counterIn (relayAfter cs) 8 ≡ totalOver delivery cs % 2 ^ 32
 delivers-sum = totalled 8 delivery (λ r port octets output. delivers-counted (endingOf r port octets (length output))) (omega arith)
 
 -- ---- 1 stands in the onward half where a port took an entry, and only there
@@ -88,7 +88,7 @@ forwards r port octets output =
     (every-ending-is-listed r port octets (length output)))
 
 -- npForwDatagrams is the number of datagrams that some port took, not of their copies.
-pub forwards-sum : (cs : List Call) → counterIn (after cs) 10 ≡ total forwarded cs % 2 ^ 32
+pub forwards-sum : (cs : List Call) → counterIn (relayAfter cs) 10 ≡ totalOver forwarded cs % 2 ^ 32
 forwards-sum = totalled 10 forwarded forwards (omega arith)
 
 -- ---- the ones of a set of the eight ports are its ports
@@ -128,5 +128,5 @@ discards r port octets output =
     discards-counted e ∙ ones-eight (e .ruling .dropped) (sets-small r port octets (length output) .dropped)
 
 -- npOutDiscards is the number of copies that were dropped, each port's copy counted.
-pub discards-sum : (cs : List Call) → counterIn (after cs) 12 ≡ total drops cs % 2 ^ 32
+pub discards-sum : (cs : List Call) → counterIn (relayAfter cs) 12 ≡ totalOver drops cs % 2 ^ 32
 discards-sum = totalled 12 drops discards (omega arith)

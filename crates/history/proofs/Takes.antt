@@ -23,7 +23,7 @@ use Rattle.state.specs.Relay.{Relay, freshRelay, queueIn, withQueue, portSetUp}
 use Rattle.taking.specs.Taking.{handsOut, takeOutcome, takenState}
 use Rattle.taking.specs.declared.Taking.the-variants.{Handed, Refused}
 use Rattle.state_ports.proofs.SetUp.{is-port}
-use Rattle.history.specs.Calls.{Call, takes, done, run, after}
+use Rattle.history.specs.Calls.{Call, takes, done, runFrom, relayAfter}
 use Rattle.history.specs.Board.{boardOf, freshBoard}
 use Rattle.history.specs.Deeds.{deedsBy, deeds, lineAt}
 use Rattle.history.proofs.Boards.{done-board}
@@ -37,15 +37,15 @@ pub record OldestOut (cs : List Call) (port : ℕ) (e : Entry) : Type 0 where
   pub rest : List turns.Entered
   -- they are what waits, and e is the first of them
   pub waits : lineAt port cs .line ≡ first ∷ rest
-  pub all : waiting (queueIn (after cs) port) ≡ map turns.entryOf (first ∷ rest)
+  pub all : waiting (queueIn (relayAfter cs) port) ≡ map turns.entryOf (first ∷ rest)
   pub handed : first .entry ≡ e
   -- it goes before all others: it is the oldest of the highest precedence
   pub before : Each (turns.Before first) rest
   -- after the call the others wait, in their order
   pub line : lineAt port (cs ++ (takes port ∷ [])) .line ≡ rest
-  pub queue : waiting (queueIn (takenState (after cs) port) port) ≡ map turns.entryOf rest
+  pub queue : waiting (queueIn (takenState (relayAfter cs) port) port) ≡ map turns.entryOf rest
   -- and all of the relay but that queue is as it was
-  pub apart : takenState (after cs) port ≡ withQueue (after cs) port (queueIn (takenState (after cs) port) port)
+  pub apart : takenState (relayAfter cs) port ≡ withQueue (relayAfter cs) port (queueIn (takenState (relayAfter cs) port) port)
 
 -- the head of a line
 abbrev headIn : List turns.Entered → Head
@@ -103,15 +103,15 @@ module _ (r : Relay) (port : ℕ) where
     leaves-queue l e k = ap (λ (x : Relay). queueIn x port) (leaves e k) ∙ getD-set-same (r .mission .queues) port _ _ (rw l is-inside)
 
 -- ---- eight queues after any calls
-eight-run : (cs : List Call) (r : Relay) → Eight r → Eight (run r cs)
+eight-run : (cs : List Call) (r : Relay) → Eight r → Eight (runFrom r cs)
 eight-run [] r l = l
 eight-run (c ∷ cs) r l = eight-run cs (done r c) (one-call 0 (omega arith) r c l .1)
 
-eight-after : (cs : List Call) → Eight (after cs)
+eight-after : (cs : List Call) → Eight (relayAfter cs)
 eight-after cs = eight-run cs freshRelay (fresh-eight 0 (omega arith))
 
 -- ---- one call more
-deeds-last : (p : ℕ) (c : Call) (cs : List Call) (r : Relay) → deeds p (boardOf r) (cs ++ (c ∷ [])) ≡ deeds p (boardOf r) cs ++ deedsBy p (boardOf (run r cs)) c
+deeds-last : (p : ℕ) (c : Call) (cs : List Call) (r : Relay) → deeds p (boardOf r) (cs ++ (c ∷ [])) ≡ deeds p (boardOf r) cs ++ deedsBy p (boardOf (runFrom r cs)) c
 deeds-last p c [] r = append-nil (deedsBy p (boardOf r) c)
 deeds-last p c (d ∷ cs) r =
     rw (← done-board r d, deeds-last p c cs (done r d)) (sym (append-assoc (deedsBy p (boardOf r) d) _ _))
@@ -125,29 +125,29 @@ take-deed : (r : Relay) (port : ℕ) → portSetUp r port ≡ true → deedsBy p
 unfolding portSetUp
 take-deed r port ready = rw (eq-eqb port port refl, ready)
 
-line-later : (cs : List Call) (port : ℕ) → portSetUp (after cs) port ≡ true
+line-later : (cs : List Call) (port : ℕ) → portSetUp (relayAfter cs) port ≡ true
     → lineAt port (cs ++ (takes port ∷ [])) ≡ turns.after (lineAt port cs) turns.takes
 unfolding turns.run
 line-later cs port ready =
     ap (turns.run turns.started) (deeds-last port (takes port) cs freshRelay)
-    ∙ ap (λ (ds : List turns.Deed). turns.run turns.started (deeds port freshBoard cs ++ ds)) (take-deed (after cs) port ready)
+    ∙ ap (λ (ds : List turns.Deed). turns.run turns.started (deeds port freshBoard cs ++ ds)) (take-deed (relayAfter cs) port ready)
     ∙ run-both (deeds port freshBoard cs) (turns.takes ∷ []) turns.started
 
 -- ---- after a history
 module _ (cs : List Call) (port : ℕ) where
-  module _ (ready : portSetUp (after cs) port ≡ true) where
-    head-waits : takeOf (queueIn (after cs) port) .head ≡ headOf (waiting (queueIn (after cs) port))
-    head-waits = take-head (queueIn (after cs) port) (queue-sound port (is-inside (after cs) port ready) cs .bounded)
+  module _ (ready : portSetUp (relayAfter cs) port ≡ true) where
+    head-waits : takeOf (queueIn (relayAfter cs) port) .head ≡ headOf (waiting (queueIn (relayAfter cs) port))
+    head-waits = take-head (queueIn (relayAfter cs) port) (queue-sound port (is-inside (relayAfter cs) port ready) cs .bounded)
 
-    heads : (line : List turns.Entered) → lineAt port cs .line ≡ line → takeOf (queueIn (after cs) port) .head ≡ headIn line
-    heads [] is = rw (queue-follows port (is-inside (after cs) port ready) cs) (take-nothing (followed (deeds port freshBoard cs)) is)
-    heads (first ∷ rest) is = hands-out-oldest port (is-inside (after cs) port ready) cs first rest is .0
+    heads : (line : List turns.Entered) → lineAt port cs .line ≡ line → takeOf (queueIn (relayAfter cs) port) .head ≡ headIn line
+    heads [] is = rw (queue-follows port (is-inside (relayAfter cs) port ready) cs) (take-nothing (followed (deeds port freshBoard cs)) is)
+    heads (first ∷ rest) is = hands-out-oldest port (is-inside (relayAfter cs) port ready) cs first rest is .0
 
-    out : (e : Entry) → takeOf (queueIn (after cs) port) .head ≡ First e → (line : List turns.Entered) → lineAt port cs .line ≡ line → OldestOut cs port e
+    out : (e : Entry) → takeOf (queueIn (relayAfter cs) port) .head ≡ First e → (line : List turns.Entered) → lineAt port cs .line ≡ line → OldestOut cs port e
     out e h [] is = true-false (cc (heads [] is))
     out e h (first ∷ rest) is =
-        let inside = is-inside (after cs) port ready in
-        let left = leaves-queue (after cs) port ready (eight-after cs) e h in
+        let inside = is-inside (relayAfter cs) port ready in
+        let left = leaves-queue (relayAfter cs) port ready (eight-after cs) e h in
         let follows = queue-follows port inside cs in
         record {
           first = first;
@@ -158,21 +158,21 @@ module _ (cs : List Call) (port : ℕ) where
           before = hands-out-oldest port inside cs first rest is .1;
           line = ap (λ (x : turns.History). x .line) (line-later cs port ready) ∙ rw is;
           queue = rw (left, follows) (follows-take (followed (deeds port freshBoard cs)) .same ∙ rw is);
-          apart = leaves (after cs) port ready e h ∙ ap (withQueue (after cs) port) (sym left);
+          apart = leaves (relayAfter cs) port ready e h ∙ ap (withQueue (relayAfter cs) port) (sym left);
         }
 
   -- where the port is set up and entries wait, the first is handed out
-  pub take-hands-out : (first : turns.Entered) (rest : List turns.Entered) → portSetUp (after cs) port ≡ true → lineAt port cs .line ≡ first ∷ rest
-      → takeOutcome (after cs) port ≡ Handed (first .entry)
-  take-hands-out first rest ready is = by-head (after cs) port ready (First (first .entry)) (heads ready (first ∷ rest) is)
+  pub take-hands-out : (first : turns.Entered) (rest : List turns.Entered) → portSetUp (relayAfter cs) port ≡ true → lineAt port cs .line ≡ first ∷ rest
+      → takeOutcome (relayAfter cs) port ≡ Handed (first .entry)
+  take-hands-out first rest ready is = by-head (relayAfter cs) port ready (First (first .entry)) (heads ready (first ∷ rest) is)
 
   -- 18 is answered exactly where the port is set up and nothing waits there
-  pub take-finds-nothing : (takeOutcome (after cs) port ≡ Refused 18) ↔ ((portSetUp (after cs) port ≡ true) × (waiting (queueIn (after cs) port) ≡ []))
+  pub take-finds-nothing : (takeOutcome (relayAfter cs) port ≡ Refused 18) ↔ ((portSetUp (relayAfter cs) port ≡ true) × (waiting (queueIn (relayAfter cs) port) ≡ []))
   take-finds-nothing = (
-    λ k. let s = shows-none (after cs) port k in (s .0, no-entries _ (sym (head-waits (s .0)) ∙ s .1)),
-    λ h. by-head (after cs) port (h .0) Nothing (head-waits (h .0) ∙ ap headOf (h .1)),
+    λ k. let s = shows-none (relayAfter cs) port k in (s .0, no-entries _ (sym (head-waits (s .0)) ∙ s .1)),
+    λ h. by-head (relayAfter cs) port (h .0) Nothing (head-waits (h .0) ∙ ap headOf (h .1)),
   )
 
   -- What hj_take hands out after any history is the oldest of the highest precedence that waits on the port, and the rest is left.
-  pub take-hands-out-oldest : (e : Entry) → takeOutcome (after cs) port ≡ Handed e → OldestOut cs port e
-  take-hands-out-oldest e k = let s = shows-handed (after cs) port e k in out (s .0) e (s .1) (lineAt port cs .line) refl
+  pub take-hands-out-oldest : (e : Entry) → takeOutcome (relayAfter cs) port ≡ Handed e → OldestOut cs port e
+  take-hands-out-oldest e k = let s = shows-handed (relayAfter cs) port e k in out (s .0) e (s .1) (lineAt port cs .line) refl

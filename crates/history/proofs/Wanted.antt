@@ -27,7 +27,7 @@ use Rattle.routes.proofs.Longest.{search-found}
 use Rattle.records.specs.SetUp.{isSetUp}
 use Rattle.refusals.specs.Ready.{readySet}
 use Rattle.refusals.specs.Record.{recordChecks}
-use Rattle.lookup.specs.Ways.{wayOf, placeFor, wayFor}
+use Rattle.lookup.specs.ForTarget.{wayOf, placeFor, wayFor}
 use Rattle.state.specs.Relay.{Relay, portIn, routeIn, groupIn, pathIn}
 use Rattle.survey.specs.Survey.{surveyBelow, surveyOf}
 use Rattle.survey.specs.declared.Sought.{Sought}
@@ -44,7 +44,7 @@ use Rattle.verdict.specs.declared.Place.{Place}
 use Rattle.verdict.specs.declared.Place.the-variants.{Held, Missing}
 use Rattle.verdict.specs.declared.Way.{Way}
 use Rattle.verdict.specs.declared.Way.the-variants.{By, Lost}
-use Rattle.history.specs.Calls.{Call, after}
+use Rattle.history.specs.Calls.{Call, relayAfter}
 use Rattle.history.proofs.Reach.{Kept, ready-is, not-false-true, kept-after}
 use Rattle.history.proofs.Bits.{in-except, in-gathered, only-that}
 
@@ -228,21 +228,21 @@ module _ (r : Relay) (k : Kept r) (p : ℕ) (inside : p < 8) where
 
 -- After any history each port that is wanted for a datagram to an end system or a group is set up, ..
 pub wanted-is-set-up : (cs : List Call) (p : ℕ) → p < 8 → (t : Target) (a : Address) (c : Case) (q : Sought) (local : Local) (g : ℕ)
-    → lineOf t (placeFor (after cs) t a (c .arrival)) (wayFor (after cs) t a) c (surveyOf (after cs) q .ready) local ≡ Wanted g
+    → lineOf t (placeFor (relayAfter cs) t a (c .arrival)) (wayFor (relayAfter cs) t a) c (surveyOf (relayAfter cs) q .ready) local ≡ Wanted g
     → inSet p g ≡ true
-    → isSetUp (portIn (after cs) p) ≡ true
+    → isSetUp (portIn (relayAfter cs) p) ≡ true
 wanted-is-set-up cs p inside t a c q local g =
-    let r = after cs in
+    let r = relayAfter cs in
     let k = kept-after cs in
     wanted-is r k p inside _ g
     (line-good r k p inside t (placeFor r t a (c .arrival)) (wayFor r t a) c q local (place-good r k p inside t a (c .arrival)) (way-good r k p inside t a))
 
 -- .. and each that is wanted for one on a path.
 pub wanted-on-path-is-set-up : (cs : List Call) (p : ℕ) → p < 8 → (x : PathAddress) (c : Case) (q : Sought) (local : Local) (g : ℕ)
-    → lineOf target.Path (pathPlace (after cs) x) Lost c (surveyOf (after cs) q .ready) local ≡ Wanted g
+    → lineOf target.Path (pathPlace (relayAfter cs) x) Lost c (surveyOf (relayAfter cs) q .ready) local ≡ Wanted g
     → inSet p g ≡ true
-    → isSetUp (portIn (after cs) p) ≡ true
+    → isSetUp (portIn (relayAfter cs) p) ≡ true
 wanted-on-path-is-set-up cs p inside x c q local g =
-    let r = after cs in
+    let r = relayAfter cs in
     let k = kept-after cs in
     wanted-is r k p inside _ g (line-good r k p inside target.Path (pathPlace r x) Lost c q local (path-good r k p inside x) tt)

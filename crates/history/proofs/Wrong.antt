@@ -22,7 +22,7 @@ use Rattle.routes.proofs.Marked as marked
 use Rattle.verdict.specs.Rule.{routeLine}
 use Rattle.verdict.specs.declared.Obstacle.the-variants.{RouteNotUp}
 use Rattle.verdict.specs.declared.Wish.the-variants.{Refused}
-use Rattle.lookup.specs.Ways.{wayOf}
+use Rattle.lookup.specs.ForTarget.{wayOf}
 use Rattle.state.specs.Relay.{Relay, portSetUp}
 use Rattle.survey.specs.Survey.{isFitting}
 use Rattle.survey.specs.declared.Sought.{Sought}

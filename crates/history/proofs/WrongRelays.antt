@@ -34,9 +34,9 @@ use Rattle.routes.specs.Search.{beaten, betterOf, searchFrom, searchOf}
 use Rattle.queue.specs.Queue.{fresh, putOf}
 use Rattle.state.specs.Relay.{Relay, freshRelay, queueIn, counterIn, portSetUp}
 use Rattle.tally.specs.Tally.{counterFor, countedAt}
-use Rattle.relay.specs.Outgo.{enteredIf, enteredAll}
+use Rattle.relay.specs.Outgoing.{enteredIf, enteredAll}
 use Rattle.relay.specs.Received.{receivedState}
-use Rattle.history.specs.Calls.{Call, setRouter, setPort, setRoute, receives, done, after}
+use Rattle.history.specs.Calls.{Call, setRouter, setPort, setRoute, receives, done, relayAfter}
 use Rattle.history.specs.Tally.{tally}
 use Rattle.history.proofs.Counters.{counters}
 
@@ -82,10 +82,10 @@ abbrev then-a : List Call
 then-a = settings ++ (received (toward 10 4 9 14) ∷ [])
 
 pub record Cases : Type 0 where
-  pub a : endingOf (after settings) 0 (toward 10 4 9 14) 50 ≡ sentTo (2 ^ 3)
-  pub b : endingOf (after then-a) 0 (toward 10 4 9 16) 50 ≡ sentTo (2 ^ 2)
-  pub waiting : (queueIn (after settings) 3 .count ≡ 0) × (queueIn (after then-a) 3 .count ≡ 1)
-  pub receipts : (counterIn (after settings) 0 ≡ 0) × (counterIn (after then-a) 0 ≡ 1)
+  pub a : endingOf (relayAfter settings) 0 (toward 10 4 9 14) 50 ≡ sentTo (2 ^ 3)
+  pub b : endingOf (relayAfter then-a) 0 (toward 10 4 9 16) 50 ≡ sentTo (2 ^ 2)
+  pub waiting : (queueIn (relayAfter settings) 3 .count ≡ 0) × (queueIn (relayAfter then-a) 3 .count ≡ 1)
+  pub receipts : (counterIn (relayAfter settings) 0 ≡ 0) × (counterIn (relayAfter then-a) 0 ≡ 1)
 
 pub cases : Cases
 unfolding firstOf classOf classIn familyOf scpsClass netClass otherClass portMaskRefused formRefused onesRefused maskForm onesOf onesBelow fresh freshRelay readySet routeElsewhere prefixRefused codesRefused sameEntry number controlOf forbidden addressSize stampSize layoutOf addressesOf qosOf octetOf stampOf lengthOf fieldsOf headerOf readChecks readOf aimOf originOf subnetBroadcast broadcastIn classBroadcast ownBroadcast surveyBelow targetOf localOf routeLine lineOf grantedOf copiesOf rulingOf ruledBy ruleTarget ruleOf portSetUp callChecks headerEnding endingOf receivedState countedAt counterFor enteredAll enteredIf putOf matched candidate beaten betterOf searchFrom searchOf
@@ -97,20 +97,20 @@ abbrev pub Verdict : Type 0
 Verdict = Relay → ℕ → List ℕ → ℕ → Ending
 
 module _ (verdict : Verdict) (kept : (r : Relay) (port : ℕ) (octets : List ℕ) (room : ℕ) → verdict r port octets room ≡ endingOf r port octets room) where
-  in-case-a : verdict (after settings) 0 (toward 10 4 9 14) 50 ≡ sentTo (2 ^ 3)
-  in-case-a = kept (after settings) 0 (toward 10 4 9 14) 50 ∙ cases .a
+  in-case-a : verdict (relayAfter settings) 0 (toward 10 4 9 14) 50 ≡ sentTo (2 ^ 3)
+  in-case-a = kept (relayAfter settings) 0 (toward 10 4 9 14) 50 ∙ cases .a
 
   -- It does not refuse every datagram after every history.
-  pub always-refusing : ((cs : List Call) (port : ℕ) (octets : List ℕ) (room : ℕ) → verdict (after cs) port octets room .refusal ≡ 0 → ⊥) → ⊥
+  pub always-refusing : ((cs : List Call) (port : ℕ) (octets : List ℕ) (room : ℕ) → verdict (relayAfter cs) port octets room .refusal ≡ 0 → ⊥) → ⊥
   always-refusing wrong = wrong settings 0 (toward 10 4 9 14) 50 (ap (λ e. e .refusal) in-case-a)
 
   -- Nor does it refuse the onward half of all that it judges.
-  pub never-sending-on : ((cs : List Call) (port : ℕ) (octets : List ℕ) (room : ℕ) → verdict (after cs) port octets room .ruling .onward ≡ SentOn → ⊥) → ⊥
+  pub never-sending-on : ((cs : List Call) (port : ℕ) (octets : List ℕ) (room : ℕ) → verdict (relayAfter cs) port octets room .ruling .onward ≡ SentOn → ⊥) → ⊥
   never-sending-on wrong = wrong settings 0 (toward 10 4 9 14) 50 (ap (λ e. e .ruling .onward) in-case-a)
 
   -- It does not name port 0 alone, whenever it grants a copy.
   pub always-port-0 :
-      ((cs : List Call) (port : ℕ) (octets : List ℕ) (room p : ℕ) → inSet p (verdict (after cs) port octets room .ruling .granted) ≡ true → p ≡ 0)
+      ((cs : List Call) (port : ℕ) (octets : List ℕ) (room p : ℕ) → inSet p (verdict (relayAfter cs) port octets room .ruling .granted) ≡ true → p ≡ 0)
       → ⊥
   always-port-0 wrong =
       let three : _≡_ {A = ℕ} 3 0 = wrong settings 0 (toward 10 4 9 14) 50 3 (ap (λ e. inSet 3 (e .ruling .granted)) in-case-a) in omega arith
@@ -118,11 +118,11 @@ module _ (verdict : Verdict) (kept : (r : Relay) (port : ℕ) (octets : List ℕ
   -- It does not answer as it did to the datagram before.
   pub copying-answers :
       ((cs : List Call) (port : ℕ) (slot : Slot) (first second output : List ℕ)
-      → verdict (after (cs ++ (receives port slot first output ∷ []))) port second (length output) ≡ verdict (after cs) port first (length output))
+      → verdict (relayAfter (cs ++ (receives port slot first output ∷ []))) port second (length output) ≡ verdict (relayAfter cs) port first (length output))
       → ⊥
   copying-answers wrong =
       let same = wrong settings 0 (record { 0 = 1 }) (toward 10 4 9 14) (toward 10 4 9 16) (replicate 50 0) in
-      let b = kept (after then-a) 0 (toward 10 4 9 16) 50 ∙ cases .b in
+      let b = kept (relayAfter then-a) 0 (toward 10 4 9 16) 50 ∙ cases .b in
       let ports : _≡_ {A = ℕ} 4 8 = ap (λ e. e .ruling .granted) (sym b ∙ same ∙ in-case-a) in omega arith
 
 -- ---- states
@@ -131,28 +131,28 @@ module _ (leaves : Relay → Call → Relay) (kept : (r : Relay) (c : Call) → 
   -- It does not leave every queue as it was.
   pub entering-nothing :
       ((cs : List Call) (port : ℕ) (slot : Slot) (octets output : List ℕ) (p : ℕ)
-      → queueIn (leaves (after cs) (receives port slot octets output)) p .count ≡ queueIn (after cs) p .count)
+      → queueIn (leaves (relayAfter cs) (receives port slot octets output)) p .count ≡ queueIn (relayAfter cs) p .count)
       → ⊥
   entering-nothing wrong =
       let same = wrong settings 0 (record { 0 = 1 }) (toward 10 4 9 14) (replicate 50 0) 3 in
-      let left = ap (λ r. queueIn r 3 .count) (kept (after settings) (received (toward 10 4 9 14))) in
+      let left = ap (λ r. queueIn r 3 .count) (kept (relayAfter settings) (received (toward 10 4 9 14))) in
       let none : _≡_ {A = ℕ} 1 0 = sym (cases .waiting .1) ∙ sym left ∙ same ∙ cases .waiting .0 in omega arith
 
   -- Nor every counter.
   pub counting-nothing :
       ((cs : List Call) (port : ℕ) (slot : Slot) (octets output : List ℕ) (i : ℕ)
-      → counterIn (leaves (after cs) (receives port slot octets output)) i ≡ counterIn (after cs) i)
+      → counterIn (leaves (relayAfter cs) (receives port slot octets output)) i ≡ counterIn (relayAfter cs) i)
       → ⊥
   counting-nothing wrong =
       let same = wrong settings 0 (record { 0 = 1 }) (toward 10 4 9 14) (replicate 50 0) 0 in
-      let left = ap (λ r. counterIn r 0) (kept (after settings) (received (toward 10 4 9 14))) in
+      let left = ap (λ r. counterIn r 0) (kept (relayAfter settings) (received (toward 10 4 9 14))) in
       let none : _≡_ {A = ℕ} 1 0 = sym (cases .receipts .1) ∙ sym left ∙ same ∙ cases .receipts .0 in omega arith
 
   -- So it does not do nothing.
-  pub doing-nothing : ((cs : List Call) (c : Call) → leaves (after cs) c ≡ after cs) → ⊥
+  pub doing-nothing : ((cs : List Call) (c : Call) → leaves (relayAfter cs) c ≡ relayAfter cs) → ⊥
   doing-nothing wrong = counting-nothing (λ cs port slot octets output i. ap (λ r. counterIn r i) (wrong cs (receives port slot octets output)))
 
 -- Nor does it have counts other than those that the rules give over the history.
-pub inventing-counts : (left : List Call → Relay) → ((cs : List Call) → left cs ≡ after cs) → (cs : List Call) (i : ℕ) → i < 15
+pub inventing-counts : (left : List Call → Relay) → ((cs : List Call) → left cs ≡ relayAfter cs) → (cs : List Call) (i : ℕ) → i < 15
     → (counterIn (left cs) i ≡ tally cs i % 2 ^ 32 → ⊥) → ⊥
 inventing-counts left kept cs i inside wrong = wrong (ap (λ r. counterIn r i) (kept cs) ∙ counters i inside cs)

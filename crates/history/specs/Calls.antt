@@ -41,10 +41,10 @@ done r (receives port slot octets output) = receivedState r slot (endingOf r por
 done r (takes port) = takenState r port
 
 -- one call after the other
-abbrev pub run : Relay → List Call → Relay
-run r [] = r
-run r (c ∷ cs) = run (done r c) cs
+abbrev pub runFrom : Relay → List Call → Relay
+runFrom r [] = r
+runFrom r (c ∷ cs) = runFrom (done r c) cs
 
 -- what a history leaves
-abbrev pub after : List Call → Relay
-after cs = run freshRelay cs
+abbrev pub relayAfter : List Call → Relay
+relayAfter cs = runFrom freshRelay cs

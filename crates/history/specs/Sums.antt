@@ -35,5 +35,5 @@ abbrev pub drops : Ending → ℕ
 drops e = portsIn 8 (e .ruling .dropped)
 
 -- ---- over the calls, from a fresh relay on
-abbrev pub total : (Ending → ℕ) → List Call → ℕ
-total f cs = sumOver (byEnding f) freshBoard cs
+abbrev pub totalOver : (Ending → ℕ) → List Call → ℕ
+totalOver f cs = sumOver (byEnding f) freshBoard cs

@@ -5,5 +5,5 @@
 // rules give over it, the settings in force, the entries that wait and the counts, is defined from the calls alone, on a board that has
 // no counters: so the theorem that each counter is what the rules give compares two things that know nothing of each other.
 //
-// The awkward case is the counter that comes round to 0 after 2^32 - 1: the tally of the rules is a number without end, and a counter
+// The awkward case is the counter that comes round to 0 relayAfter 2^32 - 1: the tally of the rules is a number without end, and a counter
 // is equal to it modulo 2^32.

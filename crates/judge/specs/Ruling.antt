@@ -25,7 +25,7 @@ use Rattle.survey.specs.declared.Destination.{Destination}
 use Rattle.survey.specs.declared.Destination.the-variants as destination
 use Rattle.survey.specs.declared.Sought.{Sought}
 use Rattle.lookup.specs.Lookup.{pathPlace}
-use Rattle.lookup.specs.Ways.{placeFor, wayFor}
+use Rattle.lookup.specs.ForTarget.{placeFor, wayFor}
 use Rattle.judge.specs.declared.ruling.Arrival.{Arrival}
 
 -- ---- what is asked
@@ -41,13 +41,13 @@ caseOf router arrival f =
     }
 
 -- a path is not compared with any port's address
-abbrev pub destinationOf : Aim → Destination
-destinationOf (aim.Node a) = destination.Node a
-destinationOf (aim.Path p) = destination.Other
-destinationOf aim.Uncarried = destination.Other
+abbrev pub destinationAsked : Aim → Destination
+destinationAsked (aim.Node a) = destination.Node a
+destinationAsked (aim.Path p) = destination.Other
+destinationAsked aim.Uncarried = destination.Other
 
 abbrev pub soughtOf : Aim → ℕ → ℕ → Sought
-soughtOf x domain length = record { destination = destinationOf x; domain = domain; length = length }
+soughtOf x domain length = record { destination = destinationAsked x; domain = domain; length = length }
 
 -- ---- the ruling
 unfoldable pub ruledBy : Target → Place → Way → Case → Survey → Ruling

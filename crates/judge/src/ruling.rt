@@ -21,7 +21,7 @@ ghost use mathlib.Core.Path.{_≡_};
 ghost use Prim.Native.Nat.{_<_};
 ghost use lib.ListN.{length};
 ghost use Rattle.state.specs.Layout.{stateWords, decode};
-ghost use Rattle.judge.specs.Ruling.{ruledBy, ruleNode, caseOf, destinationOf, soughtOf, ruleAim, ruleOf};
+ghost use Rattle.judge.specs.Ruling.{ruledBy, ruleNode, caseOf, destinationAsked, soughtOf, ruleAim, ruleOf};
 
 // Where a datagram came in: the port as a set, and its address.
 pub struct Arrival {
@@ -68,7 +68,7 @@ fn case_of(router: u32, arrival: u32, f: Fields) -> Case
 
 // The destination as the ports are asked for it.
 fn destination_of(aim: Aim) -> Destination
-    ensures { λ r. ⌜ r ≡ destinationOf aim ⌝ }
+    ensures { λ r. ⌜ r ≡ destinationAsked aim ⌝ }
 {
     match aim {
         Aim::Node(a) => Destination::Node(a),

@@ -12,7 +12,7 @@ use verdict::Way;
 ghost use mathlib.Core.Path.{_≡_};
 ghost use lib.ListN.{length};
 ghost use Rattle.state.specs.Layout.{stateWords, decode};
-ghost use Rattle.lookup.specs.Ways.{wayOf, placeFor, wayFor};
+ghost use Rattle.lookup.specs.ForTarget.{wayOf, placeFor, wayFor};
 
 // What the place of a group says, for a group alone.
 pub fn place_for(state: &[u32], t: Target, a: Address, arrival: u32) -> Place

@@ -42,13 +42,13 @@ isBasic (BasicEndSystem d s) = 1
 isBasic (ExtendedEndSystem d s) = 0
 isBasic (Ipv6 d s) = 0
 
-abbrev pub routingOf : Qos → ℕ
-routingOf qos.Absent = 0
-routingOf (qos.Present precedence routing program) = routing
+abbrev pub routingAsked : Qos → ℕ
+routingAsked qos.Absent = 0
+routingAsked (qos.Present precedence routing program) = routing
 
 -- 8: routing requirements not 0, or IPv6 addresses
 abbrev pub notCarried : Fields → Bool
-notCarried f = not (eqb (routingOf (f .qos)) 0) || not (eqb (ipv6Flag (f .addresses)) 0)
+notCarried f = not (eqb (routingAsked (f .qos)) 0) || not (eqb (ipv6Flag (f .addresses)) 0)
 
 -- 7: a one-octet address, and the arrival port's address does not begin with 10
 abbrev pub noDomain : ℕ → Addresses → Bool

@@ -20,7 +20,7 @@ ghost use Rattle.meaning.specs.Names.{
   aimOf,
   originOf,
   isBasic,
-  routingOf,
+  routingAsked,
   notCarried,
   noDomain,
   notUnicast,
@@ -91,7 +91,7 @@ pub fn is_basic(a: Addresses) -> u32
 
 // The routing requirements, 0 where there is no basic QOS.
 fn routing_of(q: Qos) -> u8
-    ensures { λ r. ⌜ r ≡ routingOf q ⌝ }
+    ensures { λ r. ⌜ r ≡ routingAsked q ⌝ }
 {
     match q {
         Qos::Absent => 0,

@@ -4,7 +4,7 @@ use Rattle.address.specs.declared.Slot.{Slot}
 use Rattle.state.specs.Relay.{Relay}
 use Rattle.judge.specs.declared.Ending.{Ending}
 use Rattle.tally.specs.Tally.{movesOf, countedAll}
-use Rattle.relay.specs.Outgo.{enteredAll}
+use Rattle.relay.specs.Outgoing.{enteredAll}
 use Rattle.relay.specs.Received.{newEntry, receivedState}
 
 pub received : (r : Relay) (slot : Slot) (e : Ending) {a b : Relay}

@@ -1,4 +1,4 @@
 -- What the contract cites: receiving.
 pub mod Received
 -- What the contracts cite: what goes out.
-pub mod Outgo
+pub mod Outgoing

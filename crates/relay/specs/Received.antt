@@ -4,7 +4,7 @@ use Rattle.queue.specs.declared.Entry.{Entry}
 use Rattle.state.specs.Relay.{Relay}
 use Rattle.judge.specs.declared.Ending.{Ending}
 use Rattle.tally.specs.Tally.{movesOf, countedAll}
-use Rattle.relay.specs.Outgo.{enteredAll}
+use Rattle.relay.specs.Outgoing.{enteredAll}
 
 -- what waits for the datagram at a port that took it
 abbrev pub newEntry : Slot → Ending → Entry

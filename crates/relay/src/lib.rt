@@ -14,7 +14,7 @@ ghost use mathlib.Core.Path.{_≡_};
 ghost use lib.ListN.{length};
 ghost use Rattle.state.specs.Layout.{stateWords, decode};
 ghost use Rattle.judge.specs.Ending.{endingOf};
-ghost use Rattle.relay.specs.Outgo.{sentOutput};
+ghost use Rattle.relay.specs.Outgoing.{sentOutput};
 ghost use Rattle.relay.specs.Received.{receivedState};
 
 // What becomes of the octets that came in by a port; they are known to the caller by the slot.

@@ -9,7 +9,7 @@ ghost use Prim.Native.Nat.{_≤_, _<_};
 ghost use lib.ListN.{length};
 ghost use Rattle.header.specs.Form.{placesOf};
 ghost use Rattle.state.specs.Layout.{stateWords, decode};
-ghost use Rattle.relay.specs.Outgo.{entered, enteredIf, enteredAll, sentOutput};
+ghost use Rattle.relay.specs.Outgoing.{entered, enteredIf, enteredAll, sentOutput};
 
 // How many ports there are.
 const PORTS: usize = 8;

@@ -1,10 +1,12 @@
 -- The counters that are moved: each is one of the fifteen, or none; and one move after the other. Assumes nothing.
 use native.Mathlib.Omega.{arith}
 use Prim.Native.Nat.{ℕ, _<_}
-use mathlib.Core.Path.{_≡_}
-use mathlib.Core.Bool.{_||_}
+use mathlib.Core.Path.{_≡_, refl}
+use mathlib.Core.Bool.{Bool, true, _&&_, _||_}
 use mathlib.Core.List.{List, [], _∷_}
-use lib.Dec.{eqb}
+use lib.Dec.{eqb, ltb}
+use borrow.Author.Tests.{ltb-true}
+use Rattle.checks.proofs.Bools.{and-true}
 use Rattle.checks.proofs.Laws.{either}
 use Rattle.state.specs.Relay.{Relay, added}
 use Rattle.address.specs.Mask.{onesOf}
@@ -17,20 +19,22 @@ use Rattle.verdict.specs.declared.Ruling.{Ruling}
 use Rattle.judge.specs.declared.Ending.{Ending}
 use Rattle.tally.specs.declared.Counter.{Counter}
 use Rattle.tally.specs.declared.Counter.the-variants.{At, Nothing}
-use Rattle.tally.specs.Tally.{Row, numbered, inTable, Inside, counterFor, receiptCounter, localCounter, onwardCounter, discardCounter, rulingMoves, movesOf, countedAt, countedAll}
+use Rattle.tally.specs.Tally.{CounterRow, numbered, inTable, Inside, counterFor, receiptCounter, localCounter, onwardCounter, discardCounter, rulingMoves, movesOf, countedAt, countedAll}
 
 -- ---- each counter is one of the fifteen, or none
-abbrev AllInside : List Row → Type 0
-AllInside [] = Unit
-AllInside (row ∷ rows) = (row .1 < 15) × AllInside rows
+abbrev allInside : List CounterRow → Bool
+allInside [] = true
+allInside (row ∷ rows) = ltb (row .1) 15 && allInside rows
 
-in-table : (rows : List Row) (n : ℕ) → AllInside rows → Inside (inTable rows n)
+in-table : (rows : List CounterRow) (n : ℕ) → allInside rows ≡ true → Inside (inTable rows n)
 in-table [] n h = tt
-in-table (row ∷ rows) n h = either Inside (eqb n (row .0)) (h .0) (in-table rows n (h .1))
+in-table (row ∷ rows) n h =
+    let both = and-true (ltb (row .1) 15) (allInside rows) h in
+    either Inside (eqb n (row .0)) (ltb-true (row .1) 15 (both .0)) (in-table rows n (both .1))
 
 number-inside : (n : ℕ) → Inside (counterFor n)
 unfolding counterFor
-number-inside n = in-table numbered n (omega arith, (omega arith, (omega arith, (omega arith, (omega arith, (omega arith, (omega arith, (omega arith, (omega arith, (omega arith, (omega arith, (omega arith, (omega arith, (omega arith, (omega arith, tt)))))))))))))))
+number-inside n = in-table numbered n refl
 
 local-inside : (local : Local) → Inside (localCounter local)
 local-inside No = tt

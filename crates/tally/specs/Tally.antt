@@ -18,11 +18,11 @@ use Rattle.tally.specs.declared.Counter.{Counter}
 use Rattle.tally.specs.declared.Counter.the-variants.{At, Nothing}
 
 -- a refusal's number and the place of its counter
-abbrev pub Row : Type 0
-Row = ℕ × ℕ
+abbrev pub CounterRow : Type 0
+CounterRow = ℕ × ℕ
 
 -- page 01's table
-abbrev pub numbered : List Row
+abbrev pub numbered : List CounterRow
 numbered =
     (1, 1)
     ∷ (2, 2)
@@ -42,7 +42,7 @@ numbered =
     ∷ []
 
 -- the counter of a number, where the table has one
-abbrev pub inTable : List Row → ℕ → Counter
+abbrev pub inTable : List CounterRow → ℕ → Counter
 inTable [] n = Nothing
 inTable (row ∷ rows) n = pick (eqb n (row .0)) (At (row .1)) (inTable rows n)
 

@@ -1,4 +1,4 @@
--- What the rule never does, and the ledger of one datagram's copies. Assumes nothing.
+-- What the rule never does, and that one datagram's copies add up. Assumes nothing.
 use Prim.Native.Nat.{ℕ, _+_, _-_}
 use mathlib.Core.Path.{_≡_, refl, sym, _∙_}
 use mathlib.Core.Bool.{Bool, true, false, not, _&&_}
@@ -24,9 +24,9 @@ use Rattle.verdict.specs.declared.Wish.{Wish}
 use Rattle.verdict.specs.declared.Wish.the-variants.{NotAsked, Refused, Wanted}
 
 -- every copy granted is taken or dropped, and none is both
-pub ledger : (local : Local) (granted full : ℕ) → copiesOf local granted full .took + copiesOf local granted full .dropped ≡ copiesOf local granted full .granted
+pub copies-add-up : (local : Local) (granted full : ℕ) → copiesOf local granted full .took + copiesOf local granted full .dropped ≡ copiesOf local granted full .granted
 unfolding copiesOf
-ledger local granted full = omega (arith, and-le-l granted full)
+copies-add-up local granted full = omega (arith, and-le-l granted full)
 
 -- ---- "no" with "not asked" never occurs
 

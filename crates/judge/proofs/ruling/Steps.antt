@@ -24,7 +24,7 @@ use Rattle.verdict.specs.declared.Wish.{Wish}
 use Rattle.verdict.specs.declared.Survey.{Survey}
 use Rattle.verdict.specs.declared.Ruling.{Ruling}
 use Rattle.judge.specs.declared.ruling.Arrival.{Arrival}
-use Rattle.lookup.specs.Ways.{placeFor, wayFor}
+use Rattle.lookup.specs.ForTarget.{placeFor, wayFor}
 use Rattle.judge.specs.Ruling.{ruledBy, ruleTarget, ruleNode, caseOf, soughtOf, ruleAim, ruleOf}
 
 module _ {out : Ruling} where

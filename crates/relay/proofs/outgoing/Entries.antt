@@ -14,7 +14,7 @@ use Rattle.queue.specs.declared.Entry.{Entry}
 use Rattle.queue.specs.declared.Queue.{Queue}
 use Rattle.queue.specs.declared.Put.{Put}
 use Rattle.state.specs.Relay.{Relay, queueIn, withQueue}
-use Rattle.relay.specs.Outgo.{entered, enteredIf, enteredAll, sentOutput}
+use Rattle.relay.specs.Outgoing.{entered, enteredIf, enteredAll, sentOutput}
 
 pub one-entered :
     (r : Relay) (p : ℕ) (e : Entry) {s : Relay} {q : Queue} {put : Put}

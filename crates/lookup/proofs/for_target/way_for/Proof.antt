@@ -1,6 +1,6 @@
 -- `lookup::for_target::way_for` meets its contract. Assumes nothing.
 use mathlib.Core.Path.{ap, _∙_}
-use Rattle.lookup.specs.Ways.{wayOf}
+use Rattle.lookup.specs.ForTarget.{wayOf}
 use borrow.Author.Needs.{needs}
 use Rattle.lookup.proofs.for_target.way_for.Statement.{statement}
 use Rattle.lookup.proofs.for_target.way_for.Tie as tie

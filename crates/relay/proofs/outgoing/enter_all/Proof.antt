@@ -4,7 +4,7 @@ use Prim.Native.Nat.{_-_, _≤_}
 use mathlib.Core.Path.{_≡_}
 use lib.ListN.{length}
 use Rattle.state.specs.Layout.{stateWords, decode}
-use Rattle.relay.specs.Outgo.{enteredAll}
+use Rattle.relay.specs.Outgoing.{enteredAll}
 use Rattle.relay.proofs.outgoing.Entries.{nobody-yet, one-further, all-entered}
 use borrow.Author.Needs.{needs}
 use Rattle.relay.proofs.outgoing.enter_all.Statement.{statement}
