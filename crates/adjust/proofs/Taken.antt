@@ -25,7 +25,7 @@ use Rattle.state.proofs.Places.{port-back, route-back, group-back, path-back, p
 use Rattle.refusals.specs.Lists.{portChecks, routeChecks, groupChecks, pathChecks, routerChecks, clearChecks}
 use Rattle.refusals.proofs.Places.{place-there}
 use Rattle.settings.specs.Refusals.{placeRefused}
-use Rattle.refusals.proofs.set_up.Chains.{areNumbers}
+use Rattle.refusals.proofs.Chains.{areNumbers}
 use Rattle.adjust.specs.Settled.{settled, newPort, newGroup, newPath}
 use Rattle.adjust.specs.Settled.{settledRouter, settledPort, settledRoute, settledGroup, settledPath}
 use Rattle.adjust.specs.Settled.{clearedRoute, clearedGroup, clearedPath}

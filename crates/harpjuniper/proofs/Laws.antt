@@ -8,6 +8,7 @@ use lib.ListN.{length, getD}
 use lib.Dec.{ltb}
 use borrow.Author.Tests.{lt-ltb, le-ltb}
 use Rattle.checks.specs.Order.{checkOf, firstOf}
+use Rattle.checks.specs.Answer.{refusalNumber}
 use Rattle.checks.specs.declared.Check.the-variants.{Passed, Failed}
 use Rattle.checks.proofs.Laws.{passed-false, failed-true}
 use Rattle.header.specs.Range.{outOfRange}
@@ -27,12 +28,12 @@ use Rattle.numbers.specs.Out.{numbersOut}
 use Rattle.harpjuniper.specs.Face.{nothing, readingOf, builtAnswer, buildChecks, buildAnswer, buildOutput}
 
 module _ (n : Numbers) (size : ℕ) (lent : List ℕ) where
-  pub no-room : length lent < 50 → (x : ℕ) → x ≡ 17 * 4294967296 → (x ≡ buildAnswer n size (length lent)) × (lent ≡ buildOutput n size lent)
+  pub no-room : length lent < 50 → (x : ℕ) → x ≡ refusalNumber 17 → (x ≡ buildAnswer n size (length lent)) × (lent ≡ buildOutput n size lent)
   unfolding buildAnswer buildOutput buildChecks firstOf
   no-room h x e = (simp (lt-ltb (length lent) 50 h) e, simp (lt-ltb (length lent) 50 h))
 
   module _ (room : 50 ≤ length lent) where
-    pub no-fields : checkOf (numbersOut n) ≡ Failed → (x : ℕ) → x ≡ 19 * 4294967296 → (x ≡ buildAnswer n size (length lent)) × (lent ≡ buildOutput n size lent)
+    pub no-fields : checkOf (numbersOut n) ≡ Failed → (x : ℕ) → x ≡ refusalNumber 19 → (x ≡ buildAnswer n size (length lent)) × (lent ≡ buildOutput n size lent)
     unfolding buildAnswer buildOutput buildChecks firstOf
     no-fields h x e =
         let a = le-ltb (length lent) 50 room in

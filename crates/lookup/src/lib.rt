@@ -7,14 +7,13 @@ pub mod for_target;
 
 use address::Address;
 use address::PathAddress;
+use sets::indexes::GROUPS;
+use sets::indexes::PATHS;
 use verdict::Place;
 ghost use mathlib.Core.Path.{_≡_};
 ghost use lib.ListN.{length};
 ghost use Rattle.state.specs.Layout.{stateWords, decode};
 ghost use Rattle.lookup.specs.Lookup.{groupFound, pathFound, groupPlace, pathPlace};
-
-// How many places there are of each kind; as a place, none of them.
-const PLACES: usize = 16;
 
 // The place of a group.
 fn find_group(state: &[u32], a: Address) -> usize
@@ -22,7 +21,7 @@ fn find_group(state: &[u32], a: Address) -> usize
     ensures { λ r. ⌜ r ≡ groupFound (decode (now (state .entry))) a ⌝ }
 {
     let mut i = 0;
-    while i < PLACES {
+    while i < GROUPS {
         let g = state_places::group_of(state, i);
         if records::holds_group(g, a) {
             return i;
@@ -38,7 +37,7 @@ fn find_path(state: &[u32], p: PathAddress) -> usize
     ensures { λ r. ⌜ r ≡ pathFound (decode (now (state .entry))) p ⌝ }
 {
     let mut i = 0;
-    while i < PLACES {
+    while i < PATHS {
         let x = state_places::path_of(state, i);
         if records::holds_path(x, p) {
             return i;
@@ -54,7 +53,7 @@ pub fn group_place(state: &[u32], a: Address, arrival: u32) -> Place
     ensures { λ r. ⌜ r ≡ groupPlace (decode (now (state .entry))) a arrival ⌝ }
 {
     let i = find_group(state, a);
-    if i < PLACES {
+    if i < GROUPS {
         let g = state_places::group_of(state, i);
         return Place::Held(g.send, g.subscribed & arrival);
     }
@@ -67,7 +66,7 @@ pub fn path_place(state: &[u32], p: PathAddress) -> Place
     ensures { λ r. ⌜ r ≡ pathPlace (decode (now (state .entry))) p ⌝ }
 {
     let i = find_path(state, p);
-    if i < PLACES {
+    if i < PATHS {
         let x = state_places::path_of(state, i);
         return Place::Held(x.send, x.here);
     }

@@ -9,6 +9,7 @@
 use address::Address;
 use networks::Broadcast;
 use records::Port;
+use sets::indexes::PORTS;
 use verdict::Survey;
 ghost use mathlib.Core.Path.{_≡_};
 ghost use Prim.Native.Nat.{_≤_, _<_};
@@ -22,12 +23,6 @@ pub struct Sought {
     pub domain: u32,
     pub length: u32,
 }
-
-// How many ports there are.
-const PORTS: usize = 8;
-
-// How many entries a queue holds.
-const ENTRIES: u32 = 32;
 
 fn broadcast_is(b: Broadcast, a: Address) -> bool
     ensures { λ r. ⌜ r ≡ broadcastIs b a ⌝ }
@@ -76,7 +71,7 @@ fn see(s: Survey, port: u32, p: Port, waiting: u32, q: Sought) -> Survey
         ours: with_port(s.ours, is_ours(p, a), port),
         near: with_port(s.near, networks::domain_of(own) == q.domain, port),
         wide: with_port(s.wide, !(p.mtu < q.length), port),
-        full: with_port(s.full, !(waiting < ENTRIES), port),
+        full: with_port(s.full, !(waiting < queue::ENTRIES), port),
     }
 }
 
