@@ -29,6 +29,8 @@ pub const ENTRIES: u32 = 32;
 
 const PLACES: usize = ENTRIES as usize;
 
+const LAST: usize = PLACES - 1;
+
 pub struct Queue {
     pub entries: [Entry; PLACES],
     pub count: u32,
@@ -86,7 +88,7 @@ fn moved_up(entries: [Entry; PLACES]) -> [Entry; PLACES]
     ensures { λ r. ⌜ r ≡ movedUp entries ⌝ }
 {
     let mut out = [FREE; PLACES];
-    for i in 0..31usize {
+    for i in 0..LAST {
         let next = entries[i + 1];
         out[i] = next;
     }
