@@ -18,6 +18,7 @@ use Rattle.records.specs.declared.Port.{Port}
 use Rattle.records.specs.declared.Group.{Group}
 use Rattle.records.specs.declared.PathPlace.{PathPlace}
 use Rattle.records.specs.Fresh.{freshGroup, freshPath}
+use Rattle.sets.specs.Limits.{portCount, routePlaces, groupPlaces, pathPlaces}
 use Rattle.state.specs.Relay.{Relay, portIn, routeIn, groupIn, pathIn, withRouter, withPort, withRoute, withGroup, withPath}
 use Rattle.state.specs.Relay.{allPorts, allRoutes, withMission, allGroups, allPaths}
 use Rattle.state.proofs.Sizes.{Sized}
@@ -25,7 +26,7 @@ use Rattle.state.proofs.Places.{port-back, route-back, group-back, path-back, p
 use Rattle.refusals.specs.Lists.{portChecks, routeChecks, groupChecks, pathChecks, routerChecks, clearChecks}
 use Rattle.refusals.proofs.Places.{place-there}
 use Rattle.settings.specs.Refusals.{placeRefused}
-use Rattle.refusals.proofs.set_up.Chains.{areNumbers}
+use Rattle.refusals.proofs.Chains.{areNumbers}
 use Rattle.adjust.specs.Settled.{settled, newPort, newGroup, newPath}
 use Rattle.adjust.specs.Settled.{settledRouter, settledPort, settledRoute, settledGroup, settledPath}
 use Rattle.adjust.specs.Settled.{clearedRoute, clearedGroup, clearedPath}
@@ -60,29 +61,29 @@ written-back {A} view new old x i places more numbers none back =
 module _ (r : Relay) (sized : Sized r) (i : ℕ) where
   pub port-taken : (address : Address) (mask : Mask) (mtu : ℕ) → firstOf (portChecks r i address mask mtu) ≡ 0
       → portIn (settledPort r i address mask mtu) i ≡ newPort address mask mtu
-  port-taken address mask mtu none = written-back (λ y. portIn y i) _ r _ i 8 _ refl none (port-back r sized i (newPort address mask mtu))
+  port-taken address mask mtu none = written-back (λ y. portIn y i) _ r _ i portCount _ refl none (port-back r sized i (newPort address mask mtu))
 
   pub route-taken : (x : Route) → firstOf (routeChecks r i x) ≡ 0 → routeIn (settledRoute r i x) i ≡ x
-  route-taken x none = written-back (λ y. routeIn y i) _ r _ i 64 _ refl none (route-back r sized i x)
+  route-taken x none = written-back (λ y. routeIn y i) _ r _ i routePlaces _ refl none (route-back r sized i x)
 
   pub group-taken : (address : Address) (send subscribed : ℕ) → firstOf (groupChecks r i address send subscribed) ≡ 0
       → groupIn (settledGroup r i address send subscribed) i ≡ newGroup address send subscribed
   group-taken address send subscribed none =
-      written-back (λ y. groupIn y i) _ r _ i 16 _ refl none (group-back r sized i (newGroup address send subscribed))
+      written-back (λ y. groupIn y i) _ r _ i groupPlaces _ refl none (group-back r sized i (newGroup address send subscribed))
 
   pub path-taken : (path : PathAddress) (send here : ℕ) → firstOf (pathChecks r i path send here) ≡ 0
       → pathIn (settledPath r i path send here) i ≡ newPath path send here
-  path-taken path send here none = written-back (λ y. pathIn y i) _ r _ i 16 _ refl none (path-back r sized i (newPath path send here))
+  path-taken path send here none = written-back (λ y. pathIn y i) _ r _ i pathPlaces _ refl none (path-back r sized i (newPath path send here))
 
   -- an emptied place is a fresh one
-  pub route-emptied : firstOf (clearChecks i 64) ≡ 0 → routeIn (clearedRoute r i) i ≡ emptyRoute
-  route-emptied none = written-back (λ y. routeIn y i) _ r _ i 64 _ refl none (route-back r sized i emptyRoute)
+  pub route-emptied : firstOf (clearChecks i routePlaces) ≡ 0 → routeIn (clearedRoute r i) i ≡ emptyRoute
+  route-emptied none = written-back (λ y. routeIn y i) _ r _ i routePlaces _ refl none (route-back r sized i emptyRoute)
 
-  pub group-emptied : firstOf (clearChecks i 16) ≡ 0 → groupIn (clearedGroup r i) i ≡ freshGroup
-  group-emptied none = written-back (λ y. groupIn y i) _ r _ i 16 _ refl none (group-back r sized i freshGroup)
+  pub group-emptied : firstOf (clearChecks i groupPlaces) ≡ 0 → groupIn (clearedGroup r i) i ≡ freshGroup
+  group-emptied none = written-back (λ y. groupIn y i) _ r _ i groupPlaces _ refl none (group-back r sized i freshGroup)
 
-  pub path-emptied : firstOf (clearChecks i 16) ≡ 0 → pathIn (clearedPath r i) i ≡ freshPath
-  path-emptied none = written-back (λ y. pathIn y i) _ r _ i 16 _ refl none (path-back r sized i freshPath)
+  pub path-emptied : firstOf (clearChecks i pathPlaces) ≡ 0 → pathIn (clearedPath r i) i ≡ freshPath
+  path-emptied none = written-back (λ y. pathIn y i) _ r _ i pathPlaces _ refl none (path-back r sized i freshPath)
 
 -- ---- no other place and no other part changes, whatever is written and whatever the answer
 -- No other place of the same kind.

@@ -12,6 +12,7 @@ use Rattle.records.specs.declared.Port.{Port}
 use Rattle.records.specs.declared.Group.{Group}
 use Rattle.records.specs.declared.PathPlace.{PathPlace}
 use Rattle.records.specs.Fresh.{freshGroup, freshPath}
+use Rattle.sets.specs.Limits.{routePlaces, groupPlaces, pathPlaces}
 use Rattle.state.specs.Relay.{Relay, withRouter, withPort, withRoute, withGroup, withPath}
 use Rattle.refusals.specs.Lists.{portChecks, routeChecks, groupChecks, pathChecks, routerChecks, clearChecks}
 
@@ -52,10 +53,10 @@ settledPath r i path send here = settled (firstOf (pathChecks r i path send here
 
 -- "Route, group and path places may be emptied, empty ones too"
 abbrev pub clearedRoute : Relay → ℕ → Relay
-clearedRoute r i = settled (firstOf (clearChecks i 64)) (withRoute r i emptyRoute) r
+clearedRoute r i = settled (firstOf (clearChecks i routePlaces)) (withRoute r i emptyRoute) r
 
 abbrev pub clearedGroup : Relay → ℕ → Relay
-clearedGroup r i = settled (firstOf (clearChecks i 16)) (withGroup r i freshGroup) r
+clearedGroup r i = settled (firstOf (clearChecks i groupPlaces)) (withGroup r i freshGroup) r
 
 abbrev pub clearedPath : Relay → ℕ → Relay
-clearedPath r i = settled (firstOf (clearChecks i 16)) (withPath r i freshPath) r
+clearedPath r i = settled (firstOf (clearChecks i pathPlaces)) (withPath r i freshPath) r

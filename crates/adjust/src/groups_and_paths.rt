@@ -1,7 +1,6 @@
 // The settings calls of group and path places: filling one and emptying one.
 //
-// As in the crate `adjust`: each call asks first what refuses it and writes one place only where nothing does. It stands apart to keep
-// the check of each crate short. A set names ports that are set up while it is written; a port is never emptied, so it stays so.
+// As at the root of this crate, each call asks first what refuses it and writes one place only where nothing does. A set names ports that are set up while it is written; a port is never emptied, so it stays so.
 use address::Address;
 use address::PathAddress;
 use checks::Check;
@@ -10,14 +9,10 @@ use records::PathPlace;
 ghost use mathlib.Core.Path.{_≡_};
 ghost use lib.ListN.{length};
 ghost use Rattle.checks.specs.Order.{firstOf};
+ghost use Rattle.sets.specs.Limits.{groupPlaces, pathPlaces};
 ghost use Rattle.state.specs.Layout.{stateWords, decode};
 ghost use Rattle.refusals.specs.Lists.{groupChecks, pathChecks, clearChecks};
 ghost use Rattle.adjust.specs.Settled.{settledGroup, settledPath, clearedGroup, clearedPath};
-
-// How many places there are.
-const GROUPS: u32 = 16;
-
-const PATHS: u32 = 16;
 
 // Fills a group place.
 pub fn set_group(state: &mut [u32], place: u32, address: Address, send: u32, subscribed: u32) -> u32
@@ -68,10 +63,10 @@ pub fn set_path(state: &mut [u32], place: u32, path: PathAddress, send: u32, her
 // Empties a group place.
 pub fn clear_group(state: &mut [u32], place: u32) -> u32
     requires { ⌜ length (now state) ≡ stateWords ⌝ }
-    ensures answer { λ r. ⌜ r ≡ firstOf (clearChecks place 16) ⌝ }
+    ensures answer { λ r. ⌜ r ≡ firstOf (clearChecks place groupPlaces) ⌝ }
     ensures left { λ _. ⌜ decode (now (state .exit)) ≡ clearedGroup (decode (now (state .entry))) place ⌝ }
 {
-    let Check::Passed = settings::check_place(place, GROUPS) else {
+    let Check::Passed = settings::check_place(place, sets::GROUPS) else {
         return 21;
     };
     let x = Group {
@@ -87,10 +82,10 @@ pub fn clear_group(state: &mut [u32], place: u32) -> u32
 // Empties a path place.
 pub fn clear_path(state: &mut [u32], place: u32) -> u32
     requires { ⌜ length (now state) ≡ stateWords ⌝ }
-    ensures answer { λ r. ⌜ r ≡ firstOf (clearChecks place 16) ⌝ }
+    ensures answer { λ r. ⌜ r ≡ firstOf (clearChecks place pathPlaces) ⌝ }
     ensures left { λ _. ⌜ decode (now (state .exit)) ≡ clearedPath (decode (now (state .entry))) place ⌝ }
 {
-    let Check::Passed = settings::check_place(place, PATHS) else {
+    let Check::Passed = settings::check_place(place, sets::PATHS) else {
         return 21;
     };
     let x = PathPlace {

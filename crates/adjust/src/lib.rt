@@ -1,4 +1,4 @@
-// The settings calls: router or host, a port, a route, and the emptying of a route place. Groups and paths stand in `adjust_places`.
+// The settings calls: router or host, a port, a route, and the emptying of a route place. Groups and paths stand in the module `groups_and_paths`.
 //
 // Each call asks first what refuses it (crate `refusals`), and writes one place of the state only where nothing does: a refused call
 // answers its number and changes nothing, a taken one answers 0 and its record stands in the place. A filled record has 1 as its flag,
@@ -14,12 +14,10 @@ use routes::Route;
 ghost use mathlib.Core.Path.{_≡_};
 ghost use lib.ListN.{length};
 ghost use Rattle.checks.specs.Order.{firstOf};
+ghost use Rattle.sets.specs.Limits.{routePlaces};
 ghost use Rattle.state.specs.Layout.{stateWords, decode};
 ghost use Rattle.refusals.specs.Lists.{portChecks, routeChecks, routerChecks, clearChecks};
 ghost use Rattle.adjust.specs.Settled.{newRoute, settledRouter, settledPort, settledRoute, clearedRoute};
-
-// How many places there are.
-const ROUTES: u32 = 64;
 
 // 1 makes the node a router, 0 a host.
 pub fn set_router(state: &mut [u32], router: u32) -> u32
@@ -99,10 +97,10 @@ pub fn set_route(
 // Empties a route place.
 pub fn clear_route(state: &mut [u32], place: u32) -> u32
     requires { ⌜ length (now state) ≡ stateWords ⌝ }
-    ensures answer { λ r. ⌜ r ≡ firstOf (clearChecks place 64) ⌝ }
+    ensures answer { λ r. ⌜ r ≡ firstOf (clearChecks place routePlaces) ⌝ }
     ensures left { λ _. ⌜ decode (now (state .exit)) ≡ clearedRoute (decode (now (state .entry))) place ⌝ }
 {
-    let Check::Passed = settings::check_place(place, ROUTES) else {
+    let Check::Passed = settings::check_place(place, sets::ROUTES) else {
         return 21;
     };
     let x = Route {

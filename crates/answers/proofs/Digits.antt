@@ -5,7 +5,8 @@ use native.Mathlib.Nat.{div-eq-of-lt, mod-eq-of-lt}
 use Prim.Native.Nat.{ℕ, _+_, _*_, _/_, _%_, _^_, _<_}
 use mathlib.Core.Path.{_≡_, ap, _∙_}
 use lib.Arith.{digits-div, digits-mod}
-use Rattle.answers.specs.Answers.{partsOf, refusalNumber}
+use Rattle.checks.specs.Answer.{refusalNumber}
+use Rattle.answers.specs.Answers.{partsOf}
 
 digit : (n q x r : ℕ) {m k : ℕ} → n ≡ (q * k + x) * m + r → r < m → x < k → n / m % k ≡ x
 digit n q x r {m} {k} e h l = ap (λ y. y / m % k) e ∙ ap (λ y. y % k) (digits-div (q * k + x) h) ∙ digits-mod q l

@@ -3,6 +3,7 @@
 use Prim.Native.Nat.{ℕ, _+_, _*_, _%_, _^_}
 use lib.Dec.{eqb}
 use Rattle.checks.specs.Order.{pick}
+use Rattle.checks.specs.Answer.{refusalNumber}
 use Rattle.queue.specs.declared.Entry.{Entry}
 use Rattle.verdict.specs.Numbers.{localNumber, onwardNumber}
 use Rattle.judge.specs.declared.Ending.{Ending}
@@ -27,10 +28,6 @@ receiveNumber e =
     (e .ruling .took % 256)
     (e .ruling .dropped % 256)
     (sentSize (e .ruling .took) (e .size) % 256)
-
--- ---- a refusal above 32 bits of value
-abbrev pub refusalNumber : ℕ → ℕ
-refusalNumber n = n * 2 ^ 32
 
 -- ---- taking: the precedence above the slot
 abbrev pub entryNumber : Entry → ℕ

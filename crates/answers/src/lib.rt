@@ -8,7 +8,7 @@ use judge::Ending;
 use taking::Taking;
 ghost use mathlib.Core.Path.{_≡_};
 ghost use Prim.Native.Nat.{_%_, _<_};
-ghost use Rattle.answers.specs.Answers.{sentSize, partsOf, receiveNumber, refusalNumber, entryNumber, takingNumber};
+ghost use Rattle.answers.specs.Answers.{sentSize, partsOf, receiveNumber, entryNumber, takingNumber};
 
 // One part of an answer.
 fn part(x: u32) -> u64
@@ -55,19 +55,12 @@ pub fn receive_number(e: Ending) -> u64
     )
 }
 
-// A refusal above a value that is none.
-pub fn refusal_number(number: u32) -> u64
-    ensures { λ r. ⌜ r ≡ refusalNumber number ⌝ }
-{
-    number as u64 * 0x1_0000_0000
-}
-
 // What taking answers.
 pub fn taking_number(t: Taking) -> u64
     ensures { λ r. ⌜ r ≡ takingNumber t ⌝ }
 {
     match t {
         Taking::Handed(e) => e.precedence as u64 * 0x1_0000 + e.slot.0 as u64,
-        Taking::Refused(number) => refusal_number(number),
+        Taking::Refused(number) => checks::refusal_number(number),
     }
 }

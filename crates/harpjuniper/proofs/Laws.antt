@@ -6,6 +6,7 @@ use mathlib.Core.List.{List}
 use mathlib.Core.Bool.{Bool, true, false}
 use lib.ListN.{length, getD}
 use Rattle.checks.specs.Order.{checkOf, firstOf}
+use Rattle.checks.specs.Answer.{refusalNumber}
 use Rattle.checks.specs.declared.Check.the-variants.{Passed, Failed}
 use Rattle.checks.proofs.Laws.{passed-false, failed-true}
 use Rattle.header.specs.Limits.{noRoom, tooMuchData}
@@ -25,12 +26,12 @@ use Rattle.numbers.specs.Out.{numbersOut}
 use Rattle.harpjuniper.specs.Face.{nothing, readingOf, builtAnswer, numbersChecks, buildAnswer, buildOutput}
 
 module _ (n : Numbers) (dataSize : ℕ) (lent : List ℕ) where
-  pub no-room : checkOf (noRoom (length lent)) ≡ Failed → (x : ℕ) → x ≡ 17 * 4294967296 → (x ≡ buildAnswer n dataSize (length lent)) × (lent ≡ buildOutput n dataSize lent)
+  pub no-room : checkOf (noRoom (length lent)) ≡ Failed → (x : ℕ) → x ≡ refusalNumber 17 → (x ≡ buildAnswer n dataSize (length lent)) × (lent ≡ buildOutput n dataSize lent)
   unfolding buildAnswer buildOutput numbersChecks firstOf
   no-room h x e = let a = failed-true (noRoom (length lent)) h in (simp a e, simp a)
 
   module _ (room : checkOf (noRoom (length lent)) ≡ Passed) where
-    pub no-fields : checkOf (numbersOut n) ≡ Failed → (x : ℕ) → x ≡ 19 * 4294967296 → (x ≡ buildAnswer n dataSize (length lent)) × (lent ≡ buildOutput n dataSize lent)
+    pub no-fields : checkOf (numbersOut n) ≡ Failed → (x : ℕ) → x ≡ refusalNumber 19 → (x ≡ buildAnswer n dataSize (length lent)) × (lent ≡ buildOutput n dataSize lent)
     unfolding buildAnswer buildOutput numbersChecks firstOf
     no-fields h x e =
         let a = passed-false (noRoom (length lent)) room in

@@ -1,10 +1,11 @@
 -- The numbers that C gets (include/harpjuniper.h). Assumes nothing.
-use Prim.Native.Nat.{ℕ, _*_}
+use Prim.Native.Nat.{ℕ}
 use mathlib.Core.List.{List, [], _∷_}
 use mathlib.Core.Bool.{_||_}
 use lib.ListN.{length}
 use lib.Dec.{eqb}
 use Rattle.checks.specs.Order.{pick, Checks, firstOf}
+use Rattle.checks.specs.Answer.{refusalNumber}
 use Rattle.octets.specs.Octets.{fronted}
 use Rattle.header.specs.Limits.{noRoom, tooMuchData}
 use Rattle.header.specs.Range.{outOfRange}
@@ -56,11 +57,11 @@ readingOf (read.Good h) = record { refusal = 0; length = h .length; header = h .
 
 -- an answer that is a refusal or a value: the refusal above a value of 32 bits
 abbrev pub answerBy : ℕ → ℕ → ℕ
-answerBy refusal value = pick (eqb refusal 0) value (refusal * 4294967296)
+answerBy refusal value = pick (eqb refusal 0) value (refusalNumber refusal)
 
 abbrev pub builtAnswer : Built → ℕ
 builtAnswer (built.Done size) = size
-builtAnswer (built.Refused n) = n * 4294967296
+builtAnswer (built.Refused n) = refusalNumber n
 
 -- no room; numbers that stand for no fields, or for fields out of range; too much data (page 01, "Refusal numbers")
 unfoldable pub numbersChecks : Numbers → ℕ → ℕ → Checks

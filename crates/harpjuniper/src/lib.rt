@@ -9,8 +9,8 @@ use header::Read;
 use numbers::Numbers;
 use numbers::Wide;
 ghost use mathlib.Core.Path.{_≡_};
-ghost use Prim.Native.Nat.{_*_};
 ghost use lib.ListN.{length};
+ghost use Rattle.checks.specs.Answer.{refusalNumber};
 ghost use Rattle.header.specs.Read.{readOf};
 ghost use Rattle.harpjuniper.specs.Face.{readingOf, nothing, builtAnswer, buildAnswer, buildOutput};
 
@@ -84,9 +84,9 @@ pub extern "C" fn hj_read(octets: &[u8]) -> Reading
 
 // A refusal, with no value below it.
 fn refusal(number: u8) -> u64
-    ensures { λ r. ⌜ r ≡ number * 4294967296 ⌝ }
+    ensures { λ r. ⌜ r ≡ refusalNumber number ⌝ }
 {
-    number as u64 * 4294967296
+    checks::refusal_number(number as u32)
 }
 
 // What building answers, as one number.

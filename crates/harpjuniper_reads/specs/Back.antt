@@ -1,8 +1,9 @@
 -- The settings as C reads them back (include/harpjuniper.h): the record at a place, or 21 where there is no such place (page 01, "Refusal
 -- numbers"). Assumes nothing.
-use Prim.Native.Nat.{ℕ, _*_, _^_}
+use Prim.Native.Nat.{ℕ}
 use lib.Dec.{ltb}
 use Rattle.checks.specs.Order.{pick}
+use Rattle.sets.specs.Limits.{portCount, routePlaces, groupPlaces, pathPlaces}
 use Rattle.routes.specs.Routes.{emptyRoute}
 use Rattle.routes.specs.declared.Route.{Route}
 use Rattle.records.specs.Fresh.{freshPort, freshGroup, freshPath}
@@ -14,10 +15,6 @@ use Rattle.harpjuniper_reads.specs.declared.PortBack.{PortBack}
 use Rattle.harpjuniper_reads.specs.declared.RouteBack.{RouteBack}
 use Rattle.harpjuniper_reads.specs.declared.GroupBack.{GroupBack}
 use Rattle.harpjuniper_reads.specs.declared.PathBack.{PathBack}
-
--- the refusal above 32 bits
-abbrev pub refusedRouter : ℕ
-refusedRouter = 21 * 2 ^ 32
 
 -- ---- a record with the refusal before it
 abbrev pub portRead : ℕ → Port → PortBack
@@ -56,13 +53,13 @@ noPathBack = pathRead 21 freshPath
 
 -- ---- what a relay answers
 unfoldable pub portBack : Relay → ℕ → PortBack
-portBack r p = pick (ltb p 8) (portRead 0 (portIn r p)) noPortBack
+portBack r p = pick (ltb p portCount) (portRead 0 (portIn r p)) noPortBack
 
 unfoldable pub routeBack : Relay → ℕ → RouteBack
-routeBack r i = pick (ltb i 64) (routeRead 0 (routeIn r i)) noRouteBack
+routeBack r i = pick (ltb i routePlaces) (routeRead 0 (routeIn r i)) noRouteBack
 
 unfoldable pub groupBack : Relay → ℕ → GroupBack
-groupBack r i = pick (ltb i 16) (groupRead 0 (groupIn r i)) noGroupBack
+groupBack r i = pick (ltb i groupPlaces) (groupRead 0 (groupIn r i)) noGroupBack
 
 unfoldable pub pathBack : Relay → ℕ → PathBack
-pathBack r i = pick (ltb i 16) (pathRead 0 (pathIn r i)) noPathBack
+pathBack r i = pick (ltb i pathPlaces) (pathRead 0 (pathIn r i)) noPathBack

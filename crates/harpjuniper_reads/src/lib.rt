@@ -4,10 +4,10 @@
 // place. So what `hj_set_port` took is what `hj_get_port` gives, word for word. The awkward case is a place that is empty or a port that
 // is not set up: it is read like any other, and its first field says so.
 ghost use mathlib.Core.Path.{_≡_};
+ghost use Rattle.checks.specs.Answer.{refusalNumber};
 ghost use Rattle.state.specs.Relay.{Relay};
 ghost use Rattle.lent_state.specs.View.{told};
 ghost use Rattle.harpjuniper_reads.specs.Back.{
-  refusedRouter,
   portBack,
   routeBack,
   groupBack,
@@ -59,10 +59,10 @@ pub struct PathBack {
 // 1 for a router, 0 for a host; the refusal 21 stands above 32 bits.
 #[no_mangle]
 pub extern "C" fn hj_get_router(state: &[u32]) -> u64
-    ensures { λ r. ⌜ r ≡ told (λ (x : Relay). x .router) refusedRouter (now (state .entry)) ⌝ }
+    ensures { λ r. ⌜ r ≡ told (λ (x : Relay). x .router) (refusalNumber 21) (now (state .entry)) ⌝ }
 {
     if state.len() != state_ports::STATE_WORDS {
-        return 21 * 0x1_0000_0000;
+        return checks::refusal_number(21);
     }
     state_ports::router_of(state) as u64
 }
@@ -86,7 +86,7 @@ pub extern "C" fn hj_get_port(state: &[u32], port: u32) -> PortBack
     if state.len() != state_ports::STATE_WORDS {
         return no_port();
     }
-    if 8 <= port {
+    if sets::PORTS <= port {
         return no_port();
     }
     let p = state_ports::port_of(state, port as usize);
@@ -120,7 +120,7 @@ pub extern "C" fn hj_get_route(state: &[u32], place: u32) -> RouteBack
     if state.len() != state_ports::STATE_WORDS {
         return no_route();
     }
-    if 64 <= place {
+    if sets::ROUTES <= place {
         return no_route();
     }
     let x = state_routes::route_of(state, place as usize);
@@ -154,7 +154,7 @@ pub extern "C" fn hj_get_group(state: &[u32], place: u32) -> GroupBack
     if state.len() != state_ports::STATE_WORDS {
         return no_group();
     }
-    if 16 <= place {
+    if sets::GROUPS <= place {
         return no_group();
     }
     let x = state_places::group_of(state, place as usize);
@@ -186,7 +186,7 @@ pub extern "C" fn hj_get_path(state: &[u32], place: u32) -> PathBack
     if state.len() != state_ports::STATE_WORDS {
         return no_path();
     }
-    if 16 <= place {
+    if sets::PATHS <= place {
         return no_path();
     }
     let x = state_places::path_of(state, place as usize);

@@ -3,7 +3,7 @@ use Prim.Native.Nat.{ℕ, _≤_, _<_}
 use mathlib.Core.Path.{_≡_}
 use borrow.Author.Tests.{lt-ltb, le-ltb}
 use Rattle.state.specs.Relay.{Relay, queueIn, counterIn}
-use Rattle.answers.specs.Answers.{refusalNumber}
+use Rattle.checks.specs.Answer.{refusalNumber}
 use Rattle.harpjuniper_relay.specs.Face.{counterAnswer, waitingAnswer}
 
 module _ (r : Relay) (i : ℕ) {n : ℕ} where

@@ -18,13 +18,14 @@ use Rattle.queue.specs.declared.Taken.{Taken}
 use Rattle.queue.specs.declared.Head.{Head}
 use Rattle.queue.specs.declared.Head.the-variants.{First, Nothing}
 use Rattle.state.specs.Relay.{Relay, queueIn, counterIn, portSetUp}
-use Rattle.state.specs.Layout.{stateWords, decode, entryOf, queueOf}
+use Rattle.state.specs.Layout.{stateWords, decode, entryOfWord, queueOf}
 use Rattle.state.proofs.Reading.{taken, queue-read, counter-read}
 use Rattle.taking.specs.Taking.{handsOut, takeOutcome}
 use Rattle.taking.specs.declared.Taking.{Taking}
 use Rattle.taking.specs.declared.Taking.the-variants.{Handed, Refused}
 use Rattle.state_ports.proofs.SetUp.{is-port}
-use Rattle.answers.specs.Answers.{refusalNumber, takingNumber}
+use Rattle.checks.specs.Answer.{refusalNumber}
+use Rattle.answers.specs.Answers.{takingNumber}
 use Rattle.answers.proofs.Digits.{Three, entry-parts, refusal-parts, Two, value-parts, refusal-above}
 use Rattle.lent_state.specs.View.{Held, Other, lent, byLent, told}
 use Rattle.harpjuniper_relay.specs.Face.{takeAnswer, counterAnswer, waitingAnswer}
@@ -43,7 +44,7 @@ abbrev Fits : Head → Type 0
 Fits (First e) = (e .slot .0 < 65536) × (e .precedence < 65536)
 Fits Nothing = Unit
 
-first-fits : (n : ℕ) (q : Queue) (l : List ℕ) → getD l 0 0 < 2 ^ 32 → Fits (takenFrom q (take n (map entryOf l)) .head)
+first-fits : (n : ℕ) (q : Queue) (l : List ℕ) → getD l 0 0 < 2 ^ 32 → Fits (takenFrom q (take n (map entryOfWord l)) .head)
 first-fits zero q l h = tt
 first-fits (suc n) q [] h = tt
 first-fits (suc n) q (x ∷ l) h = (omega arith, omega arith)

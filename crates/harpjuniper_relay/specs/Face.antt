@@ -2,16 +2,18 @@
 use Prim.Native.Nat.{ℕ}
 use lib.Dec.{ltb}
 use Rattle.checks.specs.Order.{pick}
+use Rattle.sets.specs.Limits.{portCount, counterCount}
 use Rattle.state.specs.Relay.{Relay, queueIn, counterIn}
 use Rattle.taking.specs.Taking.{takeOutcome}
-use Rattle.answers.specs.Answers.{refusalNumber, takingNumber}
+use Rattle.checks.specs.Answer.{refusalNumber}
+use Rattle.answers.specs.Answers.{takingNumber}
 
 abbrev pub takeAnswer : Relay → ℕ → ℕ
 takeAnswer r port = takingNumber (takeOutcome r port)
 
 -- 21 where there is no such counter, and no such port
 unfoldable pub counterAnswer : Relay → ℕ → ℕ
-counterAnswer r i = pick (ltb i 15) (counterIn r i) (refusalNumber 21)
+counterAnswer r i = pick (ltb i counterCount) (counterIn r i) (refusalNumber 21)
 
 unfoldable pub waitingAnswer : Relay → ℕ → ℕ
-waitingAnswer r port = pick (ltb port 8) (queueIn r port .count) (refusalNumber 21)
+waitingAnswer r port = pick (ltb port portCount) (queueIn r port .count) (refusalNumber 21)

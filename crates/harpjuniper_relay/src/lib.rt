@@ -8,7 +8,7 @@ ghost use lib.ListN.{length};
 ghost use Rattle.state.specs.Relay.{Relay};
 ghost use Rattle.state.specs.Layout.{stateWords};
 ghost use Rattle.taking.specs.Taking.{takenState};
-ghost use Rattle.answers.specs.Answers.{refusalNumber};
+ghost use Rattle.checks.specs.Answer.{refusalNumber};
 ghost use Rattle.lent_state.specs.View.{lent, told, changed};
 ghost use Rattle.harpjuniper_relay.specs.Face.{
   takeAnswer,
@@ -31,7 +31,7 @@ pub extern "C" fn hj_take(state: &mut [u32], port: u32) -> u64
     ensures { λ _. ⌜ lent (now (state .exit)) ≡ changed (λ (x : Relay). takenState x port) (now (state .entry)) ⌝ }
 {
     if state.len() != state_ports::STATE_WORDS {
-        return answers::refusal_number(16);
+        return checks::refusal_number(16);
     }
     answers::taking_number(taking::take(state, port))
 }
@@ -42,10 +42,10 @@ pub extern "C" fn hj_counter(state: &[u32], counter: u32) -> u64
     ensures { λ r. ⌜ r ≡ told (λ (x : Relay). counterAnswer x counter) (refusalNumber 21) (now (state .entry)) ⌝ }
 {
     if state.len() != state_ports::STATE_WORDS {
-        return answers::refusal_number(21);
+        return checks::refusal_number(21);
     }
-    if 15 <= counter {
-        return answers::refusal_number(21);
+    if sets::COUNTERS <= counter {
+        return checks::refusal_number(21);
     }
     state_ports::counter_of(state, counter as usize) as u64
 }
@@ -56,10 +56,10 @@ pub extern "C" fn hj_waiting(state: &[u32], port: u32) -> u64
     ensures { λ r. ⌜ r ≡ told (λ (x : Relay). waitingAnswer x port) (refusalNumber 21) (now (state .entry)) ⌝ }
 {
     if state.len() != state_ports::STATE_WORDS {
-        return answers::refusal_number(21);
+        return checks::refusal_number(21);
     }
-    if 8 <= port {
-        return answers::refusal_number(21);
+    if sets::PORTS <= port {
+        return checks::refusal_number(21);
     }
     state_queues::count_of(state, port as usize) as u64
 }

@@ -7,6 +7,7 @@ use address::Address;
 use address::PathAddress;
 ghost use mathlib.Core.Path.{_≡_};
 ghost use Rattle.checks.specs.Order.{firstOf};
+ghost use Rattle.sets.specs.Limits.{groupPlaces, pathPlaces};
 ghost use Rattle.state.specs.Relay.{Relay};
 ghost use Rattle.lent_state.specs.View.{lent, told, changed};
 ghost use Rattle.refusals.specs.Lists.{groupChecks, pathChecks, clearChecks};
@@ -45,7 +46,7 @@ pub extern "C" fn hj_set_path(state: &mut [u32], place: u32, path: u32, send: u3
 // A group's place, emptied.
 #[no_mangle]
 pub extern "C" fn hj_clear_group(state: &mut [u32], place: u32) -> u32
-    ensures { λ r. ⌜ r ≡ told (λ (x : Relay). firstOf (clearChecks place 16)) 21 (now (state .entry)) ⌝ }
+    ensures { λ r. ⌜ r ≡ told (λ (x : Relay). firstOf (clearChecks place groupPlaces)) 21 (now (state .entry)) ⌝ }
     ensures { λ _. ⌜ lent (now (state .exit)) ≡ changed (λ (x : Relay). clearedGroup x place) (now (state .entry)) ⌝ }
 {
     if state.len() != state_ports::STATE_WORDS {
@@ -57,7 +58,7 @@ pub extern "C" fn hj_clear_group(state: &mut [u32], place: u32) -> u32
 // A path's place, emptied.
 #[no_mangle]
 pub extern "C" fn hj_clear_path(state: &mut [u32], place: u32) -> u32
-    ensures { λ r. ⌜ r ≡ told (λ (x : Relay). firstOf (clearChecks place 16)) 21 (now (state .entry)) ⌝ }
+    ensures { λ r. ⌜ r ≡ told (λ (x : Relay). firstOf (clearChecks place pathPlaces)) 21 (now (state .entry)) ⌝ }
     ensures { λ _. ⌜ lent (now (state .exit)) ≡ changed (λ (x : Relay). clearedPath x place) (now (state .entry)) ⌝ }
 {
     if state.len() != state_ports::STATE_WORDS {

@@ -9,6 +9,7 @@ use address::Address;
 use address::Mask;
 ghost use mathlib.Core.Path.{_≡_};
 ghost use Rattle.checks.specs.Order.{firstOf};
+ghost use Rattle.sets.specs.Limits.{routePlaces};
 ghost use Rattle.state.specs.Relay.{Relay, freshRelay};
 ghost use Rattle.lent_state.specs.View.{lent, told, changed};
 ghost use Rattle.refusals.specs.Lists.{portChecks, routeChecks, routerChecks, clearChecks};
@@ -94,7 +95,7 @@ pub extern "C" fn hj_set_route(
 // A route's place, emptied.
 #[no_mangle]
 pub extern "C" fn hj_clear_route(state: &mut [u32], place: u32) -> u32
-    ensures { λ r. ⌜ r ≡ told (λ (x : Relay). firstOf (clearChecks place 64)) 21 (now (state .entry)) ⌝ }
+    ensures { λ r. ⌜ r ≡ told (λ (x : Relay). firstOf (clearChecks place routePlaces)) 21 (now (state .entry)) ⌝ }
     ensures { λ _. ⌜ lent (now (state .exit)) ≡ changed (λ (x : Relay). clearedRoute x place) (now (state .entry)) ⌝ }
 {
     if state.len() != state_ports::STATE_WORDS {

@@ -37,13 +37,13 @@ pub record OldestOut (cs : List Call) (port : ℕ) (e : Entry) : Type 0 where
   pub rest : List turns.Entered
   -- they are what waits, and e is the first of them
   pub waits : lineAt port cs .line ≡ first ∷ rest
-  pub all : waiting (queueIn (relayAfter cs) port) ≡ map turns.entryOf (first ∷ rest)
+  pub all : waiting (queueIn (relayAfter cs) port) ≡ map turns.withoutTurn (first ∷ rest)
   pub handed : first .entry ≡ e
   -- it goes before all others: it is the oldest of the highest precedence
   pub before : Each (turns.Before first) rest
   -- after the call the others wait, in their order
   pub line : lineAt port (cs ++ (takes port ∷ [])) .line ≡ rest
-  pub queue : waiting (queueIn (takenState (relayAfter cs) port) port) ≡ map turns.entryOf rest
+  pub queue : waiting (queueIn (takenState (relayAfter cs) port) port) ≡ map turns.withoutTurn rest
   -- and all of the relay but that queue is as it was
   pub apart : takenState (relayAfter cs) port ≡ withQueue (relayAfter cs) port (queueIn (takenState (relayAfter cs) port) port)
 

@@ -16,11 +16,11 @@ use Rattle.state.specs.Layout.{stateWords}
 use Rattle.refusals.specs.Lists.{portChecks, routeChecks, groupChecks, pathChecks, routerChecks, clearChecks}
 use Rattle.adjust.specs.Settled.{newRoute, settledRouter, settledPort, settledRoute, settledGroup, settledPath, clearedRoute, clearedGroup, clearedPath}
 use Rattle.taking.specs.Taking.{takenState}
-use Rattle.answers.specs.Answers.{refusalNumber}
+use Rattle.checks.specs.Answer.{refusalNumber}
 use Rattle.lent_state.specs.View.{Lent, lent, told, changed}
 use Rattle.harpjuniper.specs.Face.{readingOf, buildAnswer, buildOutput}
 use Rattle.harpjuniper.specs.declared.Reading.{Reading}
-use Rattle.harpjuniper_reads.specs.Back.{refusedRouter, portBack, routeBack, groupBack, pathBack, noPortBack, noRouteBack, noGroupBack, noPathBack}
+use Rattle.harpjuniper_reads.specs.Back.{portBack, routeBack, groupBack, pathBack, noPortBack, noRouteBack, noGroupBack, noPathBack}
 use Rattle.harpjuniper_reads.specs.declared.PortBack.{PortBack}
 use Rattle.harpjuniper_reads.specs.declared.RouteBack.{RouteBack}
 use Rattle.harpjuniper_reads.specs.declared.GroupBack.{GroupBack}
@@ -116,7 +116,7 @@ promised (hj-set-path w i to send here) =
 promised (hj-clear-route w i) = setting w (λ (x : Relay). firstOf (clearChecks i 64)) (λ (x : Relay). clearedRoute x i)
 promised (hj-clear-group w i) = setting w (λ (x : Relay). firstOf (clearChecks i 16)) (λ (x : Relay). clearedGroup x i)
 promised (hj-clear-path w i) = setting w (λ (x : Relay). firstOf (clearChecks i 16)) (λ (x : Relay). clearedPath x i)
-promised (hj-get-router w) = looking w (number (told (λ (x : Relay). x .router) refusedRouter w))
+promised (hj-get-router w) = looking w (number (told (λ (x : Relay). x .router) (refusalNumber 21) w))
 promised (hj-get-port w p) = looking w (port (told (λ (x : Relay). portBack x p) noPortBack w))
 promised (hj-get-route w i) = looking w (route (told (λ (x : Relay). routeBack x i) noRouteBack w))
 promised (hj-get-group w i) = looking w (group (told (λ (x : Relay). groupBack x i) noGroupBack w))

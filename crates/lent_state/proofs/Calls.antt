@@ -21,6 +21,11 @@ module _ (w : List ℕ) (right : length w ≡ stateWords) where
   unfolding changed lent
   held-changed f v long e = rw (is-held) (simp (eq-eqb (length v) stateWords long) (ap Held e))
 
+  -- a call that answers and changes
+  pub held-call : {A : Type 0} (f : Relay → A) (d : A) (g : Relay → Relay) {x : A} (v : List ℕ)
+      → length v ≡ stateWords → x ≡ f (decode w) → decode v ≡ g (decode w) → (x ≡ told f d w) × (lent v ≡ changed g w)
+  held-call f d g v long answer left = (held-told f d answer, held-changed g v long left)
+
 module _ (w : List ℕ) (wrong : length w ≡ stateWords → ⊥) where
   pub other-told : {A : Type 0} (f : Relay → A) (d : A) → d ≡ told f d w
   unfolding told lent
@@ -29,3 +34,6 @@ module _ (w : List ℕ) (wrong : length w ≡ stateWords → ⊥) where
   pub other-changed : (f : Relay → Relay) → lent w ≡ changed f w
   unfolding changed lent
   other-changed f = simp (ne-eqb (length w) stateWords wrong)
+
+  pub other-call : {A : Type 0} (f : Relay → A) (d : A) (g : Relay → Relay) → (d ≡ told f d w) × (lent w ≡ changed g w)
+  other-call f d g = (other-told f d, other-changed g)

@@ -5,6 +5,7 @@ use mathlib.Core.Bool.{Bool, not, _&&_}
 use lib.Dec.{eqb, ltb}
 use lib.Bits.{bitAnd}
 use Rattle.checks.specs.Order.{pick}
+use Rattle.sets.specs.Limits.{groupPlaces, pathPlaces}
 use Rattle.sets.specs.Sets.{firstBelow}
 use Rattle.address.specs.declared.Address.{Address}
 use Rattle.address.specs.declared.PathAddress.{PathAddress}
@@ -15,23 +16,23 @@ use Rattle.state.specs.Relay.{Relay, groupIn, pathIn}
 use Rattle.verdict.specs.declared.Place.{Place}
 use Rattle.verdict.specs.declared.Place.the-variants.{Held, Missing}
 
--- the first place that is the address's; 16 where there is none
+-- the first place that is the address's; the number of places where there is none
 abbrev pub groupFound : Relay → Address → ℕ
-groupFound r a = firstBelow (λ (i : ℕ). holdsGroup (groupIn r i) a) 16
+groupFound r a = firstBelow (λ (i : ℕ). holdsGroup (groupIn r i) a) groupPlaces
 
 abbrev pub pathFound : Relay → PathAddress → ℕ
-pathFound r p = firstBelow (λ (i : ℕ). holdsPath (pathIn r i) p) 16
+pathFound r p = firstBelow (λ (i : ℕ). holdsPath (pathIn r i) p) pathPlaces
 
 -- the ports to send to, and the subscription on the arrival port, 0 where there is none
 abbrev pub groupSays : Group → ℕ → Place
 groupSays g arrival = Held (g .send) (bitAnd (g .subscribed) arrival)
 
 unfoldable pub groupPlace : Relay → Address → ℕ → Place
-groupPlace r a arrival = pick (ltb (groupFound r a) 16) (groupSays (groupIn r (groupFound r a)) arrival) Missing
+groupPlace r a arrival = pick (ltb (groupFound r a) groupPlaces) (groupSays (groupIn r (groupFound r a)) arrival) Missing
 
 -- the ports to send to, and whether it is delivered here
 abbrev pub pathSays : PathPlace → Place
 pathSays x = Held (x .send) (x .here)
 
 unfoldable pub pathPlace : Relay → PathAddress → Place
-pathPlace r p = pick (ltb (pathFound r p) 16) (pathSays (pathIn r (pathFound r p))) Missing
+pathPlace r p = pick (ltb (pathFound r p) pathPlaces) (pathSays (pathIn r (pathFound r p))) Missing

@@ -7,14 +7,13 @@ pub mod for_target;
 
 use address::Address;
 use address::PathAddress;
+use sets::indexes::GROUPS;
+use sets::indexes::PATHS;
 use verdict::Place;
 ghost use mathlib.Core.Path.{_≡_};
 ghost use lib.ListN.{length};
 ghost use Rattle.state.specs.Layout.{stateWords, decode};
 ghost use Rattle.lookup.specs.Lookup.{groupPlace, pathPlace};
-
-// How many places there are of each kind.
-const PLACES: usize = 16;
 
 // What the place of a group says; `arrival` is the arrival port as a set.
 pub fn group_place(state: &[u32], a: Address, arrival: u32) -> Place
@@ -22,7 +21,7 @@ pub fn group_place(state: &[u32], a: Address, arrival: u32) -> Place
     ensures { λ r. ⌜ r ≡ groupPlace (decode (now (state .entry))) a arrival ⌝ }
 {
     let mut i = 0;
-    while i < PLACES {
+    while i < GROUPS {
         let g = state_places::group_of(state, i);
         if records::holds_group(g, a) {
             return Place::Held(g.send, g.subscribed & arrival);
@@ -38,7 +37,7 @@ pub fn path_place(state: &[u32], p: PathAddress) -> Place
     ensures { λ r. ⌜ r ≡ pathPlace (decode (now (state .entry))) p ⌝ }
 {
     let mut i = 0;
-    while i < PLACES {
+    while i < PATHS {
         let x = state_places::path_of(state, i);
         if records::holds_path(x, p) {
             return Place::Held(x.send, x.here);

@@ -1,9 +1,10 @@
 -- The meaning of addresses: what it rests on, and what it does not. Assumes nothing.
-use Prim.Native.Nat.{ℕ, _/_, _<_}
+use Prim.Native.Nat.{ℕ, _<_}
 use mathlib.Core.Path.{_≡_, refl}
 use native.Mathlib.Omega.{arith}
 use Rattle.header.specs.declared.Addresses.{Addresses}
 use Rattle.header.specs.declared.Addresses.the-variants.{BasicPath, ExtendedPath, BasicEndSystem, ExtendedEndSystem, Ipv6}
+use Rattle.networks.specs.Networks.{domainOf}
 use Rattle.meaning.specs.Names.{filledIn, aimOf, originOf, isBasic}
 use Rattle.meaning.specs.declared.Aim.the-variants.{Node, Path}
 use Rattle.meaning.specs.declared.Origin.the-variants.{From}
@@ -22,7 +23,7 @@ unfolding originOf
 from-filled port d z v e = rw e
 
 -- the meaning law: at two ports of one domain, the same addresses name the same systems, paths and sources
-pub same-domain-same-aim : (port other : ℕ) (a : Addresses) → port / 256 ≡ other / 256 → aimOf port a ≡ aimOf other a
+pub same-domain-same-aim : (port other : ℕ) (a : Addresses) → domainOf (record { 0 = port }) ≡ domainOf (record { 0 = other }) → aimOf port a ≡ aimOf other a
 unfolding aimOf
 same-domain-same-aim port other (BasicPath z) e = rw e
 same-domain-same-aim port other (ExtendedPath p) e = refl
@@ -30,7 +31,7 @@ same-domain-same-aim port other (BasicEndSystem z s) e = rw e
 same-domain-same-aim port other (ExtendedEndSystem d s) e = refl
 same-domain-same-aim port other (Ipv6 d s) e = refl
 
-pub same-domain-same-origin : (port other : ℕ) (a : Addresses) → port / 256 ≡ other / 256 → originOf port a ≡ originOf other a
+pub same-domain-same-origin : (port other : ℕ) (a : Addresses) → domainOf (record { 0 = port }) ≡ domainOf (record { 0 = other }) → originOf port a ≡ originOf other a
 unfolding originOf
 same-domain-same-origin port other (BasicPath z) e = refl
 same-domain-same-origin port other (ExtendedPath p) e = refl
@@ -56,5 +57,5 @@ extended-same-origin port other (ExtendedEndSystem d s) e = refl
 extended-same-origin port other (Ipv6 d s) e = refl
 
 -- why that matters: in two domains, one octet names two systems
-pub other-domain-other-node : (port other z : ℕ) → z < 256 → filledIn port z ≡ filledIn other z → port / 256 ≡ other / 256
+pub other-domain-other-node : (port other z : ℕ) → z < 256 → filledIn port z ≡ filledIn other z → domainOf (record { 0 = port }) ≡ domainOf (record { 0 = other })
 other-domain-other-node port other z small e = omega arith

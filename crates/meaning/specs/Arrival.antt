@@ -9,7 +9,7 @@ use Rattle.meaning.specs.Names.{aimOf, originOf, notCarried, noDomain, b
 abbrev pub arrivalChecks : Address → Fields → Checks
 arrivalChecks at f =
     (notCarried f, 8)
-    ∷ (noDomain (at .0) (f .addresses), 7)
+    ∷ (noDomain at (f .addresses), 7)
     ∷ (badAim (aimOf (at .0) (f .addresses)), 6)
     ∷ (badSource (originOf (at .0) (f .addresses)), 6)
     ∷ []

@@ -1,15 +1,17 @@
 -- What the addresses of a header name, by the address of the port that it came in by (page 01, steps 4 to 6). Assumes nothing.
-use Prim.Native.Nat.{ℕ, _+_, _*_, _/_, _^_}
+use Prim.Native.Nat.{ℕ, _+_, _*_}
 use mathlib.Core.Bool.{Bool, true, false, not, _&&_, _||_}
 use lib.Dec.{eqb}
 use Rattle.address.specs.Class.{classOf, classNumber}
 use Rattle.address.specs.Path.{pathForm, pathNumber}
+use Rattle.address.specs.declared.Address.{Address}
 use Rattle.header.specs.Build.{ipv6Flag}
 use Rattle.header.specs.declared.Fields.{Fields}
 use Rattle.header.specs.declared.Addresses.{Addresses}
 use Rattle.header.specs.declared.Addresses.the-variants.{BasicPath, ExtendedPath, BasicEndSystem, ExtendedEndSystem, Ipv6}
 use Rattle.header.specs.declared.Qos.{Qos}
 use Rattle.header.specs.declared.Qos.the-variants as qos
+use Rattle.networks.specs.Networks.{inNet10, domainOf}
 use Rattle.meaning.specs.declared.Aim.{Aim}
 use Rattle.meaning.specs.declared.Aim.the-variants.{Node, Path, Uncarried}
 use Rattle.meaning.specs.declared.Origin.{Origin}
@@ -17,7 +19,7 @@ use Rattle.meaning.specs.declared.Origin.the-variants.{From, Unsaid}
 
 -- step 5: the first three octets of the arrival port's address, then the octet
 abbrev pub filledIn : ℕ → ℕ → ℕ
-filledIn port z = port / 256 * 256 + z
+filledIn port z = domainOf (record { 0 = port }) * 256 + z
 
 -- what the destination names; a header without a source carries a path
 unfoldable pub aimOf : ℕ → Addresses → Aim
@@ -51,8 +53,8 @@ abbrev pub notCarried : Fields → Bool
 notCarried f = not (eqb (routingAsked (f .qos)) 0) || not (eqb (ipv6Flag (f .addresses)) 0)
 
 -- 7: a one-octet address, and the arrival port's address does not begin with 10
-abbrev pub noDomain : ℕ → Addresses → Bool
-noDomain port a = not (eqb (isBasic a) 0) && not (eqb (port / 2 ^ 24) 10)
+abbrev pub noDomain : Address → Addresses → Bool
+noDomain port a = not (eqb (isBasic a) 0) && not (inNet10 port)
 
 -- 6: an invalid destination or path, or a source present and not unicast
 abbrev pub badClass : ℕ → Bool

@@ -47,7 +47,7 @@ pub enum Origin {
 fn filled_in(port: Address, octet: u8) -> u32
     ensures { λ r. ⌜ r ≡ filledIn (port .0) octet ⌝ }
 {
-    port.0 / 256 * 256 + octet as u32
+    networks::domain_of(port) * 256 + octet as u32
 }
 
 // What the destination names at a port.
@@ -116,12 +116,12 @@ pub fn check_carried(f: Fields) -> Check
 
 // Step 5: an address of one octet needs a port in net 10 to supply its domain.
 pub fn check_domain(port: Address, a: Addresses) -> Check
-    ensures { λ r. ⌜ r ≡ checkOf (noDomain (port .0) a) ⌝ }
+    ensures { λ r. ⌜ r ≡ checkOf (noDomain port a) ⌝ }
 {
     if is_basic(a) == 0 {
         return Check::Passed;
     }
-    if port.0 / 16777216 != 10 {
+    if !networks::in_net_10(port) {
         return Check::Failed;
     }
     Check::Passed

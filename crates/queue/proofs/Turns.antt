@@ -11,7 +11,7 @@ use lib.ListN.{length, drop, length-map}
 use Rattle.checks.specs.Order.{pick}
 use Rattle.queue.specs.Order.{Each, InOrder}
 use Rattle.queue.specs.Queue.{fresh, precedenceOf, putOf, takeOf}
-use Rattle.queue.specs.Turns.{Entered, entryOf, rankOf, Before, entering, leaving, Follows, Deed, puts, takes, History, started, after, Followed, run}
+use Rattle.queue.specs.Turns.{Entered, withoutTurn, rankOf, Before, entering, leaving, Follows, Deed, puts, takes, History, started, after, Followed, run}
 use Rattle.queue.specs.declared.Entry.{Entry}
 use Rattle.queue.specs.declared.Queue.{Queue}
 use Rattle.queue.specs.declared.Head.the-variants.{First, Nothing}
@@ -28,11 +28,11 @@ either : (P : List Entered → Type 0) (t : Bool) {l r : List Entered} → P l �
 either P true hl hr = hl
 either P false hl hr = hr
 
-map-either : (t : Bool) (l r : List Entered) → map entryOf (pick t l r) ≡ pick t (map entryOf l) (map entryOf r)
+map-either : (t : Bool) (l r : List Entered) → map withoutTurn (pick t l r) ≡ pick t (map withoutTurn l) (map withoutTurn r)
 map-either true l r = refl
 map-either false l r = refl
 
-map-later : (l : List Entered) → map entryOf (drop 1 l) ≡ drop 1 (map entryOf l)
+map-later : (l : List Entered) → map withoutTurn (drop 1 l) ≡ drop 1 (map withoutTurn l)
 map-later [] = refl
 map-later (x ∷ l) = refl
 
@@ -52,7 +52,7 @@ module _ {q : Queue} {line : List Entered} {n : ℕ} (follows : Follows q line n
         sound = put-sound q (follows .sound) e;
         same =
             put-waiting q (follows .sound .bounded) e
-            ∙ rw (follows .same, length-map line entryOf, map-either room, insert-map precedenceOf entryOf newcomer line);
+            ∙ rw (follows .same, length-map line withoutTurn, map-either room, insert-map precedenceOf withoutTurn newcomer line);
         order = either (InOrder Before) room (insert-order rankOf newcomer Before (λ x y h. h .0) ahead line behind (follows .order)) (follows .order);
         past = either (Each (λ (x : Entered). x .turn < suc n)) room (insert-each rankOf newcomer _ line (omega arith) earlier) earlier;
       }

@@ -16,13 +16,17 @@ use Rattle.queue.specs.declared.Head.{Head}
 use Rattle.queue.specs.declared.Head.the-variants.{First, Nothing}
 use Rattle.queue.specs.declared.Taken.{Taken}
 
+-- how many entries a queue holds
+abbrev pub entryPlaces : ℕ
+entryPlaces = 32
+
 -- what a free place holds
 abbrev pub free : Entry
 free = record { slot = record { 0 = 0 }; precedence = 0 }
 
 -- page 01, "Settings": queues are empty at first
 unfoldable pub fresh : Queue
-fresh = record { entries = replicate 32 free; count = 0 }
+fresh = record { entries = replicate entryPlaces free; count = 0 }
 
 -- the entries that wait, the next one first; and what the places behind them hold
 abbrev pub waiting : Queue → List Entry
@@ -41,7 +45,7 @@ insert = insertBy precedenceOf
 -- a queue with fewer than 32 waiting takes the newcomer; any other drops it and stays as it is, also where the count is over 32
 unfoldable pub putOf : Queue → Entry → Put
 putOf q e =
-    pick (ltb (q .count) 32)
+    pick (ltb (q .count) entryPlaces)
     (record { queue = record { entries = insert e (waiting q) ++ drop (q .count + 1) (q .entries); count = q .count + 1 }; took = true })
     (record { queue = q; took = false })
 
@@ -56,7 +60,7 @@ takenFrom q (first ∷ rest) = record { queue = record { entries = movedUp (q .e
 
 -- where the count is over 32, as no call leaves it, nothing is handed out and the queue stays as it is
 unfoldable pub takeOf : Queue → Taken
-takeOf q = pick (ltb 32 (q .count)) (record { queue = q; head = Nothing }) (takenFrom q (waiting q))
+takeOf q = pick (ltb entryPlaces (q .count)) (record { queue = q; head = Nothing }) (takenFrom q (waiting q))
 
 -- ---- the queues that calls leave
 
@@ -67,11 +71,11 @@ headOf (first ∷ rest) = First first
 
 -- a queue whose count can be that of its waiting entries
 pub record Bounded (q : Queue) : Type 0 where
-  pub places : length (q .entries) ≡ 32
-  pub fits : q .count ≤ 32
+  pub places : length (q .entries) ≡ entryPlaces
+  pub fits : q .count ≤ entryPlaces
 
 -- a queue as puts and takes leave it that began with a fresh one
 pub record Sound (q : Queue) : Type 0 where
   pub bounded : Bounded q
   pub sorted : Sorted precedenceOf (waiting q)
-  pub clean : behind q ≡ replicate (32 - q .count) free
+  pub clean : behind q ≡ replicate (entryPlaces - q .count) free

@@ -7,7 +7,7 @@ use lib.ListN.{length, drop}
 use lib.Dec.{ltb}
 use Rattle.checks.specs.Order.{pick}
 use Rattle.queue.specs.Order.{Each, InOrder, insertBy}
-use Rattle.queue.specs.Queue.{fresh, waiting, precedenceOf, putOf, takeOf, Sound}
+use Rattle.queue.specs.Queue.{entryPlaces, fresh, waiting, precedenceOf, putOf, takeOf, Sound}
 use Rattle.queue.specs.declared.Entry.{Entry}
 use Rattle.queue.specs.declared.Queue.{Queue}
 use Rattle.queue.specs.declared.Head.{Head}
@@ -16,11 +16,12 @@ pub record Entered : Type 0 where
   pub entry : Entry
   pub turn : ℕ
 
-abbrev pub entryOf : Entered → Entry
-entryOf x = x .entry
+-- the entry alone
+abbrev pub withoutTurn : Entered → Entry
+withoutTurn x = x .entry
 
 abbrev pub rankOf : Entered → ℕ
-rankOf x = precedenceOf (entryOf x)
+rankOf x = precedenceOf (withoutTurn x)
 
 -- x goes out before y: y is not of higher precedence, and where it is of the same, x is the older
 abbrev pub Before : Entered → Entered → Type 0
@@ -28,7 +29,7 @@ Before x y = (rankOf y ≤ rankOf x) × (rankOf x ≡ rankOf y → x .turn < y .
 
 -- the entries that wait after a put in turn n, and after a take
 abbrev pub entering : Entry → ℕ → List Entered → List Entered
-entering e n line = pick (ltb (length line) 32) (insertBy rankOf (record { entry = e; turn = n }) line) line
+entering e n line = pick (ltb (length line) entryPlaces) (insertBy rankOf (record { entry = e; turn = n }) line) line
 
 abbrev pub leaving : List Entered → List Entered
 leaving line = drop 1 line
@@ -36,7 +37,7 @@ leaving line = drop 1 line
 -- line is what waits in q, in the order in which it goes out; all of it entered before turn n
 pub record Follows (q : Queue) (line : List Entered) (n : ℕ) : Type 0 where
   pub sound : Sound q
-  pub same : waiting q ≡ map entryOf line
+  pub same : waiting q ≡ map withoutTurn line
   pub order : InOrder Before line
   pub past : Each (λ (x : Entered). x .turn < n) line
 

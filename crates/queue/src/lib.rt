@@ -14,7 +14,7 @@ ghost use mathlib.Core.Path.{_≡_};
 ghost use mathlib.Core.List.{_++_};
 ghost use Prim.Native.Nat.{_+_, _<_};
 ghost use lib.ListN.{take, drop};
-ghost use Rattle.queue.specs.Queue.{insert, movedUp, fresh, putOf, takeOf};
+ghost use Rattle.queue.specs.Queue.{entryPlaces, insert, movedUp, fresh, putOf, takeOf};
 use address::Slot;
 
 // What waits for a datagram: the caller's number of it and its precedence. Together they have thirty-two bits, one word of the
@@ -24,8 +24,15 @@ pub struct Entry {
     pub precedence: u16,
 }
 
+// How many entries a queue holds.
+pub const ENTRIES: u32 = 32;
+
+const PLACES: usize = ENTRIES as usize;
+
+const LAST: usize = PLACES - 1;
+
 pub struct Queue {
-    pub entries: [Entry; 32],
+    pub entries: [Entry; PLACES],
     pub count: u32,
 }
 
@@ -52,8 +59,8 @@ const FREE: Entry = Entry {
 };
 
 // The newcomer at its place among the first n, and those behind it one place on.
-fn inserted(entries: [Entry; 32], n: usize, newcomer: Entry) -> [Entry; 32]
-    requires { ⌜ n < 32 ⌝ }
+fn inserted(entries: [Entry; PLACES], n: usize, newcomer: Entry) -> [Entry; PLACES]
+    requires { ⌜ n < entryPlaces ⌝ }
     ensures { λ r. ⌜ r ≡ insert newcomer (take n entries) ++ drop (n + 1) entries ⌝ }
 {
     let mut out = entries;
@@ -77,11 +84,11 @@ fn inserted(entries: [Entry; 32], n: usize, newcomer: Entry) -> [Entry; 32]
 
 // All places but the first, and a free one behind them. All thirty-two move, however many wait: a fixed number of places is a
 // few wide moves and no loop.
-fn moved_up(entries: [Entry; 32]) -> [Entry; 32]
+fn moved_up(entries: [Entry; PLACES]) -> [Entry; PLACES]
     ensures { λ r. ⌜ r ≡ movedUp entries ⌝ }
 {
-    let mut out = [FREE; 32];
-    for i in 0..31usize {
+    let mut out = [FREE; PLACES];
+    for i in 0..LAST {
         let next = entries[i + 1];
         out[i] = next;
     }
@@ -93,7 +100,7 @@ impl Queue {
         ensures { λ r. ⌜ r ≡ fresh ⌝ }
     {
         Queue {
-            entries: [FREE; 32],
+            entries: [FREE; PLACES],
             count: 0,
         }
     }
@@ -102,7 +109,7 @@ impl Queue {
         ensures { λ r. ⌜ r ≡ putOf self newcomer ⌝ }
     {
         let n = self.count;
-        if 32 <= n {
+        if ENTRIES <= n {
             return Put {
                 queue: self,
                 took: false,
@@ -122,7 +129,7 @@ impl Queue {
     {
         let n = self.count;
         match n {
-            1..=32 => {
+            1..=ENTRIES => {
                 let old = self.entries;
                 let first = old[0];
                 let entries = moved_up(old);

@@ -7,7 +7,7 @@ use address::Address;
 use address::Mask;
 use address::PathAddress;
 ghost use mathlib.Core.Path.{_≡_};
-ghost use Rattle.records.specs.Held.{holdsGroup, holdsPath};
+ghost use Rattle.records.specs.Held.{holdsNumber, holdsGroup, holdsPath};
 
 // `ready` is 0 where the port is not set up.
 #[repr(C)]
@@ -36,22 +36,26 @@ pub struct PathPlace {
     pub here: u32,
 }
 
+// Whether a place is filled, and by this address.
+fn holds(filled: u32, held: u32, wanted: u32) -> bool
+    ensures { λ r. ⌜ r ≡ holdsNumber filled held wanted ⌝ }
+{
+    if filled == 0 {
+        return false;
+    }
+    held == wanted
+}
+
 // Whether a place is a group's.
 pub fn holds_group(g: Group, a: Address) -> bool
     ensures { λ r. ⌜ r ≡ holdsGroup g a ⌝ }
 {
-    if g.filled == 0 {
-        return false;
-    }
-    g.address.0 == a.0
+    holds(g.filled, g.address.0, a.0)
 }
 
 // Whether a place is a path's.
 pub fn holds_path(x: PathPlace, p: PathAddress) -> bool
     ensures { λ r. ⌜ r ≡ holdsPath x p ⌝ }
 {
-    if x.filled == 0 {
-        return false;
-    }
-    x.path.0 == p.0
+    holds(x.filled, x.path.0, p.0)
 }

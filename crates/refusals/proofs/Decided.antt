@@ -7,7 +7,7 @@ use Rattle.address.specs.declared.Mask.{Mask}
 use Rattle.address.specs.declared.PathAddress.{PathAddress}
 use Rattle.routes.specs.declared.Route.{Route}
 use Rattle.state.specs.Relay.{Relay}
-use Rattle.refusals.proofs.set_up.Chains.{Decided, decided}
+use Rattle.refusals.proofs.Chains.{Decided, decided}
 use Rattle.refusals.specs.Lists.{portChecks, routeChecks, groupChecks, pathChecks, routerChecks, clearChecks}
 
 module _ (r : Relay) (i : ℕ) where

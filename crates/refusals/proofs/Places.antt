@@ -9,7 +9,7 @@ use Rattle.checks.specs.declared.Check.the-variants.{Passed}
 use Rattle.checks.proofs.Laws.{passed-false}
 use Rattle.settings.specs.Refusals.{placeRefused}
 use Rattle.settings.proofs.Values.{place-taken}
-use Rattle.refusals.proofs.set_up.Chains.{areNumbers, decided}
+use Rattle.refusals.proofs.Chains.{areNumbers, decided}
 
 pub tested-there : (place places : ℕ) (answer : Check) → answer ≡ checkOf (placeRefused place places) → answer ≡ Passed → place < places
 tested-there place places answer is passed = place-taken place places .0 (passed-false (placeRefused place places) (sym is ∙ passed))

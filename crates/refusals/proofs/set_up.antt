@@ -1,5 +1,2 @@
--- The laws of ready ports and of a route's record. To be read: Record; Chains is for every function that takes checks in a row; Ready
--- serves the code's proofs.
-pub mod Chains
+-- What serves the loop over the ports.
 pub mod Ready
-pub mod Record

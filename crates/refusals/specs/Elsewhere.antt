@@ -9,6 +9,7 @@ use Rattle.records.specs.declared.Group.{Group}
 use Rattle.records.specs.declared.PathPlace.{PathPlace}
 use Rattle.routes.specs.declared.Route.{Route}
 use Rattle.routes.specs.Routes.{sameEntry}
+use Rattle.sets.specs.Limits.{routePlaces, groupPlaces, pathPlaces}
 use Rattle.sets.specs.Sets.{anyBelow}
 use Rattle.records.specs.Held.{holdsGroup, holdsPath}
 use Rattle.state.specs.Relay.{Relay, groupIn, pathIn, routeIn}
@@ -25,10 +26,10 @@ otherPath r i p j = not (eqb j i) && holdsPath (pathIn r j) p
 
 -- 23: some place does
 unfoldable pub routeElsewhere : Relay → ℕ → Route → Bool
-routeElsewhere r i x = anyBelow (otherRoute r i x) 64
+routeElsewhere r i x = anyBelow (otherRoute r i x) routePlaces
 
 unfoldable pub groupElsewhere : Relay → ℕ → Address → Bool
-groupElsewhere r i a = anyBelow (otherGroup r i a) 16
+groupElsewhere r i a = anyBelow (otherGroup r i a) groupPlaces
 
 unfoldable pub pathElsewhere : Relay → ℕ → PathAddress → Bool
-pathElsewhere r i p = anyBelow (otherPath r i p) 16
+pathElsewhere r i p = anyBelow (otherPath r i p) pathPlaces

@@ -9,6 +9,7 @@ use Rattle.address.specs.declared.Address.{Address}
 use Rattle.address.specs.declared.Mask.{Mask}
 use Rattle.address.specs.declared.PathAddress.{PathAddress}
 use Rattle.routes.specs.declared.Route.{Route}
+use Rattle.sets.specs.Limits.{portCount, routePlaces, groupPlaces, pathPlaces}
 use Rattle.settings.specs.Refusals.{portClassRefused, groupClassRefused, pathClassRefused, portMaskRefused}
 use Rattle.settings.specs.Refusals.{mtuRefused, flagRefused, placeRefused}
 use Rattle.settings.specs.Sets.{setRefused}
@@ -24,7 +25,7 @@ entriesWait r p = not (eqb (queueIn r p .count) 0)
 -- A port has no 23: two ports may share an address.
 abbrev pub portChecks : Relay → ℕ → Address → Mask → ℕ → Checks
 portChecks r p address mask mtu =
-    (placeRefused p 8, 21)
+    (placeRefused p portCount, 21)
     ∷ (portClassRefused address, 25)
     ∷ (portMaskRefused address mask, 22)
     ∷ (mtuRefused mtu, 24)
@@ -33,11 +34,11 @@ portChecks r p address mask mtu =
 
 -- A route has no 25. Between place and same entry stand the tests of its record: 21, 22, 24.
 abbrev pub routeChecks : Relay → ℕ → Route → Checks
-routeChecks r i x = (placeRefused i 64, 21) ∷ (recordChecks (readySet r) x ++ ((routeElsewhere r i x, 23) ∷ []))
+routeChecks r i x = (placeRefused i routePlaces, 21) ∷ (recordChecks (readySet r) x ++ ((routeElsewhere r i x, 23) ∷ []))
 
 abbrev pub groupChecks : Relay → ℕ → Address → ℕ → ℕ → Checks
 groupChecks r i address send subscribed =
-    (placeRefused i 16, 21)
+    (placeRefused i groupPlaces, 21)
     ∷ (setRefused send (readySet r), 21)
     ∷ (setRefused subscribed (readySet r), 21)
     ∷ (groupClassRefused address, 25)
@@ -46,7 +47,7 @@ groupChecks r i address send subscribed =
 
 abbrev pub pathChecks : Relay → ℕ → PathAddress → ℕ → ℕ → Checks
 pathChecks r i path send here =
-    (placeRefused i 16, 21)
+    (placeRefused i pathPlaces, 21)
     ∷ (setRefused send (readySet r), 21)
     ∷ (pathClassRefused path, 25)
     ∷ (flagRefused here, 24)

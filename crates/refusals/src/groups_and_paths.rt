@@ -1,5 +1,4 @@
-// The number that the setting of a group or a path is refused by: the tests in page 01's order, as in crate `refusals`, which has the
-// lists of both.
+// The number that the setting of a group or a path is refused by: the tests in page 01's order, as at the root of this crate.
 //
 // The awkward case is 21: the place, the set to send to and a group's subscribed ports are all refused by it, before the class of the
 // address is looked at.
@@ -15,11 +14,6 @@ ghost use Rattle.settings.specs.Sets.{setRefused};
 ghost use Rattle.state.specs.Layout.{stateWords, decode};
 ghost use Rattle.refusals.specs.Ready.{readySet};
 ghost use Rattle.refusals.specs.Lists.{groupChecks, pathChecks};
-
-// How many places there are.
-const GROUPS: u32 = 16;
-
-const PATHS: u32 = 16;
 
 // Refusal 21 of a group or a path: the place is one of so many, and the set to send to has ports that are set up.
 fn check_target(state: &[u32], place: u32, places: u32, send: u32) -> Check
@@ -37,7 +31,7 @@ pub fn group_refusal(state: &[u32], place: u32, address: Address, send: u32, sub
     requires { ⌜ length (now state) ≡ stateWords ⌝ }
     ensures { λ r. ⌜ r ≡ firstOf (groupChecks (decode (now (state .entry))) place address send subscribed) ⌝ }
 {
-    let Check::Passed = check_target(state, place, GROUPS, send) else {
+    let Check::Passed = check_target(state, place, sets::GROUPS, send) else {
         return 21;
     };
     let Check::Passed = settings::check_set(subscribed, crate::set_up::ready_ports(state)) else {
@@ -57,7 +51,7 @@ pub fn path_refusal(state: &[u32], place: u32, path: PathAddress, send: u32, her
     requires { ⌜ length (now state) ≡ stateWords ⌝ }
     ensures { λ r. ⌜ r ≡ firstOf (pathChecks (decode (now (state .entry))) place path send here) ⌝ }
 {
-    let Check::Passed = check_target(state, place, PATHS, send) else {
+    let Check::Passed = check_target(state, place, sets::PATHS, send) else {
         return 21;
     };
     let Check::Passed = settings::check_path_class(path) else {

@@ -7,23 +7,20 @@ use address::Address;
 use address::PathAddress;
 use checks::Check;
 use routes::Route;
+use sets::indexes::GROUPS;
+use sets::indexes::PATHS;
+use sets::indexes::ROUTES;
 ghost use mathlib.Core.Path.{_≡_};
 ghost use Prim.Native.Nat.{_<_};
 ghost use lib.ListN.{length};
 ghost use Rattle.checks.specs.Order.{checkOf};
+ghost use Rattle.sets.specs.Limits.{routePlaces, groupPlaces, pathPlaces};
 ghost use Rattle.state.specs.Layout.{stateWords, decode};
 ghost use Rattle.refusals.specs.Elsewhere.{otherRoute, otherGroup, otherPath, routeElsewhere, groupElsewhere, pathElsewhere};
 
-// How many places there are.
-const ROUTES: usize = 64;
-
-const GROUPS: usize = 16;
-
-const PATHS: usize = 16;
-
 // Place i is not the one that is written, and holds the route's prefix and mask.
 fn other_route(state: &[u32], place: usize, x: Route, i: usize) -> bool
-    requires { ⌜ (length (now state) ≡ stateWords) × (i < 64) ⌝ }
+    requires { ⌜ (length (now state) ≡ stateWords) × (i < routePlaces) ⌝ }
     ensures { λ r. ⌜ r ≡ otherRoute (decode (now (state .entry))) place x i ⌝ }
 {
     if i == place {
@@ -49,7 +46,7 @@ pub fn check_other_routes(state: &[u32], place: usize, x: Route) -> Check
 
 // Place i is not the one that is written, and holds the group address.
 fn other_group(state: &[u32], place: usize, a: Address, i: usize) -> bool
-    requires { ⌜ (length (now state) ≡ stateWords) × (i < 16) ⌝ }
+    requires { ⌜ (length (now state) ≡ stateWords) × (i < groupPlaces) ⌝ }
     ensures { λ r. ⌜ r ≡ otherGroup (decode (now (state .entry))) place a i ⌝ }
 {
     if i == place {
@@ -75,7 +72,7 @@ pub fn check_other_groups(state: &[u32], place: usize, a: Address) -> Check
 
 // Place i is not the one that is written, and holds the path address.
 fn other_path(state: &[u32], place: usize, p: PathAddress, i: usize) -> bool
-    requires { ⌜ (length (now state) ≡ stateWords) × (i < 16) ⌝ }
+    requires { ⌜ (length (now state) ≡ stateWords) × (i < pathPlaces) ⌝ }
     ensures { λ r. ⌜ r ≡ otherPath (decode (now (state .entry))) place p i ⌝ }
 {
     if i == place {

@@ -4,19 +4,18 @@
 // queue that is put to here has room. The awkward case is a set that is empty, where nothing is put and no octet of the output is
 // touched; it is also every refusal's.
 use queue::Entry;
+use sets::indexes::PORTS;
 ghost use mathlib.Core.Path.{_≡_};
 ghost use Prim.Native.Nat.{_≤_, _<_};
 ghost use lib.ListN.{length};
 ghost use Rattle.header.specs.Form.{placesOf};
+ghost use Rattle.sets.specs.Limits.{portCount};
 ghost use Rattle.state.specs.Layout.{stateWords, decode};
 ghost use Rattle.relay.specs.Outgoing.{entered, enteredIf, enteredAll, sentOutput};
 
-// How many ports there are.
-const PORTS: usize = 8;
-
 // The entry in the queue of a port.
 fn enter(state: &mut [u32], p: usize, e: Entry)
-    requires { ⌜ (length (now state) ≡ stateWords) × (p < 8) ⌝ }
+    requires { ⌜ (length (now state) ≡ stateWords) × (p < portCount) ⌝ }
     ensures { λ _. ⌜ decode (now (state .exit)) ≡ entered (decode (now (state .entry))) p e ⌝ }
 {
     let q = state_queues::queue_of(state, p);
@@ -27,7 +26,7 @@ fn enter(state: &mut [u32], p: usize, e: Entry)
 
 // The entry in the queue of a port, where the port is in the set.
 fn enter_if(state: &mut [u32], p: usize, took: u32, e: Entry)
-    requires { ⌜ (length (now state) ≡ stateWords) × (p < 8) ⌝ }
+    requires { ⌜ (length (now state) ≡ stateWords) × (p < portCount) ⌝ }
     ensures { λ _. ⌜ decode (now (state .exit)) ≡ enteredIf (decode (now (state .entry))) took e p ⌝ }
 {
     if took & sets::only_port(p as u32) == 0 {
@@ -39,7 +38,7 @@ fn enter_if(state: &mut [u32], p: usize, took: u32, e: Entry)
 // The entry in the queue of each port of the set.
 pub fn enter_all(state: &mut [u32], took: u32, e: Entry)
     requires { ⌜ length (now state) ≡ stateWords ⌝ }
-    ensures { λ _. ⌜ decode (now (state .exit)) ≡ enteredAll (decode (now (state .entry))) took e 8 ⌝ }
+    ensures { λ _. ⌜ decode (now (state .exit)) ≡ enteredAll (decode (now (state .entry))) took e portCount ⌝ }
 {
     let mut p = 0;
     while p < PORTS {

@@ -1,2 +1,3 @@
--- What loops over ports and places gather.
+-- How many ports, places and counters there are, and what loops over them gather.
+pub mod Limits
 pub mod Sets

@@ -4,6 +4,7 @@ use Prim.Native.Nat.{ℕ, zero, suc, _+_, _/_, _%_, _^_}
 use mathlib.Core.Bool.{Bool, false, _||_}
 use lib.Dec.{eqb, ltb}
 use Rattle.checks.specs.Order.{pick}
+use Rattle.sets.specs.Limits.{portCount}
 
 -- p is in the set
 abbrev pub inSet : ℕ → ℕ → Bool
@@ -11,7 +12,7 @@ inSet p set = eqb (set / 2 ^ p % 2) 1
 
 -- the set of one port; a port over 7 is none
 abbrev pub onlyPort : ℕ → ℕ
-onlyPort port = pick (ltb port 8) (2 ^ port) 0
+onlyPort port = pick (ltb port portCount) (2 ^ port) 0
 
 -- the set of those of the first n that the test holds at
 abbrev pub portSet : (ℕ → Bool) → ℕ → ℕ

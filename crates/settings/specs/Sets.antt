@@ -3,11 +3,12 @@
 use Prim.Native.Nat.{ℕ, zero, suc}
 use mathlib.Core.Bool.{Bool, false, not, _&&_, _||_}
 use lib.Dec.{ltb}
+use Rattle.sets.specs.Limits.{portCount}
 use Rattle.sets.specs.Sets.{inSet}
 
 -- p is 0 to 7 and set up
 abbrev pub isReady : ℕ → ℕ → Bool
-isReady p ready = ltb p 8 && inSet p ready
+isReady p ready = ltb p portCount && inSet p ready
 
 -- some p below k is in the set and not ready
 unfoldable pub namesOther : ℕ → ℕ → ℕ → Bool

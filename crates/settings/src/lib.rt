@@ -1,6 +1,6 @@
 // When the values of a setting are refused.
 //
-// Each check here looks at values alone and has one refusal number: 21 for a place or a set of ports, 22 for a port's mask, 24 for a
+// Each check here looks at values alone and has one refusal number: 21 for a place, a port or a set of ports, 22 for a port's mask, 24 for a
 // size or a yes/no number, 25 for an address of the wrong class. Page 01 tests them in the order 21, 25, 22, 24, 23, 35: that order
 // is their caller's, who also has what needs the state (a port set up, a same entry elsewhere, entries that wait). A check is total
 // by itself: a mask is judged for an address of any class.
@@ -12,6 +12,7 @@ use address::PathAddress;
 use address::PathForm;
 use checks::Check;
 ghost use mathlib.Core.Path.{_≡_};
+ghost use mathlib.Core.Bool.{not};
 ghost use Rattle.checks.specs.Order.{checkOf};
 ghost use Rattle.settings.specs.Refusals.{
   portClassRefused,
@@ -23,7 +24,7 @@ ghost use Rattle.settings.specs.Refusals.{
   flagRefused,
   placeRefused,
 };
-ghost use Rattle.settings.specs.Sets.{setRefused};
+ghost use Rattle.settings.specs.Sets.{isReady, setRefused};
 
 // Refusal 25 of a port: its address is unicast.
 pub fn check_port_class(a: Address) -> Check
@@ -122,6 +123,19 @@ pub fn check_place(place: u32, places: u32) -> Check
         return Check::Passed;
     }
     Check::Failed
+}
+
+// Refusal 21 of one port: it is one of the eight, and in the set of those that are set up.
+pub fn check_ready(port: u32, ready: u32) -> Check
+    ensures { λ r. ⌜ r ≡ checkOf (not (isReady port ready)) ⌝ }
+{
+    if sets::PORTS <= port {
+        return Check::Failed;
+    }
+    if (ready >> port) % 2 != 1 {
+        return Check::Failed;
+    }
+    Check::Passed
 }
 
 // The set of ports 0 to 7.

@@ -14,7 +14,7 @@ use Rattle.records.specs.declared.Group.{Group}
 use Rattle.records.specs.declared.PathPlace.{PathPlace}
 use Rattle.words.proofs.Parts.{spelled-whole}
 use Rattle.state.specs.Layout.{portOf, portWords, groupOf, groupWords, pathOf, pathWords, routeOf, routeWords}
-use Rattle.state.specs.Layout.{entryOf, entryWord, queueOf, queueWords}
+use Rattle.state.specs.Layout.{entryOfWord, entryWord, queueOf, queueWords}
 
 -- ---- a record of single words
 pub port-words : (l : List ℕ) → length l ≡ 4 → portWords (portOf l) ≡ l
@@ -54,14 +54,14 @@ pub route-length : (x : Route) → length (routeWords x) ≡ 6
 route-length x = refl
 
 -- ---- an entry
-entry-word : (w : ℕ) → entryWord (entryOf w) ≡ w
+entry-word : (w : ℕ) → entryWord (entryOfWord w) ≡ w
 entry-word w = omega arith
 
-entry-words : (l : List ℕ) → map entryWord (map entryOf l) ≡ l
+entry-words : (l : List ℕ) → map entryWord (map entryOfWord l) ≡ l
 entry-words [] = refl
 entry-words (x ∷ l) = rw (entry-word x, entry-words l)
 
-entry-record : (e : Entry) → e .slot .0 < 65536 → entryOf (entryWord e) ≡ e
+entry-record : (e : Entry) → e .slot .0 < 65536 → entryOfWord (entryWord e) ≡ e
 entry-record e h =
     let s = e .slot .0 in
     let p = e .precedence in
@@ -73,7 +73,7 @@ abbrev pub Slots : List Entry → Type 0
 Slots [] = Unit {0}
 Slots (e ∷ es) = (e .slot .0 < 65536) × Slots es
 
-entry-records : (es : List Entry) → Slots es → map entryOf (map entryWord es) ≡ es
+entry-records : (es : List Entry) → Slots es → map entryOfWord (map entryWord es) ≡ es
 entry-records [] h = refl
 entry-records (e ∷ es) h = rw (entry-record e (h .0), entry-records es (h .1))
 

@@ -2,6 +2,8 @@
 use Prim.Native.Nat.{ℕ, _+_, _*_, _/_, _%_}
 use mathlib.Core.List.{List, [], _∷_, _++_, map}
 use lib.ListN.{take, getD, replicate}
+use Rattle.sets.specs.Limits.{portCount, routePlaces, groupPlaces, pathPlaces, counterCount}
+use Rattle.queue.specs.Queue.{entryPlaces}
 use Rattle.queue.specs.declared.Entry.{Entry}
 use Rattle.queue.specs.declared.Queue.{Queue}
 use Rattle.routes.specs.declared.Route.{Route}
@@ -45,22 +47,22 @@ abbrev pub routeWords : Route → List ℕ
 routeWords x = x .filled ∷ x .prefix .0 ∷ x .mask .0 ∷ x .port ∷ x .availability ∷ x .capabilities ∷ []
 
 -- an entry in one word: the slot below, the precedence above
-abbrev pub entryOf : ℕ → Entry
-entryOf w = record { slot = record { 0 = w % 65536 }; precedence = w / 65536 }
+abbrev pub entryOfWord : ℕ → Entry
+entryOfWord w = record { slot = record { 0 = w % 65536 }; precedence = w / 65536 }
 
 abbrev pub entryWord : Entry → ℕ
 entryWord e = e .slot .0 + e .precedence * 65536
 
 -- 32 entries, and then how many of them wait
 unfoldable pub queueOf : List ℕ → Queue
-queueOf l = record { entries = map entryOf (take 32 l); count = getD l 32 0 }
+queueOf l = record { entries = map entryOfWord (take entryPlaces l); count = getD l entryPlaces 0 }
 
 unfoldable pub queueWords : Queue → List ℕ
 queueWords q = map entryWord (q .entries) ++ (q .count ∷ [])
 
 -- ---- the whole
 abbrev pub sections : List ℕ
-sections = 1 ∷ 8 * 4 ∷ 16 * 4 ∷ 16 * 4 ∷ 8 * 33 ∷ 15 ∷ 64 * 6 ∷ []
+sections = 1 ∷ portCount * 4 ∷ groupPlaces * 4 ∷ pathPlaces * 4 ∷ portCount * 33 ∷ counterCount ∷ routePlaces * 6 ∷ []
 
 -- the sections together
 abbrev pub stateWords : ℕ
@@ -70,15 +72,15 @@ unfoldable pub relayOf : List (List ℕ) → Relay
 relayOf s =
     record {
       router = getD (getD s 0 []) 0 0;
-      ports = rows portOf 4 8 (getD s 1 []);
+      ports = rows portOf 4 portCount (getD s 1 []);
       mission =
           record {
-            groups = rows groupOf 4 16 (getD s 2 []);
-            paths = rows pathOf 4 16 (getD s 3 []);
-            queues = rows queueOf 33 8 (getD s 4 []);
+            groups = rows groupOf 4 groupPlaces (getD s 2 []);
+            paths = rows pathOf 4 pathPlaces (getD s 3 []);
+            queues = rows queueOf 33 portCount (getD s 4 []);
             counters = getD s 5 [];
           };
-      routes = rows routeOf 6 64 (getD s 6 []);
+      routes = rows routeOf 6 routePlaces (getD s 6 []);
     }
 
 unfoldable pub decode : List ℕ → Relay

@@ -7,6 +7,7 @@ use mathlib.Core.Bool.{Bool, _&&_}
 use mathlib.Core.List.{List}
 use lib.ListN.{getD, set, replicate}
 use lib.Dec.{ltb}
+use Rattle.sets.specs.Limits.{portCount, routePlaces, groupPlaces, pathPlaces, counterCount}
 use Rattle.queue.specs.declared.Queue.{Queue}
 use Rattle.queue.specs.Queue.{fresh as freshQueue}
 use Rattle.routes.specs.declared.Route.{Route}
@@ -36,15 +37,15 @@ unfoldable pub freshRelay : Relay
 freshRelay =
     record {
       router = 0;
-      ports = replicate 8 freshPort;
+      ports = replicate portCount freshPort;
       mission =
           record {
-            groups = replicate 16 freshGroup;
-            paths = replicate 16 freshPath;
-            queues = replicate 8 freshQueue;
-            counters = replicate 15 0;
+            groups = replicate groupPlaces freshGroup;
+            paths = replicate pathPlaces freshPath;
+            queues = replicate portCount freshQueue;
+            counters = replicate counterCount 0;
           };
-      routes = replicate 64 emptyRoute;
+      routes = replicate routePlaces emptyRoute;
     }
 
 -- ---- views
@@ -68,7 +69,7 @@ routeIn r i = getD (r .routes) i emptyRoute
 
 -- a port's number that calls may name: "0 to 7", and set up
 unfoldable pub portSetUp : Relay → ℕ → Bool
-portSetUp r p = ltb p 8 && isSetUp (portIn r p)
+portSetUp r p = ltb p portCount && isSetUp (portIn r p)
 
 -- ---- one field anew
 abbrev pub allPorts : Relay → List Port → Relay

@@ -1,10 +1,11 @@
 // The relay's state in lent words: the places of groups and of paths.
 //
-// As in the crate `store`: the caller lends the whole state, each function works on the words of one place, and each promise is over
+// As in the crate `state_ports`: the caller lends the whole state, each function works on the words of one place, and each promise is over
 // `decode` alone. An empty place is a record too, the fresh one where a call emptied it.
 ghost use mathlib.Core.Path.{_≡_};
 ghost use Prim.Native.Nat.{_<_};
 ghost use lib.ListN.{length};
+ghost use Rattle.sets.specs.Limits.{groupPlaces, pathPlaces};
 ghost use Rattle.state.specs.Layout.{stateWords, decode, groupOf, groupWords, pathOf, pathWords};
 ghost use Rattle.state.specs.Relay.{groupIn, pathIn, withGroup, withPath};
 use address::Address;
@@ -13,9 +14,9 @@ use records::Group;
 use records::PathPlace;
 
 // Where the sections begin.
-const GROUPS: usize = 33;
+const GROUPS_AT: usize = 33;
 
-const PATHS: usize = 97;
+const PATHS_AT: usize = 97;
 
 const GROUP_WORDS: usize = 4;
 
@@ -44,19 +45,19 @@ fn write_group(s: &mut [u32], x: Group)
 }
 
 pub fn group_of(state: &[u32], i: usize) -> Group
-    requires { ⌜ (length (now state) ≡ stateWords) × (i < 16) ⌝ }
+    requires { ⌜ (length (now state) ≡ stateWords) × (i < groupPlaces) ⌝ }
     ensures { λ r. ⌜ r ≡ groupIn (decode (now (state .entry))) i ⌝ }
 {
-    let from = GROUPS + i * GROUP_WORDS;
+    let from = GROUPS_AT + i * GROUP_WORDS;
     let to = from + GROUP_WORDS;
     read_group(&state[from..to])
 }
 
 pub fn put_group(state: &mut [u32], i: usize, x: Group)
-    requires { ⌜ (length (now state) ≡ stateWords) × (i < 16) ⌝ }
+    requires { ⌜ (length (now state) ≡ stateWords) × (i < groupPlaces) ⌝ }
     ensures { λ _. ⌜ decode (now (state .exit)) ≡ withGroup (decode (now (state .entry))) i x ⌝ }
 {
-    let start = GROUPS + i * GROUP_WORDS;
+    let start = GROUPS_AT + i * GROUP_WORDS;
     let end = start + GROUP_WORDS;
     write_group(&mut state[start..end], x);
 }
@@ -84,19 +85,19 @@ fn write_path(s: &mut [u32], x: PathPlace)
 }
 
 pub fn path_of(state: &[u32], i: usize) -> PathPlace
-    requires { ⌜ (length (now state) ≡ stateWords) × (i < 16) ⌝ }
+    requires { ⌜ (length (now state) ≡ stateWords) × (i < pathPlaces) ⌝ }
     ensures { λ r. ⌜ r ≡ pathIn (decode (now (state .entry))) i ⌝ }
 {
-    let from = PATHS + i * PATH_WORDS;
+    let from = PATHS_AT + i * PATH_WORDS;
     let to = from + PATH_WORDS;
     read_path(&state[from..to])
 }
 
 pub fn put_path(state: &mut [u32], i: usize, x: PathPlace)
-    requires { ⌜ (length (now state) ≡ stateWords) × (i < 16) ⌝ }
+    requires { ⌜ (length (now state) ≡ stateWords) × (i < pathPlaces) ⌝ }
     ensures { λ _. ⌜ decode (now (state .exit)) ≡ withPath (decode (now (state .entry))) i x ⌝ }
 {
-    let start = PATHS + i * PATH_WORDS;
+    let start = PATHS_AT + i * PATH_WORDS;
     let end = start + PATH_WORDS;
     write_path(&mut state[start..end], x);
 }

@@ -1,12 +1,13 @@
 // The relay's state in lent words: router or host, the ports, the counters, and a fresh state.
 //
 // The caller lends the whole state, 824 words, and each function works on the words of one part, so that nothing is copied that is
-// not asked for. The crates `places`, `waiting` and `table` do the same for groups and paths, queues, and routes. Each promise is over
+// not asked for. The crates `state_places`, `state_queues` and `state_routes` do the same for groups and paths, queues, and routes. Each promise is over
 // `decode` alone: above these four nobody sees a word, and the layout can change without a proof above them. What is required is the
 // length and a number in range, which the calls of the relay have tested. No state is bad: any 824 words hold some record in each place.
 ghost use mathlib.Core.Path.{_≡_};
 ghost use Prim.Native.Nat.{_<_};
 ghost use lib.ListN.{length};
+ghost use Rattle.sets.specs.Limits.{portCount, counterCount};
 ghost use Rattle.state.specs.Layout.{stateWords, decode, portOf, portWords};
 ghost use mathlib.Core.Bool.{not};
 ghost use Rattle.checks.specs.Order.{checkOf};
@@ -20,11 +21,11 @@ use records::Port;
 pub const STATE_WORDS: usize = 824;
 
 // Where the sections begin.
-const ROUTER: usize = 0;
+const ROUTER_AT: usize = 0;
 
-const PORTS: usize = 1;
+const PORTS_AT: usize = 1;
 
-const COUNTERS: usize = 425;
+const COUNTERS_AT: usize = 425;
 
 const PORT_WORDS: usize = 4;
 
@@ -33,14 +34,14 @@ pub fn router_of(state: &[u32]) -> u32
     requires { ⌜ length (now state) ≡ stateWords ⌝ }
     ensures { λ r. ⌜ r ≡ decode (now (state .entry)) .router ⌝ }
 {
-    state[ROUTER]
+    state[ROUTER_AT]
 }
 
 pub fn put_router(state: &mut [u32], x: u32)
     requires { ⌜ length (now state) ≡ stateWords ⌝ }
     ensures { λ _. ⌜ decode (now (state .exit)) ≡ withRouter (decode (now (state .entry))) x ⌝ }
 {
-    let at = ROUTER;
+    let at = ROUTER_AT;
     state[at] = x;
 }
 
@@ -67,10 +68,10 @@ fn write_port(s: &mut [u32], x: Port)
 }
 
 pub fn port_of(state: &[u32], p: usize) -> Port
-    requires { ⌜ (length (now state) ≡ stateWords) × (p < 8) ⌝ }
+    requires { ⌜ (length (now state) ≡ stateWords) × (p < portCount) ⌝ }
     ensures { λ r. ⌜ r ≡ portIn (decode (now (state .entry))) p ⌝ }
 {
-    let from = PORTS + p * PORT_WORDS;
+    let from = PORTS_AT + p * PORT_WORDS;
     let to = from + PORT_WORDS;
     read_port(&state[from..to])
 }
@@ -80,7 +81,7 @@ pub fn check_port(state: &[u32], port: u32) -> Check
     requires { ⌜ length (now state) ≡ stateWords ⌝ }
     ensures { λ r. ⌜ r ≡ checkOf (not (portSetUp (decode (now (state .entry))) port)) ⌝ }
 {
-    if 8 <= port {
+    if sets::PORTS <= port {
         return Check::Failed;
     }
     let p = port_of(state, port as usize);
@@ -91,29 +92,29 @@ pub fn check_port(state: &[u32], port: u32) -> Check
 }
 
 pub fn put_port(state: &mut [u32], p: usize, x: Port)
-    requires { ⌜ (length (now state) ≡ stateWords) × (p < 8) ⌝ }
+    requires { ⌜ (length (now state) ≡ stateWords) × (p < portCount) ⌝ }
     ensures { λ _. ⌜ decode (now (state .exit)) ≡ withPort (decode (now (state .entry))) p x ⌝ }
 {
-    let start = PORTS + p * PORT_WORDS;
+    let start = PORTS_AT + p * PORT_WORDS;
     let end = start + PORT_WORDS;
     write_port(&mut state[start..end], x);
 }
 
 // The counters in their order, npInReceives first.
 pub fn counter_of(state: &[u32], i: usize) -> u32
-    requires { ⌜ (length (now state) ≡ stateWords) × (i < 15) ⌝ }
+    requires { ⌜ (length (now state) ≡ stateWords) × (i < counterCount) ⌝ }
     ensures { λ r. ⌜ r ≡ counterIn (decode (now (state .entry))) i ⌝ }
 {
-    let from = COUNTERS + i;
+    let from = COUNTERS_AT + i;
     state[from]
 }
 
 // n more at counter i, modulo 2^32.
 pub fn add_count(state: &mut [u32], i: usize, n: u32)
-    requires { ⌜ (length (now state) ≡ stateWords) × (i < 15) ⌝ }
+    requires { ⌜ (length (now state) ≡ stateWords) × (i < counterCount) ⌝ }
     ensures { λ _. ⌜ decode (now (state .exit)) ≡ added (decode (now (state .entry))) i n ⌝ }
 {
-    let at = COUNTERS + i;
+    let at = COUNTERS_AT + i;
     state[at] = std::num::wrapping_add_u32(state[at], n);
 }
 

@@ -7,17 +7,17 @@ use lib.ListN.{length, take, getD, length-map, List·getD-map, List·getD-append
 use lib.Seq.{length-take-le, getD-take, getD-at}
 use Rattle.queue.specs.declared.Entry.{Entry}
 use Rattle.queue.specs.declared.Queue.{Queue}
-use Rattle.state.specs.Layout.{entryOf, entryWord, queueWords}
+use Rattle.state.specs.Layout.{entryOfWord, entryWord, queueWords}
 
 -- the entries that 33 words hold
 abbrev pub entriesOf : List ℕ → List Entry
-entriesOf s = map entryOf (take 32 s)
+entriesOf s = map entryOfWord (take 32 s)
 
 pub entries-length : (s : List ℕ) → length s ≡ 33 → length (entriesOf s) ≡ 32
-entries-length s h = length-map (take 32 s) entryOf ∙ length-take-le 32 s (omega arith)
+entries-length s h = length-map (take 32 s) entryOfWord ∙ length-take-le 32 s (omega arith)
 
-pub entry-at : (s : List ℕ) (i : ℕ) → i < 32 → entryOf (getD s i 0) ≡ getD (entriesOf s) i (entryOf 0)
-entry-at s i h = sym (List·getD-map entryOf (take 32 s) i 0 ∙ ap entryOf (getD-take 32 s i 0 h))
+pub entry-at : (s : List ℕ) (i : ℕ) → i < 32 → entryOfWord (getD s i 0) ≡ getD (entriesOf s) i (entryOfWord 0)
+entry-at s i h = sym (List·getD-map entryOfWord (take 32 s) i 0 ∙ ap entryOfWord (getD-take 32 s i 0 h))
 
 module _ (q : Queue) (wide : length (q .entries) ≡ 32) where
   pub word-at : (i : ℕ) (d : Entry) → i < 32 → entryWord (getD (q .entries) i d) ≡ getD (queueWords q) i (entryWord d)

@@ -1,30 +1,31 @@
 // The relay's state in lent words: the queues of the ports.
 //
-// As in the crate `store`: the caller lends the whole state, each function works on the words of one queue, and each promise is over
+// As in the crate `state_ports`: the caller lends the whole state, each function works on the words of one queue, and each promise is over
 // `decode` alone. A queue is 33 words: its 32 entries, free ones too, and then how many of them wait. Slot and precedence of an entry,
 // of sixteen bits each, share a word: nothing is lost either way, and on the machines that we know a queue is copied as it stands.
 ghost use mathlib.Core.Path.{_≡_};
 ghost use Prim.Native.Nat.{_<_};
 ghost use lib.ListN.{length};
-ghost use Rattle.state.specs.Layout.{stateWords, decode, entryOf, entryWord, queueOf, queueWords};
+ghost use Rattle.sets.specs.Limits.{portCount};
+ghost use Rattle.state.specs.Layout.{stateWords, decode, entryOfWord, entryWord, queueOf, queueWords};
 ghost use Rattle.state.specs.Relay.{queueIn, withQueue};
 use address::Slot;
 use queue::Entry;
 use queue::Queue;
 
 // Where the section begins.
-const QUEUES: usize = 161;
+const QUEUES_AT: usize = 161;
 
 const QUEUE_WORDS: usize = 33;
 
 // How many places for entries a queue has.
-const ENTRIES: usize = 32;
+const ENTRIES: usize = queue::ENTRIES as usize;
 
 // How many numbers sixteen bits hold.
 const SLOTS: u32 = 65536;
 
 fn entry_of(w: u32) -> Entry
-    ensures { λ r. ⌜ r ≡ entryOf w ⌝ }
+    ensures { λ r. ⌜ r ≡ entryOfWord w ⌝ }
 {
     Entry {
         slot: Slot((w % SLOTS) as u16),
@@ -45,7 +46,7 @@ fn read_queue(s: &[u32]) -> Queue
     let mut entries = [Entry {
         slot: Slot(0),
         precedence: 0,
-    }; 32];
+    }; ENTRIES];
     let mut i = 0;
     while i < ENTRIES {
         entries[i] = entry_of(s[i]);
@@ -71,10 +72,10 @@ fn write_queue(s: &mut [u32], q: Queue)
 }
 
 pub fn queue_of(state: &[u32], p: usize) -> Queue
-    requires { ⌜ (length (now state) ≡ stateWords) × (p < 8) ⌝ }
+    requires { ⌜ (length (now state) ≡ stateWords) × (p < portCount) ⌝ }
     ensures { λ r. ⌜ r ≡ queueIn (decode (now (state .entry))) p ⌝ }
 {
-    let from = QUEUES + p * QUEUE_WORDS;
+    let from = QUEUES_AT + p * QUEUE_WORDS;
     let to = from + QUEUE_WORDS;
     read_queue(&state[from..to])
 }
@@ -88,19 +89,19 @@ fn read_count(s: &[u32]) -> u32
 
 // How many wait on a port, as its queue says.
 pub fn count_of(state: &[u32], p: usize) -> u32
-    requires { ⌜ (length (now state) ≡ stateWords) × (p < 8) ⌝ }
+    requires { ⌜ (length (now state) ≡ stateWords) × (p < portCount) ⌝ }
     ensures { λ r. ⌜ r ≡ queueIn (decode (now (state .entry))) p .count ⌝ }
 {
-    let from = QUEUES + p * QUEUE_WORDS;
+    let from = QUEUES_AT + p * QUEUE_WORDS;
     let to = from + QUEUE_WORDS;
     read_count(&state[from..to])
 }
 
 pub fn put_queue(state: &mut [u32], p: usize, q: Queue)
-    requires { ⌜ (length (now state) ≡ stateWords) × (p < 8) ⌝ }
+    requires { ⌜ (length (now state) ≡ stateWords) × (p < portCount) ⌝ }
     ensures { λ _. ⌜ decode (now (state .exit)) ≡ withQueue (decode (now (state .entry))) p q ⌝ }
 {
-    let start = QUEUES + p * QUEUE_WORDS;
+    let start = QUEUES_AT + p * QUEUE_WORDS;
     let end = start + QUEUE_WORDS;
     write_queue(&mut state[start..end], q);
 }

@@ -7,9 +7,9 @@ use mathlib.Core.Path.{_≡_, refl, sym, ap, _∙_}
 use mathlib.Core.Logic.{_≢_}
 use mathlib.Core.Bool.{Bool, true, false}
 use mathlib.Core.List.{List}
-use lib.Dec.{eqb, ltb}
+use lib.Dec.{eqb}
 use lib.ListN.{length, drop}
-use borrow.Author.Tests.{eq-eqb, ne-eqb, lt-ltb, le-ltb}
+use borrow.Author.Tests.{eq-eqb, ne-eqb}
 use Rattle.checks.specs.Order.{pick}
 use Rattle.checks.proofs.Laws.{either}
 use Rattle.address.specs.Mask.{onesOf}
@@ -18,7 +18,7 @@ use Rattle.routes.specs.declared.Route.{Route}
 use Rattle.routes.specs.declared.Found.{Found}
 use Rattle.routes.specs.declared.Found.the-variants.{At, No}
 use Rattle.routes.specs.Routes.{emptyRoute, candidate, routeAt}
-use Rattle.routes.specs.Search.{beaten, betterOf, searchFrom}
+use Rattle.routes.specs.Search.{longerMask, beaten, betterOf, searchFrom}
 use Rattle.routes.proofs.Turns.{search-turn}
 use Rattle.state_routes.specs.Best.{NextCandidate, betterPlace}
 
@@ -40,18 +40,19 @@ module _ (rs : List Route) where
   unfolding betterPlace
   place-first best i h = simp (eq-eqb best 64 h)
 
-  module _ (best i : ℕ) (there : best ≢ 64) (held r : Route) (e : held ≡ routeAt rs best) (f : r ≡ routeAt rs i) where
-    pub place-greater : held .mask .0 < r .mask .0 → i ≡ betterPlace rs best i
+  module _ (best i : ℕ) (there : best ≢ 64) (held r : Route) (e : held ≡ routeAt rs best) (f : r ≡ routeAt rs i)
+      (t : Bool) (told : t ≡ longerMask r held) where
+    pub place-longer : t ≡ true → i ≡ betterPlace rs best i
     unfolding betterPlace
-    place-greater m = simp (ne-eqb best 64 there, lt-ltb _ _ (rw (e, f) at m))
+    place-longer is = let m : longerMask (routeAt rs i) (routeAt rs best) ≡ true = rw (← e, ← f) (sym told ∙ is) in simp (ne-eqb best 64 there, m)
 
-    pub place-kept : r .mask .0 ≤ held .mask .0 → best ≡ betterPlace rs best i
+    pub place-kept : t ≡ false → best ≡ betterPlace rs best i
     unfolding betterPlace
-    place-kept m = simp (ne-eqb best 64 there, le-ltb _ _ (rw (e, f) at m))
+    place-kept is = let m : longerMask (routeAt rs i) (routeAt rs best) ≡ false = rw (← e, ← f) (sym told ∙ is) in simp (ne-eqb best 64 there, m)
 
   pub place-within : (best i : ℕ) → best ≤ 64 → i < 64 → betterPlace rs best i ≤ 64
   unfolding betterPlace
-  place-within best i b l = either (λ n. n ≤ 64) (eqb best 64) (le-of-lt l) (either (λ n. n ≤ 64) (ltb (routeAt rs best .mask .0) (routeAt rs i .mask .0)) (le-of-lt l) b)
+  place-within best i b l = either (λ n. n ≤ 64) (eqb best 64) (le-of-lt l) (either (λ n. n ≤ 64) (longerMask (routeAt rs i) (routeAt rs best)) (le-of-lt l) b)
 
   module _ (a : Address) where
     -- A candidate makes the better place the best.
@@ -69,11 +70,11 @@ module _ (rs : List Route) where
         by-mask false e = refl
 
         by-tests : (t : Bool) → eqb best 64 ≡ t
-            → foundAt (pick t i (pick (ltb (routeAt rs best .mask .0) (routeAt rs i .mask .0)) i best))
+            → foundAt (pick t i (pick (longerMask (routeAt rs i) (routeAt rs best)) i best))
             ≡ pick (beaten (pick t No (At best (onesOf (routeAt rs best .mask .0)) (routeAt rs best))) (routeAt rs i))
             (At i (onesOf (routeAt rs i .mask .0)) (routeAt rs i)) (foundAt best)
         by-tests true e = newer
-        by-tests false e = by-mask (ltb (routeAt rs best .mask .0) (routeAt rs i .mask .0)) e
+        by-tests false e = by-mask (longerMask (routeAt rs i) (routeAt rs best)) e
 
     module _ (many : length rs ≡ 64) (found : Found) where
       -- A place without a candidate changes nothing.

@@ -1,6 +1,6 @@
 // The relay's state in lent words: the places of routes, and the search over them.
 //
-// As in the crate `store`: the caller lends the whole state, each function works on the words of one place, and each promise is over
+// As in the crate `state_ports`: the caller lends the whole state, each function works on the words of one place, and each promise is over
 // `decode` alone. The routes stand last in the words, and are touched by this crate alone, so that another table can take their place.
 //
 // The search goes from candidate to candidate and keeps no more than the place of the best one so far: at a place that is no candidate,
@@ -10,6 +10,7 @@ ghost use mathlib.Core.Path.{_≡_};
 ghost use Prim.Native.Nat.{_≤_, _<_};
 ghost use lib.ListN.{length};
 ghost use Rattle.routes.specs.Search.{searchOf};
+ghost use Rattle.sets.specs.Limits.{routePlaces};
 ghost use Rattle.state.specs.Layout.{stateWords, decode, routeOf, routeWords};
 ghost use Rattle.state.specs.Relay.{routeIn, withRoute};
 ghost use Rattle.state_routes.specs.Best.{NextCandidate, betterPlace};
@@ -17,14 +18,12 @@ use address::Address;
 use address::Mask;
 use routes::Found;
 use routes::Route;
+use sets::indexes::ROUTES;
 
-// Where the section begins.
-const ROUTES: usize = 440;
+// Where the section begins, and how many words a record has.
+const ROUTES_AT: usize = 440;
 
 const ROUTE_WORDS: usize = 6;
-
-// How many places there are; as a place, none of them.
-const PLACES: usize = 64;
 
 fn read_route(s: &[u32]) -> Route
     requires { ⌜ length (now s) ≡ 6 ⌝ }
@@ -53,30 +52,30 @@ fn write_route(s: &mut [u32], x: Route)
 }
 
 pub fn route_of(state: &[u32], i: usize) -> Route
-    requires { ⌜ (length (now state) ≡ stateWords) × (i < 64) ⌝ }
+    requires { ⌜ (length (now state) ≡ stateWords) × (i < routePlaces) ⌝ }
     ensures { λ r. ⌜ r ≡ routeIn (decode (now (state .entry))) i ⌝ }
 {
-    let from = ROUTES + i * ROUTE_WORDS;
+    let from = ROUTES_AT + i * ROUTE_WORDS;
     let to = from + ROUTE_WORDS;
     read_route(&state[from..to])
 }
 
 pub fn put_route(state: &mut [u32], i: usize, x: Route)
-    requires { ⌜ (length (now state) ≡ stateWords) × (i < 64) ⌝ }
+    requires { ⌜ (length (now state) ≡ stateWords) × (i < routePlaces) ⌝ }
     ensures { λ _. ⌜ decode (now (state .exit)) ≡ withRoute (decode (now (state .entry))) i x ⌝ }
 {
-    let start = ROUTES + i * ROUTE_WORDS;
+    let start = ROUTES_AT + i * ROUTE_WORDS;
     let end = start + ROUTE_WORDS;
     write_route(&mut state[start..end], x);
 }
 
 // The first candidate from place i on; the number of places where there is none.
 fn next_candidate(state: &[u32], a: Address, from: usize) -> usize
-    requires { ⌜ (length (now state) ≡ stateWords) × (from ≤ 64) ⌝ }
+    requires { ⌜ (length (now state) ≡ stateWords) × (from ≤ routePlaces) ⌝ }
     ensures { λ r. ⌜ NextCandidate a (decode (now (state .entry)) .routes) from r ⌝ }
 {
     let mut i = from;
-    while i < PLACES {
+    while i < ROUTES {
         let r = route_of(state, i);
         if routes::is_candidate(r, a) {
             return i;
@@ -88,15 +87,15 @@ fn next_candidate(state: &[u32], a: Address, from: usize) -> usize
 
 // The better of the best place so far, which may be none, and place i.
 fn better_place(state: &[u32], best: usize, i: usize) -> usize
-    requires { ⌜ (length (now state) ≡ stateWords) × ((best ≤ 64) × (i < 64)) ⌝ }
+    requires { ⌜ (length (now state) ≡ stateWords) × ((best ≤ routePlaces) × (i < routePlaces)) ⌝ }
     ensures { λ r. ⌜ r ≡ betterPlace (decode (now (state .entry)) .routes) best i ⌝ }
 {
-    if best == PLACES {
+    if best == ROUTES {
         return i;
     }
     let held = route_of(state, best);
     let r = route_of(state, i);
-    if held.mask.0 < r.mask.0 {
+    if routes::longer_mask(r, held) {
         return i;
     }
     best
@@ -107,13 +106,13 @@ pub fn search(state: &[u32], a: Address) -> Found
     requires { ⌜ length (now state) ≡ stateWords ⌝ }
     ensures { λ r. ⌜ r ≡ searchOf a (decode (now (state .entry)) .routes) ⌝ }
 {
-    let mut best = PLACES;
+    let mut best = ROUTES;
     let mut i = next_candidate(state, a, 0);
-    while i < PLACES {
+    while i < ROUTES {
         best = better_place(state, best, i);
         i = next_candidate(state, a, i + 1);
     }
-    if best == PLACES {
+    if best == ROUTES {
         return Found::No;
     }
     let r = route_of(state, best);

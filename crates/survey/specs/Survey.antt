@@ -4,11 +4,13 @@ use Prim.Native.Nat.{ℕ, _+_, _<_}
 use mathlib.Core.Bool.{Bool, true, false, not, _&&_, _||_}
 use lib.Dec.{eqb, ltb}
 use Rattle.checks.specs.Order.{pick}
+use Rattle.sets.specs.Limits.{portCount}
 use Rattle.sets.specs.Sets.{portSet}
 use Rattle.address.specs.declared.Address.{Address}
 use Rattle.networks.specs.Networks.{domainOf, subnetBroadcast, classBroadcast}
 use Rattle.networks.specs.declared.Broadcast.{Broadcast}
 use Rattle.networks.specs.declared.Broadcast.the-variants.{At, None}
+use Rattle.queue.specs.Queue.{entryPlaces}
 use Rattle.records.specs.SetUp.{isSetUp}
 use Rattle.records.specs.declared.Port.{Port}
 use Rattle.state.specs.Relay.{Relay, portIn, queueIn}
@@ -45,7 +47,7 @@ abbrev pub isFitting : Port → Sought → Bool
 isFitting p q = not (ltb (p .mtu) (q .length))
 
 abbrev pub isFull : ℕ → Bool
-isFull waiting = not (ltb waiting 32)
+isFull waiting = not (ltb waiting entryPlaces)
 
 -- ---- the six sets, of the first n ports
 abbrev pub portsBelow : Relay → (ℕ → Bool) → ℕ → ℕ
@@ -63,7 +65,7 @@ surveyBelow r q n =
     }
 
 abbrev pub surveyOf : Relay → Sought → Survey
-surveyOf r q = surveyBelow r q 8
+surveyOf r q = surveyBelow r q portCount
 
 -- ---- one turn of the walk
 -- room for one more port in each set

@@ -9,6 +9,7 @@
 use address::Address;
 use networks::Broadcast;
 use records::Port;
+use sets::indexes::PORTS;
 use verdict::Survey;
 ghost use mathlib.Core.Path.{_≡_};
 ghost use Prim.Native.Nat.{_≤_, _<_};
@@ -28,12 +29,6 @@ pub struct Sought {
     pub domain: u32,
     pub length: u32,
 }
-
-// How many ports there are.
-const PORTS: usize = 8;
-
-// How many entries a queue holds.
-const ENTRIES: u32 = 32;
 
 // Whether the destination is a port's own address.
 fn is_addressed(own: Address, d: Destination) -> bool
@@ -102,7 +97,7 @@ fn see(s: Survey, port: u32, p: Port, waiting: u32, q: Sought) -> Survey
         broadcast: with_port(s.broadcast, is_broadcast(p, d), port),
         domain: with_port(s.domain, networks::domain_of(own) == q.domain, port),
         fitting: with_port(s.fitting, !(p.mtu < q.length), port),
-        full: with_port(s.full, !(waiting < ENTRIES), port),
+        full: with_port(s.full, !(waiting < queue::ENTRIES), port),
     }
 }
 

@@ -1,6 +1,7 @@
 -- `adjust::fill_route` meets its contract. Assumes nothing.
 use borrow.Author.Needs.{needs}
 use mathlib.Core.Path.{refl}
+use Rattle.sets.specs.Limits.{routePlaces}
 use Rattle.refusals.proofs.Places.{place-there}
 use Rattle.adjust.proofs.Settled.{refused, taken}
 use Rattle.adjust.proofs.fill_route.Statement.{statement}
@@ -18,7 +19,7 @@ returns c = refused _ _ _ _ (c .before .route-refusal .ensures) (c .if1 .taken)
 put-route-requires : tie.Need-put-route-requires
 put-route-requires c κs =
     let test = c .before in
-    (search needs, place-there _ 64 _ _ refl (test .before .route-refusal .ensures) (test .if1 .left))
+    (search needs, place-there _ routePlaces _ _ refl (test .before .route-refusal .ensures) (test .if1 .left))
 
 same-length-2 : tie.Need-same-length-2
 same-length-2 c = search needs

@@ -1,6 +1,7 @@
 -- `adjust::set_port` meets its contract. Assumes nothing.
 use borrow.Author.Needs.{needs}
 use mathlib.Core.Path.{refl}
+use Rattle.sets.specs.Limits.{portCount}
 use Rattle.refusals.proofs.Places.{place-there}
 use Rattle.adjust.proofs.Settled.{refused, taken}
 use Rattle.adjust.proofs.set_port.Statement.{statement}
@@ -18,7 +19,7 @@ returns c = refused _ _ _ _ (c .before .port-refusal .ensures) (c .if1 .taken)
 put-port-requires : tie.Need-put-port-requires
 put-port-requires c κs =
     let test = c .before in
-    (search needs, place-there _ 8 _ _ refl (test .before .port-refusal .ensures) (test .if1 .left))
+    (search needs, place-there _ portCount _ _ refl (test .before .port-refusal .ensures) (test .if1 .left))
 
 same-length-2 : tie.Need-same-length-2
 same-length-2 c = search needs

@@ -1,14 +1,15 @@
 -- `harpjuniper_reads::hj_get_router` meets its contract. Assumes nothing.
+use mathlib.Core.Path.{_∙_}
 use Rattle.lent_state.proofs.Calls.{held-told, other-told}
 use borrow.Author.Needs.{needs}
 use Rattle.harpjuniper_reads.proofs.hj_get_router.Statement.{statement}
 use Rattle.harpjuniper_reads.proofs.hj_get_router.Tie as tie
 
-mul-result : tie.Need-mul-result
-mul-result c = search needs
+refusal-number-requires : tie.Need-refusal-number-requires
+refusal-number-requires c κs = search needs
 
 returns : tie.Need-returns
-returns c = other-told _ (c .if1 .taken) _ _
+returns c = c .refusal-number .ensures ∙ other-told _ (c .before .if1 .taken) _ _
 
 router-of-requires : tie.Need-router-of-requires
 router-of-requires c κs = search needs
@@ -21,4 +22,4 @@ returns-2 c = held-told _ (c .before .if1 .left) _ _ (c .router-of .ensures)
 
 pub hj-get-router-spec : {M : Type 1} → statement M
 hj-get-router-spec =
-    tie.close (tie.spec mul-result returns router-of-requires cast-result returns-2)
+    tie.close (tie.spec refusal-number-requires returns router-of-requires cast-result returns-2)

@@ -1,7 +1,7 @@
 -- `harpjuniper_relay::hj_take` meets its contract. Assumes nothing.
 use mathlib.Core.Path.{ap, _∙_}
 use Rattle.answers.specs.Answers.{takingNumber}
-use Rattle.lent_state.proofs.Calls.{held-told, held-changed, other-told, other-changed}
+use Rattle.lent_state.proofs.Calls.{held-call, other-told, other-changed}
 use borrow.Author.Needs.{needs}
 use Rattle.harpjuniper_relay.proofs.hj_take.Statement.{statement}
 use Rattle.harpjuniper_relay.proofs.hj_take.Tie as tie
@@ -22,7 +22,9 @@ same-length : tie.Need-same-length
 same-length c = search needs
 
 returns-2 : tie.Need-returns-2
-returns-2 c = (held-told _ (c .before .before .before .before .before .if1 .left) _ _ (c .taking-number .ensures ∙ ap takingNumber (c .before .before .before .take .ensures .0)), held-changed _ (c .before .before .before .before .before .if1 .left) _ _ (search needs) (c .before .before .before .take .ensures .1))
+returns-2 c =
+    let take = c .before .before .before in
+    held-call _ (take .before .before .if1 .left) _ _ _ _ (search needs) (c .taking-number .ensures ∙ ap takingNumber (take .take .ensures .0)) (take .take .ensures .1)
 
 pub hj-take-spec : {M : Type 1} → statement M
 hj-take-spec =

@@ -4,7 +4,7 @@ use mathlib.Core.Path.{refl, _∙_}
 use Rattle.checks.specs.Order.{Checks}
 use Rattle.checks.proofs.Steps.{fails-here, passes, none-left}
 use Rattle.state.specs.Layout.{decode}
-use Rattle.refusals.proofs.set_up.Chains.{Past}
+use Rattle.refusals.proofs.Chains.{Past}
 use Rattle.refusals.specs.Lists.{portChecks}
 use Rattle.refusals.proofs.Places.{tested-there}
 use Rattle.refusals.proofs.port_refusal.Statement.{statement}

@@ -7,8 +7,8 @@ use Rattle.checks.proofs.Steps.{fails-here, passes, none-left}
 use Rattle.state.specs.Layout.{decode}
 use Rattle.refusals.specs.Ready.{readySet}
 use Rattle.refusals.specs.Record.{recordChecks}
-use Rattle.refusals.proofs.set_up.Record.{record-stops, past-record}
-use Rattle.refusals.proofs.set_up.Chains.{Past}
+use Rattle.refusals.proofs.Record.{record-stops, past-record}
+use Rattle.refusals.proofs.Chains.{Past}
 use Rattle.refusals.specs.Lists.{routeChecks}
 use Rattle.refusals.proofs.route_refusal.Statement.{statement}
 use Rattle.refusals.proofs.route_refusal.Tie as tie

@@ -10,6 +10,7 @@ use Rattle.address.specs.declared.Address.{Address}
 use Rattle.address.specs.declared.PathAddress.{PathAddress}
 use Rattle.routes.specs.declared.Route.{Route}
 use Rattle.routes.specs.Routes.{sameEntry}
+use Rattle.sets.specs.Limits.{routePlaces, groupPlaces, pathPlaces}
 use Rattle.sets.specs.Sets.{anyBelow}
 use Rattle.sets.proofs.Anywhere.{any-is}
 use Rattle.state.specs.Relay.{Relay, groupIn, pathIn, routeIn}
@@ -33,14 +34,14 @@ elsewhere holds i n = (there, back)
     back at = any-is (λ j. not (eqb j i) && holds j) n .1 (at .0, at .1, rw (ne-eqb (at .0) i (at .2)) (at .3))
 
 module _ (r : Relay) (i : ℕ) where
-  pub route-elsewhere : (x : Route) → (routeElsewhere r i x ≡ true) ↔ Elsewhere (λ j. sameEntry (routeIn r j) x) i 64
+  pub route-elsewhere : (x : Route) → (routeElsewhere r i x ≡ true) ↔ Elsewhere (λ j. sameEntry (routeIn r j) x) i routePlaces
   unfolding routeElsewhere
-  route-elsewhere x = elsewhere (λ j. sameEntry (routeIn r j) x) i 64
+  route-elsewhere x = elsewhere (λ j. sameEntry (routeIn r j) x) i routePlaces
 
-  pub group-elsewhere : (a : Address) → (groupElsewhere r i a ≡ true) ↔ Elsewhere (λ j. holdsGroup (groupIn r j) a) i 16
+  pub group-elsewhere : (a : Address) → (groupElsewhere r i a ≡ true) ↔ Elsewhere (λ j. holdsGroup (groupIn r j) a) i groupPlaces
   unfolding groupElsewhere
-  group-elsewhere a = elsewhere (λ j. holdsGroup (groupIn r j) a) i 16
+  group-elsewhere a = elsewhere (λ j. holdsGroup (groupIn r j) a) i groupPlaces
 
-  pub path-elsewhere : (p : PathAddress) → (pathElsewhere r i p ≡ true) ↔ Elsewhere (λ j. holdsPath (pathIn r j) p) i 16
+  pub path-elsewhere : (p : PathAddress) → (pathElsewhere r i p ≡ true) ↔ Elsewhere (λ j. holdsPath (pathIn r j) p) i pathPlaces
   unfolding pathElsewhere
-  path-elsewhere p = elsewhere (λ j. holdsPath (pathIn r j) p) i 16
+  path-elsewhere p = elsewhere (λ j. holdsPath (pathIn r j) p) i pathPlaces

@@ -3,7 +3,7 @@ use native.Mathlib.Omega.{arith}
 use Prim.Native.Nat.{_-_, _≤_}
 use mathlib.Core.Path.{_≡_, refl, _∙_}
 use Rattle.words.proofs.Fill.{fill, fill-turn, fill-end}
-use Rattle.state.specs.Layout.{entryOf, queueOf}
+use Rattle.state.specs.Layout.{entryOfWord, queueOf}
 use Rattle.state_queues.proofs.Queues.{entriesOf, entries-length, entry-at}
 use borrow.Author.Needs.{needs}
 use Rattle.state_queues.proofs.read_queue.Statement.{statement}
@@ -46,7 +46,7 @@ loop-again c =
     let s = k .before .before .args .s .now in
     let l = entries-length s (k .before .before .pre) in (
       search needs,
-      fill-turn _ (entriesOf s) (k .loop .entries) (k .loop .i) (c .entry-of .result) (entryOf 0) turn (omega arith)
+      fill-turn _ (entriesOf s) (k .loop .entries) (k .loop .i) (c .entry-of .result) (entryOfWord 0) turn (omega arith)
           (c .entry-of .ensures ∙ entry-at s (k .loop .i) turn) (k .loop .inv .1),
     )
 

@@ -1,6 +1,7 @@
 -- `adjust::groups_and_paths::set_group` meets its contract. Assumes nothing.
 use borrow.Author.Needs.{needs}
 use mathlib.Core.Path.{refl}
+use Rattle.sets.specs.Limits.{groupPlaces}
 use Rattle.refusals.proofs.Places.{place-there}
 use Rattle.adjust.proofs.Settled.{refused, taken}
 use Rattle.adjust.proofs.groups_and_paths.set_group.Statement.{statement}
@@ -18,7 +19,7 @@ returns c = refused _ _ _ _ (c .before .group-refusal .ensures) (c .if1 .taken)
 put-group-requires : tie.Need-put-group-requires
 put-group-requires c κs =
     let test = c .before in
-    (search needs, place-there _ 16 _ _ refl (test .before .group-refusal .ensures) (test .if1 .left))
+    (search needs, place-there _ groupPlaces _ _ refl (test .before .group-refusal .ensures) (test .if1 .left))
 
 same-length-2 : tie.Need-same-length-2
 same-length-2 c = search needs

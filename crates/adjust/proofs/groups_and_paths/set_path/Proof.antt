@@ -1,6 +1,7 @@
 -- `adjust::groups_and_paths::set_path` meets its contract. Assumes nothing.
 use borrow.Author.Needs.{needs}
 use mathlib.Core.Path.{refl}
+use Rattle.sets.specs.Limits.{pathPlaces}
 use Rattle.refusals.proofs.Places.{place-there}
 use Rattle.adjust.proofs.Settled.{refused, taken}
 use Rattle.adjust.proofs.groups_and_paths.set_path.Statement.{statement}
@@ -18,7 +19,7 @@ returns c = refused _ _ _ _ (c .before .path-refusal .ensures) (c .if1 .taken)
 put-path-requires : tie.Need-put-path-requires
 put-path-requires c κs =
     let test = c .before in
-    (search needs, place-there _ 16 _ _ refl (test .before .path-refusal .ensures) (test .if1 .left))
+    (search needs, place-there _ pathPlaces _ _ refl (test .before .path-refusal .ensures) (test .if1 .left))
 
 same-length-2 : tie.Need-same-length-2
 same-length-2 c = search needs

@@ -4,7 +4,7 @@ use mathlib.Core.Path.{refl, _∙_}
 use Rattle.checks.specs.Order.{Checks}
 use Rattle.checks.proofs.Steps.{fails-here, passes, none-left, joined}
 use Rattle.state.specs.Layout.{decode}
-use Rattle.refusals.proofs.set_up.Chains.{Past}
+use Rattle.refusals.proofs.Chains.{Past}
 use Rattle.refusals.specs.Lists.{pathChecks}
 use Rattle.refusals.proofs.groups_and_paths.path_refusal.Statement.{statement}
 use Rattle.refusals.proofs.groups_and_paths.path_refusal.Tie as tie

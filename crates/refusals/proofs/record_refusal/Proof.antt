@@ -1,12 +1,12 @@
--- `refusals::set_up::record_refusal` meets its contract: each return is past the checks before it. Assumes nothing.
+-- `refusals::record_refusal` meets its contract: each return is past the checks before it. Assumes nothing.
 use borrow.Author.Needs.{needs}
 use mathlib.Core.Path.{refl, _∙_}
 use Rattle.checks.specs.Order.{Checks}
 use Rattle.checks.proofs.Steps.{fails-here, passes, none-left}
 use Rattle.refusals.specs.Record.{recordChecks}
-use Rattle.refusals.proofs.set_up.Chains.{Past}
-use Rattle.refusals.proofs.set_up.record_refusal.Statement.{statement}
-use Rattle.refusals.proofs.set_up.record_refusal.Tie as tie
+use Rattle.refusals.proofs.Chains.{Past}
+use Rattle.refusals.proofs.record_refusal.Statement.{statement}
+use Rattle.refusals.proofs.record_refusal.Tie as tie
 
 -- ---- past the checks
 

@@ -6,7 +6,7 @@ use mathlib.Core.List.{_++_}
 use Rattle.checks.specs.Order.{Checks, firstOf}
 use Rattle.routes.specs.declared.Route.{Route}
 use Rattle.refusals.specs.Record.{recordChecks}
-use Rattle.refusals.proofs.set_up.Chains.{Decided, decided, numbered, others-decide, first-decides}
+use Rattle.refusals.proofs.Chains.{Decided, decided, numbered, others-decide, first-decides}
 
 -- 21, 22 and 24, each exactly where its condition holds and none before it
 pub record-decided : (ready : ℕ) (x : Route) → Decided (recordChecks ready x)

@@ -1,9 +1,9 @@
--- `refusals::set_up::check_ready` meets its contract: each return has the tests that its definition asks. Assumes nothing.
+-- `settings::check_ready` meets its contract: each return has the tests that its definition asks. Assumes nothing.
 use borrow.Author.Needs.{needs}
 use borrow.Author.Tests.{lt-ltb, le-ltb, eq-eqb, ne-eqb}
 use native.Mathlib.Omega.{arith}
-use Rattle.refusals.proofs.set_up.check_ready.Statement.{statement}
-use Rattle.refusals.proofs.set_up.check_ready.Tie as tie
+use Rattle.settings.proofs.check_ready.Statement.{statement}
+use Rattle.settings.proofs.check_ready.Tie as tie
 
 returns : tie.Need-returns
 returns c = simp (le-ltb (c .before .args .port) 8 (omega arith))

@@ -1,0 +1,18 @@
+-- How many there are of each thing that a relay has: page 01, "Numbers that hold everywhere". Ports, places and counters are numbered from 0.
+-- How many entries a queue holds stands with the queue. Assumes nothing.
+use Prim.Native.Nat.{ℕ}
+
+abbrev pub portCount : ℕ
+portCount = 8
+
+abbrev pub routePlaces : ℕ
+routePlaces = 64
+
+abbrev pub groupPlaces : ℕ
+groupPlaces = 16
+
+abbrev pub pathPlaces : ℕ
+pathPlaces = 16
+
+abbrev pub counterCount : ℕ
+counterCount = 15
