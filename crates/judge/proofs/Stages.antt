@@ -28,7 +28,8 @@ use Rattle.judge.specs.Ruling.{ruleOf}
 use Rattle.judge.specs.declared.ruling.Arrival.{Arrival}
 use Rattle.judge.specs.declared.Ending.{Ending}
 use Rattle.meaning.specs.Arrival.{arrivalChecks}
-use Rattle.judge.specs.Ending.{noRoom, refusedBy, orElse, callChecks, headerEnding, octetsEnding, arrivalAt, endingOf}
+use Rattle.header.specs.Limits.{noRoom}
+use Rattle.judge.specs.Ending.{refusedBy, orElse, callChecks, headerEnding, octetsEnding, arrivalAt, endingOf}
 
 -- ---- an ending by a number, or by what follows
 pub by-number : {n : ℕ} {e : Ending} (m : ℕ) (rest : Ending) → n ≡ m → (n ≡ 0 → ⊥) → e ≡ refusedBy n → e ≡ orElse m rest

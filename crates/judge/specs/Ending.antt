@@ -2,10 +2,11 @@
 -- the first whose condition holds ends the call with its number. Assumes nothing.
 use Prim.Native.Nat.{ℕ}
 use mathlib.Core.List.{List, [], _∷_}
-use mathlib.Core.Bool.{Bool, not}
-use lib.Dec.{eqb, ltb}
+use mathlib.Core.Bool.{not}
+use lib.Dec.{eqb}
 use Rattle.checks.specs.Order.{pick, Checks, firstOf}
 use Rattle.sets.specs.Sets.{onlyPort}
+use Rattle.header.specs.Limits.{noRoom}
 use Rattle.header.specs.Read.{readOf}
 use Rattle.header.specs.declared.Header.{Header}
 use Rattle.header.specs.declared.Read.{Read}
@@ -33,10 +34,6 @@ abbrev pub orElse : ℕ → Ending → Ending
 orElse n e = pick (eqb n 0) e (refusedBy n)
 
 -- ---- step 1
--- "Output under 50 octets"
-abbrev pub noRoom : ℕ → Bool
-noRoom room = ltb room 50
-
 unfoldable pub callChecks : Relay → ℕ → ℕ → Checks
 callChecks r port room = (not (portSetUp r port), 16) ∷ (noRoom room, 17) ∷ []
 

@@ -18,19 +18,15 @@ use verdict::Ruling;
 ghost use mathlib.Core.Path.{_≡_};
 ghost use Prim.Native.Nat.{_<_};
 ghost use lib.ListN.{length};
-ghost use Rattle.checks.specs.Order.{checkOf};
+ghost use Rattle.header.specs.Limits.{lengthLimit};
 ghost use Rattle.header.specs.Read.{readOf};
 ghost use Rattle.state.specs.Layout.{stateWords, decode};
 ghost use Rattle.judge.specs.Ending.{
-  noRoom,
   refusedBy,
   headerEnding,
   octetsEnding,
   endingOf,
 };
-
-// How many octets the output has at least.
-const ROOM: usize = 50;
 
 // All that becomes of a datagram: the refusal that ended the call, or 0 and the ruling, the precedence it waits with and its header's own
 // length.
@@ -63,7 +59,7 @@ fn refused(refusal: u32) -> Ending
 // What the relay carries (8), a domain for addresses of one octet (7), the destination and the source that the header names by its arrival
 // port (6, by two checks), and the ruling.
 fn judge_header(state: &[u32], at: Arrival, h: Header) -> Ending
-    requires { ⌜ (length (now state) ≡ stateWords) × (h .length < 8192) ⌝ }
+    requires { ⌜ (length (now state) ≡ stateWords) × (h .length < lengthLimit) ⌝ }
     ensures { λ r. ⌜ r ≡ headerEnding (decode (now (state .entry))) at h ⌝ }
 {
     let f = h.fields;
@@ -103,16 +99,6 @@ fn judge_octets(state: &[u32], at: Arrival, octets: &[u8]) -> Ending
     }
 }
 
-// The output holds any header.
-fn check_room(room: usize) -> Check
-    ensures { λ r. ⌜ r ≡ checkOf (noRoom room) ⌝ }
-{
-    if room < ROOM {
-        return Check::Failed;
-    }
-    Check::Passed
-}
-
 // The verdict on the octets that came in by a port, with so much room for output.
 pub fn judge(state: &[u32], port: u32, octets: &[u8], room: usize) -> Ending
     requires { ⌜ length (now state) ≡ stateWords ⌝ }
@@ -121,7 +107,7 @@ pub fn judge(state: &[u32], port: u32, octets: &[u8], room: usize) -> Ending
     let Check::Passed = state_ports::check_port(state, port) else {
         return refused(16);
     };
-    let Check::Passed = check_room(room) else {
+    let Check::Passed = header::limits::check_room(room) else {
         return refused(17);
     };
     let p = state_ports::port_of(state, port as usize);

@@ -20,6 +20,7 @@ use verdict::Way;
 ghost use mathlib.Core.Path.{_≡_};
 ghost use Prim.Native.Nat.{_<_};
 ghost use lib.ListN.{length};
+ghost use Rattle.header.specs.Limits.{lengthLimit};
 ghost use Rattle.state.specs.Layout.{stateWords, decode};
 ghost use Rattle.judge.specs.Ruling.{ruledBy, ruleNode, caseOf, destinationAsked, soughtOf, ruleAim, ruleOf};
 
@@ -103,7 +104,7 @@ fn rule_aim(state: &[u32], aim: Aim, c: Case, s: Survey) -> Ruling
 
 // The ruling on a good header.
 pub fn rule(state: &[u32], at: Arrival, aim: Aim, h: Header) -> Ruling
-    requires { ⌜ (length (now state) ≡ stateWords) × (h .length < 8192) ⌝ }
+    requires { ⌜ (length (now state) ≡ stateWords) × (h .length < lengthLimit) ⌝ }
     ensures { λ r. ⌜ r ≡ ruleOf (decode (now (state .entry))) at aim h ⌝ }
 {
     let f = h.fields;
