@@ -15,7 +15,7 @@ use Rattle.checks.specs.Order.{pick}
 use Rattle.address.specs.Mask.{maskOf, onesOf, maskForm}
 use Rattle.address.specs.declared.MaskForm.the-variants.{Ones, Mixed}
 use Rattle.address.proofs.Clash.{clash}
-use Rattle.address.proofs.Ones.{counted, ones-at-most}
+use Rattle.address.proofs.Ones.{ones-counted, ones-at-most}
 
 -- the bits above and below the mask's end make thirty-two
 whole : (n : ℕ) → n ≤ 32 → n + (32 - n) ≡ 32
@@ -28,7 +28,7 @@ mask-fits n = omega (arith, pow-pos (32 - n))
 pub mask-ones : (n : ℕ) → n ≤ 32 → onesOf (maskOf n) ≡ n
 unfolding ones
 mask-ones n h =
-    counted (maskOf n) (mask-fits n)
+    ones-counted (maskOf n) (mask-fits n)
     ∙ ap (λ (w : ℕ). ones (2 ^ w - 2 ^ (32 - n))) (sym (whole n h))
     ∙ ap ones (high-ones n (32 - n) ∙ sym (add-zero _))
     ∙ ones-cat (32 - n) (2 ^ n - 1) 0 (pow-pos (32 - n))

@@ -12,7 +12,7 @@ use Rattle.octets.specs.Octets.{pasted, fronted}
 use Rattle.octets.proofs.Laws.{length-octets, pasted-before, pasted-on, pasted-front, take-front, Put, put-two}
 use Rattle.header.specs.Limits.{longestHeader, mostData, noRoom, tooMuchData}
 use Rattle.header.specs.Range.{outOfRange}
-use Rattle.header.specs.Build.{addressesOctets, qosOctets, octetOctets, stampOctets, present, thirdOctet, secondOctet, firstBits, frontOctets, restOctets, bodyOctets, checksumOctets, sizeOf, headerOctets, buildChecks, builtOf, outputOf}
+use Rattle.header.specs.Build.{addressesOctets, qosOctets, octetOctets, stampOctets, present, thirdOctet, secondOctet, firstBits, frontOctets, restOctets, bodyOctets, checksumOctets, sizeOf, headerOctets, buildChecks, builtOf, builtOutput}
 use Rattle.header.specs.declared.Fields.{Fields}
 use Rattle.header.specs.declared.Addresses.{Addresses}
 use Rattle.header.specs.declared.Addresses.the-variants.{BasicPath, ExtendedPath, BasicEndSystem, ExtendedEndSystem, Ipv6}
@@ -38,8 +38,8 @@ pub record Sizes (f : Fields) : Type 0 where
   pub stamp : length (stampOctets (f .stamp)) ≤ 8
   pub expanded : length (octetOctets (f .expanded)) ≤ 1
 
-pub sizes : (f : Fields) → Sizes f
-sizes f =
+pub element-sizes : (f : Fields) → Sizes f
+element-sizes f =
     record {
       addresses = addresses-le (f .addresses);
       qos = omega (arith, qos-length (f .qos), qosFlag-le (f .qos));
@@ -50,7 +50,7 @@ sizes f =
 
 pub rest-le : (f : Fields) → length (restOctets f) ≤ 43
 unfolding restOctets
-rest-le f = let z = sizes f in simp length-append (omega arith)
+rest-le f = let z = element-sizes f in simp length-append (omega arith)
 
 -- ---- chains
 
@@ -59,7 +59,7 @@ pub rest-put : (f : Fields) (l m₁ m₂ m₃ m₄ m₅ : List ℕ) (at r₁ r�
     → Put l m₅ at r₅ (restOctets f)
 unfolding restOctets
 rest-put f l m₁ m₂ m₃ m₄ m₅ at r₁ r₂ r₃ r₄ r₅ p₁ p₂ p₃ p₄ p₅ h =
-    let z = sizes f in
+    let z = element-sizes f in
     let q₂ = put-two l m₁ m₂ _ _ at r₁ r₂ p₁ p₂ (omega arith) in
     let q₃ = put-two l m₂ m₃ _ _ at r₂ r₃ q₂ p₃ (simp length-append (omega arith)) in
     let q₄ = put-two l m₃ m₄ _ _ at r₃ r₄ q₃ p₄ (simp length-append (omega arith)) in
@@ -93,35 +93,35 @@ assembled f n l m₁ m₂ m₃ k body ek eb flag room e₁ e₂ e₃ =
 
 -- ---- the checks
 
-pub in-range : (f : Fields) → checkOf (outOfRange f) ≡ Passed → (f .tpid < 16) × ((f .checksum < 2) × (f .intermediate < 2))
-in-range f h = let t = tested f (passed-false (outOfRange f) h) in (t .tpid, (t .checksum, t .intermediate))
+pub small-fields : (f : Fields) → checkOf (outOfRange f) ≡ Passed → (f .tpid < 16) × ((f .checksum < 2) × (f .intermediate < 2))
+small-fields f h = let t = tested f (passed-false (outOfRange f) h) in (t .tpid, (t .checksum, t .intermediate))
 
 pub short : (n : ℕ) → checkOf (tooMuchData n) ≡ Passed → n ≤ mostData
 short n h = ltb-false _ _ (passed-false _ h)
 
 module _ (f : Fields) (n : ℕ) (l : List ℕ) where
   -- a refusal writes nothing
-  unwritten : (m : ℕ) → builtOf f n (length l) ≡ Refused m → (Refused m ≡ builtOf f n (length l)) × (l ≡ outputOf f n l)
-  unfolding outputOf
+  unwritten : (m : ℕ) → builtOf f n (length l) ≡ Refused m → (Refused m ≡ builtOf f n (length l)) × (l ≡ builtOutput f n l)
+  unfolding builtOutput
   unwritten m e = (sym e, rw e)
 
-  pub no-room : checkOf (noRoom (length l)) ≡ Failed → (Refused 17 ≡ builtOf f n (length l)) × (l ≡ outputOf f n l)
+  pub no-room : checkOf (noRoom (length l)) ≡ Failed → (Refused 17 ≡ builtOf f n (length l)) × (l ≡ builtOutput f n l)
   no-room h = unwritten 17 (built-refused f n (length l) .no-room .1 (ltb-true _ _ (failed-true _ h)))
 
   module _ (room : checkOf (noRoom (length l)) ≡ Passed) where
     pub roomy : longestHeader ≤ length l
     roomy = ltb-false _ _ (passed-false _ room)
 
-    pub no-range : checkOf (outOfRange f) ≡ Failed → (Refused 19 ≡ builtOf f n (length l)) × (l ≡ outputOf f n l)
+    pub no-range : checkOf (outOfRange f) ≡ Failed → (Refused 19 ≡ builtOf f n (length l)) × (l ≡ builtOutput f n l)
     no-range h = unwritten 19 (built-refused f n (length l) .no-range .1 (roomy, failed-true (outOfRange f) h))
 
     module _ (fits : checkOf (outOfRange f) ≡ Passed) where
-      pub too-long : checkOf (tooMuchData n) ≡ Failed → (Refused 20 ≡ builtOf f n (length l)) × (l ≡ outputOf f n l)
+      pub too-long : checkOf (tooMuchData n) ≡ Failed → (Refused 20 ≡ builtOf f n (length l)) × (l ≡ builtOutput f n l)
       too-long h = unwritten 20 (built-refused f n (length l) .too-long .1 (roomy, (passed-false (outOfRange f) fits, ltb-true _ _ (failed-true _ h))))
 
       pub done : checkOf (tooMuchData n) ≡ Passed → (size : ℕ) (out : List ℕ) → size ≡ sizeOf f → out ≡ fronted (headerOctets f n) l
-          → (Done size ≡ builtOf f n (length l)) × (out ≡ outputOf f n l)
-      unfolding builtOf outputOf buildChecks firstOf
+          → (Done size ≡ builtOf f n (length l)) × (out ≡ builtOutput f n l)
+      unfolding builtOf builtOutput buildChecks firstOf
       done h size out es eo =
           let a = passed-false (noRoom (length l)) room in
           let b = passed-false (outOfRange f) fits in

@@ -1,8 +1,9 @@
 // The builder: fields to a header at the front of the output, or the number of the first check that fails.
 //
-// A header is its front, its addresses, its other elements and its checksum (crate writer), end to
-// end. The elements are written before the front, since the length field counts them, and the checksum last, since it sums all. The
-// awkward case is a refusal: everything is tested before the first octet is written.
+// A header is its front, its addresses and its other elements (crate writer), end to end. The elements are written before the front, since
+// the length field counts them, and the checksum last, since it sums all. The checks stand in page 01's order 17, 19, 20 (`header::limits`,
+// module `range`), each a function that answers a `Check`. The awkward case is a refusal: everything is tested before the first octet is
+// written.
 pub mod range;
 
 use checks::Check;
@@ -14,7 +15,7 @@ ghost use Prim.Native.Nat.{_+_, _≤_, _<_};
 ghost use lib.ListN.{length};
 ghost use Rattle.octets.specs.Octets.{pasted, fronted};
 ghost use Rattle.header.specs.Limits.{longestHeader, mostData};
-ghost use Rattle.header.specs.Build.{restOctets, sizeOf, headerOctets, builtOf, outputOf};
+ghost use Rattle.header.specs.Build.{restOctets, sizeOf, headerOctets, builtOf, builtOutput};
 
 // The elements between control field and checksum.
 fn put_rest(out: &mut [u8], place: usize, f: Fields) -> usize
@@ -25,13 +26,13 @@ fn put_rest(out: &mut [u8], place: usize, f: Fields) -> usize
     let addresses = f.addresses;
     let a = writer::addresses::put_addresses(out, place, addresses);
     let qos = f.qos;
-    let b = writer::put_qos(out, a, qos);
+    let b = writer::elements::put_qos(out, a, qos);
     let hops = f.hops;
-    let c = writer::put_octet(out, b, hops);
+    let c = writer::elements::put_octet(out, b, hops);
     let stamp = f.stamp;
-    let d = writer::put_stamp(out, c, stamp);
+    let d = writer::elements::put_stamp(out, c, stamp);
     let expanded = f.expanded;
-    writer::put_octet(out, d, expanded)
+    writer::elements::put_octet(out, d, expanded)
 }
 
 // Writes the header of a datagram with n octets of user data.
@@ -52,14 +53,14 @@ fn write_header(f: Fields, n: usize, out: &mut [u8]) -> usize
     let place = put_rest(out, 3 + has_second as usize + has_third as usize, f);
     let size = place + 2 * f.checksum as usize;
     writer::front::put_front(out, size + n, shared, second, third);
-    writer::put_checksum(out, place, f.checksum);
+    writer::elements::put_checksum(out, place, f.checksum);
     size
 }
 
 // Builds the header of a datagram with n octets of user data.
 pub fn build_header(f: Fields, n: usize, out: &mut [u8]) -> Built
     ensures { λ r. ⌜ r ≡ builtOf f n (length (now (out .entry))) ⌝ }
-    ensures { λ _. ⌜ now (out .exit) ≡ outputOf f n (now (out .entry)) ⌝ }
+    ensures { λ _. ⌜ now (out .exit) ≡ builtOutput f n (now (out .entry)) ⌝ }
 {
     let Check::Passed = header::limits::check_room(out.len()) else {
         return Built::Refused(17);

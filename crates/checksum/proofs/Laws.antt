@@ -9,8 +9,8 @@ use Rattle.checksum.specs.Sum.{word, words, sumFrom, onesSum, checksumOf
 use Rattle.checksum.proofs.Words.{Octets, plain, words-fit, words-zero, words-blank, words-even, sumFrom-append, sumFrom-fits, sumFrom-plain, sumFrom-zero}
 
 -- the plain sum of the words of octets
-unfoldable pub total : List ℕ → ℕ
-total l = plain (words l)
+unfoldable pub wordTotal : List ℕ → ℕ
+wordTotal l = plain (words l)
 
 -- the worked sum of RFC 1071, 3: DDF2
 rfc-example : onesSum (0 ∷ 1 ∷ 242 ∷ 3 ∷ 244 ∷ 245 ∷ 246 ∷ 247 ∷ []) ≡ 56818
@@ -23,8 +23,8 @@ unfolding onesSum
 sum-fits l h = sumFrom-fits 0 (words l) (omega arith) (words-fit l h)
 
 -- modulo 65535 the sum is the plain sum of the words
-pub sum-total : (l : List ℕ) → onesSum l % 65535 ≡ total l % 65535
-unfolding onesSum total
+pub sum-total : (l : List ℕ) → onesSum l % 65535 ≡ wordTotal l % 65535
+unfolding onesSum wordTotal
 sum-total l = omega (arith, sumFrom-plain 0 (words l))
 
 -- the sum is 0, and so the checksum FFFF, exactly where each octet is 0

@@ -10,8 +10,7 @@ use Rattle.checks.specs.declared.Check.the-variants.{Passed, Failed}
 use Rattle.checks.proofs.Laws.{passed-false, failed-true}
 use Rattle.header.specs.Limits.{noRoom, tooMuchData}
 use Rattle.header.specs.Range.{outOfRange}
-use Rattle.header.specs.Build.{builtOf, outputOf}
-use Rattle.header.specs.Build as header
+use Rattle.header.specs.Build.{buildChecks, builtOf, builtOutput}
 use Rattle.header.specs.declared.Built.{Built}
 use Rattle.header.specs.declared.Fields.{Fields}
 use Rattle.header.specs.Read.{readOf}
@@ -23,32 +22,32 @@ use Rattle.numbers.specs.Numbers.{numbersOf}
 use Rattle.numbers.specs.declared.Numbers.{Numbers}
 use Rattle.numbers.specs.Fields.{fieldsFrom}
 use Rattle.numbers.specs.Out.{numbersOut}
-use Rattle.harpjuniper.specs.Face.{nothing, readingOf, builtAnswer, buildChecks, buildAnswer, buildOutput}
+use Rattle.harpjuniper.specs.Face.{nothing, readingOf, builtAnswer, numbersChecks, buildAnswer, buildOutput}
 
-module _ (n : Numbers) (size : ℕ) (lent : List ℕ) where
-  pub no-room : checkOf (noRoom (length lent)) ≡ Failed → (x : ℕ) → x ≡ 17 * 4294967296 → (x ≡ buildAnswer n size (length lent)) × (lent ≡ buildOutput n size lent)
-  unfolding buildAnswer buildOutput buildChecks firstOf
+module _ (n : Numbers) (dataSize : ℕ) (lent : List ℕ) where
+  pub no-room : checkOf (noRoom (length lent)) ≡ Failed → (x : ℕ) → x ≡ 17 * 4294967296 → (x ≡ buildAnswer n dataSize (length lent)) × (lent ≡ buildOutput n dataSize lent)
+  unfolding buildAnswer buildOutput numbersChecks firstOf
   no-room h x e = let a = failed-true (noRoom (length lent)) h in (simp a e, simp a)
 
   module _ (room : checkOf (noRoom (length lent)) ≡ Passed) where
-    pub no-fields : checkOf (numbersOut n) ≡ Failed → (x : ℕ) → x ≡ 19 * 4294967296 → (x ≡ buildAnswer n size (length lent)) × (lent ≡ buildOutput n size lent)
-    unfolding buildAnswer buildOutput buildChecks firstOf
+    pub no-fields : checkOf (numbersOut n) ≡ Failed → (x : ℕ) → x ≡ 19 * 4294967296 → (x ≡ buildAnswer n dataSize (length lent)) × (lent ≡ buildOutput n dataSize lent)
+    unfolding buildAnswer buildOutput numbersChecks firstOf
     no-fields h x e =
         let a = passed-false (noRoom (length lent)) room in
         let b = failed-true (numbersOut n) h in
         (simp (a, b) e, simp (a, b))
 
-    built-case : (t u : Bool) → noRoom (length lent) ≡ false → numbersOut n ≡ false → outOfRange (fieldsFrom n) ≡ t → tooMuchData size ≡ u
-        → (builtAnswer (builtOf (fieldsFrom n) size (length lent)) ≡ buildAnswer n size (length lent)) × (outputOf (fieldsFrom n) size lent ≡ buildOutput n size lent)
-    unfolding buildAnswer buildOutput buildChecks firstOf builtOf outputOf header.buildChecks
+    built-case : (t u : Bool) → noRoom (length lent) ≡ false → numbersOut n ≡ false → outOfRange (fieldsFrom n) ≡ t → tooMuchData dataSize ≡ u
+        → (builtAnswer (builtOf (fieldsFrom n) dataSize (length lent)) ≡ buildAnswer n dataSize (length lent)) × (builtOutput (fieldsFrom n) dataSize lent ≡ buildOutput n dataSize lent)
+    unfolding buildAnswer buildOutput numbersChecks firstOf builtOf builtOutput buildChecks
     built-case true u a b c d = (simp (a, b, c), simp (a, b, c))
     built-case false true a b c d = (simp (a, b, c, d), simp (a, b, c, d))
     built-case false false a b c d = (simp (a, b, c, d), simp (a, b, c, d))
 
-    pub built : checkOf (numbersOut n) ≡ Passed → (f : Fields) (b : Built) (x : ℕ) (out : List ℕ) → f ≡ fieldsFrom n → b ≡ builtOf f size (length lent) → out ≡ outputOf f size lent
-        → x ≡ builtAnswer b → (x ≡ buildAnswer n size (length lent)) × (out ≡ buildOutput n size lent)
+    pub built : checkOf (numbersOut n) ≡ Passed → (f : Fields) (b : Built) (x : ℕ) (out : List ℕ) → f ≡ fieldsFrom n → b ≡ builtOf f dataSize (length lent) → out ≡ builtOutput f dataSize lent
+        → x ≡ builtAnswer b → (x ≡ buildAnswer n dataSize (length lent)) × (out ≡ buildOutput n dataSize lent)
     built h f b x out ef eb eo ex =
-        let p = built-case (outOfRange (fieldsFrom n)) (tooMuchData size) (passed-false (noRoom (length lent)) room) (passed-false (numbersOut n) h) refl refl in
+        let p = built-case (outOfRange (fieldsFrom n)) (tooMuchData dataSize) (passed-false (noRoom (length lent)) room) (passed-false (numbersOut n) h) refl refl in
         (ex ∙ ap builtAnswer (rw ef at eb) ∙ p .0, rw ef at eo ∙ p .1)
 
 pub refused-reading : (r : Read) (n : ℕ) (z : Numbers) → r ≡ read.Refused n → z ≡ nothing → record { refusal = n; length = 0; header = 0; reserved = 0; fields = z } ≡ readingOf r

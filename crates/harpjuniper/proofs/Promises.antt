@@ -23,7 +23,7 @@ use Rattle.numbers.specs.Fields.{fieldsFrom}
 use Rattle.numbers.proofs.fields_from.Bounds.{Words, typed}
 use Rattle.numbers.specs.Out.{numbersOut}
 use Rattle.numbers.proofs.validity.Inverse.{numbers-back}
-use Rattle.harpjuniper.specs.Face.{readingOf, answerBy, buildChecks, buildAnswer, buildOutput}
+use Rattle.harpjuniper.specs.Face.{readingOf, answerBy, numbersChecks, buildAnswer, buildOutput}
 
 -- the numbers stand for no fields, or for fields out of range
 abbrev pub fieldsOut : Numbers → Bool
@@ -50,19 +50,19 @@ first false false false v h =
     record { is-17 = λ e. absurd (omega arith); is-19 = λ e. absurd (omega arith); is-20 = λ e. absurd (omega arith) }
 
 -- each refusal exactly where its condition holds and no earlier one
-pub record Refusals (n : Numbers) (size room : ℕ) : Type 0 where
-  pub no-room : (buildAnswer n size room ≡ 17 * 2 ^ 32) ↔ (room < longestHeader)
-  pub no-fields : (buildAnswer n size room ≡ 19 * 2 ^ 32) ↔ ((longestHeader ≤ room) × (fieldsOut n ≡ true))
-  pub too-long : (buildAnswer n size room ≡ 20 * 2 ^ 32) ↔ ((longestHeader ≤ room) × ((fieldsOut n ≡ false) × (mostData < size)))
+pub record Refusals (n : Numbers) (dataSize room : ℕ) : Type 0 where
+  pub no-room : (buildAnswer n dataSize room ≡ 17 * 2 ^ 32) ↔ (room < longestHeader)
+  pub no-fields : (buildAnswer n dataSize room ≡ 19 * 2 ^ 32) ↔ ((longestHeader ≤ room) × (fieldsOut n ≡ true))
+  pub too-long : (buildAnswer n dataSize room ≡ 20 * 2 ^ 32) ↔ ((longestHeader ≤ room) × ((fieldsOut n ≡ false) × (mostData < dataSize)))
 
-pub build-refused : (n : Numbers) → Words n → (size room : ℕ) → Refusals n size room
-unfolding buildAnswer buildChecks firstOf
-build-refused n w size room =
-    let p = first (noRoom room) (fieldsOut n) (tooMuchData size) (sizeOf (fieldsFrom n)) (λ h. built-size (fieldsFrom n) (fields-in n w h) .1) in
+pub build-refused : (n : Numbers) → Words n → (dataSize room : ℕ) → Refusals n dataSize room
+unfolding buildAnswer numbersChecks firstOf
+build-refused n w dataSize room =
+    let p = first (noRoom room) (fieldsOut n) (tooMuchData dataSize) (sizeOf (fieldsFrom n)) (λ h. built-size (fieldsFrom n) (fields-in n w h) .1) in
     record {
       no-room = (λ e. ltb-true room longestHeader (p .is-17 e), λ h. simp (lt-ltb room longestHeader h));
       no-fields = (λ e. (ltb-false room longestHeader (p .is-19 e .0), p .is-19 e .1), λ h. simp (le-ltb room longestHeader (h .0), h .1));
-      too-long = (λ e. (ltb-false room longestHeader (p .is-20 e .0), (p .is-20 e .1 .0, ltb-true mostData size (p .is-20 e .1 .1))), λ h. simp (le-ltb room longestHeader (h .0), h .1 .0, lt-ltb mostData size (h .1 .1)));
+      too-long = (λ e. (ltb-false room longestHeader (p .is-20 e .0), (p .is-20 e .1 .0, ltb-true mostData dataSize (p .is-20 e .1 .1))), λ h. simp (le-ltb room longestHeader (h .0), h .1 .0, lt-ltb mostData dataSize (h .1 .1)));
     }
 
 kept : (a b c : Bool) (value : ℕ) (built lent : List ℕ) → (b ≡ false → value ≤ longestHeader) → 2 ^ 32 ≤ answerBy (firstOf ((a, 17) ∷ (b, 19) ∷ (c, 20) ∷ [])) value
@@ -74,37 +74,37 @@ kept false false true v built lent h e = refl
 kept false false false v built lent h e = let few = h refl in absurd (omega arith)
 
 -- where the answer is a refusal, the output is as it was lent
-pub refusal-writes-nothing : (n : Numbers) → Words n → (size : ℕ) (lent : List ℕ) → 2 ^ 32 ≤ buildAnswer n size (length lent) → buildOutput n size lent ≡ lent
-unfolding buildAnswer buildOutput buildChecks
-refusal-writes-nothing n w size lent h =
-    kept (noRoom (length lent)) (fieldsOut n) (tooMuchData size) (sizeOf (fieldsFrom n)) _ lent (λ e. built-size (fieldsFrom n) (fields-in n w e) .1) h
+pub refusal-writes-nothing : (n : Numbers) → Words n → (dataSize : ℕ) (lent : List ℕ) → 2 ^ 32 ≤ buildAnswer n dataSize (length lent) → buildOutput n dataSize lent ≡ lent
+unfolding buildAnswer buildOutput numbersChecks
+refusal-writes-nothing n w dataSize lent h =
+    kept (noRoom (length lent)) (fieldsOut n) (tooMuchData dataSize) (sizeOf (fieldsFrom n)) _ lent (λ e. built-size (fieldsFrom n) (fields-in n w e) .1) h
 
 -- ---- what was built
 
 -- the answer is the header's length, and the header stands at the front of the output
-pub built-octets : (n : Numbers) → Words n → (size : ℕ) (lent : List ℕ) → longestHeader ≤ length lent → fieldsOut n ≡ false → size ≤ mostData
-    → (buildAnswer n size (length lent) ≡ sizeOf (fieldsFrom n)) × (buildOutput n size lent ≡ headerOctets (fieldsFrom n) size ++ drop (sizeOf (fieldsFrom n)) lent)
-unfolding buildAnswer buildOutput buildChecks firstOf
-built-octets n w size lent room good short =
+pub built-octets : (n : Numbers) → Words n → (dataSize : ℕ) (lent : List ℕ) → longestHeader ≤ length lent → fieldsOut n ≡ false → dataSize ≤ mostData
+    → (buildAnswer n dataSize (length lent) ≡ sizeOf (fieldsFrom n)) × (buildOutput n dataSize lent ≡ headerOctets (fieldsFrom n) dataSize ++ drop (sizeOf (fieldsFrom n)) lent)
+unfolding buildAnswer buildOutput numbersChecks firstOf
+built-octets n w dataSize lent room good short =
     let a = le-ltb (length lent) longestHeader room in
-    let c = le-ltb mostData size short in
-    (simp (a, good, c), simp (a, good, c) (rw (header-length (fieldsFrom n) size (fields-in n w good .checksum))))
+    let c = le-ltb mostData dataSize short in
+    (simp (a, good, c), simp (a, good, c) (rw (header-length (fieldsFrom n) dataSize (fields-in n w good .checksum))))
 
 -- with its data after it, the header is read as the numbers that it was built from
-pub built-then-read : (n : Numbers) → Words n → (size : ℕ) (userData : List ℕ) → fieldsOut n ≡ false → size ≤ mostData → size ≤ length userData
-    → readingOf (readOf (headerOctets (fieldsFrom n) size ++ userData))
-    ≡ record { refusal = 0; length = sizeOf (fieldsFrom n) + size; header = sizeOf (fieldsFrom n); reserved = 0; fields = n }
+pub built-then-read : (n : Numbers) → Words n → (dataSize : ℕ) (userData : List ℕ) → fieldsOut n ≡ false → dataSize ≤ mostData → dataSize ≤ length userData
+    → readingOf (readOf (headerOctets (fieldsFrom n) dataSize ++ userData))
+    ≡ record { refusal = 0; length = sizeOf (fieldsFrom n) + dataSize; header = sizeOf (fieldsFrom n); reserved = 0; fields = n }
 unfolding readingOf
-built-then-read n w size userData good short enough =
-    rw (read-built (fieldsFrom n) size userData (fields-in n w good) short enough, numbers-back n (or-false (numbersOut n) _ good .0))
+built-then-read n w dataSize userData good short enough =
+    rw (read-built (fieldsFrom n) dataSize userData (fields-in n w good) short enough, numbers-back n (or-false (numbersOut n) _ good .0))
 
 -- the same as C sees it: as many octets of the output as hj_build answers, and the data after them, given to hj_read
-pub hj-build-then-hj-read : (n : Numbers) → Words n → (size : ℕ) (lent userData : List ℕ) → longestHeader ≤ length lent → fieldsOut n ≡ false → size ≤ mostData
-    → size ≤ length userData
-    → readingOf (readOf (take (buildAnswer n size (length lent)) (buildOutput n size lent) ++ userData))
-    ≡ record { refusal = 0; length = buildAnswer n size (length lent) + size; header = buildAnswer n size (length lent); reserved = 0; fields = n }
-hj-build-then-hj-read n w size lent userData room good short enough =
-    let built = built-octets n w size lent room good short in
-    let long = header-length (fieldsFrom n) size (fields-in n w good .checksum) in
-    let front = take-at (headerOctets (fieldsFrom n) size) (drop (sizeOf (fieldsFrom n)) lent) (sizeOf (fieldsFrom n)) long in
-    rw (built .0, built .1, front) (built-then-read n w size userData good short enough)
+pub hj-build-then-hj-read : (n : Numbers) → Words n → (dataSize : ℕ) (lent userData : List ℕ) → longestHeader ≤ length lent → fieldsOut n ≡ false → dataSize ≤ mostData
+    → dataSize ≤ length userData
+    → readingOf (readOf (take (buildAnswer n dataSize (length lent)) (buildOutput n dataSize lent) ++ userData))
+    ≡ record { refusal = 0; length = buildAnswer n dataSize (length lent) + dataSize; header = buildAnswer n dataSize (length lent); reserved = 0; fields = n }
+hj-build-then-hj-read n w dataSize lent userData room good short enough =
+    let built = built-octets n w dataSize lent room good short in
+    let long = header-length (fieldsFrom n) dataSize (fields-in n w good .checksum) in
+    let front = take-at (headerOctets (fieldsFrom n) dataSize) (drop (sizeOf (fieldsFrom n)) lent) (sizeOf (fieldsFrom n)) long in
+    rw (built .0, built .1, front) (built-then-read n w dataSize userData good short enough)

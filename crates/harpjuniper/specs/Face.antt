@@ -63,11 +63,11 @@ builtAnswer (built.Done size) = size
 builtAnswer (built.Refused n) = n * 4294967296
 
 -- no room; numbers that stand for no fields, or for fields out of range; too much data (page 01, "Refusal numbers")
-unfoldable pub buildChecks : Numbers → ℕ → ℕ → Checks
-buildChecks n size room = (noRoom room, 17) ∷ (numbersOut n || outOfRange (fieldsFrom n), 19) ∷ (tooMuchData size, 20) ∷ []
+unfoldable pub numbersChecks : Numbers → ℕ → ℕ → Checks
+numbersChecks n dataSize room = (noRoom room, 17) ∷ (numbersOut n || outOfRange (fieldsFrom n), 19) ∷ (tooMuchData dataSize, 20) ∷ []
 
 unfoldable pub buildAnswer : Numbers → ℕ → ℕ → ℕ
-buildAnswer n size room = answerBy (firstOf (buildChecks n size room)) (sizeOf (fieldsFrom n))
+buildAnswer n dataSize room = answerBy (firstOf (numbersChecks n dataSize room)) (sizeOf (fieldsFrom n))
 
 unfoldable pub buildOutput : Numbers → ℕ → List ℕ → List ℕ
-buildOutput n size lent = pick (eqb (firstOf (buildChecks n size (length lent))) 0) (fronted (headerOctets (fieldsFrom n) size) lent) lent
+buildOutput n dataSize lent = pick (eqb (firstOf (numbersChecks n dataSize (length lent))) 0) (fronted (headerOctets (fieldsFrom n) dataSize) lent) lent

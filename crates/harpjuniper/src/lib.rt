@@ -101,9 +101,9 @@ fn built_answer(b: Built) -> u64
 
 // Builds the header of a datagram with so many octets of user data at the front of the output.
 #[no_mangle]
-pub extern "C" fn hj_build(fields: Numbers, size: usize, output: &mut [u8]) -> u64
-    ensures { λ r. ⌜ r ≡ buildAnswer fields size (length (now (output .entry))) ⌝ }
-    ensures { λ _. ⌜ now (output .exit) ≡ buildOutput fields size (now (output .entry)) ⌝ }
+pub extern "C" fn hj_build(fields: Numbers, data_size: usize, output: &mut [u8]) -> u64
+    ensures { λ r. ⌜ r ≡ buildAnswer fields data_size (length (now (output .entry))) ⌝ }
+    ensures { λ _. ⌜ now (output .exit) ≡ buildOutput fields data_size (now (output .entry)) ⌝ }
 {
     let Check::Passed = header::limits::check_room(output.len()) else {
         return refusal(17);
@@ -112,5 +112,5 @@ pub extern "C" fn hj_build(fields: Numbers, size: usize, output: &mut [u8]) -> u
         return refusal(19);
     };
     let f = numbers::fields_from::fields_from(fields);
-    built_answer(builder::build_header(f, size, output))
+    built_answer(builder::build_header(f, data_size, output))
 }

@@ -14,9 +14,9 @@ use borrow.Author.Tests.{le-ltb}
 use Rattle.checks.specs.Order.{firstOf}
 use Rattle.octets.specs.Octets.{octet, number, octets}
 use Rattle.header.specs.Limits.{longestHeader, mostData, lengthLimit}
-use Rattle.header.specs.Form.{controlOf, layoutOf, placesOf, weight, bit, secondFollows, thirdFollows, hasChecksum, hasHops, hasQos, hasExpanded, stampFormat}
+use Rattle.header.specs.Form.{controlOf, layoutOf, placesOf, bitWeight, headerBit, secondFollows, thirdFollows, hasChecksum, hasHops, hasQos, hasExpanded, stampFormat}
 use Rattle.header.specs.Read.{fieldsOf, headerOf, lengthOf, readOf}
-use Rattle.header.specs.Build.{present, thirdOctet, secondOctet, firstBits, frontOctets, restOctets, bodyOctets, sizeOf, headerOctets, buildChecks, builtOf, outputOf}
+use Rattle.header.specs.Build.{present, thirdOctet, secondOctet, firstBits, frontOctets, restOctets, bodyOctets, sizeOf, headerOctets, buildChecks, builtOf, builtOutput}
 use Rattle.header.specs.declared.Control.{Control}
 use Rattle.header.specs.declared.Layout.{Layout}
 use Rattle.header.specs.declared.Fields.{Fields}
@@ -70,22 +70,22 @@ module _ (s t : List ℕ) (small : (i : ℕ) → getD s i 0 < 256) (short : shor
 digit : (n m c : ℕ) → T (ltb 0 m) → T (ltb 0 c) → n % (m * c) ≡ n / c % m * c + n % c
 digit n m c h g = mod-mul n (lit< h) (lit< g)
 
-third-sum : (c : ℕ) → c < 256 → c % weight 35 ≡ 0 → bit 32 c ≡ 0 → weight 33 * bit 33 c + weight 34 * bit 34 c + weight 35 * bit 35 c ≡ c
+third-sum : (c : ℕ) → c < 256 → c % bitWeight 35 ≡ 0 → headerBit 32 c ≡ 0 → bitWeight 33 * headerBit 33 c + bitWeight 34 * headerBit 34 c + bitWeight 35 * headerBit 35 c ≡ c
 third-sum c h z t =
-    let e : bit 32 c * 128 + (bit 33 c * 64 + (bit 34 c * 32 + (bit 35 c * 16 + c % 16))) ≡ c =
+    let e : headerBit 32 c * 128 + (headerBit 33 c * 64 + (headerBit 34 c * 32 + (headerBit 35 c * 16 + c % 16))) ≡ c =
     rw (← digit c 2 16 tt tt, ← digit c 2 32 tt tt, ← digit c 2 64 tt tt, ← digit c 2 128 tt tt) (mod-eq-of-lt h) in
     omega arith
 
-second-sum : (b : ℕ) → b < 256 → bit 29 b ≡ 0
-    → weight 24 * bit 24 b + weight 25 * bit 25 b + weight 26 * bit 26 b + weight 28 * (b / weight 28 % 4) + weight 30 * bit 30 b + weight 31 * bit 31 b ≡ b
+second-sum : (b : ℕ) → b < 256 → headerBit 29 b ≡ 0
+    → bitWeight 24 * headerBit 24 b + bitWeight 25 * headerBit 25 b + bitWeight 26 * headerBit 26 b + bitWeight 28 * (b / bitWeight 28 % 4) + bitWeight 30 * headerBit 30 b + bitWeight 31 * headerBit 31 b ≡ b
 second-sum b h z =
-    let e : bit 24 b * 128 + (bit 25 b * 64 + (bit 26 b * 32 + (b / 8 % 4 * 8 + (bit 29 b * 4 + (bit 30 b * 2 + b % 2))))) ≡ b =
+    let e : headerBit 24 b * 128 + (headerBit 25 b * 64 + (headerBit 26 b * 32 + (b / 8 % 4 * 8 + (headerBit 29 b * 4 + (headerBit 30 b * 2 + b % 2))))) ≡ b =
     rw (← digit b 2 2 tt tt, ← digit b 2 4 tt tt, ← digit b 4 8 tt tt, ← digit b 2 32 tt tt, ← digit b 2 64 tt tt, ← digit b 2 128 tt tt) (mod-eq-of-lt h) in
     omega arith
 
-first-sum : (a : ℕ) → a < 16 → bit 21 a ≡ 0 → bit 22 a ≡ 1 → weight 20 * bit 20 a + weight 22 + weight 23 * bit 23 a ≡ a
+first-sum : (a : ℕ) → a < 16 → headerBit 21 a ≡ 0 → headerBit 22 a ≡ 1 → bitWeight 20 * headerBit 20 a + bitWeight 22 + bitWeight 23 * headerBit 23 a ≡ a
 first-sum a h z o =
-    let e : bit 20 a * 8 + (bit 21 a * 4 + (bit 22 a * 2 + a % 2)) ≡ a =
+    let e : headerBit 20 a * 8 + (headerBit 21 a * 4 + (headerBit 22 a * 2 + a % 2)) ≡ a =
     rw (← digit a 2 2 tt tt, ← digit a 2 4 tt tt, ← digit a 2 8 tt tt) (mod-eq-of-lt h) in
     omega arith
 
@@ -184,8 +184,8 @@ module _ (s : List ℕ) (h : Header) (small : (i : ℕ) → getD s i 0 < 256) (e
 
   -- and writes the octets that were read
   pub output-again : (lent : List ℕ) → longestHeader ≤ length lent → h .length - h .size ≤ mostData
-      → outputOf (h .fields) (h .length - h .size) lent ≡ take (h .size) s ++ drop (h .size) lent
-  unfolding headerOf outputOf
+      → builtOutput (h .fields) (h .length - h .size) lent ≡ take (h .size) s ++ drop (h .size) lent
+  unfolding headerOf builtOutput
   output-again lent enough few =
       let fits : h .size ≤ length s = rw (p .is) room in
       rw (done-again (length lent) enough few, built-again, length-take-le (h .size) s fits)

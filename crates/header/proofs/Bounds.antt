@@ -13,15 +13,15 @@ use Rattle.checks.proofs.Laws.{either}
 use Rattle.octets.specs.Octets.{octet}
 use Rattle.header.specs.Limits.{longestHeader}
 use Rattle.header.specs.declared.Control.{Control}
-use Rattle.header.specs.Form.{weight, bit, controlOf, layoutOf, placesOf, forbidden, addressSize, stampSize, stampFormat, reserved21, reserved29, fourthFollows, unassigned, hasDestination, hasChecksum, hasSource, isIpv6, isExtended}
+use Rattle.header.specs.Form.{bitWeight, headerBit, controlOf, layoutOf, placesOf, forbidden, addressSize, stampSize, stampFormat, reserved21, reserved29, fourthFollows, unassigned, hasDestination, hasChecksum, hasSource, isIpv6, isExtended}
 
 below-two : (x : ℕ) → x % 2 ≤ 1
 below-two x = omega arith
 
 -- a bit of x times m
-pub gate : (n x m : ℕ) → bit n x * m ≤ m
+pub gate : (n x m : ℕ) → headerBit n x * m ≤ m
 gate n x m =
-    let h : bit n x ≤ 1 = below-two (x / weight n) in
+    let h : headerBit n x ≤ 1 = below-two (x / bitWeight n) in
     rw (one-mul m) at (mul-le-mul-right m h)
 
 -- an address has 1 to 16 octets, a timestamp at most 8

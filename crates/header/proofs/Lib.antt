@@ -1,4 +1,5 @@
--- The laws of headers. To be read: Refusals, Answers, Trip, Again, SentOn, BuiltLaws, Promises; the others serve them and the code's proofs.
+-- The laws of headers. To be read: Refusals, Answers, Trip, Again, SentOn, BuiltLaws, Promises; the others serve them and the code's proofs. Tests
+-- is for callers of this crate's functions.
 pub mod Tests
 pub mod Bounds
 pub mod Passed

@@ -34,8 +34,8 @@ pub record Stands (s : List ℕ) (at : ℕ) (x rest : List ℕ) : Type 0 where
   pub is : drop at s ≡ x ++ rest
 
 -- what comes after x stands at the place after x
-pub after : {s x rest : List ℕ} {at : ℕ} (y : List ℕ) (to : ℕ) → Stands s at x (y ++ rest) → to ≡ at + length x → Stands s to y rest
-after {s} {x} {rest} {at} y to h e = record { is = rw (e, ← drop-drop (length x) at s, h .is) (drop-append-seam x (y ++ rest)) }
+pub stands-after : {s x rest : List ℕ} {at : ℕ} (y : List ℕ) (to : ℕ) → Stands s at x (y ++ rest) → to ≡ at + length x → Stands s to y rest
+stands-after {s} {x} {rest} {at} y to h e = record { is = rw (e, ← drop-drop (length x) at s, h .is) (drop-append-seam x (y ++ rest)) }
 
 -- of two pieces the first stands there, and the second after it
 module _ {s rest : List ℕ} {at : ℕ} (x y : List ℕ) (h : Stands s at (x ++ y) rest) where
@@ -43,7 +43,7 @@ module _ {s rest : List ℕ} {at : ℕ} (x y : List ℕ) (h : Stands s at (x ++ 
   first-of = record { is = h .is ∙ append-assoc x y rest }
 
   second-of : (n : ℕ) → length x ≡ n → Stands s (at + n) y rest
-  second-of n e = after y (at + n) first-of (rw e)
+  second-of n e = stands-after y (at + n) first-of (rw e)
 
 -- ---- numbers
 

@@ -3,7 +3,7 @@
 -- places: where another string has these octets too, the same is read of it (`Alike`), though the control field need not be the shortest, so
 -- that the laws of built headers would not do. Assumes nothing.
 use native.Mathlib.Omega.{arith}
-use Prim.Native.Nat.{ℕ, zero, suc, _+_, _-_, _/_, _%_, _≤_, _<_}
+use Prim.Native.Nat.{ℕ, zero, suc, _+_, _-_, _≤_, _<_}
 use mathlib.Core.Path.{_≡_, refl, ap, sym, _∙_}
 use mathlib.Core.List.{List, [], _∷_, _++_, append-assoc}
 use mathlib.Core.Bool.{Bool, true, false}
@@ -20,7 +20,7 @@ use Rattle.header.specs.Form.{thirdFollows, controlOf, secondControl, th
 use Rattle.header.specs.Read.{addressesOf, qosOf, octetOf, stampOf, lengthOf, fieldsOf, headerOf, readOf}
 use Rattle.header.specs.Build.{stampOctets, checksumOctets}
 use Rattle.header.specs.Range.{InRange}
-use Rattle.header.specs.Onward.{lessened, sentBody, sentOn, oneLess}
+use Rattle.header.specs.Onward.{lessened, sentBody, headerSentOn, oneLess}
 use Rattle.header.specs.declared.Control.{Control}
 use Rattle.header.specs.declared.Layout.{Layout}
 use Rattle.header.specs.declared.Header.{Header}
@@ -97,8 +97,8 @@ module _ (s : List ℕ) where
       length-lessened (hasHops (controlOf s)) (placesOf s .hops) (take (placesOf s .checksum) s) ∙ length-take-le (placesOf s .checksum) s h
 
   -- they are octets
-  pub sent-small : Octets s → Octets (sentOn s)
-  unfolding sentOn sentBody lessened checksumOctets
+  pub sent-small : Octets s → Octets (headerSentOn s)
+  unfolding headerSentOn sentBody lessened checksumOctets
   sent-small small =
       let front = take (placesOf s .checksum) s in
       let body : Octets (sentBody s) =
@@ -109,17 +109,17 @@ module _ (s : List ℕ) (room : placesOf s .size ≤ length s) where
   inside : placesOf s .checksum ≤ length s
   inside = omega (arith, places s)
 
-  pub sent-length : length (sentOn s) ≡ placesOf s .size
-  unfolding sentOn
+  pub sent-length : length (headerSentOn s) ≡ placesOf s .size
+  unfolding headerSentOn
   sent-length =
       simp (length-append, sent-body-length s inside, checksum-length (hasChecksum (controlOf s)) (omega arith)) (sym (places s .size))
 
-  body-front : (i : ℕ) → i < placesOf s .checksum → octet (sentOn s) i ≡ octet (sentBody s) i
-  unfolding sentOn
+  body-front : (i : ℕ) → i < placesOf s .checksum → octet (headerSentOn s) i ≡ octet (sentBody s) i
+  unfolding headerSentOn
   body-front i below = List·getD-append (sentBody s) _ 0 i (omega (arith, sent-body-length s inside))
 
   -- same form, same addresses: only the octet of the hop count and the two of the checksum may differ
-  pub sent-same : (i : ℕ) → i < placesOf s .checksum → (hasHops (controlOf s) ≡ 1 → i ≡ placesOf s .hops → ⊥) → octet (sentOn s) i ≡ octet s i
+  pub sent-same : (i : ℕ) → i < placesOf s .checksum → (hasHops (controlOf s) ≡ 1 → i ≡ placesOf s .hops → ⊥) → octet (headerSentOn s) i ≡ octet s i
   unfolding sentBody
   sent-same i below other =
       let front = take (placesOf s .checksum) s in
@@ -127,7 +127,7 @@ module _ (s : List ℕ) (room : placesOf s .size ≤ length s) where
       body-front i below ∙ (body-same ∙ getD-take (placesOf s .checksum) s i 0 below)
 
   -- the hop count is one less; 0 stays 0
-  pub sent-hops : hasHops (controlOf s) ≡ 1 → octet (sentOn s) (placesOf s .hops) ≡ octet s (placesOf s .hops) - 1
+  pub sent-hops : hasHops (controlOf s) ≡ 1 → octet (headerSentOn s) (placesOf s .hops) ≡ octet s (placesOf s .hops) - 1
   unfolding sentBody lessened
   sent-hops on =
       let at = placesOf s .hops in
@@ -317,12 +317,12 @@ module _ (s : List ℕ) (h : Header) (small : (i : ℕ) → getD s i 0 < 256) (e
   hops-are = rw (was .is)
 
   -- as many octets as came
-  pub sent-size : length (sentOn s) ≡ h .size
+  pub sent-size : length (headerSentOn s) ≡ h .size
   sent-size = sent-length s enough ∙ sym size-is
 
   -- with no hop count, or one of 0, every octet goes on as it came, those of the checksum too
-  pub sent-as-it-came : oneLess (h .fields .hops) ≡ h .fields .hops → sentOn s ≡ take (h .size) s
-  unfolding sentOn sentBody
+  pub sent-as-it-came : oneLess (h .fields .hops) ≡ h .fields .hops → headerSentOn s ≡ take (h .size) s
+  unfolding headerSentOn sentBody
   sent-as-it-came none =
       let at = placesOf s .checksum in
       let body-is : sentBody s ≡ take at s =
@@ -333,10 +333,10 @@ module _ (s : List ℕ) (h : Header) (small : (i : ℕ) → getD s i 0 < 256) (e
 
   -- the header sent on, and the datagram's data behind it
   abbrev sent : List ℕ
-  sent = sentOn s ++ drop (h .size) s
+  sent = headerSentOn s ++ drop (h .size) s
 
-  front : (i : ℕ) → i < placesOf s .size → octet sent i ≡ octet (sentOn s) i
-  front i below = List·getD-append (sentOn s) _ 0 i (omega (arith, sent-length s enough))
+  front : (i : ℕ) → i < placesOf s .size → octet sent i ≡ octet (headerSentOn s) i
+  front i below = List·getD-append (headerSentOn s) _ 0 i (omega (arith, sent-length s enough))
 
   sent-alike : Alike s sent
   sent-alike =
@@ -352,9 +352,9 @@ module _ (s : List ℕ) (h : Header) (small : (i : ℕ) → getD s i 0 < 256) (e
       rw hops-are (hops-case s sent (hasHops (controlOf s)) (placesOf s .hops) (zero-or-one _ (omega arith)) less)
 
   sent-right : hasChecksum (controlOf s) ≡ 1 → number sent (placesOf s .checksum) 2 ≡ elementOf sent (placesOf s .checksum)
-  unfolding sentOn
+  unfolding headerSentOn
   sent-right on = rw (append-assoc, ← sent-body-length s (inside s enough)) (right (hasChecksum (controlOf s)) (sentBody s) _ on)
 
   -- it is read as the same fields with the hop count less one
-  pub read-sent-on : readOf (sentOn s ++ drop (h .size) s) ≡ Good (withHops (oneLess (h .fields .hops)) h)
+  pub read-sent-on : readOf (headerSentOn s ++ drop (h .size) s) ≡ Good (withHops (oneLess (h .fields .hops)) h)
   read-sent-on = rw (← sent-less) (read-alike s sent h small was sent-alike sent-right)

@@ -22,7 +22,7 @@ use Rattle.header.specs.declared.Control.{Control}
 use Rattle.header.specs.declared.Fields.{Fields}
 use Rattle.header.specs.declared.Read.the-variants.{Good}
 use Rattle.header.proofs.Passed.{read-passed}
-use Rattle.header.proofs.Pieces.{Stands, after, number-there, addresses-length, addresses-read, qos-length, qos-read, octet-length, octet-read, stamp-size, stamp-read, present-read}
+use Rattle.header.proofs.Pieces.{Stands, stands-after, number-there, addresses-length, addresses-read, qos-length, qos-read, octet-length, octet-read, stamp-size, stamp-read, present-read}
 use Rattle.header.proofs.Bits.{builtControl, Bits, bits, not-forbidden}
 use Rattle.header.proofs.BuiltLaws.{body-length, header-length, built-size}
 
@@ -46,11 +46,11 @@ elements : {s : List ℕ} (f : Fields) (k : Control) (last : List ℕ) → InRan
 unfolding restOctets
 elements {s} f k last r b addresses =
     let size = addresses-length k (f .addresses) (b .addresses) in
-    let qos = after (qosOctets (f .qos)) (qosPlace k) addresses (omega arith) in
-    let hops = after (octetOctets (f .hops)) (hopsPlace k) qos (rw (b .qos, qos-length (f .qos))) in
-    let stamp = after (stampOctets (f .stamp)) (stampPlace k) hops (rw (b .hops, octet-length (f .hops))) in
+    let qos = stands-after (qosOctets (f .qos)) (qosPlace k) addresses (omega arith) in
+    let hops = stands-after (octetOctets (f .hops)) (hopsPlace k) qos (rw (b .qos, qos-length (f .qos))) in
+    let stamp = stands-after (stampOctets (f .stamp)) (stampPlace k) hops (rw (b .hops, octet-length (f .hops))) in
     let stamp-end : expandedPlace s k ≡ stampPlace k + length (stampOctets (f .stamp)) = rw (b .stamp, stamp-size (f .stamp) stamp (r .stamp)) in
-    let expanded = after (octetOctets (f .expanded)) (expandedPlace s k) stamp stamp-end in
+    let expanded = stands-after (octetOctets (f .expanded)) (expandedPlace s k) stamp stamp-end in
     record {
       addresses = addresses-read k (f .addresses) (b .addresses) addresses (r .addresses);
       qos = rw (b .qos) (qos-read (f .qos) qos (r .qos));
@@ -85,7 +85,7 @@ front f len last r short =
     let b = bits f r in
     let second : Stands s 3 (octets (present (k .second)) (k .second)) (octets (present (k .third)) (k .third) ++ (addressesOctets (f .addresses) ++ rest f last)) =
     record { is = simp append-assoc } in
-    let third = after (octets (present (k .third)) (k .third)) (3 + present (k .second)) second (rw (length-octets (present (k .second)) (k .second))) in
+    let third = stands-after (octets (present (k .third)) (k .third)) (3 + present (k .second)) second (rw (length-octets (present (k .second)) (k .second))) in
     let fixed : octet s 2 ≡ f .tpid * 16 + k .first = omega (arith, b .first-lt, r .tpid) in
     let is-first : octet s 2 % 16 ≡ k .first = rw fixed (omega (arith, b .first-lt)) in
     let is-second = present-read (k .second) second (b .second-lt) in
@@ -96,7 +96,7 @@ front f len last r short =
       length-is = omega arith;
       tpid = rw fixed (omega (arith, b .first-lt));
       control = rw (is-first, b .more, is-second, b .most, ← place, is-third);
-      addresses = after (addressesOctets (f .addresses)) (k .end) third (rw (length-octets (present (k .third)) (k .third)));
+      addresses = stands-after (addressesOctets (f .addresses)) (k .end) third (rw (length-octets (present (k .third)) (k .third)));
     }
 
 -- ---- the header whole

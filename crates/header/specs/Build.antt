@@ -8,7 +8,7 @@ use Rattle.checks.specs.Order.{pick, Checks, firstOf}
 use Rattle.octets.specs.Octets.{octets, fronted}
 use Rattle.checksum.specs.Sum.{checksumOf}
 use Rattle.header.specs.Limits.{lengthLimit, noRoom, tooMuchData}
-use Rattle.header.specs.Form.{weight, timeSize}
+use Rattle.header.specs.Form.{bitWeight, timeSize}
 use Rattle.header.specs.Range.{outOfRange}
 use Rattle.header.specs.declared.Six.{Six}
 use Rattle.header.specs.declared.Addresses.{Addresses}
@@ -94,15 +94,15 @@ present n = pick (eqb n 0) 0 1
 
 -- bits 32 to 39, 24 to 31 and 20 to 23 (003, table 3-4)
 unfoldable pub thirdOctet : Fields → ℕ
-thirdOctet f = weight 33 * ipv6Flag (f .addresses) + weight 34 * octetFlag (f .expanded) + weight 35 * f .intermediate
+thirdOctet f = bitWeight 33 * ipv6Flag (f .addresses) + bitWeight 34 * octetFlag (f .expanded) + bitWeight 35 * f .intermediate
 
 unfoldable pub secondOctet : Fields → ℕ
 secondOctet f =
-    weight 24 * present (thirdOctet f) + weight 25 * sourceFlag (f .addresses) + weight 26 * octetFlag (f .hops) + weight 28 * formatOf (f .stamp)
-    + weight 30 * qosFlag (f .qos) + weight 31 * extendedFlag (f .addresses)
+    bitWeight 24 * present (thirdOctet f) + bitWeight 25 * sourceFlag (f .addresses) + bitWeight 26 * octetFlag (f .hops) + bitWeight 28 * formatOf (f .stamp)
+    + bitWeight 30 * qosFlag (f .qos) + bitWeight 31 * extendedFlag (f .addresses)
 
 unfoldable pub firstBits : Fields → ℕ
-firstBits f = weight 20 * present (secondOctet f) + weight 22 + weight 23 * f .checksum
+firstBits f = bitWeight 20 * present (secondOctet f) + bitWeight 22 + bitWeight 23 * f .checksum
 
 -- ---- the header whole
 
@@ -147,5 +147,5 @@ abbrev pub outputBy : Built → List ℕ → List ℕ → List ℕ
 outputBy (Refused n) header lent = lent
 outputBy (Done size) header lent = fronted header lent
 
-unfoldable pub outputOf : Fields → ℕ → List ℕ → List ℕ
-outputOf f n lent = outputBy (builtOf f n (length lent)) (headerOctets f n) lent
+unfoldable pub builtOutput : Fields → ℕ → List ℕ → List ℕ
+builtOutput f n lent = outputBy (builtOf f n (length lent)) (headerOctets f n) lent

@@ -12,19 +12,19 @@ use Rattle.header.specs.declared.Layout.{Layout}
 -- ---- the control bits, by their numbers in table 3-4
 
 -- what bit n weighs in its octet: bits are counted from the most significant of the first octet (003, 1.6.1)
-abbrev pub weight : ℕ → ℕ
-weight n = 2 ^ (7 - n % 8)
+abbrev pub bitWeight : ℕ → ℕ
+bitWeight n = 2 ^ (7 - n % 8)
 
 -- bit n of the octet that has it
-abbrev pub bit : ℕ → ℕ → ℕ
-bit n octet = octet / weight n % 2
+abbrev pub headerBit : ℕ → ℕ → ℕ
+headerBit n octet = octet / bitWeight n % 2
 
 -- bits 20 and 24, of the number that has each: whether a second control octet follows the first four bits, and a third the second
 abbrev pub secondFollows : ℕ → ℕ
-secondFollows first = bit 20 first
+secondFollows first = headerBit 20 first
 
 abbrev pub thirdFollows : ℕ → ℕ
-thirdFollows second = bit 24 second
+thirdFollows second = headerBit 24 second
 
 -- the control field of the octets s; an octet that is not there counts as 0 (003, 3.2.3.4.3)
 abbrev pub firstControl : List ℕ → ℕ
@@ -46,48 +46,48 @@ controlOf s =
     }
 
 abbrev pub reserved21 : Control → ℕ
-reserved21 k = bit 21 (k .first)
+reserved21 k = headerBit 21 (k .first)
 
 abbrev pub hasDestination : Control → ℕ
-hasDestination k = bit 22 (k .first)
+hasDestination k = headerBit 22 (k .first)
 
 abbrev pub hasChecksum : Control → ℕ
-hasChecksum k = bit 23 (k .first)
+hasChecksum k = headerBit 23 (k .first)
 
 abbrev pub hasSource : Control → ℕ
-hasSource k = bit 25 (k .second)
+hasSource k = headerBit 25 (k .second)
 
 abbrev pub hasHops : Control → ℕ
-hasHops k = bit 26 (k .second)
+hasHops k = headerBit 26 (k .second)
 
 -- bits 27 and 28 as one number
 abbrev pub stampFormat : Control → ℕ
-stampFormat k = k .second / weight 28 % 4
+stampFormat k = k .second / bitWeight 28 % 4
 
 abbrev pub reserved29 : Control → ℕ
-reserved29 k = bit 29 (k .second)
+reserved29 k = headerBit 29 (k .second)
 
 abbrev pub hasQos : Control → ℕ
-hasQos k = bit 30 (k .second)
+hasQos k = headerBit 30 (k .second)
 
 abbrev pub isExtended : Control → ℕ
-isExtended k = bit 31 (k .second)
+isExtended k = headerBit 31 (k .second)
 
 abbrev pub fourthFollows : Control → ℕ
-fourthFollows k = bit 32 (k .third)
+fourthFollows k = headerBit 32 (k .third)
 
 abbrev pub isIpv6 : Control → ℕ
-isIpv6 k = bit 33 (k .third)
+isIpv6 k = headerBit 33 (k .third)
 
 abbrev pub hasExpanded : Control → ℕ
-hasExpanded k = bit 34 (k .third)
+hasExpanded k = headerBit 34 (k .third)
 
 abbrev pub isIntermediate : Control → ℕ
-isIntermediate k = bit 35 (k .third)
+isIntermediate k = headerBit 35 (k .third)
 
 -- bits 36 to 39 as one number: what is below bit 35
 abbrev pub unassigned : Control → ℕ
-unassigned k = k .third % weight 35
+unassigned k = k .third % bitWeight 35
 
 -- ---- what they forbid
 

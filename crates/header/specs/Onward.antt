@@ -19,8 +19,8 @@ lessened on at l = pick (eqb on 1) (set l at (octet l at - 1)) l
 unfoldable pub sentBody : List ℕ → List ℕ
 sentBody s = lessened (hasHops (controlOf s)) (placesOf s .hops) (take (placesOf s .checksum) s)
 
-unfoldable pub sentOn : List ℕ → List ℕ
-sentOn s = sentBody s ++ checksumOctets (hasChecksum (controlOf s)) (sentBody s)
+unfoldable pub headerSentOn : List ℕ → List ℕ
+headerSentOn s = sentBody s ++ checksumOctets (hasChecksum (controlOf s)) (sentBody s)
 
 -- a hop count less one, where there is one
 abbrev pub oneLess : Octet → Octet

@@ -1,7 +1,11 @@
 // What a header is.
 //
 // The kinds that the reader and the builder share, with every definition of how a header lies in octets (specs/) and the laws
-// between the two directions (proofs/). No code stands here, so that a change of the reader or of the builder does not touch a law.
+// between the two directions (proofs/). What code stands here is what both directions ask: the bits of the control field
+// (`control_bits`), what they are for given elements (`flags`), the limits (`limits`) and the time behind a P-field (`pfield`). None of
+// it reads or writes an octet, so that a change of the reader or of the builder does not touch a law.
+//
+// Two lengths are told apart by their names: `length` is the datagram's, which the length field says, and `size` is the header's own.
 //
 // An element that is absent is a variant without data, so that a number for it cannot be written down; the five address types of
 // table 3-5 are the five variants of `Addresses`, so that neither can a combination that table 3-6 forbids. What is left for refusal

@@ -17,7 +17,7 @@ use Rattle.header.specs.Read.{readChecks, headerOf, readOf}
 use Rattle.header.specs.declared.Header.{Header}
 use Rattle.header.specs.declared.Read.the-variants as read
 use Rattle.state.specs.Relay.{Relay, portIn, routeIn, groupIn, pathIn}
-use Rattle.harpjuniper.specs.Face.{readingOf, buildChecks}
+use Rattle.harpjuniper.specs.Face.{readingOf, numbersChecks}
 use Rattle.harpjuniper_reads.specs.Back.{portRead, routeRead, groupRead, pathRead, noPortBack, noRouteBack, noGroupBack, noPathBack, portBack, routeBack, groupBack, pathBack}
 use Rattle.history.specs.Answers.{number, numbers, stands}
 use Rattle.history.specs.Looks.{Look, reads, builds, classes, forms, counts, waits, backPort, backRoute, backGroup, backPath, lookOf, looksOf, Asked, calls, looks, toldBy, tableOf}
@@ -49,11 +49,11 @@ form-row form.Invalid = refl
 form-row form.Valid = refl
 
 look-listed : (r : Relay) (l : Look) → stands (looksOf l) (lookOf r l) ≡ true
-unfolding readOf readChecks buildChecks portBack routeBack groupBack pathBack
+unfolding readOf readChecks numbersChecks portBack routeBack groupBack pathBack
 look-listed r (reads octets) =
     let n = firstOf (readChecks octets) in
     read-row (eqb n 0) n (headerOf octets) (number-row (0 ∷ 1 ∷ 2 ∷ 4 ∷ 3 ∷ 5 ∷ []) (readChecks octets) refl refl)
-look-listed r (builds fields size room) = number-row (0 ∷ 17 ∷ 19 ∷ 20 ∷ []) (buildChecks fields size room) refl refl
+look-listed r (builds fields size room) = number-row (0 ∷ 17 ∷ 19 ∷ 20 ∷ []) (numbersChecks fields size room) refl refl
 look-listed r (classes a) = class-row (classOf a)
 look-listed r (forms p) = form-row (pathForm p)
 look-listed r (counts i) = place-row (λ (n : ℕ). n) (ltb i 15) 0 21 refl refl

@@ -9,7 +9,7 @@ use Rattle.address.specs.Path.{pathForm, pathNumber}
 use Rattle.header.specs.Read.{readOf}
 use Rattle.numbers.specs.declared.Numbers.{Numbers}
 use Rattle.state.specs.Relay.{Relay}
-use Rattle.harpjuniper.specs.Face.{readingOf, buildChecks}
+use Rattle.harpjuniper.specs.Face.{readingOf, numbersChecks}
 use Rattle.harpjuniper_reads.specs.Back.{portBack, routeBack, groupBack, pathBack}
 use Rattle.history.specs.Calls.{Call}
 use Rattle.history.specs.Answers.{Answer, number, answerOf, Row, numbers, answersOf}
@@ -33,7 +33,7 @@ pub data Look : Type 0 where
 -- the number that a look answers: its refusal, 0 where there is none; or the number of a class or a form
 abbrev pub lookOf : Relay → Look → Answer
 lookOf r (reads octets) = number (readingOf (readOf octets) .refusal)
-lookOf r (builds fields size room) = number (firstOf (buildChecks fields size room))
+lookOf r (builds fields size room) = number (firstOf (numbersChecks fields size room))
 lookOf r (classes a) = number (classNumber (classOf a))
 lookOf r (forms p) = number (pathNumber (pathForm p))
 lookOf r (counts i) = number (pick (ltb i 15) 0 21)

@@ -4,14 +4,14 @@ use Prim.Native.Nat.{ℕ}
 use mathlib.Core.Path.{_≡_}
 use Rattle.header.specs.Build.{sourceFlag, extendedFlag, ipv6Flag, qosFlag, octetFlag, formatOf}
 use Rattle.header.specs.declared.Fields.{Fields}
-use Rattle.numbers.specs.Numbers.{destinationOf, sourceOf, precedenceOf, routingOf, programOf, valueOf, timeOf, pfieldOf, numbersOf}
+use Rattle.numbers.specs.Numbers.{destinationNumber, sourceNumber, precedenceNumber, routingNumber, programNumber, octetNumber, timeNumber, pfieldNumber, numbersOf}
 use Rattle.numbers.specs.declared.Wide.{Wide}
 
 pub made : (f : Fields) {destination source : Wide} {time sourced extended ipv6 qualified precedence routing program counted hops format pfield expands expanded : ℕ}
-    → destination ≡ destinationOf (f .addresses) → source ≡ sourceOf (f .addresses) → time ≡ timeOf (f .stamp) → sourced ≡ sourceFlag (f .addresses)
-    → extended ≡ extendedFlag (f .addresses) → ipv6 ≡ ipv6Flag (f .addresses) → qualified ≡ qosFlag (f .qos) → precedence ≡ precedenceOf (f .qos)
-    → routing ≡ routingOf (f .qos) → program ≡ programOf (f .qos) → counted ≡ octetFlag (f .hops) → hops ≡ valueOf (f .hops)
-    → format ≡ formatOf (f .stamp) → pfield ≡ pfieldOf (f .stamp) → expands ≡ octetFlag (f .expanded) → expanded ≡ valueOf (f .expanded)
+    → destination ≡ destinationNumber (f .addresses) → source ≡ sourceNumber (f .addresses) → time ≡ timeNumber (f .stamp) → sourced ≡ sourceFlag (f .addresses)
+    → extended ≡ extendedFlag (f .addresses) → ipv6 ≡ ipv6Flag (f .addresses) → qualified ≡ qosFlag (f .qos) → precedence ≡ precedenceNumber (f .qos)
+    → routing ≡ routingNumber (f .qos) → program ≡ programNumber (f .qos) → counted ≡ octetFlag (f .hops) → hops ≡ octetNumber (f .hops)
+    → format ≡ formatOf (f .stamp) → pfield ≡ pfieldNumber (f .stamp) → expands ≡ octetFlag (f .expanded) → expanded ≡ octetNumber (f .expanded)
     → record {
       destination = destination;
       source = source;

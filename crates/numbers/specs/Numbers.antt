@@ -17,68 +17,68 @@ use Rattle.numbers.specs.declared.Numbers.{Numbers}
 abbrev pub narrow : ℕ → Wide
 narrow v = record { high = 0; low = v }
 
-abbrev pub destinationOf : Addresses → Wide
-destinationOf (BasicPath d) = narrow d
-destinationOf (ExtendedPath p) = narrow (p .0)
-destinationOf (BasicEndSystem d s) = narrow d
-destinationOf (ExtendedEndSystem d s) = narrow (d .0)
-destinationOf (Ipv6 d s) = record { high = d .high; low = d .low }
+abbrev pub destinationNumber : Addresses → Wide
+destinationNumber (BasicPath d) = narrow d
+destinationNumber (ExtendedPath p) = narrow (p .0)
+destinationNumber (BasicEndSystem d s) = narrow d
+destinationNumber (ExtendedEndSystem d s) = narrow (d .0)
+destinationNumber (Ipv6 d s) = record { high = d .high; low = d .low }
 
-abbrev pub sourceOf : Addresses → Wide
-sourceOf (BasicPath d) = narrow 0
-sourceOf (ExtendedPath p) = narrow 0
-sourceOf (BasicEndSystem d s) = narrow s
-sourceOf (ExtendedEndSystem d s) = narrow (s .0)
-sourceOf (Ipv6 d s) = record { high = s .high; low = s .low }
+abbrev pub sourceNumber : Addresses → Wide
+sourceNumber (BasicPath d) = narrow 0
+sourceNumber (ExtendedPath p) = narrow 0
+sourceNumber (BasicEndSystem d s) = narrow s
+sourceNumber (ExtendedEndSystem d s) = narrow (s .0)
+sourceNumber (Ipv6 d s) = record { high = s .high; low = s .low }
 
-abbrev pub precedenceOf : Qos → ℕ
-precedenceOf qos.Absent = 0
-precedenceOf (qos.Present precedence routing program) = precedence
+abbrev pub precedenceNumber : Qos → ℕ
+precedenceNumber qos.Absent = 0
+precedenceNumber (qos.Present precedence routing program) = precedence
 
-abbrev pub routingOf : Qos → ℕ
-routingOf qos.Absent = 0
-routingOf (qos.Present precedence routing program) = routing
+abbrev pub routingNumber : Qos → ℕ
+routingNumber qos.Absent = 0
+routingNumber (qos.Present precedence routing program) = routing
 
-abbrev pub programOf : Qos → ℕ
-programOf qos.Absent = 0
-programOf (qos.Present precedence routing program) = program
+abbrev pub programNumber : Qos → ℕ
+programNumber qos.Absent = 0
+programNumber (qos.Present precedence routing program) = program
 
-abbrev pub valueOf : Octet → ℕ
-valueOf octet.Absent = 0
-valueOf (octet.Present v) = v
+abbrev pub octetNumber : Octet → ℕ
+octetNumber octet.Absent = 0
+octetNumber (octet.Present v) = v
 
-abbrev pub timeOf : Timestamp → ℕ
-timeOf stamp.Absent = 0
-timeOf (stamp.Implicit t) = t
-timeOf (stamp.Explicit p t) = t
-timeOf (stamp.Binary t) = t
+abbrev pub timeNumber : Timestamp → ℕ
+timeNumber stamp.Absent = 0
+timeNumber (stamp.Implicit t) = t
+timeNumber (stamp.Explicit p t) = t
+timeNumber (stamp.Binary t) = t
 
-abbrev pub pfieldOf : Timestamp → ℕ
-pfieldOf stamp.Absent = 0
-pfieldOf (stamp.Implicit t) = 0
-pfieldOf (stamp.Explicit p t) = p
-pfieldOf (stamp.Binary t) = 0
+abbrev pub pfieldNumber : Timestamp → ℕ
+pfieldNumber stamp.Absent = 0
+pfieldNumber (stamp.Implicit t) = 0
+pfieldNumber (stamp.Explicit p t) = p
+pfieldNumber (stamp.Binary t) = 0
 
 unfoldable pub numbersOf : Fields → Numbers
 numbersOf f =
     record {
-      destination = destinationOf (f .addresses);
-      source = sourceOf (f .addresses);
-      time = timeOf (f .stamp);
+      destination = destinationNumber (f .addresses);
+      source = sourceNumber (f .addresses);
+      time = timeNumber (f .stamp);
       tpid = f .tpid;
       sourced = sourceFlag (f .addresses);
       extended = extendedFlag (f .addresses);
       ipv6 = ipv6Flag (f .addresses);
       qualified = qosFlag (f .qos);
-      precedence = precedenceOf (f .qos);
-      routing = routingOf (f .qos);
-      program = programOf (f .qos);
+      precedence = precedenceNumber (f .qos);
+      routing = routingNumber (f .qos);
+      program = programNumber (f .qos);
       counted = octetFlag (f .hops);
-      hops = valueOf (f .hops);
+      hops = octetNumber (f .hops);
       format = formatOf (f .stamp);
-      pfield = pfieldOf (f .stamp);
+      pfield = pfieldNumber (f .stamp);
       expands = octetFlag (f .expanded);
-      expanded = valueOf (f .expanded);
+      expanded = octetNumber (f .expanded);
       checksum = f .checksum;
       intermediate = f .intermediate;
     }

@@ -2,7 +2,7 @@
 //
 // Each field is made of the lower bits of its numbers, which flags choose between, so that every struct of numbers gives some fields
 // and no function here can refuse; whether they are the fields that were meant is module `validity`'s to test before. The awkward case is
-// a number too wide for its field: it is cut, and not looked at, since intake lets none through.
+// a number too wide for its field: it is cut, and not looked at, since `validity` lets none through.
 use crate::Numbers;
 use crate::Wide;
 use address::Address;

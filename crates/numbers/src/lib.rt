@@ -1,8 +1,10 @@
 // The fields of a header as numbers.
 //
-// C has neither enums with data nor kinds of address, so the fields travel as one struct of numbers (`hj_fields` in the C header has
-// the same members in the same order). Outward nothing can go wrong: what is absent is 0. The way back, where much can, is module
-// `fields_from`, and module `validity` tests it.
+// C has neither enums with data nor kinds of address, so the fields travel as one struct of numbers. `hj_fields` in the C header has the
+// same numbers in the same order and of the same widths, under other names: a `Wide` is two members there, and the flag of an element begins with `has_`.
+// Outward nothing can go wrong: what is absent is 0. On the way back much can: module `validity` tests whether numbers stand for some
+// fields, and module `fields_from` makes the fields. The awkward number is one of an absent element: it is 0 on both ways, so that fields
+// have one set of numbers only.
 pub mod fields_from;
 pub mod validity;
 
@@ -13,16 +15,17 @@ use header::Qos;
 use header::Timestamp;
 ghost use mathlib.Core.Path.{_≡_};
 ghost use Rattle.numbers.specs.Numbers.{
-  destinationOf,
-  sourceOf,
-  precedenceOf,
-  routingOf,
-  programOf,
-  valueOf,
-  timeOf,
-  pfieldOf,
+  destinationNumber,
+  sourceNumber,
+  precedenceNumber,
+  routingNumber,
+  programNumber,
+  octetNumber,
+  timeNumber,
+  pfieldNumber,
   numbersOf,
 };
+
 // A number of up to sixteen octets.
 #[repr(C)]
 pub struct Wide {
@@ -55,8 +58,8 @@ pub struct Numbers {
     pub intermediate: u32,
 }
 
-fn destination_of(a: Addresses) -> Wide
-    ensures { λ r. ⌜ r ≡ destinationOf a ⌝ }
+fn destination_number(a: Addresses) -> Wide
+    ensures { λ r. ⌜ r ≡ destinationNumber a ⌝ }
 {
     match a {
         Addresses::BasicPath(d) => narrow(d as u64),
@@ -70,8 +73,8 @@ fn destination_of(a: Addresses) -> Wide
     }
 }
 
-fn source_of(a: Addresses) -> Wide
-    ensures { λ r. ⌜ r ≡ sourceOf a ⌝ }
+fn source_number(a: Addresses) -> Wide
+    ensures { λ r. ⌜ r ≡ sourceNumber a ⌝ }
 {
     match a {
         Addresses::BasicPath(_) => narrow(0),
@@ -91,8 +94,8 @@ fn narrow(v: u64) -> Wide
     Wide { high: 0, low: v }
 }
 
-fn precedence_of(q: Qos) -> u32
-    ensures { λ r. ⌜ r ≡ precedenceOf q ⌝ }
+fn precedence_number(q: Qos) -> u32
+    ensures { λ r. ⌜ r ≡ precedenceNumber q ⌝ }
 {
     match q {
         Qos::Absent => 0,
@@ -100,8 +103,8 @@ fn precedence_of(q: Qos) -> u32
     }
 }
 
-fn routing_of(q: Qos) -> u32
-    ensures { λ r. ⌜ r ≡ routingOf q ⌝ }
+fn routing_number(q: Qos) -> u32
+    ensures { λ r. ⌜ r ≡ routingNumber q ⌝ }
 {
     match q {
         Qos::Absent => 0,
@@ -109,8 +112,8 @@ fn routing_of(q: Qos) -> u32
     }
 }
 
-fn program_of(q: Qos) -> u32
-    ensures { λ r. ⌜ r ≡ programOf q ⌝ }
+fn program_number(q: Qos) -> u32
+    ensures { λ r. ⌜ r ≡ programNumber q ⌝ }
 {
     match q {
         Qos::Absent => 0,
@@ -118,8 +121,8 @@ fn program_of(q: Qos) -> u32
     }
 }
 
-fn value_of(o: Octet) -> u32
-    ensures { λ r. ⌜ r ≡ valueOf o ⌝ }
+fn octet_number(o: Octet) -> u32
+    ensures { λ r. ⌜ r ≡ octetNumber o ⌝ }
 {
     match o {
         Octet::Absent => 0,
@@ -127,8 +130,8 @@ fn value_of(o: Octet) -> u32
     }
 }
 
-fn time_of(t: Timestamp) -> u64
-    ensures { λ r. ⌜ r ≡ timeOf t ⌝ }
+fn time_number(t: Timestamp) -> u64
+    ensures { λ r. ⌜ r ≡ timeNumber t ⌝ }
 {
     match t {
         Timestamp::Absent => 0,
@@ -138,8 +141,8 @@ fn time_of(t: Timestamp) -> u64
     }
 }
 
-fn pfield_of(t: Timestamp) -> u32
-    ensures { λ r. ⌜ r ≡ pfieldOf t ⌝ }
+fn pfield_number(t: Timestamp) -> u32
+    ensures { λ r. ⌜ r ≡ pfieldNumber t ⌝ }
 {
     match t {
         Timestamp::Absent => 0,
@@ -158,26 +161,26 @@ pub fn numbers_of(f: Fields) -> Numbers
     let hops = f.hops;
     let stamp = f.stamp;
     let expanded = f.expanded;
-    let destination = destination_of(addresses);
-    let source = source_of(addresses);
+    let destination = destination_number(addresses);
+    let source = source_number(addresses);
     Numbers {
         destination,
         source,
-        time: time_of(stamp),
+        time: time_number(stamp),
         tpid: f.tpid as u32,
         sourced: header::flags::source_flag(addresses) as u32,
         extended: header::flags::extended_flag(addresses) as u32,
         ipv6: header::flags::ipv6_flag(addresses) as u32,
         qualified: header::flags::qos_flag(qos) as u32,
-        precedence: precedence_of(qos),
-        routing: routing_of(qos),
-        program: program_of(qos),
+        precedence: precedence_number(qos),
+        routing: routing_number(qos),
+        program: program_number(qos),
         counted: header::flags::octet_flag(hops) as u32,
-        hops: value_of(hops),
+        hops: octet_number(hops),
         format: header::flags::stamp_format(stamp) as u32,
-        pfield: pfield_of(stamp),
+        pfield: pfield_number(stamp),
         expands: header::flags::octet_flag(expanded) as u32,
-        expanded: value_of(expanded),
+        expanded: octet_number(expanded),
         checksum: f.checksum as u32,
         intermediate: f.intermediate as u32,
     }

@@ -1,7 +1,8 @@
 // Numbers in octets, the most significant octet first.
 //
-// Everything on the wire is a number in one to eight octets at some place of a lent string. Reading is total: an octet past the end
-// is 0, so that a definition over octets needs no side condition, and the reader decides by lengths alone what was really there.
+// What a header holds is read and written as numbers of at most eight octets, each at some place of a lent string: an IPv6 address is two
+// of them, several small fields share one, and what is absent is written as a number of no octets. Reading is total: an octet past the
+// end is 0, so that a definition over octets needs no side condition, and the reader decides by lengths alone what was really there.
 // Writing says what the whole string is afterwards (`pasted`), so that pieces written one after the other join by one law.
 ghost use mathlib.Core.Path.{_≡_};
 ghost use lib.ListN.{length};

@@ -6,7 +6,7 @@ use lib.Bits.{bitAnd}
 use Rattle.checks.specs.Order.{pick}
 use Rattle.octets.specs.Octets.{fronted}
 use Rattle.sets.specs.Sets.{onlyPort}
-use Rattle.header.specs.Onward.{sentOn}
+use Rattle.header.specs.Onward.{headerSentOn}
 use Rattle.queue.specs.Queue.{putOf}
 use Rattle.queue.specs.declared.Entry.{Entry}
 use Rattle.state.specs.Relay.{Relay, queueIn, withQueue}
@@ -27,4 +27,4 @@ enteredAll r took e (suc p) = enteredIf (enteredAll r took e p) took e p
 -- "If any took one, the output's first octets are the header with hop count less one and checksum redone, where present; later output octets,
 -- and the whole output in every other end, stay as lent."
 unfoldable pub outputOf : ℕ → List ℕ → List ℕ → List ℕ
-outputOf took octets lent = pick (eqb took 0) lent (fronted (sentOn octets) lent)
+outputOf took octets lent = pick (eqb took 0) lent (fronted (headerSentOn octets) lent)

@@ -10,7 +10,7 @@ use Rattle.octets.proofs.Laws.{pasted-front, put-two}
 use Rattle.header.specs.Limits.{longestHeader}
 use Rattle.header.specs.Form.{controlOf, layoutOf, placesOf, hasHops, hasChecksum}
 use Rattle.header.specs.Build.{checksumOctets}
-use Rattle.header.specs.Onward.{lessened, sentBody, sentOn}
+use Rattle.header.specs.Onward.{lessened, sentBody, headerSentOn}
 use Rattle.header.specs.declared.Control.{Control}
 use Rattle.header.specs.declared.Layout.{Layout}
 use Rattle.header.proofs.Bounds.{control-end, placed, header-size}
@@ -40,8 +40,8 @@ module _ (s : List ℕ) (fits : placesOf s .size ≤ length s) where
 
   -- the body stands in front after two steps, and its checksum behind it after the third
   places-sent : (l l₁ l₂ l₃ : List ℕ) (r : ℕ) → longestHeader ≤ length l → Steps s l (controlOf s) (placesOf s) l₁ l₂ l₃ r
-      → (r ≡ placesOf s .size) × (l₃ ≡ fronted (sentOn s) l)
-  unfolding sentOn sentBody
+      → (r ≡ placesOf s .size) × (l₃ ≡ fronted (headerSentOn s) l)
+  unfolding headerSentOn sentBody
   places-sent l l₁ l₂ l₃ r room steps =
       let on = hasHops (controlOf s) in
       let hops = placesOf s .hops in
@@ -67,5 +67,5 @@ module _ (s : List ℕ) (fits : placesOf s .size ≤ length s) where
     pub bounded : Bounded s p
     bounded = subst⁻¹ (Bounded s) are-places places-bounded
 
-    pub sent : (l l₁ l₂ l₃ : List ℕ) (r : ℕ) → longestHeader ≤ length l → Steps s l k p l₁ l₂ l₃ r → (r ≡ placesOf s .size) × (l₃ ≡ fronted (sentOn s) l)
+    pub sent : (l l₁ l₂ l₃ : List ℕ) (r : ℕ) → longestHeader ≤ length l → Steps s l k p l₁ l₂ l₃ r → (r ≡ placesOf s .size) × (l₃ ≡ fronted (headerSentOn s) l)
     sent l l₁ l₂ l₃ r room steps = places-sent l l₁ l₂ l₃ r room (rw (is-control, are-places) at steps)

@@ -13,7 +13,7 @@ ghost use lib.ListN.{length};
 ghost use Rattle.octets.specs.Octets.{fronted};
 ghost use Rattle.header.specs.Limits.{longestHeader};
 ghost use Rattle.header.specs.Form.{placesOf};
-ghost use Rattle.header.specs.Onward.{lessened, sentOn};
+ghost use Rattle.header.specs.Onward.{lessened, headerSentOn};
 
 // A hop count less one; 0 stays 0.
 fn one_less(hops: u8) -> u8
@@ -36,12 +36,12 @@ fn lessen(out: &mut [u8], place: usize, on: u8)
 pub fn send_on(s: &[u8], out: &mut [u8]) -> usize
     requires { ⌜ (longestHeader ≤ length (now out)) × (placesOf (now s) .size ≤ length (now s)) ⌝ }
     ensures { λ r. ⌜ r ≡ placesOf (now (s .entry)) .size ⌝ }
-    ensures { λ _. ⌜ now (out .exit) ≡ fronted (sentOn (now (s .entry))) (now (out .entry)) ⌝ }
+    ensures { λ _. ⌜ now (out .exit) ≡ fronted (headerSentOn (now (s .entry))) (now (out .entry)) ⌝ }
 {
     let control = layout::control_of(s);
     let places = layout::layout_of(s, control);
     let checksum = places.checksum;
     bytes::copy(&s[..checksum], out);
     lessen(out, places.hops, control_bits::has_hops(control));
-    writer::put_checksum(out, checksum, control_bits::has_checksum(control))
+    writer::elements::put_checksum(out, checksum, control_bits::has_checksum(control))
 }

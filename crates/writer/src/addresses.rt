@@ -1,9 +1,7 @@
 // The addresses of a header, written at their place.
 //
-// The destination comes first, then the source where there is one, and the row of table 3-5 gives both their width. The function
-// writes into the output from a place on and answers the place behind, as those of this crate's root do for what follows; its promise
-// says what the whole output is afterwards. The awkward case is IPv6: an address of sixteen octets is two machine words, the higher
-// first.
+// The destination comes first, then the source where there is one, and the row of table 3-5 gives both their width. The awkward case is
+// IPv6: an address of sixteen octets is two machine words, the higher first.
 use header::Addresses;
 use header::Six;
 ghost use mathlib.Core.Path.{_≡_};

@@ -1,7 +1,7 @@
 // The front of a header: version, length field, TP-ID and the control field, as numbers and then as octets.
 //
-// A bit of the control field says whether its element is there (`header::flags`), and each has its own weight in its octet, so an octet is
-// a sum and never wraps. The field is as short as it goes: an octet of it stands there only where it says something, and the one before
+// A flag says whether an element is there (`header::flags`), and its bit has its own weight in a control octet (`header::control_bits`), so
+// an octet is a sum and never wraps. The field is as short as it goes: an octet of it stands there only where it says something, and the one before
 // then says that it follows. So the third control octet is made first, the second from it, the first from that. The awkward case is an
 // octet that says nothing: it is written like the others, as a number of no octets.
 use header::Fields;

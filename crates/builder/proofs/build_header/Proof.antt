@@ -6,7 +6,7 @@ use Rattle.checks.specs.Order.{checkOf}
 use Rattle.checks.specs.declared.Check.the-variants.{Passed}
 use Rattle.header.specs.Limits.{noRoom, tooMuchData}
 use Rattle.header.specs.Range.{outOfRange}
-use Rattle.builder.proofs.Laws.{in-range, short, roomy, no-room, no-range, too-long, done}
+use Rattle.builder.proofs.Laws.{small-fields, short, roomy, no-room, no-range, too-long, done}
 use Rattle.builder.proofs.build_header.Statement.{statement}
 use Rattle.builder.proofs.build_header.Tie as tie
 
@@ -77,7 +77,7 @@ write-header-requires c κs =
     let fitted = last .before .before .before in
     let roomed = fitted .before .before .before in
     let args = roomed .before .before .before .before .args in
-    ((roomy (args .f) (args .n) (args .out .now) (room roomed), short (args .n) (few last)), in-range (args .f) (fits fitted))
+    ((roomy (args .f) (args .n) (args .out .now) (room roomed), short (args .n) (few last)), small-fields (args .f) (fits fitted))
 
 same-length : tie.Need-same-length
 same-length c = search needs

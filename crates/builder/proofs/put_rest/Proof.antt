@@ -1,7 +1,7 @@
 -- `builder::put_rest` meets its contract: five elements, one after the other, in room for the most that each has. Assumes nothing.
 use borrow.Author.Needs.{needs}
 use native.Mathlib.Omega.{arith}
-use Rattle.builder.proofs.Laws.{sizes, rest-put}
+use Rattle.builder.proofs.Laws.{element-sizes, rest-put}
 use Rattle.builder.proofs.put_rest.Statement.{statement}
 use Rattle.builder.proofs.put_rest.Tie as tie
 
@@ -12,7 +12,7 @@ put-qos-requires : tie.Need-put-qos-requires
 put-qos-requires c κs =
     let addresses = c .before .before .before in
     let start = addresses .before .before .before in
-    let z = sizes (start .args .f) in
+    let z = element-sizes (start .args .f) in
     omega (arith, start .pre, addresses .put-addresses .ensures .0, addresses .put-addresses .kept .0)
 
 put-octet-requires : tie.Need-put-octet-requires
@@ -20,7 +20,7 @@ put-octet-requires c κs =
     let qos = c .before .before .before in
     let addresses = qos .before .before .before .before in
     let start = addresses .before .before .before in
-    let z = sizes (start .args .f) in
+    let z = element-sizes (start .args .f) in
     omega (arith, start .pre, addresses .put-addresses .ensures .0, addresses .put-addresses .kept .0, qos .put-qos .ensures .0, qos .put-qos .kept .0)
 
 put-stamp-requires : tie.Need-put-stamp-requires
@@ -29,7 +29,7 @@ put-stamp-requires c κs =
     let qos = hops .before .before .before .before in
     let addresses = qos .before .before .before .before in
     let start = addresses .before .before .before in
-    let z = sizes (start .args .f) in
+    let z = element-sizes (start .args .f) in
     omega
     (arith, start .pre, addresses .put-addresses .ensures .0, addresses .put-addresses .kept .0, qos .put-qos .ensures .0, qos .put-qos .kept .0, hops .put-octet .ensures .0, hops .put-octet .kept .0)
 
@@ -40,7 +40,7 @@ put-octet-requires-2 c κs =
     let qos = hops .before .before .before .before in
     let addresses = qos .before .before .before .before in
     let start = addresses .before .before .before in
-    let z = sizes (start .args .f) in
+    let z = element-sizes (start .args .f) in
     omega
     (arith, start .pre, addresses .put-addresses .ensures .0, addresses .put-addresses .kept .0, qos .put-qos .ensures .0, qos .put-qos .kept .0, hops .put-octet .ensures .0, hops .put-octet .kept .0, stamp .put-stamp .ensures .0, stamp .put-stamp .kept .0)
 

@@ -29,7 +29,7 @@ returns : tie.Need-returns
 returns c =
     let checked = c .before .before .before in
     let a = checked .before .before .args in
-    no-room (a .fields) (a .size) (a .output .now) (sym (checked .check-room .ensures) ∙ c .before .enum-told2 .given .1) _ (c .refusal .ensures)
+    no-room (a .fields) (a .data-size) (a .output .now) (sym (checked .check-room .ensures) ∙ c .before .enum-told2 .given .1) _ (c .refusal .ensures)
 
 check-numbers-requires : tie.Need-check-numbers-requires
 check-numbers-requires c κs = search needs
@@ -48,7 +48,7 @@ returns-2 c =
     let checked = c .before .before .before in
     let roomed = checked .before in
     let a = roomed .before .before .before .before .args in
-    no-fields (a .fields) (a .size) (a .output .now) (room roomed) (sym (checked .check-numbers .ensures) ∙ c .before .enum-told4 .given .1) _ (c .refusal2 .ensures)
+    no-fields (a .fields) (a .data-size) (a .output .now) (room roomed) (sym (checked .check-numbers .ensures) ∙ c .before .enum-told4 .given .1) _ (c .refusal2 .ensures)
 
 fields-from-requires : tie.Need-fields-from-requires
 fields-from-requires c κs = search needs
@@ -69,7 +69,7 @@ returns-3 c =
     let checked = told .before .before in
     let roomed = checked .before in
     let a = roomed .before .before .before .before .args in
-    built (a .fields) (a .size) (a .output .now) (room roomed) (sym (checked .check-numbers .ensures) ∙ told .enum-told3 .given .1) _ _ _ _
+    built (a .fields) (a .data-size) (a .output .now) (room roomed) (sym (checked .check-numbers .ensures) ∙ told .enum-told3 .given .1) _ _ _ _
     (made .before .before .fields-from .ensures) (made .build-header .ensures .0) (made .build-header .ensures .1) (c .built-answer .ensures)
 
 pub hj-build-spec : {M : Type 1} → statement M

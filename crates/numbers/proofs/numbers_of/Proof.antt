@@ -4,14 +4,14 @@ use Rattle.numbers.proofs.Laws.{made}
 use Rattle.numbers.proofs.numbers_of.Statement.{statement}
 use Rattle.numbers.proofs.numbers_of.Tie as tie
 
-destination-of-requires : tie.Need-destination-of-requires
-destination-of-requires c κs = search needs
+destination-number-requires : tie.Need-destination-number-requires
+destination-number-requires c κs = search needs
 
-source-of-requires : tie.Need-source-of-requires
-source-of-requires c κs = search needs
+source-number-requires : tie.Need-source-number-requires
+source-number-requires c κs = search needs
 
-time-of-requires : tie.Need-time-of-requires
-time-of-requires c κs = search needs
+time-number-requires : tie.Need-time-number-requires
+time-number-requires c κs = search needs
 
 cast-t10 : tie.Need-cast-t10
 cast-t10 c = search needs
@@ -40,14 +40,14 @@ qos-flag-requires c κs = search needs
 cast-t18 : tie.Need-cast-t18
 cast-t18 c = search needs
 
-precedence-of-requires : tie.Need-precedence-of-requires
-precedence-of-requires c κs = search needs
+precedence-number-requires : tie.Need-precedence-number-requires
+precedence-number-requires c κs = search needs
 
-routing-of-requires : tie.Need-routing-of-requires
-routing-of-requires c κs = search needs
+routing-number-requires : tie.Need-routing-number-requires
+routing-number-requires c κs = search needs
 
-program-of-requires : tie.Need-program-of-requires
-program-of-requires c κs = search needs
+program-number-requires : tie.Need-program-number-requires
+program-number-requires c κs = search needs
 
 octet-flag-requires : tie.Need-octet-flag-requires
 octet-flag-requires c κs = search needs
@@ -55,8 +55,8 @@ octet-flag-requires c κs = search needs
 cast-t23 : tie.Need-cast-t23
 cast-t23 c = search needs
 
-value-of-requires : tie.Need-value-of-requires
-value-of-requires c κs = search needs
+octet-number-requires : tie.Need-octet-number-requires
+octet-number-requires c κs = search needs
 
 stamp-format-requires : tie.Need-stamp-format-requires
 stamp-format-requires c κs = search needs
@@ -64,8 +64,8 @@ stamp-format-requires c κs = search needs
 cast-t26 : tie.Need-cast-t26
 cast-t26 c = search needs
 
-pfield-of-requires : tie.Need-pfield-of-requires
-pfield-of-requires c κs = search needs
+pfield-number-requires : tie.Need-pfield-number-requires
+pfield-number-requires c κs = search needs
 
 octet-flag-requires-2 : tie.Need-octet-flag-requires-2
 octet-flag-requires-2 c κs = search needs
@@ -73,8 +73,8 @@ octet-flag-requires-2 c κs = search needs
 cast-t29 : tie.Need-cast-t29
 cast-t29 c = search needs
 
-value-of-requires-2 : tie.Need-value-of-requires-2
-value-of-requires-2 c κs = search needs
+octet-number-requires-2 : tie.Need-octet-number-requires-2
+octet-number-requires-2 c κs = search needs
 
 cast-t31 : tie.Need-cast-t31
 cast-t31 c = search needs
@@ -100,15 +100,15 @@ returns c =
     let c₃ = c₄ .before .before in
     let c₂ = c₃ .before in
     let c₁ = c₂ .before in
-    made (c₁ .before .args .f) (c₁ .destination-of .ensures) (c₂ .source-of .ensures) (c₃ .time-of .ensures) (c₄ .source-flag .ensures) (c₅ .extended-flag .ensures) (c₆ .ipv6-flag .ensures) (c₇ .qos-flag .ensures) (c₈ .precedence-of .ensures) (c₉ .routing-of .ensures) (c₁₀ .program-of .ensures) (c₁₁ .octet-flag .ensures) (c₁₂ .value-of .ensures) (c₁₃ .stamp-format .ensures) (c₁₄ .pfield-of .ensures) (c₁₅ .octet-flag2 .ensures) (c₁₆ .value-of2 .ensures)
+    made (c₁ .before .args .f) (c₁ .destination-number .ensures) (c₂ .source-number .ensures) (c₃ .time-number .ensures) (c₄ .source-flag .ensures) (c₅ .extended-flag .ensures) (c₆ .ipv6-flag .ensures) (c₇ .qos-flag .ensures) (c₈ .precedence-number .ensures) (c₉ .routing-number .ensures) (c₁₀ .program-number .ensures) (c₁₁ .octet-flag .ensures) (c₁₂ .octet-number .ensures) (c₁₃ .stamp-format .ensures) (c₁₄ .pfield-number .ensures) (c₁₅ .octet-flag2 .ensures) (c₁₆ .octet-number2 .ensures)
 
 pub numbers-of-spec : {M : Type 1} → statement M
 numbers-of-spec =
     tie.close
     (tie.spec
-    destination-of-requires
-    source-of-requires
-    time-of-requires
+    destination-number-requires
+    source-number-requires
+    time-number-requires
     cast-t10
     source-flag-requires
     cast-t12
@@ -118,18 +118,18 @@ numbers-of-spec =
     cast-t16
     qos-flag-requires
     cast-t18
-    precedence-of-requires
-    routing-of-requires
-    program-of-requires
+    precedence-number-requires
+    routing-number-requires
+    program-number-requires
     octet-flag-requires
     cast-t23
-    value-of-requires
+    octet-number-requires
     stamp-format-requires
     cast-t26
-    pfield-of-requires
+    pfield-number-requires
     octet-flag-requires-2
     cast-t29
-    value-of-requires-2
+    octet-number-requires-2
     cast-t31
     cast-t32
     returns)

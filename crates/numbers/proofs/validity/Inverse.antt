@@ -21,7 +21,7 @@ use Rattle.header.specs.declared.Timestamp.{Timestamp}
 use Rattle.header.specs.declared.Timestamp.the-variants as stamp
 use Rattle.header.specs.declared.Fields.{Fields}
 use Rattle.header.proofs.BuiltLaws.{Typed, qosTyped, stampTyped}
-use Rattle.numbers.specs.Numbers.{narrow, destinationOf, sourceOf, precedenceOf, routingOf, programOf, valueOf, timeOf, pfieldOf, numbersOf}
+use Rattle.numbers.specs.Numbers.{narrow, destinationNumber, sourceNumber, precedenceNumber, routingNumber, programNumber, octetNumber, timeNumber, pfieldNumber, numbersOf}
 use Rattle.numbers.specs.declared.Wide.{Wide}
 use Rattle.numbers.specs.declared.Numbers.{Numbers}
 use Rattle.numbers.specs.Fields.{addressesFrom, qosFrom, octetFrom, stampFrom, fieldsFrom}
@@ -48,8 +48,8 @@ absent-back w h = narrow-back 1 w h ∙ rw (let z : w .low % 1 ≡ 0 = omega ari
 
 -- the addresses have these numbers
 record AddressesBack (n : Numbers) (a : Addresses) : Type 0 where
-  destination : n .destination ≡ destinationOf a
-  source : n .source ≡ sourceOf a
+  destination : n .destination ≡ destinationNumber a
+  source : n .source ≡ sourceNumber a
   sourced : n .sourced ≡ sourceFlag a
   extended : n .extended ≡ extendedFlag a
   ipv6 : n .ipv6 ≡ ipv6Flag a
@@ -100,7 +100,7 @@ octet-in on v h =
     let p = or-false (leb 2 on) _ h in
     (leb-false 2 on (p .0), leb-false _ v (p .1))
 
-octet-back : (on v : ℕ) → octetOut on v ≡ false → (on ≡ octetFlag (octetFrom on v)) × (v ≡ valueOf (octetFrom on v))
+octet-back : (on v : ℕ) → octetOut on v ≡ false → (on ≡ octetFlag (octetFrom on v)) × (v ≡ octetNumber (octetFrom on v))
 unfolding octetFrom
 octet-back zero v h = (refl, omega (arith, octet-in 0 v h .1))
 octet-back (suc zero) v h = (refl, sym (mod-eq-of-lt (octet-in 1 v h .1)))
@@ -109,9 +109,9 @@ octet-back (suc (suc on)) v h = absurd (omega (arith, octet-in (suc (suc on)) v 
 -- basic QOS has these numbers
 record QosBack (n : Numbers) (q : Qos) : Type 0 where
   qualified : n .qualified ≡ qosFlag q
-  precedence : n .precedence ≡ precedenceOf q
-  routing : n .routing ≡ routingOf q
-  program : n .program ≡ programOf q
+  precedence : n .precedence ≡ precedenceNumber q
+  routing : n .routing ≡ routingNumber q
+  program : n .program ≡ programNumber q
 
 qos-case : (n : Numbers) (on m : ℕ) → n .qualified ≡ on → on < 2 → pick (eqb on 0) 1 256 ≡ m → n .precedence < m → n .routing < m → n .program < m
     → QosBack n (qosFrom n)
@@ -133,9 +133,9 @@ qos-back n h =
 
 -- the timestamp has these numbers
 record StampBack (n : Numbers) (t : Timestamp) : Type 0 where
-  time : n .time ≡ timeOf t
+  time : n .time ≡ timeNumber t
   format : n .format ≡ formatOf t
-  pfield : n .pfield ≡ pfieldOf t
+  pfield : n .pfield ≡ pfieldNumber t
 
 stamp-back : (n : Numbers) (format : ℕ) → n .format ≡ format → stampOut n ≡ false → StampBack n (stampFrom n)
 unfolding stampOut stampFrom
@@ -191,7 +191,7 @@ addresses-there f (ExtendedEndSystem d s) e t =
     rw e (refl, (simp (lt-leb (256 ^ 4) (d .0) (t .0), lt-leb (256 ^ 4) (s .0) (t .1)), rw (mod-eq-of-lt (t .0), mod-eq-of-lt (t .1))))
 addresses-there f (Ipv6 d s) e t = rw e (refl, (refl, refl))
 
-octet-there : (o : Octet) → octetFits o → (octetOut (octetFlag o) (valueOf o) ≡ false) × (octetFrom (octetFlag o) (valueOf o) ≡ o)
+octet-there : (o : Octet) → octetFits o → (octetOut (octetFlag o) (octetNumber o) ≡ false) × (octetFrom (octetFlag o) (octetNumber o) ≡ o)
 unfolding octetOut octetFrom
 octet-there octet.Absent t = (refl, refl)
 octet-there (octet.Present v) t = (lt-leb 256 v t, rw (mod-eq-of-lt t))

@@ -8,7 +8,7 @@ use lib.Bits.{bitAnd}
 use borrow.Author.Tests.{eq-eqb, ne-eqb}
 use Rattle.octets.specs.Octets.{fronted}
 use Rattle.sets.specs.Sets.{onlyPort}
-use Rattle.header.specs.Onward.{sentOn}
+use Rattle.header.specs.Onward.{headerSentOn}
 use Rattle.queue.specs.Queue.{putOf}
 use Rattle.queue.specs.declared.Entry.{Entry}
 use Rattle.queue.specs.declared.Queue.{Queue}
@@ -55,6 +55,6 @@ unfolding outputOf
 not-sent took octets lent h = simp (eq-eqb took 0 h)
 
 pub sent : (took : ℕ) (octets lent : List ℕ) {out : List ℕ}
-    → (took ≡ 0 → ⊥) → out ≡ fronted (sentOn octets) lent → out ≡ outputOf took octets lent
+    → (took ≡ 0 → ⊥) → out ≡ fronted (headerSentOn octets) lent → out ≡ outputOf took octets lent
 unfolding outputOf
 sent took octets lent h e = simp (ne-eqb took 0 h) e

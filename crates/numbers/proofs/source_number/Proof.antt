@@ -1,7 +1,7 @@
--- `numbers::source_of` meets its contract: the source of each variant, 0 where it has none. Assumes nothing.
+-- `numbers::source_number` meets its contract: the source of each variant, 0 where it has none. Assumes nothing.
 use borrow.Author.Needs.{needs}
-use Rattle.numbers.proofs.source_of.Statement.{statement}
-use Rattle.numbers.proofs.source_of.Tie as tie
+use Rattle.numbers.proofs.source_number.Statement.{statement}
+use Rattle.numbers.proofs.source_number.Tie as tie
 
 enum-told : tie.Need-enum-told
 enum-told c = search needs
@@ -51,8 +51,8 @@ returns-4 c = rw (c .before .before .before .a2 .given .1) (c .narrow4 .ensures)
 returns-5 : tie.Need-returns-5
 returns-5 c = rw (c .before .a3 .given .1)
 
-pub source-of-spec : {M : Type 1} → statement M
-source-of-spec =
+pub source-number-spec : {M : Type 1} → statement M
+source-number-spec =
     tie.close
     (tie.spec
     enum-told

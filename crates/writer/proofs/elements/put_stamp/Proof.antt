@@ -1,10 +1,10 @@
--- `writer::put_stamp` meets its contract, format by format. Assumes nothing.
+-- `writer::elements::put_stamp` meets its contract, format by format. Assumes nothing.
 use borrow.Author.Needs.{needs}
 use native.Mathlib.Omega.{arith}
 use Rattle.octets.proofs.Laws.{put-none, put-one, put-numbers}
 use Rattle.header.specs.Build.{stampOctets}
-use Rattle.writer.proofs.put_stamp.Statement.{statement}
-use Rattle.writer.proofs.put_stamp.Tie as tie
+use Rattle.writer.proofs.elements.put_stamp.Statement.{statement}
+use Rattle.writer.proofs.elements.put_stamp.Tie as tie
 
 enum-told : tie.Need-enum-told
 enum-told c = search needs

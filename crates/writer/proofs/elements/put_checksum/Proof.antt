@@ -1,11 +1,11 @@
--- `writer::put_checksum` meets its contract: the element that `checksum::element` answers is that of the octets before the place. Assumes nothing.
+-- `writer::elements::put_checksum` meets its contract: the element that `checksum::element` answers is that of the octets before the place. Assumes nothing.
 use borrow.Author.Needs.{needs}
 use borrow.Author.Tests.{eq-eqb, ne-eqb}
 use Rattle.checksum.specs.Sum.{elementOf}
 use Rattle.octets.proofs.Laws.{put-one, put-none}
 use Rattle.header.specs.Build.{checksumOctets}
-use Rattle.writer.proofs.put_checksum.Statement.{statement}
-use Rattle.writer.proofs.put_checksum.Tie as tie
+use Rattle.writer.proofs.elements.put_checksum.Statement.{statement}
+use Rattle.writer.proofs.elements.put_checksum.Tie as tie
 
 element-requires : tie.Need-element-requires
 element-requires c κs = search needs

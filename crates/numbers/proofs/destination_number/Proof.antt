@@ -1,7 +1,7 @@
--- `numbers::destination_of` meets its contract: the destination of each variant, made wide by `narrow` where it is short. Assumes nothing.
+-- `numbers::destination_number` meets its contract: the destination of each variant, made wide by `narrow` where it is short. Assumes nothing.
 use borrow.Author.Needs.{needs}
-use Rattle.numbers.proofs.destination_of.Statement.{statement}
-use Rattle.numbers.proofs.destination_of.Tie as tie
+use Rattle.numbers.proofs.destination_number.Statement.{statement}
+use Rattle.numbers.proofs.destination_number.Tie as tie
 
 enum-known-a : tie.Need-enum-known-a
 enum-known-a c = search needs
@@ -57,8 +57,8 @@ returns-4 c = rw (c .before .before .before .a4 .given .1) (c .narrow4 .ensures)
 returns-5 : tie.Need-returns-5
 returns-5 c = rw (c .before .a5 .given .1)
 
-pub destination-of-spec : {M : Type 1} → statement M
-destination-of-spec =
+pub destination-number-spec : {M : Type 1} → statement M
+destination-number-spec =
     tie.close
     (tie.spec
     enum-known-a

@@ -1,9 +1,9 @@
--- `writer::put_octet` meets its contract, absent and present. Assumes nothing.
+-- `writer::elements::put_octet` meets its contract, absent and present. Assumes nothing.
 use borrow.Author.Needs.{needs}
 use Rattle.octets.proofs.Laws.{put-none, put-one}
 use Rattle.header.specs.Build.{octetOctets}
-use Rattle.writer.proofs.put_octet.Statement.{statement}
-use Rattle.writer.proofs.put_octet.Tie as tie
+use Rattle.writer.proofs.elements.put_octet.Statement.{statement}
+use Rattle.writer.proofs.elements.put_octet.Tie as tie
 
 enum-told : tie.Need-enum-told
 enum-told c = search needs

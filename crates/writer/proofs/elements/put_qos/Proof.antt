@@ -1,9 +1,9 @@
--- `writer::put_qos` meets its contract, absent and present. Assumes nothing.
+-- `writer::elements::put_qos` meets its contract, absent and present. Assumes nothing.
 use borrow.Author.Needs.{needs}
 use Rattle.octets.proofs.Laws.{put-none, put-one}
 use Rattle.header.specs.Build.{qosOctets}
-use Rattle.writer.proofs.put_qos.Statement.{statement}
-use Rattle.writer.proofs.put_qos.Tie as tie
+use Rattle.writer.proofs.elements.put_qos.Statement.{statement}
+use Rattle.writer.proofs.elements.put_qos.Tie as tie
 
 enum-told : tie.Need-enum-told
 enum-told c = search needs
