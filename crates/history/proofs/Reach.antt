@@ -89,16 +89,26 @@ pub ready-is : (r : Relay) (p : ℕ) → p < 8 → isReady p (readySet r) ≡ is
 unfolding readySet
 ready-is r p h = simp (lt-ltb p 8 h) (in-gathered (λ (q : ℕ). isSetUp (portIn r q)) p 8 h)
 
-ready-below : (r : Relay) (n : ℕ) → portSet (λ (q : ℕ). isSetUp (portIn r q)) n ≡ portSet (λ (p : ℕ). not (eqb (getD (r .ports) p freshPort .ready) 0)) n
+ready-case : (t a b : Bool) → (t ≡ true → a ≡ b) → (t && a) ≡ (t && b)
+ready-case true a b f = f refl
+ready-case false a b f = refl
+
+-- What a setting tests of a port, in the set of those that are set up, is that the port is one of the eight and set up.
+pub ready-port : (r : Relay) (p : ℕ) → isReady p (readySet r) ≡ portSetUp r p
+unfolding portSetUp readySet
+ready-port r p =
+    ready-case (ltb p 8) (inSet p (readySet r)) (isSetUp (portIn r p)) (λ h. in-gathered (λ (q : ℕ). isSetUp (portIn r q)) p 8 (ltb-true p 8 h))
+
+ready-below : (r : Relay) (n : ℕ) → portSet (λ (q : ℕ). isSetUp (portIn r q)) n ≡ portSet (λ (p : ℕ). isSetUp (getD (r .ports) p freshPort)) n
 ready-below r n = refl
 
-ready-list : (r : Relay) → readySet r ≡ portSet (λ (p : ℕ). not (eqb (getD (r .ports) p freshPort .ready) 0)) 8
+ready-list : (r : Relay) → readySet r ≡ portSet (λ (p : ℕ). isSetUp (getD (r .ports) p freshPort)) 8
 unfolding readySet
 ready-list r = ready-below r 8
 
 ready-same : (r s : Relay) → s .ports ≡ r .ports → readySet s ≡ readySet r
 ready-same r s e =
-    ready-list s ∙ ap (λ (l : List Port). portSet (λ (p : ℕ). not (eqb (getD l p freshPort .ready) 0)) 8) e ∙ sym (ready-list r)
+    ready-list s ∙ ap (λ (l : List Port). portSet (λ (p : ℕ). isSetUp (getD l p freshPort)) 8) e ∙ sym (ready-list r)
 
 same-grows : (a b : ℕ) → b ≡ a → Grows a b
 same-grows a b e p h = ap (isReady p) e ∙ h
@@ -140,7 +150,7 @@ module _ {A : Type 0} (P : A → Type 0) (d : A) (n : ℕ) where
   written l i x long new old j h = place-case l i x long new old j h (eqb j i) refl
 
 abbrev PortGood : Port → Type 0
-PortGood x = not (eqb (x .ready) 0) ≡ true
+PortGood x = isSetUp x ≡ true
     → (portClassRefused (x .address) ≡ false) × ((portMaskRefused (x .address) (x .mask) ≡ false) × (mtuRefused (x .mtu) ≡ false))
 
 -- ---- how many places there are, and that the settings are good
@@ -192,11 +202,11 @@ module _ (r : Relay) (k : Kept r) where
     set-up-case : (q : ℕ) → q < 8 → isSetUp (portIn r q) ≡ true → (t : Bool) → eqb q p ≡ t → isSetUp (portIn (withPort r p (newPort a m u)) q) ≡ true
     set-up-case q h z true e =
         let same = eqb-true q p e in
-        ap (λ (x : Port). not (eqb (x .ready) 0))
+        ap isSetUp
         (ap (λ (j : ℕ). getD (set (r .ports) p (newPort a m u)) j freshPort) same
         ∙ getD-set-same (r .ports) p (newPort a m u) freshPort (rw (k .eight, sym same) h))
     set-up-case q h z false e =
-        ap (λ (x : Port). not (eqb (x .ready) 0)) (getD-set-other (r .ports) p q (newPort a m u) freshPort (eqb-false q p e)) ∙ z
+        ap isSetUp (getD-set-other (r .ports) p q (newPort a m u) freshPort (eqb-false q p e)) ∙ z
 
     port-grows : Grows (readySet r) (readySet (withPort r p (newPort a m u)))
     port-grows q h =
@@ -395,7 +405,7 @@ fresh-kept =
       routes = refl;
       good =
           record {
-            ports = λ p h z. true-false (sym z ∙ ap (λ (x : Port). not (eqb (x .ready) 0)) (getD-replicate {A = Port} 8 p freshPort freshPort h));
+            ports = λ p h z. true-false (sym z ∙ ap isSetUp (getD-replicate {A = Port} 8 p freshPort freshPort h));
             routes = λ i h z. true-false (sym z ∙ ap isFilled (getD-replicate {A = Route} 64 i emptyRoute emptyRoute h));
             groups = λ i h z. true-false (sym z ∙ ap (λ (x : Group). not (eqb (x .filled) 0)) (getD-replicate {A = Group} 16 i freshGroup freshGroup h));
             paths = λ i h z. true-false (sym z ∙ ap (λ (x : PathPlace). not (eqb (x .filled) 0)) (getD-replicate {A = PathPlace} 16 i freshPath freshPath h));

@@ -2,14 +2,10 @@
 -- is found. Assumes nothing.
 use native.Mathlib.Omega.{arith}
 use Prim.Native.Nat.{ℕ, zero, suc, _+_, _-_, _≤_, _<_}
-use native.Mathlib.Nat.{le-of-lt}
 use mathlib.Core.Path.{_≡_, refl, sym, ap, _∙_}
-use mathlib.Core.Logic.{_≢_}
 use mathlib.Core.Bool.{Bool, true, false}
 use mathlib.Core.List.{List}
-use lib.Dec.{eqb}
 use lib.ListN.{length, drop}
-use borrow.Author.Tests.{eq-eqb, ne-eqb}
 use Rattle.checks.specs.Order.{pick}
 use Rattle.checks.proofs.Laws.{either}
 use Rattle.address.specs.Mask.{onesOf}
@@ -24,57 +20,41 @@ use Rattle.state_routes.specs.Best.{NextCandidate, betterPlace}
 
 module _ (rs : List Route) where
   -- what is found by the best place
-  unfoldable pub foundAt : ℕ → Found
-  foundAt best = pick (eqb best 64) No (At best (onesOf (routeAt rs best .mask .0)) (routeAt rs best))
-
-  pub found-none : (best : ℕ) → best ≡ 64 → No ≡ foundAt best
-  unfolding foundAt
-  found-none best h = simp (eq-eqb best 64 h)
-
-  pub found-place : (best : ℕ) → best ≢ 64 → At best (onesOf (routeAt rs best .mask .0)) (routeAt rs best) ≡ foundAt best
-  unfolding foundAt
-  found-place best h = simp (ne-eqb best 64 h)
+  abbrev pub foundAt : ℕ → Found
+  foundAt best = At best (onesOf (routeAt rs best .mask .0)) (routeAt rs best)
 
   -- The better place, as the code finds it: held is the route at the best place, r the one at place i.
-  pub place-first : (best i : ℕ) → best ≡ 64 → i ≡ betterPlace rs best i
-  unfolding betterPlace
-  place-first best i h = simp (eq-eqb best 64 h)
+  module _ (best i : ℕ) (held r : Route) (e : held ≡ routeAt rs best) (f : r ≡ routeAt rs i) (t : Bool) (told : t ≡ longerMask r held) where
+    longer : {u : Bool} → t ≡ u → longerMask (routeAt rs i) (routeAt rs best) ≡ u
+    longer is = rw (← e, ← f) (sym told ∙ is)
 
-  module _ (best i : ℕ) (there : best ≢ 64) (held r : Route) (e : held ≡ routeAt rs best) (f : r ≡ routeAt rs i)
-      (t : Bool) (told : t ≡ longerMask r held) where
     pub place-longer : t ≡ true → i ≡ betterPlace rs best i
     unfolding betterPlace
-    place-longer is = let m : longerMask (routeAt rs i) (routeAt rs best) ≡ true = rw (← e, ← f) (sym told ∙ is) in simp (ne-eqb best 64 there, m)
+    place-longer is = simp (longer is)
 
     pub place-kept : t ≡ false → best ≡ betterPlace rs best i
     unfolding betterPlace
-    place-kept is = let m : longerMask (routeAt rs i) (routeAt rs best) ≡ false = rw (← e, ← f) (sym told ∙ is) in simp (ne-eqb best 64 there, m)
+    place-kept is = simp (longer is)
 
-  pub place-within : (best i : ℕ) → best ≤ 64 → i < 64 → betterPlace rs best i ≤ 64
+  pub place-within : (best i : ℕ) → best < 64 → i < 64 → betterPlace rs best i < 64
   unfolding betterPlace
-  place-within best i b l = either (λ n. n ≤ 64) (eqb best 64) (le-of-lt l) (either (λ n. n ≤ 64) (longerMask (routeAt rs i) (routeAt rs best)) (le-of-lt l) b)
+  place-within best i b l = either (λ n. n < 64) (longerMask (routeAt rs i) (routeAt rs best)) l b
 
   module _ (a : Address) where
-    -- A candidate makes the better place the best.
-    pub found-better : (best i : ℕ) → i < 64 → candidate (routeAt rs i) a ≡ true
+    -- The first candidate beats nothing.
+    pub found-first : (i : ℕ) → candidate (routeAt rs i) a ≡ true → foundAt i ≡ betterOf a No i (routeAt rs i)
+    unfolding betterOf beaten
+    found-first i h = simp h
+
+    -- A later one makes the better place the best.
+    pub found-better : (best i : ℕ) → candidate (routeAt rs i) a ≡ true
         → foundAt (betterPlace rs best i) ≡ betterOf a (foundAt best) i (routeAt rs i)
-    unfolding betterPlace betterOf beaten foundAt
-    found-better best i l h = simp h (by-tests (eqb best 64) refl)
+    unfolding betterPlace betterOf beaten
+    found-better best i h = simp h (by-mask (longerMask (routeAt rs i) (routeAt rs best)))
       where
-        newer : foundAt i ≡ At i (onesOf (routeAt rs i .mask .0)) (routeAt rs i)
-        newer = sym (found-place i (λ z. omega arith))
-
-        by-mask : (t : Bool) → eqb best 64 ≡ false
-            → foundAt (pick t i best) ≡ pick t (At i (onesOf (routeAt rs i .mask .0)) (routeAt rs i)) (foundAt best)
-        by-mask true e = newer
-        by-mask false e = refl
-
-        by-tests : (t : Bool) → eqb best 64 ≡ t
-            → foundAt (pick t i (pick (longerMask (routeAt rs i) (routeAt rs best)) i best))
-            ≡ pick (beaten (pick t No (At best (onesOf (routeAt rs best .mask .0)) (routeAt rs best))) (routeAt rs i))
-            (At i (onesOf (routeAt rs i .mask .0)) (routeAt rs i)) (foundAt best)
-        by-tests true e = newer
-        by-tests false e = by-mask (longerMask (routeAt rs i) (routeAt rs best)) e
+        by-mask : (t : Bool) → foundAt (pick t i best) ≡ pick t (foundAt i) (foundAt best)
+        by-mask true = refl
+        by-mask false = refl
 
     module _ (many : length rs ≡ 64) (found : Found) where
       -- A place without a candidate changes nothing.

@@ -3,7 +3,6 @@ use Prim.Native.Nat.{ℕ, _≤_, _<_}
 use mathlib.Core.Path.{_≡_}
 use mathlib.Core.Bool.{true, false}
 use mathlib.Core.List.{List}
-use lib.Dec.{eqb}
 use Rattle.checks.specs.Order.{pick}
 use Rattle.address.specs.declared.Address.{Address}
 use Rattle.routes.specs.declared.Route.{Route}
@@ -20,4 +19,4 @@ pub record NextCandidate (a : Address) (rs : List Route) (from next : ℕ) : Typ
 
 -- the place with the longer mask, the earlier of equal ones
 unfoldable pub betterPlace : List Route → ℕ → ℕ → ℕ
-betterPlace rs best i = pick (eqb best routePlaces) i (pick (longerMask (routeAt rs i) (routeAt rs best)) i best)
+betterPlace rs best i = pick (longerMask (routeAt rs i) (routeAt rs best)) i best

@@ -5,7 +5,7 @@
 //
 // The search goes from candidate to candidate and keeps no more than the place of the best one so far: at a place that is no candidate,
 // which is nearly always so, it looks at three words and goes on. A record is made and the ones of its mask are counted once, at the
-// end. The awkward case is the first candidate, which beats nothing: until then the best place is the number beyond the last.
+// end. The awkward case is the first candidate, which beats nothing: it is looked for before the others, and without one nothing is found.
 ghost use mathlib.Core.Path.{_≡_};
 ghost use Prim.Native.Nat.{_≤_, _<_};
 ghost use lib.ListN.{length};
@@ -85,14 +85,11 @@ fn next_candidate(state: &[u32], a: Address, from: usize) -> usize
     i
 }
 
-// The better of the best place so far, which may be none, and place i.
+// The better of the best place so far and place i.
 fn better_place(state: &[u32], best: usize, i: usize) -> usize
-    requires { ⌜ (length (now state) ≡ stateWords) × ((best ≤ routePlaces) × (i < routePlaces)) ⌝ }
+    requires { ⌜ (length (now state) ≡ stateWords) × ((best < routePlaces) × (i < routePlaces)) ⌝ }
     ensures { λ r. ⌜ r ≡ betterPlace (decode (now (state .entry)) .routes) best i ⌝ }
 {
-    if best == ROUTES {
-        return i;
-    }
     let held = route_of(state, best);
     let r = route_of(state, i);
     if routes::longer_mask(r, held) {
@@ -106,14 +103,15 @@ pub fn search(state: &[u32], a: Address) -> Found
     requires { ⌜ length (now state) ≡ stateWords ⌝ }
     ensures { λ r. ⌜ r ≡ searchOf a (decode (now (state .entry)) .routes) ⌝ }
 {
-    let mut best = ROUTES;
-    let mut i = next_candidate(state, a, 0);
+    let first = next_candidate(state, a, 0);
+    if first == ROUTES {
+        return Found::No;
+    }
+    let mut best = first;
+    let mut i = next_candidate(state, a, first + 1);
     while i < ROUTES {
         best = better_place(state, best, i);
         i = next_candidate(state, a, i + 1);
-    }
-    if best == ROUTES {
-        return Found::No;
     }
     let r = route_of(state, best);
     Found::At(best as u32, address::count_ones(r.mask), r)
