@@ -2,25 +2,25 @@
  * harpjuniper.h: what flight software calls.
  *
  * Harpjuniper is a relay for SCPS-NP datagrams (CCSDS 713.0-B-1). The library
- * behind this header is written in Rattle, and every function of it is proved
- * to give, for each input whatever, the answer that its definition states
- * (docs/PROMISES.md). Nobody has to check an input first: bad input gets a
- * number, and nothing that was lent has then changed, but for the counters of a
- * relay that received it.
+ * is written in Rattle, and every function is proved to give, for every input,
+ * the answer that its definition states (docs/PROMISES.md). You need not check
+ * an input first: bad input gets a refusal number and changes nothing that was
+ * lent, except the counters of the relay that received it.
  *
- * What the caller keeps, since no proof can see across the call:
- *   - a pointer is good for as many octets or words as the count that goes
- *     with it (a null pointer with a count of 0 is good);
+ * What the caller must ensure, since no proof reaches across the call:
+ *   - each pointer is valid for as many octets or words as the count passed
+ *     with it (a null pointer with a count of 0 is valid);
  *   - the words of a state are aligned as uint32_t is;
- *   - two pieces lent to one call do not overlap;
- *   - one call at a time works on a state, in whatever thread;
- *   - a state is given back as the last call left it. With other words in it
- *     a call still ends in an answer, which docs/STATES.md lists; what is said
- *     below of the range of an answer is said of the states that calls leave.
+ *   - two buffers lent to one call do not overlap;
+ *   - only one call at a time works on a state, in whatever thread;
+ *   - a state is passed back as the last call left it. With any other words a
+ *     call still returns an answer, which docs/STATES.md lists; the ranges of
+ *     answers below hold for the states that calls leave.
  *
- * The library allocates nothing, keeps nothing between calls, and never waits.
+ * The library allocates nothing, keeps nothing between calls, and never blocks.
  *
- * A relay is HJ_STATE_WORDS words of the caller's, made fresh by hj_fresh:
+ * A relay is HJ_STATE_WORDS words that the caller allocates and hj_fresh
+ * initializes:
  *
  *     static uint32_t relay[HJ_STATE_WORDS];
  *     hj_fresh(relay, HJ_STATE_WORDS);
@@ -37,7 +37,7 @@ extern "C" {
 
 /* ---- The version -------------------------------------------------------- */
 
-/* Of this header, and of the library that it comes with. */
+/* The version of this header and of the library that it comes with. */
 #define HJ_VERSION "0.3.0"
 #define HJ_VERSION_MAJOR 0
 #define HJ_VERSION_MINOR 3
@@ -45,16 +45,16 @@ extern "C" {
 
 /* ---- Numbers that hold everywhere ------------------------------------- */
 
-/* The words of a relay's state. C allocates them. */
+/* The words of a relay's state, which the caller allocates. */
 #define HJ_STATE_WORDS 824u
-/* The least room of an output, in octets: the longest header. */
+/* The smallest output, in octets: the longest header. */
 #define HJ_OUTPUT_ROOM 50u
 /* The most octets of user data in a datagram that is built. */
 #define HJ_MOST_DATA 8141
 /* The largest length of a datagram, and the largest MTU of a port. */
 #define HJ_MOST_LENGTH 8191
 
-/* How many there are of each. They are numbered from 0. */
+/* How many there are of each, numbered from 0. */
 #define HJ_PORTS 8
 #define HJ_ROUTES 64
 #define HJ_GROUPS 16
@@ -62,9 +62,9 @@ extern "C" {
 /* Entries that may wait on one port. */
 #define HJ_QUEUE 32
 
-/* Refusal numbers. A call that can refuse says which of them it gives. */
+/* Refusal numbers. Each call below lists those that it can return. */
 #define HJ_DONE 0             /* no refusal */
-#define HJ_SHORT 1            /* under 3 octets, or the control field is cut */
+#define HJ_SHORT 1            /* under 3 octets, or control field truncated */
 #define HJ_BAD_VERSION 2      /* version/protocol identifier is not 001 */
 #define HJ_BAD_LENGTH 3       /* length field over the octets lent, or under
                                  the header's own length */
@@ -93,11 +93,11 @@ extern "C" {
 #define HJ_BAD_NUMBER 21      /* place or port number, or a port not set up; or
                                  the state has the wrong number of words */
 #define HJ_BAD_MASK 22        /* mask or prefix bits */
-#define HJ_SAME_ENTRY 23      /* the same entry stands in another place */
+#define HJ_SAME_ENTRY 23      /* another place holds the same entry */
 #define HJ_BAD_CODE 24        /* code or size out of range */
 #define HJ_WRONG_CLASS 25     /* wrong address class */
-#define HJ_UNKNOWN_TP_ID 26   /* the transport protocol is not assigned; said
-                                 of the local half alone */
+#define HJ_UNKNOWN_TP_ID 26   /* the transport protocol is not assigned; in
+                                 the local half only */
 #define HJ_ENTRIES_WAIT 35    /* entries wait on the port */
 
 /* The local half of a verdict: one of these, or HJ_UNKNOWN_TP_ID. */
@@ -114,7 +114,7 @@ extern "C" {
 #define HJ_TESTING 3
 #define HJ_OUT 4
 
-/* Capabilities of a route. They are stored; nothing else is done with them. */
+/* Capabilities of a route. They are stored and not used. */
 #define HJ_CAPABLE_NONE 0
 #define HJ_CAPABLE_CHECKSUM 1
 #define HJ_CAPABLE_HOP_COUNT 2
@@ -157,8 +157,8 @@ extern "C" {
 /* ---- Answers ----------------------------------------------------------- */
 
 /*
- * An answer that is a refusal or a value: the refusal number above, the value
- * in the lower 32 bits. With a refusal the value is 0.
+ * A refusal or a value: the refusal number in the upper 32 bits, the value in
+ * the lower 32 bits. With a refusal the value is 0.
  */
 typedef uint64_t hj_answer;
 
@@ -174,10 +174,10 @@ static inline uint32_t hj_value(hj_answer answer)
 
 /*
  * The fields of a header, as numbers. An element is absent where its flag, or
- * the timestamp's format, is 0; all that belongs to it is then 0.
+ * the timestamp's format, is 0; its other members are then 0 too.
  *
- * An address of one octet or of four is in the lower half, with 0 above it;
- * an IPv6 address has its first eight octets in the upper half. A header
+ * A one-octet or four-octet address is in the low half, and the high half is
+ * 0; an IPv6 address has its first eight octets in the high half. A header
  * without a source carries a path, and its destination is a path address.
  */
 typedef struct hj_fields {
@@ -187,7 +187,7 @@ typedef struct hj_fields {
     uint64_t source_low;
     uint64_t time;             /* the timestamp's time field */
     uint32_t tp_id;            /* 0 to 15 */
-    uint32_t has_source;       /* 0 or 1, so too for the other flags */
+    uint32_t has_source;       /* 0 or 1, like the other flags */
     uint32_t extended;         /* addresses of four octets */
     uint32_t ipv6;             /* addresses of sixteen octets */
     uint32_t has_qos;          /* basic QOS */
@@ -197,24 +197,28 @@ typedef struct hj_fields {
     uint32_t has_hop_count;
     uint32_t hop_count;        /* 0 to 255 */
     uint32_t stamp_format;     /* HJ_STAMP_NONE to HJ_STAMP_BINARY */
-    uint32_t p_field;          /* 0 to 255, with HJ_STAMP_EXPLICIT alone */
+    uint32_t p_field;          /* 0 to 255, with HJ_STAMP_EXPLICIT only */
     uint32_t has_expanded;     /* expanded QOS */
     uint32_t expanded;         /* 0 to 255 */
     uint32_t has_checksum;
-    uint32_t intermediate;     /* intermediate delivery is asked for */
+    uint32_t intermediate;     /* intermediate delivery requested */
 } hj_fields;
 
-/* What reading found. With a refusal, every other number is 0. */
+/*
+ * What reading found. With a refusal, every other number is 0. Each octet of it
+ * belongs to a member, so that two of them can be compared whole.
+ */
 typedef struct hj_reading {
     uint32_t refusal;
-    uint32_t length;  /* the length field: octets of the whole datagram */
-    uint32_t header;  /* the header's own length in octets, 4 to 50 */
+    uint32_t length;   /* the length field: octets of the whole datagram */
+    uint32_t header;   /* the header's own length in octets, 4 to 50 */
+    uint32_t reserved; /* 0 */
     hj_fields fields;
 } hj_reading;
 
 /*
- * The answer of hj_receive, eight bits for each part; the sixteen bits above
- * them are 0. With a refusal all other parts are 0.
+ * The answer of hj_receive, eight bits for each part; the top sixteen bits are
+ * 0. With a refusal all other parts are 0.
  */
 typedef uint64_t hj_verdict;
 
@@ -242,21 +246,21 @@ static inline uint32_t hj_took(hj_verdict verdict)
     return (uint32_t)(verdict >> 24 & 0xffu);
 }
 
-/* The set of ports that dropped their copy, their queue being full. */
+/* The set of ports that dropped their copy because their queue was full. */
 static inline uint32_t hj_dropped(hj_verdict verdict)
 {
     return (uint32_t)(verdict >> 32 & 0xffu);
 }
 
-/* Octets of the header sent on, at the front of the output; 0 for none. */
+/* Octets of the header sent on, at the start of the output; 0 for none. */
 static inline uint32_t hj_header_octets(hj_verdict verdict)
 {
     return (uint32_t)(verdict >> 40 & 0xffu);
 }
 
 /*
- * The parts of hj_take's answer: hj_refusal above is what refused it; these
- * two are 0 with a refusal.
+ * The parts of hj_take's answer. hj_refusal, above, gives the refusal; with a
+ * refusal both of these are 0.
  */
 static inline uint16_t hj_slot(hj_answer answer)
 {
@@ -269,8 +273,8 @@ static inline uint32_t hj_precedence(hj_answer answer)
 }
 
 /*
- * The settings as they stand. With a refusal every other number is 0; so it is
- * where the port is not set up or the place is empty.
+ * The settings in force. Every other number is 0 with a refusal, and where the
+ * port is not set up or the place is empty.
  */
 typedef struct hj_port {
     uint32_t refusal;
@@ -282,7 +286,7 @@ typedef struct hj_port {
 
 typedef struct hj_route {
     uint32_t refusal;
-    uint32_t filled; /* 1 where the place is not empty, so too below */
+    uint32_t filled; /* 1 where the place is not empty; also below */
     uint32_t prefix;
     uint32_t mask;
     uint32_t port;
@@ -303,13 +307,13 @@ typedef struct hj_path_place {
     uint32_t filled;
     uint32_t path;
     uint32_t send; /* a set of ports */
-    uint32_t here; /* 1 where it is delivered here */
+    uint32_t here; /* 1 if delivered here */
 } hj_path_place;
 
 /* ---- Calls on headers and addresses ------------------------------------ */
 
 /*
- * Reads the header that the octets begin with.
+ * Reads the header at the start of the octets.
  *
  * Returns a hj_reading whose refusal is
  *   HJ_DONE (0)          the header is good: length, header and fields say
@@ -324,25 +328,27 @@ typedef struct hj_path_place {
  *                        own length;
  *   HJ_BAD_CHECKSUM (5)  the checksum is present and wrong.
  * The first that holds, in the order 1, 2, 1, 4, 3, 5, is given.
- * The octets are not changed. The answer does not depend on octets beyond the
- * length field, but for those of the control field.
+ * The octets are not changed. Of the octets beyond the length that the length
+ * field gives, only those up to the end of the control field, five at most,
+ * matter: they are tested before the length is. So 20 00 12 gives 3 and
+ * 40 00 12 gives 2, though both say a length of 0.
  */
 hj_reading hj_read(const uint8_t *octets, size_t count);
 
 /*
- * Builds the header of a datagram with this many octets of user data, at the
- * front of the output: the shortest control field, unused bits zero, the
- * checksum computed where it is asked for.
+ * Builds the header of a datagram with data octets of user data, at the start
+ * of the output: the shortest control field, unused bits zero, and the checksum
+ * computed where it is requested.
  *
  * Returns an answer: hj_value is the header's length in octets, 4 to 50, or
  * hj_refusal is
  *   HJ_SHORT_OUTPUT (17)   room is under HJ_OUTPUT_ROOM;
- *   HJ_FIELD_RANGE (19)    a field is out of range, an element that is absent
- *                          has a number that is not 0, or IPv6 goes with
- *                          extended or without a source;
+ *   HJ_FIELD_RANGE (19)    a field is out of range, a member of an absent
+ *                          element is not 0, or IPv6 is combined with
+ *                          extended or has no source;
  *   HJ_DATA_TOO_LONG (20)  data is over HJ_MOST_DATA.
  * The first that holds, in this order, is given, and nothing is written.
- * Octets of the output beyond the header are never written.
+ * Octets of the output after the header are never written.
  */
 hj_answer hj_build(hj_fields fields, size_t data, uint8_t *output, size_t room);
 
@@ -359,15 +365,15 @@ uint32_t hj_class(uint32_t address);
  * Whether a path address is valid: its first octet is 10 and its last is not
  * 254.
  *
- * Returns 1 where it is, else 0.
+ * Returns 1 if it is, else 0.
  */
 uint32_t hj_path(uint32_t path);
 
 /*
  * The checksum of RFC 1071: the complement of the ones' complement sum of the
- * octets as 16-bit words, an odd last octet padded by a zero octet.
+ * octets as 16-bit words, with an odd last octet padded by a zero octet.
  *
- * Returns 0 to 65535; 65535 for no octets, and else exactly where every octet
+ * Returns 0 to 65535: 65535 exactly where there are no octets or every octet
  * is 0.
  */
 uint16_t hj_checksum(const uint8_t *octets, size_t count);
@@ -375,22 +381,22 @@ uint16_t hj_checksum(const uint8_t *octets, size_t count);
 /* ---- Calls on a relay: its state --------------------------------------- */
 
 /*
- * In every call below, state and words are the relay: a pointer to words
- * uint32_t, where words is to be HJ_STATE_WORDS. A call that refuses changes
- * no word, but for what hj_receive says.
+ * In every call below, state and words are the relay: a pointer to that many
+ * uint32_t, where words should be HJ_STATE_WORDS. A call that refuses changes
+ * no word, except as hj_receive says.
  */
 
 /*
- * How many words a state has, as the library was built.
+ * How many words a state has in the library that is linked.
  *
- * Returns HJ_STATE_WORDS (824); another number says that this header and the
- * library do not belong together.
+ * Returns HJ_STATE_WORDS (824); any other number means that this header and the
+ * library do not match.
  */
 uint32_t hj_state_words(void);
 
 /*
- * Makes the state that of a fresh relay, whatever stood in it: a host, no port
- * set up, every place empty, nothing waiting, every counter 0.
+ * Makes a fresh relay of the state, whatever it held: a host, no port set up,
+ * every place empty, nothing waiting, every counter 0.
  *
  * Returns
  *   HJ_DONE (0)         done;
@@ -401,7 +407,7 @@ uint32_t hj_fresh(uint32_t *state, size_t words);
 /* ---- Calls on a relay: settings ----------------------------------------- */
 
 /*
- * Makes the node a router (1) or a host (0). The queues stay.
+ * Makes the node a router (1) or a host (0). The queues are kept.
  *
  * Returns the first of these that holds, in this order:
  *   HJ_BAD_NUMBER (21)  words is not HJ_STATE_WORDS;
@@ -411,8 +417,8 @@ uint32_t hj_fresh(uint32_t *state, size_t words);
 uint32_t hj_set_router(uint32_t *state, size_t words, uint32_t router);
 
 /*
- * Sets up a port, or writes it anew: its address, mask and MTU, and nothing
- * else. A port is never emptied.
+ * Sets up a port or rewrites it: its address, mask and MTU, and nothing else. A
+ * port is never emptied.
  *
  * Returns the first of these that holds, in this order:
  *   HJ_BAD_NUMBER (21)   words is not HJ_STATE_WORDS, or port is over 7;
@@ -421,15 +427,15 @@ uint32_t hj_set_router(uint32_t *state, size_t words, uint32_t router);
  *                        over 30 ones, or not 24 where the address begins with
  *                        10; or the address's host bits are all ones;
  *   HJ_BAD_CODE (24)     the MTU is 0 or over HJ_MOST_LENGTH;
- *   HJ_ENTRIES_WAIT (35) entries wait on the port, even where the same values
- *                        are written;
+ *   HJ_ENTRIES_WAIT (35) entries wait on the port, even if the same values are
+ *                        written;
  *   HJ_DONE (0)          done.
  */
 uint32_t hj_set_port(uint32_t *state, size_t words, uint32_t port,
                      uint32_t address, uint32_t mask, uint32_t mtu);
 
 /*
- * Writes a route into a place, over what stood there.
+ * Writes a route into a place, replacing what it held.
  *
  * Returns the first of these that holds, in this order:
  *   HJ_BAD_NUMBER (21)  words is not HJ_STATE_WORDS, place is over 63, or port
@@ -447,7 +453,7 @@ uint32_t hj_set_route(uint32_t *state, size_t words, uint32_t place,
                       uint32_t availability, uint32_t capabilities);
 
 /*
- * Writes a group into a place, over what stood there. The sets may be empty.
+ * Writes a group into a place, replacing what it held. The sets may be empty.
  *
  * Returns the first of these that holds, in this order:
  *   HJ_BAD_NUMBER (21)   words is not HJ_STATE_WORDS, place is over 15, or a
@@ -460,7 +466,7 @@ uint32_t hj_set_group(uint32_t *state, size_t words, uint32_t place,
                       uint32_t address, uint32_t send, uint32_t subscribed);
 
 /*
- * Writes a path into a place, over what stood there. The set may be empty.
+ * Writes a path into a place, replacing what it held. The set may be empty.
  *
  * Returns the first of these that holds, in this order:
  *   HJ_BAD_NUMBER (21)   words is not HJ_STATE_WORDS, place is over 15, or the
@@ -474,8 +480,8 @@ uint32_t hj_set_path(uint32_t *state, size_t words, uint32_t place,
                      uint32_t path, uint32_t send, uint32_t here);
 
 /*
- * Each of these empties a place; an empty one too. The place is then as in a
- * fresh relay.
+ * Each of these empties a place, which may be empty already. The place is then
+ * as in a fresh relay.
  *
  * Returns
  *   HJ_DONE (0)         done;
@@ -489,8 +495,8 @@ uint32_t hj_clear_path(uint32_t *state, size_t words, uint32_t place);
 /* ---- Calls on a relay: datagrams ----------------------------------------- */
 
 /*
- * The verdict on one datagram that arrived by a port. The slot is a number of
- * the caller's for it, and may repeat: hj_take hands it out again. The octets
+ * The verdict on one datagram that arrived on a port. The slot is the caller's
+ * own number for it, and may repeat: hj_take returns it. The octets
  * begin with the datagram; those beyond its length field are ignored. The
  * output is room octets.
  *
@@ -507,15 +513,15 @@ uint32_t hj_clear_path(uint32_t *state, size_t words, uint32_t place);
  *   HJ_BAD_ADDRESS (6)    the destination or the path is invalid, or a source
  *                         is present and not unicast;
  *   HJ_DONE (0)           no refusal.
- * With 16 and 17 the state is as it was. All other ends count one in
- * HJ_IN_RECEIVES, and a refusal one in its counter.
+ * With 16 and 17 the state is unchanged. Every other outcome counts one in
+ * HJ_IN_RECEIVES, and a refusal also one in its own counter.
  *
  * With HJ_DONE, hj_local is
  *   HJ_LOCAL_NO (0)        not delivered;
  *   HJ_DELIVERED (1)       delivered: the caller hands it to its transport;
  *   HJ_UNKNOWN_TP_ID (26)  it would be, but its transport is not assigned;
  * and hj_onward is
- *   HJ_NOT_ASKED (0)       it need not go on;
+ *   HJ_NOT_ASKED (0)       it need not be forwarded;
  *   HJ_SENT_ON (1)         hj_took are the ports that took an entry, at least
  *                          one, and hj_dropped those that dropped their copy;
  *   HJ_NOT_FOR_US (9)      the node is a host, and it is not for it;
@@ -532,11 +538,12 @@ uint32_t hj_clear_path(uint32_t *state, size_t words, uint32_t place);
  * a host, where hj_local is not HJ_LOCAL_NO; for a broadcast of a port's
  * network, or a group subscribed on the arrival port, where no other port is
  * set up; and for a path that is delivered here and has no port in its set but
- * the arrival port. Both HJ_LOCAL_NO and HJ_NOT_ASKED together are never given.
+ * the arrival port. HJ_LOCAL_NO and HJ_NOT_ASKED are never given together.
  *
  * With HJ_SENT_ON the output begins with the header sent on, hj_header_octets
- * octets (4 to 50): the arriving one, hop count less one and checksum redone,
- * where present. No other octet of the output is ever written.
+ * octets (4 to 50): the arriving header with the hop count one lower and the
+ * checksum recomputed, where present. No other octet of the output is ever
+ * written.
  */
 hj_verdict hj_receive(uint32_t *state, size_t words, uint32_t port,
                       uint16_t slot, const uint8_t *octets, size_t length,
@@ -554,7 +561,7 @@ hj_verdict hj_receive(uint32_t *state, size_t words, uint32_t port,
  */
 hj_answer hj_take(uint32_t *state, size_t words, uint32_t port);
 
-/* ---- Calls on a relay: what stands in it --------------------------------- */
+/* ---- Calls on a relay: reading it ---------------------------------------- */
 
 /*
  * The value of a counter, HJ_IN_RECEIVES to HJ_TOO_BIG_COUNT.
@@ -566,7 +573,7 @@ hj_answer hj_take(uint32_t *state, size_t words, uint32_t port);
 hj_answer hj_counter(const uint32_t *state, size_t words, uint32_t counter);
 
 /*
- * How many entries wait on a port. On a port that is not set up nothing waits.
+ * How many entries wait on a port. Nothing waits on a port that is not set up.
  *
  * Returns an answer: hj_value is that number, 0 to HJ_QUEUE, or hj_refusal is
  *   HJ_BAD_NUMBER (21)  words is not HJ_STATE_WORDS, or port is over 7.
@@ -574,8 +581,8 @@ hj_answer hj_counter(const uint32_t *state, size_t words, uint32_t counter);
 hj_answer hj_waiting(const uint32_t *state, size_t words, uint32_t port);
 
 /*
- * Whether the node is a router. This call and those below read what the
- * settings left; none of them changes a word.
+ * Whether the node is a router. This call and those below read the settings;
+ * none of them changes a word.
  *
  * Returns an answer: hj_value is 1 for a router, 0 for a host, or hj_refusal
  * is
@@ -584,7 +591,7 @@ hj_answer hj_waiting(const uint32_t *state, size_t words, uint32_t port);
 hj_answer hj_get_router(const uint32_t *state, size_t words);
 
 /*
- * Each of these gives a port or a place as it stands.
+ * Each of these reads a port or a place back.
  *
  * Returns a structure whose refusal is
  *   HJ_DONE (0)         the other numbers are the setting, all 0 where the
