@@ -32,7 +32,7 @@ struct sought {
     uint32_t ones;
     struct view_route route; /* at the place found */
     uint32_t matching;       /* places that match the address */
-    uint32_t as_long;        /* other places with as many ones as the one found */
+    uint32_t as_long;        /* other places with as many ones as that */
     uint32_t filled;         /* places */
 };
 

@@ -1,6 +1,6 @@
 /*
- * words_relay.c: the words new, receive, take, counters, waiting and search, and
- * those that set, each the library's call of that name on one state.
+ * words_relay.c: the words new, receive, take, counters, waiting and search,
+ * and those that set, each the library's call of that name on one state.
  *
  * The library decides, never this file: a place 70 or a port 9 is handed over
  * as it stands, and only what the library's types cannot hold makes a line that
@@ -10,7 +10,8 @@
  * not: a word around the state; a word of the state, where the call refused or
  * only reads; an octet of the output beyond the header sent on, or any octet
  * that was lent to be read. So it does where the parts of a verdict, or of what
- * a search found, do not go together. The answer of `new` is nothing, so its line has no ` = `.
+ * a search found, do not go together. The answer of `new` is nothing, so its
+ * line has no ` = `.
  */
 #include "words.h"
 
