@@ -137,7 +137,7 @@ build/readme: build/readme.c
 build/rehearsal_wrong: $(REHEARSAL) tests/wrong_take.c
 build/soak_faulty: $(SOAK) $(PLAIN) tests/soak_faults.c
 build/rehearsal_wrong: wrapped := take
-build/soak_faulty: wrapped := class take counter waiting set_port receive
+build/soak_faulty: wrapped := class take counter waiting search set_port receive
 
 LINKED := $(addprefix build/,replay rehearsal rehearsal_wrong calls relay_calls bench \
 	flight_loop settings_batch soak soak_faulty readme)

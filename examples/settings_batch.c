@@ -1,6 +1,7 @@
 /*
  * settings_batch: applies a table of settings, says of each that was refused the
- * number and its meaning in words, and reads back what stands.
+ * number and its meaning in words, reads back what stands, and asks which route
+ * serves an address.
  *
  * A refused setting changes nothing, so the batch goes on after it, and what is
  * read back is what the others left. The table has settings that are refused on
@@ -168,6 +169,20 @@ static void print_paths(void)
     }
 }
 
+/* Which of the routes serves an address. */
+static void print_service(uint32_t address)
+{
+    hj_found found = hj_search(relay, HJ_STATE_WORDS, address);
+
+    print_address("to ", address);
+    if (hj_is_found(found))
+        printf(": route %u, %u ones, port %u\n",
+               (unsigned)hj_found_place(found), (unsigned)hj_found_ones(found),
+               (unsigned)hj_found_port(found));
+    else
+        puts(": no route");
+}
+
 int main(void)
 {
     unsigned refused;
@@ -182,5 +197,7 @@ int main(void)
     print_routes();
     print_groups();
     print_paths();
+    print_service(0x0a04090e);
+    print_service(0xc0000301);
     return 0;
 }

@@ -273,6 +273,43 @@ static inline uint32_t hj_precedence(hj_answer answer)
 }
 
 /*
+ * The answer of hj_search; the top sixteen bits are 0. Where no route was
+ * found, and with a refusal, all other parts are 0. A route may have 0 ones, so
+ * only hj_is_found says whether there is one.
+ */
+typedef uint64_t hj_found;
+
+/* HJ_DONE or HJ_BAD_NUMBER. */
+static inline uint32_t hj_found_refusal(hj_found found)
+{
+    return (uint32_t)(found & 0xffu);
+}
+
+/* 1 where a route was found, else 0. */
+static inline uint32_t hj_is_found(hj_found found)
+{
+    return (uint32_t)(found >> 8 & 0xffu);
+}
+
+/* The place of the route, 0 to HJ_ROUTES - 1. */
+static inline uint32_t hj_found_place(hj_found found)
+{
+    return (uint32_t)(found >> 16 & 0xffffu);
+}
+
+/* The ones of its mask, 0 to 32. */
+static inline uint32_t hj_found_ones(hj_found found)
+{
+    return (uint32_t)(found >> 32 & 0xffu);
+}
+
+/* Its port, 0 to HJ_PORTS - 1. */
+static inline uint32_t hj_found_port(hj_found found)
+{
+    return (uint32_t)(found >> 40 & 0xffu);
+}
+
+/*
  * The settings in force. Every other number is 0 with a refusal, and where the
  * port is not set up or the place is empty.
  */
@@ -603,6 +640,19 @@ hj_port hj_get_port(const uint32_t *state, size_t words, uint32_t port);
 hj_route hj_get_route(const uint32_t *state, size_t words, uint32_t place);
 hj_group hj_get_group(const uint32_t *state, size_t words, uint32_t place);
 hj_path_place hj_get_path(const uint32_t *state, size_t words, uint32_t place);
+
+/*
+ * The route that an address takes: the one with most mask ones among all that
+ * match it, up or not. The address may be of any class; whether a datagram to
+ * it would need a route at all is another question. Nothing is changed.
+ *
+ * Returns a hj_found. hj_found_refusal is
+ *   HJ_DONE (0)         hj_is_found is 1, and hj_found_place, hj_found_ones
+ *                       and hj_found_port are the route's; or it is 0, as all
+ *                       other parts are, and no route matches;
+ *   HJ_BAD_NUMBER (21)  words is not HJ_STATE_WORDS; all other parts are 0.
+ */
+hj_found hj_search(const uint32_t *state, size_t words, uint32_t address);
 
 #ifdef __cplusplus
 }

@@ -38,9 +38,10 @@ int relay_calls(void)
     hj_route (*route)(const uint32_t *, size_t, uint32_t) = hj_get_route;
     hj_group (*group)(const uint32_t *, size_t, uint32_t) = hj_get_group;
     hj_path_place (*path)(const uint32_t *, size_t, uint32_t) = hj_get_path;
+    hj_found (*search)(const uint32_t *, size_t, uint32_t) = hj_search;
 
     return state_words && fresh && receive && take && counter && waiting &&
-           router && port && route && group && path;
+           router && port && route && group && path && search;
 }
 
 int setting_calls(void)
@@ -66,8 +67,11 @@ int accessors(void)
     uint32_t (*const of_verdict[])(hj_verdict) = {
         hj_ended_by, hj_local, hj_onward, hj_took, hj_dropped,
         hj_header_octets};
+    uint32_t (*const of_found[])(hj_found) = {hj_found_refusal, hj_is_found,
+                                              hj_found_place, hj_found_ones,
+                                              hj_found_port};
 
-    return of_answer[0] && slot && of_verdict[0];
+    return of_answer[0] && slot && of_verdict[0] && of_found[0];
 }
 
 int constants(void)

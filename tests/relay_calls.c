@@ -1,7 +1,8 @@
 /*
  * relay_calls.c: what a C program can ask of a relay and no trace can say: a
  * state of the wrong number of words, null pointers, the settings as they
- * stand, the ports that dropped a copy, states compared word for word.
+ * stand, the parts of what a search found, the ports that dropped a copy,
+ * states compared word for word.
  */
 #include <stdbool.h>
 #include <string.h>
@@ -93,6 +94,7 @@ static void refuse_reads(const uint32_t *relay, size_t words)
            "get_group");
     expect(path.refusal == 21 && all_zero(&path.filled, sizeof path - 4),
            "get_path");
+    expect(hj_search(relay, words, 0xc0000901) == 21, "search");
 }
 
 static void refuse_all(uint32_t *relay, size_t words)
@@ -208,6 +210,66 @@ static void check_empty_places(void)
     expect(hj_refusal(hj_waiting(state, WORDS, HJ_PORTS)) == 21, "waiting 8");
 }
 
+/* ---- The route that an address takes ------------------------------------- */
+
+static void expect_found(uint32_t address, uint32_t place, uint32_t ones,
+                         uint32_t port, const char *what)
+{
+    hj_found found = hj_search(state, WORDS, address);
+
+    expect(hj_found_refusal(found) == HJ_DONE && hj_is_found(found) == 1,
+           what);
+    expect(hj_found_place(found) == place, what);
+    expect(hj_found_ones(found) == ones, what);
+    expect(hj_found_port(found) == port, what);
+    expect(found >> 48 == 0, what);
+}
+
+static void add_routes(void)
+{
+    expect(hj_set_route(state, WORDS, 0, 0, 0, 0, HJ_UP, 0) == 0 &&
+               hj_set_route(state, WORDS, 9, 0xc0000900, MASK_24, 7, HJ_UP,
+                            HJ_CAPABLE_NONE) == 0 &&
+               hj_set_route(state, WORDS, 40, 0xc0000901, 0xffffffff, 7,
+                            HJ_UP, HJ_CAPABLE_NONE) == 0,
+           "three routes more");
+}
+
+static void check_search(void)
+{
+    hj_fresh(state, WORDS);
+    expect(hj_search(state, WORDS, 0xc0000901) == 0, "no route at all");
+    set_up(state);
+    expect(hj_search(state, WORDS, 0xc1000901) == 0, "no route for it");
+    expect(hj_search(state, WORDS, 0) == 0, "none for 0.0.0.0");
+    expect_found(0xc0ffffff, 63, 8, 1, "the last place");
+    add_routes();
+    memcpy(other, state, sizeof other);
+    expect_found(0xc1000901, 0, 0, 0, "0 ones at place 0 is not no");
+    expect_found(0xc0000801, 63, 8, 1, "the longest of two");
+    expect_found(0xc0000902, 9, 24, 7, "the longest of three");
+    expect_found(0xc0000901, 40, 32, 7, "the longest of four");
+    expect_found(0x0a0a0002, 0, 0, 0, "a port's address is asked for too");
+    expect_found(0xffffffff, 0, 0, 0, "so is a broadcast");
+    expect(hj_search(state, WORDS - 1, 0xc0000901) == HJ_BAD_NUMBER &&
+               hj_search(state, WORDS + 1, 0xc0000901) == HJ_BAD_NUMBER,
+           "the wrong number of words: 21, and found 0");
+    expect(memcmp(state, other, sizeof other) == 0, "nothing is changed");
+}
+
+/* Until only routes that are up are candidates (W-204). */
+static void check_search_not_up(void)
+{
+    set_up(state);
+    add_routes();
+    for (uint32_t code = HJ_DOWN; code <= HJ_OUT; code++) {
+        expect(hj_set_route(state, WORDS, 40, 0xc0000901, 0xffffffff, 7, code,
+                            HJ_CAPABLE_NONE) == 0,
+               "a route that is not up");
+        expect_found(0xc0000901, 40, 32, 7, "it is found all the same");
+    }
+}
+
 /* ---- Datagrams ----------------------------------------------------------- */
 
 static void check_null(void)
@@ -283,6 +345,8 @@ int main(void)
     check_ports();
     check_places();
     check_empty_places();
+    check_search();
+    check_search_not_up();
     check_null();
     check_dropped();
     check_taken();

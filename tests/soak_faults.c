@@ -32,6 +32,10 @@ hj_answer __real_hj_waiting(const uint32_t *state, size_t words,
                             uint32_t port);
 hj_answer __wrap_hj_waiting(const uint32_t *state, size_t words,
                             uint32_t port);
+hj_found __real_hj_search(const uint32_t *state, size_t words,
+                          uint32_t address);
+hj_found __wrap_hj_search(const uint32_t *state, size_t words,
+                          uint32_t address);
 uint32_t __real_hj_set_port(uint32_t *state, size_t words, uint32_t port,
                             uint32_t address, uint32_t mask, uint32_t mtu);
 uint32_t __wrap_hj_set_port(uint32_t *state, size_t words, uint32_t port,
@@ -74,6 +78,18 @@ hj_answer __wrap_hj_waiting(const uint32_t *state, size_t words, uint32_t port)
     hj_answer answer = __real_hj_waiting(state, words, port);
 
     return fault() == 6 && hj_value(answer) == HJ_QUEUE ? answer - 1 : answer;
+}
+
+hj_found __wrap_hj_search(const uint32_t *state, size_t words,
+                          uint32_t address)
+{
+    hj_found found = __real_hj_search(state, words, address);
+
+    if (fault() == 17 && hj_is_found(found) && hj_found_ones(found) == 0)
+        return 0; /* the default route taken for none */
+    if (fault() == 18 && hj_is_found(found))
+        ((uint32_t *)state)[425]++;
+    return found;
 }
 
 uint32_t __wrap_hj_set_port(uint32_t *state, size_t words, uint32_t port,

@@ -89,6 +89,7 @@ class Whole(unittest.TestCase):
              "set_router 1 = 0", "set_port 0 0a0a0a02 ffffff00 8191 = 0", "set_route 0 0a040900 ffffff00 0 1 0 = 0",
              "set_group 0 e0000105 1 1 = 0", "set_path 0 0a000007 1 1 = 0",
              "receive 0 7 50 - = 1 0 0 0 -", "take 0 = 18 0 0", "waiting 0 = 0",
+             "search 0a04090e = 0 24 0", "search 0a04080e = -",
              "counters = 1 1 0 0 0 0 0 0 0 0 0 0 0 0 0", "clear_route 0 = 0", "clear_group 0 = 0", "clear_path 0 = 0"]
     COVERAGE = ("build/coverage", "headers=0", "builds=0", "addresses=0", "checksums=0", "histories=0")
 

@@ -21,6 +21,8 @@ FAULTS = [
     "the words of the state",              # 17 counted
     "plain answers otherwise",             # 11 for 12
     "copies dropped, and not|the words of the state|plain answers otherwise",
+    "not what the routes say",             # a search, 0 ones for none
+    "the words of the state",              # a search that writes
 ]
 
 

@@ -1,7 +1,7 @@
 /*
  * relay.c: what was reached of the relay: each number at each call, each reason
- * of the local half, each line of the onward half, each counter's movement. The
- * lists are in relay_lists.h.
+ * of the local half, each line of the onward half, what searches found, each
+ * counter's movement. The lists are in relay_lists.h.
  *
  * Which line of the rules decided is not in the answer. It is told from a view
  * of the relay, kept from the answers (view.h), and is used for nothing but
@@ -61,6 +61,7 @@ static const char *const COPIES_NAMES[] = {COPIES_LIST(NAME)};
 static const char *const PORT_NAMES[] = {PORT_LIST(NAME)};
 static const char *const ROUTE_NAMES[] = {ROUTE_LIST(NAME)};
 static const char *const ENTRY_NAMES[] = {ENTRY_LIST(NAME)};
+static const char *const SEARCH_NAMES[] = {SEARCH_LIST(NAME)};
 
 static struct {
     uint64_t calls;
@@ -76,6 +77,7 @@ static struct {
     uint64_t of_port[LENGTH(PORT_NAMES)];
     uint64_t of_route[LENGTH(ROUTE_NAMES)];
     uint64_t of_entry[LENGTH(ENTRY_NAMES)];
+    uint64_t of_search[LENGTH(SEARCH_NAMES)];
 } tally;
 
 static uint32_t counters[COUNTERS]; /* at the last counters line */
@@ -170,6 +172,48 @@ static bool read_receipt(const struct trace_call *call,
     return r.refusal != 0 || r.arrival < VIEW_PORTS;
 }
 
+/* ---- Searches ------------------------------------------------------------ */
+
+static void look_at_routes(uint32_t address, uint32_t place, struct sought *f)
+{
+    f->route = view.routes[place];
+    for (uint32_t i = 0; i < VIEW_ROUTES; i++) {
+        const struct view_route *route = &view.routes[i];
+
+        if (!route->filled)
+            continue;
+        f->filled++;
+        f->matching += (address & route->mask) == route->prefix;
+        f->as_long += i != place && route->mask == f->route.mask;
+    }
+}
+
+static void count_sought(const struct sought *f)
+{
+    const struct view *v = &view;
+    uint64_t *reached = tally.of_search;
+
+    SEARCH_LIST(COUNT)
+}
+
+/* `-`, or a place, its ones and its port. */
+static bool count_search(const struct trace_call *call,
+                         const struct trace_call *answer)
+{
+    struct sought f = {.found = !trace_is(answer->words[0], "-")};
+    uint32_t place = f.found ? number(answer->words[0]) : 0;
+    uint32_t address;
+
+    if (!trace_address(call->words[1], &address) || place >= VIEW_ROUTES ||
+        answer->count != (f.found ? 3 : 1))
+        return false;
+    if (f.found)
+        f.ones = number(answer->words[1]);
+    look_at_routes(address, place, &f);
+    count_sought(&f);
+    return true;
+}
+
 /* ---- Other calls --------------------------------------------------------- */
 
 static void count_setting(enum call of, const struct asked *s)
@@ -243,6 +287,8 @@ static bool count_call(enum call of, const struct trace_call *call,
         return count_waiting(answer);
     case CALL_COUNTER:
         return count_counters(answer);
+    case CALL_SEARCH:
+        return count_search(call, answer);
     default:
         return count_number(of, call, answer);
     }
@@ -323,6 +369,12 @@ static void say_settings(void)
     say_list(ENTRY_NAMES, tally.of_entry, LENGTH(ENTRY_NAMES));
 }
 
+static void say_searches(void)
+{
+    puts("Searches:");
+    say_list(SEARCH_NAMES, tally.of_search, LENGTH(SEARCH_NAMES));
+}
+
 static void say_queues(void)
 {
     char row[64];
@@ -361,6 +413,7 @@ void say_relay(void)
     say_list(REFUSED_NAMES, tally.of_refused, LENGTH(REFUSED_NAMES));
     say_halves();
     say_settings();
+    say_searches();
     say_queues();
     say_counters();
 }

@@ -1,7 +1,7 @@
 /*
  * relay_lists.h: what coverage counts of the relay's calls. Each row is a name
  * and a condition over one answered line; the line counts for the row where it
- * holds. `r` is a receipt, `s` a setting, `v` the view before it.
+ * holds. `r` is a receipt, `s` a setting, `f` a search, `v` the view before it.
  */
 #ifndef COVERAGE_RELAY_LISTS_H
 #define COVERAGE_RELAY_LISTS_H
@@ -24,6 +24,16 @@ struct receipt {
 struct asked {
     uint32_t number;
     uint32_t n[6];
+};
+
+/* A search: its answer, and what the view has of the routes. */
+struct sought {
+    bool found;
+    uint32_t ones;
+    struct view_route route; /* at the place found */
+    uint32_t matching;       /* places that match the address */
+    uint32_t as_long;        /* other places with as many ones as that */
+    uint32_t filled;         /* places */
 };
 
 /* The route and the group that were found; an empty one where none was, which
@@ -234,6 +244,21 @@ static inline bool set_up_port(const struct view *v, uint32_t port)
     ROW("set_route: 24 before 23",                                            \
         s->number == 24 && same_route(v, s))                                  \
     ROW("set_route: 0, capabilities 4", s->number == 0 && s->n[5] == 4)
+
+#define SEARCH_LIST(ROW)                                                      \
+    ROW("search: found", f->found)                                            \
+    ROW("search: found, on a host", f->found && !v->router)                   \
+    ROW("search: found, of 0 ones", f->found && f->ones == 0)                 \
+    ROW("search: found, of 32 ones", f->found && f->ones == 32)               \
+    ROW("search: found, and a shorter one matches",                           \
+        f->found && f->matching > 1)                                          \
+    ROW("search: found, and another has as many ones",                        \
+        f->found && f->as_long > 0)                                           \
+    ROW("search: found, down", f->found && f->route.availability == 2)        \
+    ROW("search: found, testing", f->found && f->route.availability == 3)     \
+    ROW("search: found, out", f->found && f->route.availability == 4)         \
+    ROW("search: none", !f->found)                                            \
+    ROW("search: none, where there are routes", !f->found && f->filled > 0)
 
 #define ENTRY_LIST(ROW)                                                       \
     ROW("set_group, set_path: 21, place 16",                                  \

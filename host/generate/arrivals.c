@@ -72,17 +72,6 @@ static uint32_t at_group(const struct world *world, struct random *random)
     return group != 0 ? group : world_multicast(world, random);
 }
 
-/* An address under the prefix of a route. */
-static uint32_t at_route(const struct world *world, struct random *random)
-{
-    uint32_t place = random_below(random, WORLD_ROUTES);
-
-    if (!world->routes[place].filled)
-        return world_unicast(world, random);
-    return world->routes[place].prefix |
-           (world_unicast(world, random) & ~world->routes[place].mask);
-}
-
 static uint32_t at_invalid(const struct world *world, struct random *random)
 {
     (void)world;
@@ -99,8 +88,8 @@ static uint32_t choose_destination(const struct world *world,
                                    struct random *random)
 {
     static aim *const AIMS[] = {
-        at_route,         at_route,
-        at_route,         at_route,
+        world_routed,     world_routed,
+        world_routed,     world_routed,
         world_unicast,    world_unicast,
         at_group,         at_group,
         at_group,         at_port,

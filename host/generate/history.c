@@ -1,7 +1,8 @@
 /*
  * history.c: histories of the whole relay. A history is `new`, the settings of
  * a node of some shape, and then datagrams, takes and changes of settings, with
- * the counters and the queues looked at now and then and at its end.
+ * the counters and the queues looked at, and routes searched for, now and then
+ * and at its end.
  *
  * The awkward cases need a history to lean their way for long: a queue is full
  * only where few entries are taken, a port can be written again only where all
@@ -19,6 +20,7 @@
 
 #define QUEUE 32
 #define CALLS 240
+#define SEARCHES 16 /* at the end */
 
 struct shape {
     uint32_t router;
@@ -44,11 +46,38 @@ static const struct shape SHAPES[] = {
     {1, DOMAINS, 2, 6, 6, 6, 1, 1},       /* two ports, hardly emptied */
 };
 
-static void look_at_all(void)
+/* At the prefixes of routes: the first address, the one before it, the last
+ * and the one behind that; or somewhere under one; or anywhere. */
+static uint32_t searched_address(const struct world *world,
+                                 struct random *random)
+{
+    uint32_t place = random_below(random, WORLD_ROUTES);
+    uint32_t first = world->routes[place].prefix;
+    uint32_t last = first | ~world->routes[place].mask;
+
+    if (random_one_in(random, 8))
+        return (uint32_t)random_number(random);
+    if (!world->routes[place].filled || random_one_in(random, 2))
+        return world_routed(world, random);
+    switch (random_below(random, 4)) {
+    case 0:
+        return first;
+    case 1:
+        return first - 1;
+    case 2:
+        return last;
+    default:
+        return last + 1;
+    }
+}
+
+static void look_at_all(const struct world *world, struct random *random)
 {
     line_numbers(CALL_COUNTER, NULL);
     for (uint32_t port = 0; port <= WORLD_PORTS; port++)
         line_number(CALL_WAITING, port);
+    for (uint32_t i = 0; i < SEARCHES; i++)
+        line_number(CALL_SEARCH, searched_address(world, random));
 }
 
 static void set_up(const struct shape *shape, struct world *world,
@@ -88,6 +117,8 @@ static void write_call(const struct shape *shape, struct world *world,
         line_numbers(CALL_COUNTER, NULL);
     else if (random_one_in(random, 40))
         line_number(CALL_WAITING, random_below(random, WORLD_PORTS + 2));
+    else if (random_one_in(random, 20))
+        line_number(CALL_SEARCH, searched_address(world, random));
     else if (draw < shape->takes)
         line_number(CALL_TAKE, random_one_in(random, 16)
                                    ? random_below(random, WORLD_PORTS + 2)
@@ -105,7 +136,7 @@ static void write_history(const struct shape *shape, struct random *random)
     set_up(shape, &world, random);
     for (uint32_t i = 0; i < CALLS; i++)
         write_call(shape, &world, random);
-    look_at_all();
+    look_at_all(&world, random);
 }
 
 void write_histories(uint64_t count, struct random *random)

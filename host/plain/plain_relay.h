@@ -114,6 +114,17 @@ plain_verdict plain_receive(plain_relay *relay, uint32_t arrival,
 plain_refusal plain_take(plain_relay *relay, uint32_t port,
                          plain_entry *entry);
 
+/* The route that an address takes, or none. The default route has 0 ones, so
+ * these say nothing of whether one was found. */
+typedef struct {
+    bool found; /* all else is 0 where it is false */
+    uint32_t place;
+    uint32_t ones; /* of its mask */
+    uint32_t port;
+} plain_found;
+
+plain_found plain_search(const plain_relay *relay, plain_address address);
+
 /* How many entries wait on the port; 21, with nothing written, where there is
  * no port of that number. On a port that is not set up nothing waits. */
 plain_refusal plain_waiting(const plain_relay *relay, uint32_t port,

@@ -7,7 +7,8 @@
  * the longest match is one place.
  *
  * The awkward cases: the default route has mask 0, as an empty place has, so
- * a route is known to be there by its availability; and the broadcast of all
+ * a route is known to be there by its availability, and one that was found
+ * is told by a flag and not by its ones; and the broadcast of all
  * SCPS is the net broadcast of net 10 taken as class A, so the three forms of
  * a broadcast of ours come down to two comparisons.
  */
@@ -27,6 +28,20 @@ const plain_route *plain_search_route(const plain_relay *relay,
             best = route;
     }
     return best;
+}
+
+plain_found plain_search(const plain_relay *relay, plain_address address)
+{
+    const plain_route *route = plain_search_route(relay, address);
+    plain_found found = {false, 0, 0, 0};
+
+    if (route == NULL)
+        return found;
+    found.found = true;
+    found.place = (uint32_t)(route - relay->routes);
+    found.ones = plain_mask_ones(route->mask);
+    found.port = route->port;
+    return found;
 }
 
 const plain_group *plain_search_group(const plain_relay *relay,

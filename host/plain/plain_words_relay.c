@@ -1,6 +1,6 @@
 /*
- * The words of the relay: new, the settings, receive, take, counters and
- * waiting. Numbers are as wide as the library's, so that a place 70 or a
+ * The words of the relay: new, the settings, receive, take, counters, waiting
+ * and search. Numbers are as wide as the library's, so that a place 70 or a
  * port 9 reaches it and gets its refusal; only a slot has 16 bits.
  *
  * The awkward case: new has no answer, and so its line has no " = ".
@@ -200,11 +200,29 @@ static bool answer_waiting(plain_session *session,
     return true;
 }
 
+static bool answer_search(plain_session *session, const plain_word *arguments)
+{
+    plain_address address;
+    plain_found found;
+
+    if (!plain_word_bits(arguments[0], &address.bits))
+        return false;
+    found = plain_search(&session->relay, address);
+    plain_text_string(&session->text, found.found ? " =" : " = -");
+    if (!found.found)
+        return true;
+    put_number(session, found.place);
+    put_number(session, found.ones);
+    put_number(session, found.port);
+    return true;
+}
+
 const plain_meaning plain_relay_words[] = {
     {"receive", 4, answer_receive},
     {"take", 1, answer_take},
     {"counters", 0, answer_counters},
     {"waiting", 1, answer_waiting},
+    {"search", 1, answer_search},
     {"new", 0, answer_new},
     {"set_router", 1, answer_set_router},
     {"set_port", 4, answer_set_port},

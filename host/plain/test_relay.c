@@ -603,6 +603,63 @@ static void test_routes(void)
     CHECK_VERDICT(send(0, to(0xc0000301)), 0, 0, 1, 1); /* the arrival port */
 }
 
+static void check_found(uint32_t address, uint32_t place, uint32_t ones,
+                        uint32_t port)
+{
+    plain_address asked = {address};
+    plain_found found = plain_search(&relay, asked);
+
+    CHECK_EQUAL(found.found, true);
+    CHECK_EQUAL(found.place, place);
+    CHECK_EQUAL(found.ones, ones);
+    CHECK_EQUAL(found.port, port);
+}
+
+static void check_none(uint32_t address)
+{
+    plain_address asked = {address};
+    plain_found found = plain_search(&relay, asked);
+
+    CHECK_EQUAL(found.found, false);
+    CHECK_EQUAL(found.place | found.ones | found.port, 0);
+}
+
+/* The marked cases a to e, by the place that serves each. */
+static void test_search(void)
+{
+    static plain_relay before;
+
+    fresh_router(4);
+    check_none(0x0a04090e);
+    CHECK_EQUAL(set_route(0, 0x00000000, 0x00000000, 0, PLAIN_UP), 0);
+    check_found(0x0a04090e, 0, 0, 0); /* 0 ones is not "no" */
+    CHECK_EQUAL(set_route(63, 0x0a000000, 0xff000000, 1, PLAIN_UP), 0);
+    CHECK_EQUAL(set_route(7, 0x0a040900, 0xffffff00, 2, PLAIN_UP), 0);
+    CHECK_EQUAL(set_route(9, 0x0a04090e, 0xffffffff, 3, PLAIN_UP), 0);
+    CHECK_EQUAL(set_route(2, 0x80000000, 0x80000000, 2, PLAIN_UP), 0);
+    before = relay;
+    check_found(0x0a04090e, 9, 32, 3);
+    check_found(0x0a040910, 7, 24, 2);
+    check_found(0x0a04080e, 63, 8, 1);
+    check_found(0xc0000201, 2, 1, 2);
+    check_found(0x7fffffff, 0, 0, 0); /* no class, and an answer */
+    CHECK_EQUAL(memcmp(&before, &relay, sizeof relay), 0);
+    CHECK_EQUAL(plain_clear_route(&relay, 0), 0);
+    check_none(0x7fffffff);
+    check_none(0);
+}
+
+/* A route that is not up is found too. */
+static void test_search_of_routes_not_up(void)
+{
+    fresh_router(2);
+    CHECK_EQUAL(set_route(0, 0, 0, 1, PLAIN_UP), 0);
+    for (uint32_t code = PLAIN_DOWN; code <= PLAIN_OUT; code++) {
+        CHECK_EQUAL(set_route(1, 0xc0000300, net24, 0, code), 0);
+        check_found(0xc0000301, 1, 24, 0);
+    }
+}
+
 static void test_leaving_the_domain(void)
 {
     plain_fields path = {.tp_id = 6, .destination = {0, 0x06}};
@@ -809,6 +866,8 @@ int main(void)
     test_paths();
     test_path_is_no_address();
     test_routes();
+    test_search();
+    test_search_of_routes_not_up();
     test_leaving_the_domain();
     test_order_of_striking_out();
     test_struck_out_counts_nothing();

@@ -31,6 +31,7 @@ answer_word answer_receive;
 answer_word answer_take;
 answer_word answer_counters;
 answer_word answer_waiting;
+answer_word answer_search;
 bool answer_setting(enum call call, const struct trace_word *arguments,
                     struct text *answer);
 

@@ -1,6 +1,6 @@
 /*
- * words_relay.c: the words new, receive, take, counters and waiting, and those
- * that set, each the library's call of that name on one state.
+ * words_relay.c: the words new, receive, take, counters, waiting and search,
+ * and those that set, each the library's call of that name on one state.
  *
  * The library decides, never this file: a place 70 or a port 9 is handed over
  * as it stands, and only what the library's types cannot hold makes a line that
@@ -9,8 +9,9 @@
  * ` !` stands at the end of an answer where the call changed what it should
  * not: a word around the state; a word of the state, where the call refused or
  * only reads; an octet of the output beyond the header sent on, or any octet
- * that was lent to be read. So it does where the parts of a verdict do not go
- * together. The answer of `new` is nothing, so its line has no ` = `.
+ * that was lent to be read. So it does where the parts of a verdict, or of what
+ * a search found, do not go together. The answer of `new` is nothing, so its
+ * line has no ` = `.
  */
 #include "words.h"
 
@@ -170,6 +171,36 @@ bool answer_waiting(const struct trace_word *arguments, struct text *answer)
         text_string(answer, "!");
     text_number(answer, hj_refusal(waiting) != HJ_DONE ? hj_refusal(waiting)
                                                        : hj_value(waiting));
+    lent_state_answer(answer, false);
+    return true;
+}
+
+/* Without a route every part is 0; with one, what no part has is. */
+static bool found_agrees(hj_found found)
+{
+    if (hj_is_found(found) == 0)
+        return found == 0;
+    return hj_is_found(found) == 1 && hj_found_refusal(found) == HJ_DONE &&
+           found >> 48 == 0;
+}
+
+bool answer_search(const struct trace_word *arguments, struct text *answer)
+{
+    uint32_t address;
+    hj_found found;
+
+    if (!trace_address(arguments[0], &address))
+        return false;
+    found = hj_search(lent_state(), HJ_STATE_WORDS, address);
+    if (hj_is_found(found)) {
+        text_number(answer, hj_found_place(found));
+        add_number(answer, hj_found_ones(found));
+        add_number(answer, hj_found_port(found));
+    } else {
+        text_string(answer, "-");
+    }
+    if (!found_agrees(found))
+        text_string(answer, " !");
     lent_state_answer(answer, false);
     return true;
 }

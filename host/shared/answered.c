@@ -14,21 +14,28 @@
 
 /* A good header is told with its length, its own length and its fields. */
 #define READ_ANSWERS 17
+/* A route that was found is told by its place, ones and port. */
+#define SEARCH_ANSWERS 3
+
+/* The words that this answer of the call has at least. */
+static size_t answers_of(enum call of, const struct trace_call *answer)
+{
+    bool begun = answer->count > 0;
+
+    if (of == CALL_READ && begun && trace_is(answer->words[0], "0"))
+        return READ_ANSWERS;
+    if (of == CALL_SEARCH && begun && !trace_is(answer->words[0], "-"))
+        return SEARCH_ANSWERS;
+    return call_facts[of].answers;
+}
 
 static bool is_whole(enum call of, const struct trace_call *call,
                      const struct trace_call *answer)
 {
-    size_t answers;
-
     if (of == CALLS)
         return true;
-    if (call->count != 1 + strlen(call_facts[of].arguments))
-        return false;
-    answers = call_facts[of].answers;
-    if (of == CALL_READ && answer->count > 0 &&
-        trace_is(answer->words[0], "0"))
-        answers = READ_ANSWERS;
-    return answer->count >= answers;
+    return call->count == 1 + strlen(call_facts[of].arguments) &&
+           answer->count >= answers_of(of, answer);
 }
 
 static bool cut(const char *line, size_t length, struct trace_call *call,

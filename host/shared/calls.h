@@ -33,6 +33,7 @@ enum call_object {
     ON_PATH,
     ON_COUNTER,
     ON_QUEUE,
+    ON_ADDRESS,
     CALL_OBJECTS
 };
 

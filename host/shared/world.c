@@ -63,6 +63,16 @@ uint32_t world_invalid(struct random *random)
     return PICK(INVALID);
 }
 
+uint32_t world_routed(const struct world *world, struct random *random)
+{
+    uint32_t place = random_below(random, WORLD_ROUTES);
+
+    if (!world->routes[place].filled)
+        return world_unicast(world, random);
+    return world->routes[place].prefix |
+           (world_unicast(world, random) & ~world->routes[place].mask);
+}
+
 uint32_t world_port(const struct world *world, struct random *random)
 {
     uint32_t port = random_below(random, WORLD_PORTS);

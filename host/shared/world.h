@@ -48,6 +48,9 @@ uint32_t world_unicast(const struct world *world, struct random *random);
 uint32_t world_multicast(const struct world *world, struct random *random);
 uint32_t world_path(struct random *random);
 uint32_t world_invalid(struct random *random);
+/* An address under the prefix of a route; any unicast one where the place
+ * drawn is empty. */
+uint32_t world_routed(const struct world *world, struct random *random);
 /* A port that is set up; 0 where none is. */
 uint32_t world_port(const struct world *world, struct random *random);
 

@@ -49,7 +49,8 @@ uint32_t soak_places(enum call which)
         [ON_RELAY] = HJ_GROUPS, /* any: the number is not looked at */
         [ON_PORT] = HJ_PORTS,       [ON_ROUTE] = HJ_ROUTES,
         [ON_GROUP] = HJ_GROUPS,     [ON_PATH] = HJ_PATHS,
-        [ON_COUNTER] = HJ_COUNTERS, [ON_QUEUE] = HJ_PORTS};
+        [ON_COUNTER] = HJ_COUNTERS, [ON_QUEUE] = HJ_PORTS,
+        [ON_ADDRESS] = HJ_ROUTES /* the prefix of each */};
 
     return PLACES[call_facts[which].object];
 }
@@ -104,13 +105,16 @@ static void draw_receive(struct soak_call *call, const struct world *world,
     soak_draw_octets(call, world, random);
 }
 
-/* A port, a place or a counter; some are beyond the last. */
+/* A port, a place or a counter, of which some are beyond the last; or an
+ * address, mostly one that a route is for. */
 static void draw_look(struct soak_call *call, const struct world *world,
                       struct random *random)
 {
     call->numbers[0] = random_below(random, soak_places(call->which) + 1);
     if (call->which == CALL_TAKE && !random_one_in(random, 12))
         call->numbers[0] = world_port(world, random);
+    if (call->which == CALL_SEARCH)
+        call->numbers[0] = world_routed(world, random);
     if (random_one_in(random, 24))
         call->numbers[0] = soak_odd_number(world, random);
 }

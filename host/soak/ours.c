@@ -124,6 +124,19 @@ static void get_record(const struct soak_call *call, const uint32_t *state,
     }
 }
 
+static void search(const struct soak_call *call, const uint32_t *state,
+                   uint64_t *parts)
+{
+    hj_found found = hj_search(state, call->words, call->numbers[0]);
+
+    parts[0] = hj_found_refusal(found);
+    parts[1] = hj_is_found(found);
+    parts[2] = hj_found_place(found);
+    parts[3] = hj_found_ones(found);
+    parts[4] = hj_found_port(found);
+    parts[5] = found >> 48;
+}
+
 static void look(const struct soak_call *call, const uint32_t *state,
                  uint64_t *parts)
 {
@@ -135,6 +148,8 @@ static void look(const struct soak_call *call, const uint32_t *state,
         put_answer(parts, hj_waiting(state, call->words, number));
     else if (call->which == CALL_GET_ROUTER)
         put_answer(parts, hj_get_router(state, call->words));
+    else if (call->which == CALL_SEARCH)
+        search(call, state, parts);
     else
         get_record(call, state, parts);
 }

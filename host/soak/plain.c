@@ -143,6 +143,17 @@ static void look(const struct soak_call *call, uint64_t *parts)
     }
 }
 
+static void search(const struct soak_call *call, uint64_t *parts)
+{
+    plain_address address = {call->numbers[0]};
+    plain_found found = plain_search(&relay, address);
+
+    parts[1] = found.found;
+    parts[2] = found.place;
+    parts[3] = found.ones;
+    parts[4] = found.port;
+}
+
 static void put_four(uint64_t *parts, uint32_t filled, uint32_t first,
                      uint32_t second, uint32_t third)
 {
@@ -198,6 +209,8 @@ void soak_plain(const struct soak_call *call, uint8_t *output,
     else if (call->which == CALL_COUNTER || call->which == CALL_WAITING ||
              call->which == CALL_GET_ROUTER)
         look(call, answer->parts);
+    else if (call->which == CALL_SEARCH)
+        search(call, answer->parts);
     else
         get_setting(call, answer->parts);
 }

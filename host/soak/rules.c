@@ -8,6 +8,11 @@
  * The reader's part comes from host/plain: a header that is refused there is
  * refused here by the same number, and the header sent on is plain's.
  *
+ * What a search finds is read off the words of the routes, as docs/STATES.md
+ * has it for any words: of the filled ones that match, the first of the
+ * greatest mask. Two parts of it are not judged: the ones of a mask that is
+ * mixed, and a port that its eight bits do not hold. No history leaves either.
+ *
  * The awkward case is a queue in a state that no history leaves. Entries behind
  * those that wait, and counts over 32, are words like any other: a newcomer
  * moves only those that wait, and a count over 32 is full and hands nothing
@@ -135,6 +140,52 @@ static const char *looked(const struct soak_call *call,
     }
     return memcmp(&due, answer, sizeof due) == 0 ? NULL
                                                  : "not what the words say";
+}
+
+/* ---- Searches ------------------------------------------------------------ */
+
+/* A route's words. */
+enum { FILLED, PREFIX, MASK, PORT };
+
+static bool is_candidate(const uint32_t *route, uint32_t address)
+{
+    return route[FILLED] != 0 && (address & route[MASK]) == route[PREFIX];
+}
+
+/* The route that the search is to find, or NULL. */
+static const uint32_t *longest(uint32_t *words, uint32_t address)
+{
+    const uint32_t *best = NULL;
+
+    for (uint32_t place = 0; place < HJ_ROUTES; place++) {
+        const uint32_t *route = record(words, ON_ROUTE, place);
+
+        if (is_candidate(route, address) &&
+            (best == NULL || route[MASK] > best[MASK]))
+            best = route;
+    }
+    return best;
+}
+
+static const char *searched(const struct soak_call *call,
+                            const struct soak_answer *answer, uint32_t *words)
+{
+    const uint32_t *route = longest(words, call->numbers[0]);
+    struct soak_answer due = {{0}, 0};
+    uint32_t zeros;
+
+    if (route != NULL) {
+        zeros = ~route[MASK];
+        due.parts[1] = 1;
+        due.parts[2] = (uint64_t)(route - record(words, ON_ROUTE, 0)) /
+                       RECORDS[ON_ROUTE].words;
+        due.parts[3] = (zeros & (zeros + 1)) == 0
+                           ? (uint64_t)__builtin_popcount(route[MASK])
+                           : answer->parts[3];
+        due.parts[4] = route[PORT] < 256 ? route[PORT] : answer->parts[4];
+    }
+    return memcmp(&due, answer, sizeof due) == 0 ? NULL
+                                                 : "not what the routes say";
 }
 
 /* ---- Queues -------------------------------------------------------------- */
@@ -310,5 +361,7 @@ const char *soak_rules(const struct soak_call *call,
         return received(call, answer, words, output);
     if (call->which == CALL_TAKE)
         return taken(call, answer, words);
+    if (call->which == CALL_SEARCH)
+        return searched(call, answer, words);
     return looked(call, answer, words);
 }

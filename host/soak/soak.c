@@ -191,6 +191,8 @@ static bool make(enum soak_state sort)
     if (!make_on(&state, sort == SOAK_HISTORY))
         return false;
     tally.calls_on[sort] += call_has_state(call.which);
+    if (call.which == CALL_SEARCH && sort == SOAK_HISTORY)
+        tally.found[answer.parts[1] != 0]++;
     if (answer.parts[0] == HJ_DONE)
         soak_note(&call, &world);
     note_in_books();
@@ -244,6 +246,14 @@ static bool make_look(enum call which, uint32_t number)
     return make(SOAK_HISTORY);
 }
 
+/* What a reading call is asked for: the prefix of a route, or the number. */
+static uint32_t looked_for(enum call which, uint32_t n)
+{
+    if (call_facts[which].object != ON_ADDRESS)
+        return n;
+    return n < WORLD_ROUTES ? world.routes[n].prefix : 0xffffffff;
+}
+
 /* Every number of every call that only reads, and one beyond the last. */
 static bool compare_all(void)
 {
@@ -257,7 +267,8 @@ static bool compare_all(void)
         if (call_facts[which].kind != KIND_LOOK)
             continue;
         for (uint32_t n = 0; good && n <= most; n++)
-            good = make_look((enum call)which, n);
+            good = make_look((enum call)which,
+                             looked_for((enum call)which, n));
     }
     return good;
 }

@@ -169,6 +169,8 @@ void soak_say_tally(const struct soak_tally *tally)
     say("  calls on them, plain's answers the same",
         tally->calls_on[SOAK_HISTORY]);
     say("  ledgers of a port found closed", tally->ledgers);
+    say("  searches that found a route", tally->found[1]);
+    say("  searches that found none", tally->found[0]);
     say("states with a few words changed", tally->states[SOAK_CHANGED]);
     say("  calls on them", tally->calls_on[SOAK_CHANGED]);
     say("garbage states", tally->states[SOAK_GARBAGE]);
@@ -181,6 +183,7 @@ void soak_say_tally(const struct soak_tally *tally)
 bool soak_is_whole(const struct soak_tally *tally)
 {
     bool whole = lengths_met(tally) == 830 && tally->ledgers > 0 &&
+                 tally->found[0] > 0 && tally->found[1] > 0 &&
                  all_ends(tally, false);
 
     for (int sort = 0; sort < SOAK_STATES; sort++)

@@ -23,6 +23,7 @@ struct soak_tally {
      * halves of the verdicts beside them. */
     uint64_t ends[CALLS][CALL_NUMBERS];
     uint64_t onward[CALL_NUMBERS];
+    uint64_t found[2]; /* searches in histories, without a route and with one */
 };
 
 /* The call in a line. */

@@ -8,7 +8,7 @@ use lib.Arith.{digits-div, digits-mod}
 use Rattle.checks.specs.Answer.{refusalNumber}
 use Rattle.answers.specs.Answers.{partsOf}
 
-digit : (n q x r : ℕ) {m k : ℕ} → n ≡ (q * k + x) * m + r → r < m → x < k → n / m % k ≡ x
+pub digit : (n q x r : ℕ) {m k : ℕ} → n ≡ (q * k + x) * m + r → r < m → x < k → n / m % k ≡ x
 digit n q x r {m} {k} e h l = ap (λ y. y / m % k) e ∙ ap (λ y. y % k) (digits-div (q * k + x) h) ∙ digits-mod q l
 
 -- ---- receiving

@@ -1,2 +1,3 @@
--- What the contracts of reading back cite.
+-- What the contracts of reading back and of the search cite.
 pub mod Back
+pub mod Search

@@ -3,6 +3,8 @@
 // Each answer has the refusal first, 0 or 21, and then the record as it stands in the state; with a refusal the record is that of an empty
 // place. So what `hj_set_port` took is what `hj_get_port` gives, word for word. The awkward case is a place that is empty or a port that
 // is not set up: it is read like any other, and its first field says so.
+pub mod search;
+
 ghost use mathlib.Core.Path.{_≡_};
 ghost use Rattle.checks.specs.Answer.{refusalNumber};
 ghost use Rattle.state.specs.Relay.{Relay};

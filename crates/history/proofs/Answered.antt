@@ -1,5 +1,6 @@
 -- Demand 1, all calls under one statement: whatever is asked, the answer stands in the table (specs/Answers.antt and specs/Looks.antt). Assumes nothing.
-use Prim.Native.Nat.{ℕ}
+use native.Mathlib.Omega.{arith}
+use Prim.Native.Nat.{ℕ, _%_, _^_}
 use mathlib.Core.Path.{_≡_, refl}
 use mathlib.Core.Bool.{Bool, true, false}
 use mathlib.Core.List.{[], _∷_}
@@ -16,11 +17,15 @@ use Rattle.address.specs.Path as pathed
 use Rattle.header.specs.Read.{readChecks, headerOf, readOf}
 use Rattle.header.specs.declared.Header.{Header}
 use Rattle.header.specs.declared.Read.the-variants as read
+use Rattle.routes.specs.Search.{searchOf}
+use Rattle.routes.specs.declared.Found.{Found}
+use Rattle.routes.specs.declared.Found.the-variants as found
 use Rattle.state.specs.Relay.{Relay, portIn, routeIn, groupIn, pathIn}
 use Rattle.harpjuniper.specs.Face.{readingOf, numbersChecks}
 use Rattle.harpjuniper_reads.specs.Back.{portRead, routeRead, groupRead, pathRead, noPortBack, noRouteBack, noGroupBack, noPathBack, portBack, routeBack, groupBack, pathBack}
+use Rattle.harpjuniper_reads.specs.Search.{searchParts, foundNumber, searchAnswer}
 use Rattle.history.specs.Answers.{number, numbers, stands}
-use Rattle.history.specs.Looks.{Look, reads, builds, classes, forms, counts, waits, backPort, backRoute, backGroup, backPath, lookOf, looksOf, Asked, calls, looks, toldBy, tableOf}
+use Rattle.history.specs.Looks.{Look, reads, builds, classes, forms, counts, waits, backPort, backRoute, backGroup, backPath, searches, lookOf, looksOf, Asked, calls, looks, toldBy, tableOf}
 use Rattle.history.proofs.Listed.{number-row, call-listed}
 
 -- what stands at a place, or 21 where there is no such place
@@ -48,8 +53,13 @@ form-row : (f : PathForm) → stands (numbers (0 ∷ 1 ∷ []) ∷ []) (number (
 form-row form.Invalid = refl
 form-row form.Valid = refl
 
+search-row : (f : Found) → stands (numbers (0 ∷ 256 ∷ []) ∷ []) (number (foundNumber f % 2 ^ 16)) ≡ true
+unfolding searchParts
+search-row (found.At place ones r) = let e : searchParts 1 place ones (r .port) % 2 ^ 16 ≡ 256 = omega arith in rw e refl
+search-row found.No = refl
+
 look-listed : (r : Relay) (l : Look) → stands (looksOf l) (lookOf r l) ≡ true
-unfolding readOf readChecks numbersChecks portBack routeBack groupBack pathBack
+unfolding readOf readChecks numbersChecks portBack routeBack groupBack pathBack searchAnswer
 look-listed r (reads octets) =
     let n = firstOf (readChecks octets) in
     read-row (eqb n 0) n (headerOf octets) (number-row (0 ∷ 1 ∷ 2 ∷ 4 ∷ 3 ∷ 5 ∷ []) (readChecks octets) refl refl)
@@ -62,6 +72,7 @@ look-listed r (backPort p) = place-row (λ x. x .refusal) (ltb p 8) (portRead 0 
 look-listed r (backRoute i) = place-row (λ x. x .refusal) (ltb i 64) (routeRead 0 (routeIn r i)) noRouteBack refl refl
 look-listed r (backGroup i) = place-row (λ x. x .refusal) (ltb i 16) (groupRead 0 (groupIn r i)) noGroupBack refl refl
 look-listed r (backPath i) = place-row (λ x. x .refusal) (ltb i 16) (pathRead 0 (pathIn r i)) noPathBack refl refl
+look-listed r (searches a) = search-row (searchOf a (r .routes))
 
 -- Whatever is asked, and of whatever relay, the answer stands in the table's rows for that call.
 pub every-answer-is-listed : (r : Relay) (asked : Asked) → stands (tableOf asked) (toldBy r asked) ≡ true

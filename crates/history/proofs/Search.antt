@@ -11,12 +11,12 @@ use mathlib.Core.List.{List, [], _∷_}
 use lib.Dec.{eqb}
 use lib.ListN.{length, getD}
 use borrow.Author.Tests.{eqb-true, eqb-false}
+use Rattle.checks.specs.Order.{noneHolds}
 use Rattle.checks.proofs.Bools.{true-false, and-true}
 use Rattle.checks.proofs.Laws.{zero-none}
 use Rattle.address.specs.Mask.{onesOf}
 use Rattle.address.specs.declared.Address.{Address}
 use Rattle.routes.specs.Routes.{emptyRoute, routeAt, isFilled, candidate, sameEntry}
-use Rattle.routes.specs.Refusals.{prefixRefused}
 use Rattle.routes.specs.Search.{searchOf}
 use Rattle.routes.specs.declared.Route.{Route}
 use Rattle.routes.specs.declared.Found.{Found}
@@ -42,22 +42,22 @@ module _ (cs : List Call) where
   beyond : (q : ℕ) → 64 ≤ q → routeAt (relayAfter cs .routes) q ≡ emptyRoute
   beyond q h = past-end (relayAfter cs .routes) q emptyRoute (rw (kept-after cs .routes) h)
 
-  good-prefix : (q : ℕ) → isFilled (routeAt (relayAfter cs .routes) q) ≡ true
-      → prefixRefused (routeAt (relayAfter cs .routes) q .prefix) (routeAt (relayAfter cs .routes) q .mask) ≡ false
-  good-prefix =
+  -- what stands in a filled place, no test of a record refuses
+  pub good-record : (q : ℕ) → isFilled (routeAt (relayAfter cs .routes) q) ≡ true
+      → noneHolds (recordChecks (readySet (relayAfter cs)) (routeAt (relayAfter cs .routes) q))
+  good-record =
       within
       (λ q.
       isFilled (routeAt (relayAfter cs .routes) q) ≡ true
-      → prefixRefused (routeAt (relayAfter cs .routes) q .prefix) (routeAt (relayAfter cs .routes) q .mask) ≡ false)
+      → noneHolds (recordChecks (readySet (relayAfter cs)) (routeAt (relayAfter cs .routes) q)))
       64
       (λ q l h.
       zero-none (recordChecks (readySet (relayAfter cs)) (routeAt (relayAfter cs .routes) q)) ((λ z. omega arith), ((λ z. omega arith), ((λ z. omega arith), tt)))
-      (kept-after cs .good .routes q l h)
-      .1 .0)
+      (kept-after cs .good .routes q l h))
       (λ q g h. true-false (sym h ∙ ap isFilled (beyond q g)))
 
   pub masks-contiguous : Contiguous (relayAfter cs .routes)
-  masks-contiguous = taken-contiguous (relayAfter cs .routes) good-prefix
+  masks-contiguous = taken-contiguous (relayAfter cs .routes) (λ q h. good-record q h .1 .0)
 
   -- two places that hold the same entry are filled, and so within the list
   filled-both : (x y : Route) → sameEntry x y ≡ true → (isFilled x ≡ true) × (isFilled y ≡ true)

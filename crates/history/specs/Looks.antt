@@ -1,16 +1,18 @@
--- The calls that only look, what refuses each, and the table of all calls together: page 01, "Refusal numbers" and "Classes of a four-octet address".
+-- The calls that only look, what refuses each, and the table of all calls together: page 01, "Refusal numbers" and "Classes of a four-octet address"; page 02, W-202.
 -- What such a call answers beside its number is fixed by its promise. Assumes nothing.
-use Prim.Native.Nat.{ℕ}
+use Prim.Native.Nat.{ℕ, _%_, _^_}
 use mathlib.Core.List.{List, [], _∷_}
 use lib.Dec.{ltb}
 use Rattle.checks.specs.Order.{pick, firstOf}
 use Rattle.address.specs.Class.{classOf, classNumber}
 use Rattle.address.specs.Path.{pathForm, pathNumber}
+use Rattle.address.specs.declared.Address.{Address}
 use Rattle.header.specs.Read.{readOf}
 use Rattle.numbers.specs.declared.Numbers.{Numbers}
 use Rattle.state.specs.Relay.{Relay}
 use Rattle.harpjuniper.specs.Face.{readingOf, numbersChecks}
 use Rattle.harpjuniper_reads.specs.Back.{portBack, routeBack, groupBack, pathBack}
+use Rattle.harpjuniper_reads.specs.Search.{searchAnswer}
 use Rattle.history.specs.Calls.{Call}
 use Rattle.history.specs.Answers.{Answer, number, answerOf, Row, numbers, answersOf}
 
@@ -29,8 +31,11 @@ pub data Look : Type 0 where
   backRoute : ℕ → Look
   backGroup : ℕ → Look
   backPath : ℕ → Look
+  -- the route that an address takes
+  searches : Address → Look
 
--- the number that a look answers: its refusal, 0 where there is none; or the number of a class or a form
+-- the number that a look answers: its refusal, 0 where there is none; or the number of a class or a form; of a search the sixteen lowest bits, which are the
+-- refusal and, above it, whether a route was found
 abbrev pub lookOf : Relay → Look → Answer
 lookOf r (reads octets) = number (readingOf (readOf octets) .refusal)
 lookOf r (builds fields size room) = number (firstOf (numbersChecks fields size room))
@@ -42,6 +47,7 @@ lookOf r (backPort p) = number (portBack r p .refusal)
 lookOf r (backRoute i) = number (routeBack r i .refusal)
 lookOf r (backGroup i) = number (groupBack r i .refusal)
 lookOf r (backPath i) = number (pathBack r i .refusal)
+lookOf r (searches a) = number (searchAnswer r a % 2 ^ 16)
 
 abbrev pub looksOf : Look → List Row
 looksOf (reads octets) = numbers (0 ∷ 1 ∷ 2 ∷ 4 ∷ 3 ∷ 5 ∷ []) ∷ []
@@ -54,6 +60,7 @@ looksOf (backPort p) = numbers (0 ∷ 21 ∷ []) ∷ []
 looksOf (backRoute i) = numbers (0 ∷ 21 ∷ []) ∷ []
 looksOf (backGroup i) = numbers (0 ∷ 21 ∷ []) ∷ []
 looksOf (backPath i) = numbers (0 ∷ 21 ∷ []) ∷ []
+looksOf (searches a) = numbers (0 ∷ 256 ∷ []) ∷ []
 
 -- ---- any call: one that can change the relay, or one that only looks
 pub data Asked : Type 0 where

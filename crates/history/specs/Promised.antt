@@ -21,6 +21,7 @@ use Rattle.lent_state.specs.View.{Lent, lent, told, changed}
 use Rattle.harpjuniper.specs.Face.{readingOf, buildAnswer, buildOutput}
 use Rattle.harpjuniper.specs.declared.Reading.{Reading}
 use Rattle.harpjuniper_reads.specs.Back.{portBack, routeBack, groupBack, pathBack, noPortBack, noRouteBack, noGroupBack, noPathBack}
+use Rattle.harpjuniper_reads.specs.Search.{searchAnswer}
 use Rattle.harpjuniper_reads.specs.declared.PortBack.{PortBack}
 use Rattle.harpjuniper_reads.specs.declared.RouteBack.{RouteBack}
 use Rattle.harpjuniper_reads.specs.declared.GroupBack.{GroupBack}
@@ -73,6 +74,7 @@ pub data Exported : Type 0 where
   hj-get-route : List ℕ → ℕ → Exported
   hj-get-group : List ℕ → ℕ → Exported
   hj-get-path : List ℕ → ℕ → Exported
+  hj-search : List ℕ → ℕ → Exported
   hj-receive : List ℕ → ℕ → ℕ → List ℕ → List ℕ → Exported
   hj-take : List ℕ → ℕ → Exported
   hj-counter : List ℕ → ℕ → Exported
@@ -121,6 +123,7 @@ promised (hj-get-port w p) = looking w (port (told (λ (x : Relay). portBack x p
 promised (hj-get-route w i) = looking w (route (told (λ (x : Relay). routeBack x i) noRouteBack w))
 promised (hj-get-group w i) = looking w (group (told (λ (x : Relay). groupBack x i) noGroupBack w))
 promised (hj-get-path w i) = looking w (path (told (λ (x : Relay). pathBack x i) noPathBack w))
+promised (hj-search w a) = looking w (number (told (λ (x : Relay). searchAnswer x (record { 0 = a })) 21 w))
 promised (hj-receive w p slot octets o) =
     record {
       answer = number (told (λ (x : Relay). receiveAnswer x p octets (length o)) 16 w);
