@@ -1,5 +1,5 @@
--- Demand 2, the route taken, in every state that a history reaches: it matches, no matching entry has more mask ones, none other has as many, and "no
--- route" is said exactly where none matches. Assumes nothing.
+-- Demand 2, the route taken, in every state that a history reaches: it matches and is up, no matching entry that is up has more mask ones, none other
+-- has as many, and "no route", 11, is said exactly where no entry that is up matches (page 02, W-204). Assumes nothing.
 use native.Mathlib.Omega.{arith}
 use native.Mathlib.Nat.{lt-of-not-le}
 use Prim.Native.Nat.{ℕ, zero, suc, _≤_, _<_}
@@ -21,7 +21,11 @@ use Rattle.routes.specs.Search.{searchOf}
 use Rattle.routes.specs.declared.Route.{Route}
 use Rattle.routes.specs.declared.Found.{Found}
 use Rattle.routes.specs.declared.Found.the-variants.{At, No}
-use Rattle.routes.proofs.Longest.{Contiguous, Distinct, maskAt, CandidateAt, taken-contiguous, search-most-ones, search-only}
+use Rattle.routes.proofs.Longest.{Contiguous, Distinct, maskAt, CandidateAt, taken-contiguous, search-no, search-most-ones, search-only}
+use Rattle.verdict.specs.Rule.{routeLine}
+use Rattle.verdict.specs.declared.Obstacle.the-variants.{NoRoute}
+use Rattle.verdict.specs.declared.Wish.the-variants.{Refused}
+use Rattle.lookup.specs.ForTarget.{wayOf}
 use Rattle.state.specs.Relay.{Relay}
 use Rattle.refusals.specs.Ready.{readySet}
 use Rattle.refusals.specs.Record.{recordChecks}
@@ -37,6 +41,18 @@ past-end (x ∷ xs) (suc q) d h = past-end xs q d (omega arith)
 
 within : (P : ℕ → Type 0) (n : ℕ) → ((q : ℕ) → q < n → P q) → ((q : ℕ) → n ≤ q → P q) → (q : ℕ) → P q
 within P n below over q = by-cases (decLe n q) (λ h. over q h) (λ h. below q (lt-of-not-le h))
+
+-- the route line refuses only where nothing was found
+lost : (f : Found) → routeLine (wayOf f) ≡ Refused NoRoute → f ≡ No
+unfolding routeLine
+lost (At place ones r) h = true-false cc
+lost No h = refl
+
+-- The route line says 11 exactly where no entry that is up matches.
+pub no-route-said : (a : Address) (rs : List Route)
+    → (routeLine (wayOf (searchOf a rs)) ≡ Refused NoRoute) ↔ ((q : ℕ) → candidate (routeAt rs q) a ≡ false)
+unfolding routeLine
+no-route-said a rs = (λ h. search-no a rs .0 (lost (searchOf a rs) h), λ none. rw (search-no a rs .1 none))
 
 module _ (cs : List Call) where
   beyond : (q : ℕ) → 64 ≤ q → routeAt (relayAfter cs .routes) q ≡ emptyRoute
@@ -79,7 +95,7 @@ module _ (cs : List Call) where
   pub routes-distinct : Distinct (relayAfter cs .routes)
   routes-distinct p q h = same-place p q h (eqb p q) refl
 
-  -- No entry that matches has more mask ones than the route taken.
+  -- No matching entry that is up has more mask ones than the route taken.
   pub taken-has-most-ones : (a : Address) {p n : ℕ} {r : Route} → searchOf a (relayAfter cs .routes) ≡ At p n r
       → (q : ℕ) → CandidateAt a (relayAfter cs .routes) q → onesOf (maskAt (relayAfter cs .routes) q) ≤ n
   taken-has-most-ones a e = search-most-ones a (relayAfter cs .routes) masks-contiguous e
