@@ -1,4 +1,4 @@
--- The laws of the address crate. To be read: Row, ClassTable, Marked, Paths, Masks and MaskTable; the others serve these and the code's proofs.
+-- The laws of the address crate. To be read: Row, ClassTable, Marked, Paths and Masks; the others serve these and the code's proofs.
 pub mod Clash
 pub mod Families
 pub mod Row
@@ -9,4 +9,4 @@ pub mod Marked
 pub mod Paths
 pub mod Ones
 pub mod Masks
-pub mod MaskTable
+pub mod Leading

@@ -18,7 +18,7 @@ use Rattle.address.proofs.Clash.{clash}
 use Rattle.address.proofs.Ones.{ones-counted, ones-at-most}
 
 -- the bits above and below the mask's end make thirty-two
-whole : (n : ℕ) → n ≤ 32 → n + (32 - n) ≡ 32
+pub whole : (n : ℕ) → n ≤ 32 → n + (32 - n) ≡ 32
 whole n h = omega arith
 
 pub mask-fits : (n : ℕ) → maskOf n < 2 ^ 32

@@ -159,53 +159,16 @@ pub enum MaskForm {
     Mixed,
 }
 
-// The mask of n ones stands at n.
-const MASKS: [u32; 33] = [
-    0x0000_0000,
-    0x8000_0000,
-    0xC000_0000,
-    0xE000_0000,
-    0xF000_0000,
-    0xF800_0000,
-    0xFC00_0000,
-    0xFE00_0000,
-    0xFF00_0000,
-    0xFF80_0000,
-    0xFFC0_0000,
-    0xFFE0_0000,
-    0xFFF0_0000,
-    0xFFF8_0000,
-    0xFFFC_0000,
-    0xFFFE_0000,
-    0xFFFF_0000,
-    0xFFFF_8000,
-    0xFFFF_C000,
-    0xFFFF_E000,
-    0xFFFF_F000,
-    0xFFFF_F800,
-    0xFFFF_FC00,
-    0xFFFF_FE00,
-    0xFFFF_FF00,
-    0xFFFF_FF80,
-    0xFFFF_FFC0,
-    0xFFFF_FFE0,
-    0xFFFF_FFF0,
-    0xFFFF_FFF8,
-    0xFFFF_FFFC,
-    0xFFFF_FFFE,
-    0xFFFF_FFFF,
-];
-
+// The leading ones are the leading zeros of the complement. Where these are all the ones of a number, it is ones and then zeros.
 pub fn mask_form(m: Mask) -> MaskForm
     ensures { λ r. ⌜ r ≡ maskForm (m .0) ⌝ }
 {
     let v = m.0;
-    for n in 0..33u32 {
-        if MASKS[n as usize] == v {
-            return MaskForm::Ones(n);
-        }
+    let ones = u32::count_ones(v);
+    if u32::leading_zeros(!v) != ones {
+        return MaskForm::Mixed;
     }
-    MaskForm::Mixed
+    MaskForm::Ones(ones)
 }
 
 // The number of ones of any mask, wherever they stand.

@@ -44,7 +44,7 @@ use Rattle.verdict.specs.declared.Way.{Way}
 use Rattle.verdict.specs.declared.Wish.{Wish}
 use Rattle.verdict.specs.declared.Wish.the-variants.{NotAsked, Refused, Wanted}
 use Rattle.lookup.specs.ForTarget.{placeFor, wayOf, wayFor}
-use Rattle.judge.specs.Ruling.{caseOf, soughtOf, ruledBy, ruleTarget, ruleAim, ruleOf}
+use Rattle.judge.specs.Ruling.{caseOf, soughtOf, ruledBy, ruleTarget, ruleOf}
 use Rattle.judge.specs.Ending.{refusedBy, ruledEnding, callChecks, headerEnding, octetsEnding, arrivalAt, endingOf}
 use Rattle.judge.specs.declared.Ending.{Ending}
 use Rattle.history.proofs.Bits.{only-that}

@@ -4,7 +4,7 @@ use native.Mathlib.Omega.{arith}
 use native.Mathlib.Nat.{lt-of-not-le}
 use Prim.Native.Nat.{ℕ, zero, suc, _≤_, _<_}
 use native.Mathlib.Decide.{decLe}
-use mathlib.Core.Logic.{_↔_, by-cases}
+use mathlib.Core.Logic.{by-cases}
 use mathlib.Core.Path.{_≡_, refl, sym, ap, _∙_}
 use mathlib.Core.Bool.{Bool, true, false, _&&_}
 use mathlib.Core.List.{List, [], _∷_}
@@ -15,18 +15,16 @@ use Rattle.checks.proofs.Bools.{true-false, and-true}
 use Rattle.checks.proofs.Laws.{zero-none}
 use Rattle.address.specs.Mask.{onesOf}
 use Rattle.address.specs.declared.Address.{Address}
-use Rattle.routes.specs.Routes.{emptyRoute, routeAt, isFilled, candidate, sameEntry}
+use Rattle.routes.specs.Routes.{emptyRoute, routeAt, isFilled, sameEntry}
 use Rattle.routes.specs.Refusals.{prefixRefused}
 use Rattle.routes.specs.Search.{searchOf}
 use Rattle.routes.specs.declared.Route.{Route}
-use Rattle.routes.specs.declared.Found.{Found}
-use Rattle.routes.specs.declared.Found.the-variants.{At, No}
+use Rattle.routes.specs.declared.Found.the-variants.{At}
 use Rattle.routes.proofs.Longest.{Contiguous, Distinct, maskAt, CandidateAt, taken-contiguous, search-most-ones, search-only}
-use Rattle.state.specs.Relay.{Relay}
 use Rattle.refusals.specs.Ready.{readySet}
 use Rattle.refusals.specs.Record.{recordChecks}
 use Rattle.history.specs.Calls.{Call, relayAfter}
-use Rattle.history.proofs.Reach.{Kept, kept-after}
+use Rattle.history.proofs.Reach.{kept-after}
 use Rattle.history.proofs.Keys.{keys-unique}
 
 -- beyond a list there is nothing
