@@ -15,7 +15,7 @@ use Rattle.address.specs.Mask.{onesOf}
 use Rattle.address.proofs.Ones.{ones-at-most}
 use Rattle.address.proofs.Masks.{mask-ones}
 use Rattle.address.specs.declared.Address.{Address}
-use Rattle.routes.specs.Routes.{routeAt, isFilled, isUp, candidate}
+use Rattle.routes.specs.Routes.{routeAt, isFilled, candidate}
 use Rattle.routes.specs.Search.{searchOf}
 use Rattle.routes.specs.declared.Route.{Route}
 use Rattle.routes.specs.declared.Found.{Found}
@@ -152,17 +152,17 @@ module _ (cs : List Call) (a : Address) where
           }
 
   -- a route with mask 0 has the prefix 0.0.0.0, and matches every address
-  matches-all : (p : ℕ) → isFilled (routeAt (relayAfter cs .routes) p) ≡ true → isUp (routeAt (relayAfter cs .routes) p) ≡ true
+  matches-all : (p : ℕ) → isFilled (routeAt (relayAfter cs .routes) p) ≡ true → routeAt (relayAfter cs .routes) p .availability ≡ 1
       → maskAt (relayAfter cs .routes) p ≡ 0
       → CandidateAt a (relayAfter cs .routes) p
   matches-all p filled up mask =
       let r = routeAt (relayAfter cs .routes) p in
       let inside = prefix-form (r .prefix) (r .mask) .0 (good-record cs p filled .1 .0) .2 in
       let none : (x : ℕ) → bitAnd x (r .mask .0) ≡ 0 = λ x. ap (bitAnd x) mask ∙ and-zero-r x in
-      candidate-is r a .1 (filled, (up, none (a .0) ∙ sym (none (r .prefix .0)) ∙ inside))
+      candidate-is r a .1 (filled, up, none (a .0) ∙ sym (none (r .prefix .0)) ∙ inside)
 
   -- 0 ones is not no: the route 0.0.0.0 with mask 0, where it is up, is found, with 0 ones, by every address that no other route that is up matches.
-  pub no-ones-is-found : (p : ℕ) → isFilled (routeAt (relayAfter cs .routes) p) ≡ true → isUp (routeAt (relayAfter cs .routes) p) ≡ true
+  pub no-ones-is-found : (p : ℕ) → isFilled (routeAt (relayAfter cs .routes) p) ≡ true → routeAt (relayAfter cs .routes) p .availability ≡ 1
       → maskAt (relayAfter cs .routes) p ≡ 0
       → ((q : ℕ) → CandidateAt a (relayAfter cs .routes) q → q ≡ p)
       → Named (searchAnswer (relayAfter cs) a) p 0 (routeAt (relayAfter cs .routes) p .port)
