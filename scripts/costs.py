@@ -14,6 +14,7 @@ import re
 import resource
 import threading
 from collections import defaultdict
+from datetime import date
 
 TICK = os.sysconf("SC_CLK_TCK")
 INTERVAL = 0.1
@@ -151,7 +152,8 @@ class Cost:
 
     def page(self):
         """The tables of docs/COSTS.md."""
-        lines = ["| Part | CPU seconds | In proofs |", "|---|---|---|"]
+        lines = [f"{date.today()}, {os.uname().machine}, {os.cpu_count()} cores.", ""]
+        lines += ["| Part | CPU seconds | In proofs |", "|---|---|---|"]
         lines += [f"| {name} | {seconds:.0f} | {seconds / self.proof:.2f} |" for name, seconds in self.rows()]
         lines += ["", "| Crate | Proof | Wrong programs |", "|---|---|---|"]
         lines += [f"| `{crate}` | {proof:.1f} | {edits:.1f} |" for crate, (proof, edits) in sorted(self.crates.items())]

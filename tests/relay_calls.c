@@ -257,17 +257,34 @@ static void check_search(void)
     expect(memcmp(state, other, sizeof other) == 0, "nothing is changed");
 }
 
-/* Until only routes that are up are candidates (W-204). */
+/* A route that is not up is passed over, by the verdict too. */
 static void check_search_not_up(void)
 {
     set_up(state);
     add_routes();
     for (uint32_t code = HJ_DOWN; code <= HJ_OUT; code++) {
-        expect(hj_set_route(state, WORDS, 40, 0xc0000901, 0xffffffff, 7, code,
+        expect(hj_set_route(state, WORDS, 40, 0xc0000901, 0xffffffff, 1, code,
                             HJ_CAPABLE_NONE) == 0,
                "a route that is not up");
-        expect_found(0xc0000901, 40, 32, 7, "it is found all the same");
+        expect_found(0xc0000901, 9, 24, 7, "the next longest is found");
+        expect(hj_took(receive(routed, 1)) == 0x80, "and taken");
     }
+}
+
+/* No route that is up matches, and one that is down does. */
+static void check_none_up(void)
+{
+    set_up(state);
+    expect(hj_set_route(state, WORDS, 63, 0xc0000000, 0xff000000, 1, HJ_DOWN,
+                        HJ_CAPABLE_BOTH) == 0,
+           "the only route is down");
+    expect(hj_search(state, WORDS, 0xc0000901) == 0, "none is found");
+    expect(hj_onward(receive(routed, 1)) == HJ_NO_ROUTE, "11, and not 12");
+    expect(hj_value(hj_counter(state, WORDS, HJ_OUT_NO_ROUTES)) == 1,
+           "which counts one");
+    expect(hj_set_route(state, WORDS, 0, 0xc0000000, 0xff000000, 1, HJ_UP,
+                        HJ_CAPABLE_NONE) == HJ_SAME_ENTRY,
+           "the same entry elsewhere, though it is down");
 }
 
 /* ---- Datagrams ----------------------------------------------------------- */
@@ -347,6 +364,7 @@ int main(void)
     check_empty_places();
     check_search();
     check_search_not_up();
+    check_none_up();
     check_null();
     check_dropped();
     check_taken();

@@ -80,6 +80,19 @@ hj_answer __wrap_hj_waiting(const uint32_t *state, size_t words, uint32_t port)
     return fault() == 6 && hj_value(answer) == HJ_QUEUE ? answer - 1 : answer;
 }
 
+/* Whether a route for this address alone is there, and not up. */
+static int hidden(const uint32_t *state, uint32_t address)
+{
+    for (uint32_t place = 0; place < HJ_ROUTES; place++) {
+        hj_route route = hj_get_route(state, HJ_STATE_WORDS, place);
+
+        if (route.filled && route.prefix == address &&
+            route.mask == 0xffffffff && route.availability != HJ_UP)
+            return 1;
+    }
+    return 0;
+}
+
 hj_found __wrap_hj_search(const uint32_t *state, size_t words,
                           uint32_t address)
 {
@@ -89,6 +102,8 @@ hj_found __wrap_hj_search(const uint32_t *state, size_t words,
         return 0; /* the default route taken for none */
     if (fault() == 18 && hj_is_found(found))
         ((uint32_t *)state)[425]++;
+    if (fault() == 19 && words == HJ_STATE_WORDS && hidden(state, address))
+        return 0; /* a route of 32 ones that is not up hides all others */
     return found;
 }
 
@@ -120,7 +135,7 @@ static void touch(hj_verdict verdict, uint32_t *state, const uint8_t *octets,
         output[hj_header_octets(verdict)] ^= 1;
     if (fault() == 12 && hj_took(verdict) != 0)
         ((uint8_t *)octets)[0] ^= 1;
-    if (fault() == 13 && ended == HJ_DONE && hj_onward(verdict) == HJ_NOT_UP)
+    if (fault() == 13 && ended == HJ_DONE && hj_onward(verdict) == HJ_NO_ROUTE)
         state[425 + HJ_OUT_NO_ROUTES]--;
     if (fault() == 14 && ended == HJ_SHORT_OUTPUT)
         state[425]++;
@@ -135,8 +150,8 @@ hj_verdict __wrap_hj_receive(uint32_t *state, size_t words, uint32_t port,
                                            length, output, room);
 
     touch(verdict, state, octets, length, output);
-    if (fault() == 15 && hj_onward(verdict) == HJ_NOT_UP)
-        return verdict - (1u << 16); /* 11, which has the same counter */
+    if (fault() == 15 && hj_onward(verdict) == HJ_NO_ROUTE)
+        return verdict + (1u << 16); /* 12, which is no longer given */
     if (fault() == 16 && hj_dropped(verdict) != 0)
         return verdict & ~((hj_verdict)0xff << 32);
     return verdict;

@@ -105,14 +105,32 @@ class Story(unittest.TestCase):
         self.has("11", "North receives", "here: REFUSED (26), unknown transport number", "onward: sent on (1)",
                  "SouthUnit receives", "here: REFUSED (26)", "onward: not asked (0)")
 
+    def test_a_route_that_is_down_hides_none(self):
+        self.has("12", "North receives \"East: dose", "onward: sent on (1), header 12 octets; taken by port 2",
+                 "East receives \"East: dose biocide 5 litres\" by port 0", "here: DELIVERED (1)",
+                 "North receives \"West: dose", "onward: sent on (1), header 12 octets; taken by port 2",
+                 "West receives \"West: dose biocide 6 litres\" by port 0", "here: DELIVERED (1)")
+        self.lacks("12", "REFUSED")
+
+    def test_no_route_that_is_up(self):
+        self.has("13", "North receives", "onward: REFUSED (11), no route; no port took it", "npOutNoRoutes 1 (+1)")
+        self.lacks("13", "DELIVERED")
+        self.assertNotIn("(12)", self.output)
+
+    def test_the_longest_that_is_up(self):
+        self.has("14", "North receives \"East: dose", "taken by port 3", "East receives", "by port 1",
+                 "North receives \"West: dose", "taken by port 2", "West receives", "by port 0")
+
     def test_counters_and_ledger(self):
         self.assertIn(
-            "\nNorth\n   counters: npInReceives 49, npInUnknownProtos 1, npInDelivers 1, npForwDatagrams 48, "
-            "npOutDiscards 2; all others 0\n"
+            "\nNorth\n   counters: npInReceives 54, npInUnknownProtos 1, npInDelivers 1, npForwDatagrams 52, "
+            "npOutNoRoutes 1, npOutDiscards 2; all others 0\n"
             "   port 0: granted 1 = handed out 1 + waiting 0 + dropped 0\n"
             "   port 1: granted 3 = handed out 3 + waiting 0 + dropped 0\n"
-            "   port 2: granted 47 = handed out 45 + waiting 0 + dropped 2\n", self.output)
-        for relay in ("ControlRoom", "NorthUnit", "Buoy", "South", "SouthUnit"):
+            "   port 2: granted 50 = handed out 48 + waiting 0 + dropped 2\n"
+            "   port 3: granted 1 = handed out 1 + waiting 0 + dropped 0\n"
+            "   port 4: granted 0 = handed out 0 + waiting 0 + dropped 0\n", self.output)
+        for relay in ("ControlRoom", "NorthUnit", "Buoy", "South", "SouthUnit", "East", "West"):
             self.assertRegex(self.output, f"\n{relay}\n   counters: .*\n   port 0: granted ")
 
 

@@ -19,10 +19,11 @@ FAULTS = [
     "the octets lent to be read",          # the datagram changed
     "the words of the state",              # a counter too low
     "the words of the state",              # 17 counted
-    "plain answers otherwise",             # 11 for 12
+    "odd onward half",                     # 12 for 11
     "copies dropped, and not|the words of the state|plain answers otherwise",
     "not what the routes say",             # a search, 0 ones for none
     "the words of the state",              # a search that writes
+    "not what the routes say",             # a route not up hides another
 ]
 
 

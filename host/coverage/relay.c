@@ -37,16 +37,17 @@ static bool fills(const struct view *v, uint32_t took)
     return false;
 }
 
-static bool same_route(const struct view *v, const struct asked *s)
+/* The availability of the same entry at another place; 0 for none. */
+static uint32_t same_route(const struct view *v, const struct asked *s)
 {
     for (uint32_t place = 0; place < VIEW_ROUTES; place++) {
         const struct view_route *route = &v->routes[place];
 
         if (place != s->n[0] && route->filled && route->prefix == s->n[1] &&
             route->mask == s->n[2])
-            return true;
+            return route->availability;
     }
-    return false;
+    return 0;
 }
 
 /* ---- Tallies ------------------------------------------------------------- */
@@ -176,6 +177,9 @@ static bool read_receipt(const struct trace_call *call,
 
 static void look_at_routes(uint32_t address, uint32_t place, struct sought *f)
 {
+    const struct view_route *over = view_passed_over(&view, address);
+
+    f->over = over != NULL ? over->availability : 0;
     f->route = view.routes[place];
     for (uint32_t i = 0; i < VIEW_ROUTES; i++) {
         const struct view_route *route = &view.routes[i];
@@ -183,7 +187,8 @@ static void look_at_routes(uint32_t address, uint32_t place, struct sought *f)
         if (!route->filled)
             continue;
         f->filled++;
-        f->matching += (address & route->mask) == route->prefix;
+        f->matching += (address & route->mask) == route->prefix &&
+                       route->availability == 1;
         f->as_long += i != place && route->mask == f->route.mask;
     }
 }
@@ -196,7 +201,8 @@ static void count_sought(const struct sought *f)
     SEARCH_LIST(COUNT)
 }
 
-/* `-`, or a place, its ones and its port. */
+/* `-`, or a place, its ones and its port. One that is not up is no good
+ * answer, whoever gives it. */
 static bool count_search(const struct trace_call *call,
                          const struct trace_call *answer)
 {
@@ -211,7 +217,7 @@ static bool count_search(const struct trace_call *call,
         f.ones = number(answer->words[1]);
     look_at_routes(address, place, &f);
     count_sought(&f);
-    return true;
+    return !f.found || f.route.availability == 1;
 }
 
 /* ---- Other calls --------------------------------------------------------- */
@@ -347,9 +353,8 @@ static void say_halves(void)
     static const char *const ONWARD[CALL_NUMBERS] = {
         [0] = "onward: 0, not asked", [1] = "onward: 1, sent on",
         [9] = "onward: 9",            [10] = "onward: 10",
-        [11] = "onward: 11",          [12] = "onward: 12",
-        [13] = "onward: 13",          [14] = "onward: 14",
-        [15] = "onward: 15"};
+        [11] = "onward: 11",          [13] = "onward: 13",
+        [14] = "onward: 14",          [15] = "onward: 15"};
 
     say_answers(LOCAL, tally.local, CALL_NUMBERS);
     say_answers(ONWARD, tally.onward, CALL_NUMBERS);

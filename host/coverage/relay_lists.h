@@ -31,9 +31,10 @@ struct sought {
     bool found;
     uint32_t ones;
     struct view_route route; /* at the place found */
-    uint32_t matching;       /* places that match the address */
+    uint32_t matching;       /* places that match the address and are up */
     uint32_t as_long;        /* other places with as many ones as that */
     uint32_t filled;         /* places */
+    uint32_t over; /* availability of a longer one, not up; 0 for none */
 };
 
 /* The route and the group that were found; an empty one where none was, which
@@ -43,6 +44,12 @@ static inline const struct view_route *route_of(const struct receipt *r)
     static const struct view_route none;
 
     return r->named.route != NULL ? r->named.route : &none;
+}
+
+/* The availability of a longer route that was passed over; 0 for none. */
+static inline uint32_t over_of(const struct naming *named)
+{
+    return named->passed_over != NULL ? named->passed_over->availability : 0;
 }
 
 static inline uint32_t route_mtu(const struct view *v, const struct receipt *r)
@@ -156,13 +163,23 @@ static inline bool set_up_port(const struct view *v, uint32_t port)
     ROW("route: sent on by a route of 32 ones",                               \
         BY("route") && r->onward == 1 &&                                      \
             route_of(r)->mask == 0xffffffff)                                  \
-    ROW("route: 11, none", BY("route") && r->onward == 11)                    \
-    ROW("route: 12, down",                                                    \
-        r->onward == 12 && route_of(r)->availability == 2)                    \
-    ROW("route: 12, testing",                                                 \
-        r->onward == 12 && route_of(r)->availability == 3)                    \
-    ROW("route: 12, out",                                                     \
-        r->onward == 12 && route_of(r)->availability == 4)                    \
+    ROW("route: 11, none matches",                                            \
+        BY("route") && r->onward == 11 && over_of(&r->named) == 0)            \
+    ROW("route: sent on, a longer one is down",                               \
+        BY("route") && r->onward == 1 && over_of(&r->named) == 2)             \
+    ROW("route: sent on, a longer one is testing",                            \
+        BY("route") && r->onward == 1 && over_of(&r->named) == 3)             \
+    ROW("route: sent on, a longer one is out",                                \
+        BY("route") && r->onward == 1 && over_of(&r->named) == 4)             \
+    ROW("route: sent on by the default route, a longer one is not up",        \
+        BY("route") && r->onward == 1 && route_of(r)->mask == 0 &&            \
+            over_of(&r->named) != 0)                                          \
+    ROW("route: 11, one matches and is down",                                 \
+        BY("route") && r->onward == 11 && over_of(&r->named) == 2)            \
+    ROW("route: 11, one matches and is testing",                              \
+        BY("route") && r->onward == 11 && over_of(&r->named) == 3)            \
+    ROW("route: 11, one matches and is out",                                  \
+        BY("route") && r->onward == 11 && over_of(&r->named) == 4)            \
     ROW("route: a broadcast that is not ours",                                \
         BY("route") && r->onward == 1 && r->named.destination % 256 == 255)
 
@@ -242,7 +259,9 @@ static inline bool set_up_port(const struct view *v, uint32_t port)
     ROW("set_route: 24, availability 5", s->number == 24 && s->n[4] == 5)     \
     ROW("set_route: 24, capabilities 3", s->number == 24 && s->n[5] == 3)     \
     ROW("set_route: 24 before 23",                                            \
-        s->number == 24 && same_route(v, s))                                  \
+        s->number == 24 && same_route(v, s) != 0)                             \
+    ROW("set_route: 23, the other one is not up",                             \
+        s->number == 23 && same_route(v, s) > 1)                              \
     ROW("set_route: 0, capabilities 4", s->number == 0 && s->n[5] == 4)
 
 #define SEARCH_LIST(ROW)                                                      \
@@ -254,11 +273,17 @@ static inline bool set_up_port(const struct view *v, uint32_t port)
         f->found && f->matching > 1)                                          \
     ROW("search: found, and another has as many ones",                        \
         f->found && f->as_long > 0)                                           \
-    ROW("search: found, down", f->found && f->route.availability == 2)        \
-    ROW("search: found, testing", f->found && f->route.availability == 3)     \
-    ROW("search: found, out", f->found && f->route.availability == 4)         \
+    ROW("search: found, a longer one is down", f->found && f->over == 2)      \
+    ROW("search: found, a longer one is testing", f->found && f->over == 3)   \
+    ROW("search: found, a longer one is out", f->found && f->over == 4)       \
+    ROW("search: found, of 0 ones, a longer one is not up",                   \
+        f->found && f->ones == 0 && f->over != 0)                             \
     ROW("search: none", !f->found)                                            \
-    ROW("search: none, where there are routes", !f->found && f->filled > 0)
+    ROW("search: none, where there are routes", !f->found && f->filled > 0)   \
+    ROW("search: none, one matches and is down", !f->found && f->over == 2)   \
+    ROW("search: none, one matches and is testing",                           \
+        !f->found && f->over == 3)                                            \
+    ROW("search: none, one matches and is out", !f->found && f->over == 4)
 
 #define ENTRY_LIST(ROW)                                                       \
     ROW("set_group, set_path: 21, place 16",                                  \

@@ -140,7 +140,11 @@ static void name_ports(const struct view *view, struct naming *naming)
     }
 }
 
-static const struct view_route *longest(const struct view *view, uint32_t to)
+#define UP 1
+
+/* Of all routes that match, or of those of them that are up. */
+static const struct view_route *longest(const struct view *view, uint32_t to,
+                                        bool of_all)
 {
     const struct view_route *best = NULL;
 
@@ -148,10 +152,18 @@ static const struct view_route *longest(const struct view *view, uint32_t to)
         const struct view_route *route = &view->routes[i];
 
         if (route->filled && (to & route->mask) == route->prefix &&
+            (of_all || route->availability == UP) &&
             (best == NULL || route->mask > best->mask))
             best = route;
     }
     return best;
+}
+
+const struct view_route *view_passed_over(const struct view *view, uint32_t to)
+{
+    const struct view_route *route = longest(view, to, true);
+
+    return route != NULL && route->availability != UP ? route : NULL;
 }
 
 static bool is_multicast(uint32_t address)
@@ -201,6 +213,7 @@ struct naming view_name(const struct view *view, uint32_t arrival,
     naming.limited = naming.destination == 0xffffffff;
     name_ports(view, &naming);
     name_group(view, arrival, &naming);
-    naming.route = longest(view, naming.destination);
+    naming.route = longest(view, naming.destination, false);
+    naming.passed_over = view_passed_over(view, naming.destination);
     return naming;
 }

@@ -57,8 +57,13 @@ struct naming {
     uint32_t others; /* the set-up ports but the arrival port */
     const struct view_group *group; /* null where there is none, so below */
     const struct view_path *path;
-    const struct view_route *route;
+    const struct view_route *route; /* the longest that is up */
+    const struct view_route *passed_over; /* as view_passed_over */
 };
+
+/* The longest route that matches the address, where it is not up; else null. */
+const struct view_route *view_passed_over(const struct view *view,
+                                          uint32_t to);
 
 struct naming view_name(const struct view *view, uint32_t arrival,
                         const struct arriving *datagram);

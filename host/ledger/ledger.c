@@ -95,11 +95,11 @@ static uint32_t full_ports(void)
     return full;
 }
 
-/* The counter of each number that ends the call or a half; 0 for none. */
+/* The counter of each number that ends the call or a half; 0 for none. 12 is
+ * not given. */
 static const uint8_t COUNTER_OF[CALL_NUMBERS] = {
     [1] = 1, [2] = 2,   [3] = 1,   [4] = 3,   [5] = 4,   [6] = 3,   [7] = 3,
-    [8] = 5, [9] = 6,   [10] = 9,  [11] = 11, [12] = 11, [13] = 13, [14] = 14,
-    [26] = 7};
+    [8] = 5, [9] = 6,   [10] = 9,  [11] = 11, [13] = 13, [14] = 14, [26] = 7};
 
 static void count(uint32_t refusal)
 {

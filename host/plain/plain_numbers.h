@@ -34,7 +34,7 @@ typedef enum {
     PLAIN_NOT_FOR_US = 9,
     PLAIN_HOPS_USED_UP = 10,
     PLAIN_NO_ROUTE = 11,
-    PLAIN_ROUTE_NOT_UP = 12,
+    PLAIN_ROUTE_NOT_UP = 12, /* given nowhere since W-204 */
     PLAIN_LEAVES_DOMAIN = 13,
     PLAIN_TOO_BIG = 14,
     PLAIN_ALL_FULL = 15,

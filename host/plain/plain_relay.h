@@ -114,8 +114,8 @@ plain_verdict plain_receive(plain_relay *relay, uint32_t arrival,
 plain_refusal plain_take(plain_relay *relay, uint32_t port,
                          plain_entry *entry);
 
-/* The route that an address takes, or none. The default route has 0 ones, so
- * these say nothing of whether one was found. */
+/* The route that an address takes, of those that are up, or none. The default
+ * route has 0 ones, so these say nothing of whether one was found. */
 typedef struct {
     bool found; /* all else is 0 where it is false */
     uint32_t place;

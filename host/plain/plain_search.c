@@ -6,9 +6,12 @@
  * and have equal masks would have equal prefixes; the settings refuse that, so
  * the longest match is one place.
  *
- * The awkward cases: the default route has mask 0, as an empty place has, so
- * a route is known to be there by its availability, and one that was found
- * is told by a flag and not by its ones; and the broadcast of all
+ * Only a route that is up is a candidate (page 02, W-204), so that one that is
+ * not up hides none that is shorter.
+ *
+ * The awkward cases: the default route has mask 0, as an empty place has, but
+ * an empty place is not up; and one that was found is told by a flag and not
+ * by its ones; and the broadcast of all
  * SCPS is the net broadcast of net 10 taken as class A, so the three forms of
  * a broadcast of ours come down to two comparisons.
  */
@@ -23,7 +26,7 @@ const plain_route *plain_search_route(const plain_relay *relay,
         const plain_route *route = &relay->routes[at];
 
         if ((destination.bits & route->mask.bits) == route->prefix.bits &&
-            route->availability != PLAIN_PLACE_EMPTY &&
+            route->availability == PLAIN_UP &&
             (best == NULL || route->mask.bits > best->mask.bits))
             best = route;
     }

@@ -4,8 +4,8 @@
 
 #include "plain_relay.h"
 
-/* The route with most mask ones among all that match. It stands in the relay's
- * own table, so that it says its place too (plain_search). */
+/* The route with most mask ones among all that match and are up. It stands in
+ * the relay's own table, so that it says its place too (plain_search). */
 const plain_route *plain_search_route(const plain_relay *relay,
                                       plain_address destination);
 

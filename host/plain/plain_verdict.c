@@ -142,8 +142,6 @@ static plain_refusal wanted_by_route(const plain_relay *relay,
 
     if (route == NULL)
         return PLAIN_NO_ROUTE;
-    if (route->availability != PLAIN_UP)
-        return PLAIN_ROUTE_NOT_UP;
     wanted->bits = (uint32_t)1 << route->port;
     return PLAIN_GOOD;
 }

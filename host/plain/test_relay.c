@@ -594,13 +594,31 @@ static void test_routes(void)
     fresh_router(2);
     CHECK_VERDICT(send(0, to(0xc0000301)), 0, 0, PLAIN_NO_ROUTE, 0);
     CHECK_EQUAL(set_route(0, 0, 0, 1, PLAIN_UP), 0);
-    for (uint32_t code = PLAIN_DOWN; code <= PLAIN_OUT; code++) {
-        CHECK_EQUAL(set_route(1, 0xc0000300, net24, 1, code), 0);
-        CHECK_VERDICT(send(0, to(0xc0000301)), 0, 0, PLAIN_ROUTE_NOT_UP, 0);
-    }
-    CHECK_COUNT(PLAIN_OUT_NO_ROUTES, 4);
+    CHECK_VERDICT(send(0, to(0xc0000301)), 0, 0, 1, 2);
+    CHECK_COUNT(PLAIN_OUT_NO_ROUTES, 1);
     CHECK_EQUAL(set_route(1, 0xc0000300, net24, 0, PLAIN_UP), 0);
     CHECK_VERDICT(send(0, to(0xc0000301)), 0, 0, 1, 1); /* the arrival port */
+}
+
+/* A route that is not up hides none that is shorter, and is none itself. */
+static void test_routes_not_up(void)
+{
+    fresh_router(2);
+    for (uint32_t code = PLAIN_DOWN; code <= PLAIN_OUT; code++) {
+        CHECK_EQUAL(set_route(0, 0, 0, 0, code), 0);
+        CHECK_EQUAL(set_route(1, 0xc0000300, net24, 1, code), 0);
+        CHECK_VERDICT(send(0, to(0xc0000301)), 0, 0, PLAIN_NO_ROUTE, 0);
+        CHECK_EQUAL(set_route(0, 0, 0, 0, PLAIN_UP), 0);
+        CHECK_VERDICT(send(0, to(0xc0000301)), 0, 0, 1, 1);
+        CHECK_EQUAL(set_route(2, 0xc0000000, 0xff000000, 1, PLAIN_UP), 0);
+        CHECK_VERDICT(send(0, to(0xc0000301)), 0, 0, 1, 2);
+        CHECK_EQUAL(plain_clear_route(&relay, 2), 0);
+    }
+    CHECK_COUNT(PLAIN_OUT_NO_ROUTES, 3);
+    CHECK_COUNT(PLAIN_FORW_DATAGRAMS, 6);
+    /* The same entry elsewhere is refused, up or not. */
+    CHECK_EQUAL(set_route(5, 0xc0000300, net24, 1, PLAIN_UP), PLAIN_SET_SAME);
+    CHECK_EQUAL(set_route(5, 0, 0, 1, PLAIN_DOWN), PLAIN_SET_SAME);
 }
 
 static void check_found(uint32_t address, uint32_t place, uint32_t ones,
@@ -649,15 +667,19 @@ static void test_search(void)
     check_none(0);
 }
 
-/* A route that is not up is found too. */
+/* A route that is not up is passed over. */
 static void test_search_of_routes_not_up(void)
 {
     fresh_router(2);
-    CHECK_EQUAL(set_route(0, 0, 0, 1, PLAIN_UP), 0);
     for (uint32_t code = PLAIN_DOWN; code <= PLAIN_OUT; code++) {
         CHECK_EQUAL(set_route(1, 0xc0000300, net24, 0, code), 0);
-        check_found(0xc0000301, 1, 24, 0);
+        check_none(0xc0000301);
+        CHECK_EQUAL(set_route(0, 0, 0, 1, PLAIN_UP), 0);
+        check_found(0xc0000301, 0, 0, 1);
+        CHECK_EQUAL(plain_clear_route(&relay, 0), 0);
     }
+    CHECK_EQUAL(set_route(1, 0xc0000300, net24, 0, PLAIN_UP), 0);
+    check_found(0xc0000301, 1, 24, 0);
 }
 
 static void test_leaving_the_domain(void)
@@ -866,6 +888,7 @@ int main(void)
     test_paths();
     test_path_is_no_address();
     test_routes();
+    test_routes_not_up();
     test_search();
     test_search_of_routes_not_up();
     test_leaving_the_domain();

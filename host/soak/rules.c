@@ -9,8 +9,8 @@
  * refused here by the same number, and the header sent on is plain's.
  *
  * What a search finds is read off the words of the routes, as docs/STATES.md
- * has it for any words: of the filled ones that match, the first of the
- * greatest mask. Two parts of it are not judged: the ones of a mask that is
+ * has it for any words: of the filled ones that are up and match, the first of
+ * the greatest mask. Two parts of it are not judged: the ones of a mask that is
  * mixed, and a port that its eight bits do not hold. No history leaves either.
  *
  * The awkward case is a queue in a state that no history leaves. Entries behind
@@ -145,32 +145,40 @@ static const char *looked(const struct soak_call *call,
 /* ---- Searches ------------------------------------------------------------ */
 
 /* A route's words. */
-enum { FILLED, PREFIX, MASK, PORT };
+enum { FILLED, PREFIX, MASK, PORT, AVAILABILITY };
 
-static bool is_candidate(const uint32_t *route, uint32_t address)
+static bool matches(const uint32_t *route, uint32_t address)
 {
     return route[FILLED] != 0 && (address & route[MASK]) == route[PREFIX];
 }
 
-/* The route that the search is to find, or NULL. */
-static const uint32_t *longest(uint32_t *words, uint32_t address)
+/* Of all routes that match, or of those of them that are up; NULL for none. */
+static const uint32_t *longest(uint32_t *words, uint32_t address, bool of_all)
 {
     const uint32_t *best = NULL;
 
     for (uint32_t place = 0; place < HJ_ROUTES; place++) {
         const uint32_t *route = record(words, ON_ROUTE, place);
 
-        if (is_candidate(route, address) &&
+        if (matches(route, address) &&
+            (of_all || route[AVAILABILITY] == HJ_UP) &&
             (best == NULL || route[MASK] > best[MASK]))
             best = route;
     }
     return best;
 }
 
+bool soak_passes_over(uint32_t *words, uint32_t address)
+{
+    const uint32_t *route = longest(words, address, true);
+
+    return route != NULL && route[AVAILABILITY] != HJ_UP;
+}
+
 static const char *searched(const struct soak_call *call,
                             const struct soak_answer *answer, uint32_t *words)
 {
-    const uint32_t *route = longest(words, call->numbers[0]);
+    const uint32_t *route = longest(words, call->numbers[0], false);
     struct soak_answer due = {{0}, 0};
     uint32_t zeros;
 
@@ -237,15 +245,16 @@ static const char *taken(const struct soak_call *call,
 
 /* ---- Verdicts ------------------------------------------------------------ */
 
-/* The counter of a refusal or of a half; none for 0 and for 15. */
+/* The counter of a refusal or of a half; none for 0, for 15, and for 12, which
+ * is not given. */
 static void count_one(uint32_t *words, uint64_t number)
 {
     static const uint8_t COUNTER[] = {
         NONE, HJ_IN_BAD_LENGTH, HJ_IN_BAD_VERSION, HJ_IN_BAD_LENGTH,
         HJ_IN_BAD_ADDRESS, HJ_IN_BAD_CHECKSUM, HJ_IN_BAD_ADDRESS,
         HJ_IN_BAD_ADDRESS, HJ_UNSUPPORTED, HJ_IN_ADDR_ERRORS,
-        HJ_FORW_HOP_DISCARD, HJ_OUT_NO_ROUTES, HJ_OUT_NO_ROUTES,
-        HJ_LEFT_DOMAIN, HJ_TOO_BIG_COUNT, NONE};
+        HJ_FORW_HOP_DISCARD, HJ_OUT_NO_ROUTES, NONE, HJ_LEFT_DOMAIN,
+        HJ_TOO_BIG_COUNT, NONE};
 
     if (COUNTER[number] != NONE)
         words[SOAK_COUNTERS_AT + COUNTER[number]]++;
@@ -258,7 +267,7 @@ static const char *onward_fits(const struct soak_answer *answer,
     uint64_t onward = answer->parts[2];
     uint64_t took = answer->parts[3];
 
-    if (onward > HJ_QUEUES_FULL ||
+    if (onward > HJ_QUEUES_FULL || onward == HJ_NOT_UP ||
         (onward > HJ_SENT_ON && onward < HJ_NOT_FOR_US))
         return "odd onward half";
     if ((took != 0) != (onward == HJ_SENT_ON) || (took & answer->dropped) != 0)

@@ -2,6 +2,8 @@
 #ifndef RULES_H
 #define RULES_H
 
+#include <stdbool.h>
+
 #include "call.h"
 
 /* Makes of the words and the output before the call those that are due after
@@ -9,5 +11,8 @@
 const char *soak_rules(const struct soak_call *call,
                        const struct soak_answer *answer, uint32_t *words,
                        uint8_t *output);
+
+/* Whether the longest route that matches the address is not up. */
+bool soak_passes_over(uint32_t *words, uint32_t address);
 
 #endif

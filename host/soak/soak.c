@@ -185,6 +185,15 @@ static void note_in_books(void)
         books[call.numbers[0]].handed_out++;
 }
 
+static void count_search(void)
+{
+    uint32_t *words = (uint32_t *)soak_lent_piece(&state);
+    bool found = answer.parts[1] != 0;
+
+    tally.found[found]++;
+    tally.over[found] += soak_passes_over(words, call.numbers[0]);
+}
+
 static bool make(enum soak_state sort)
 {
     call.words = HJ_STATE_WORDS;
@@ -192,7 +201,7 @@ static bool make(enum soak_state sort)
         return false;
     tally.calls_on[sort] += call_has_state(call.which);
     if (call.which == CALL_SEARCH && sort == SOAK_HISTORY)
-        tally.found[answer.parts[1] != 0]++;
+        count_search();
     if (answer.parts[0] == HJ_DONE)
         soak_note(&call, &world);
     note_in_books();

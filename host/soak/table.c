@@ -116,7 +116,7 @@ static struct ends onward_ends(const struct soak_tally *tally)
                         {0}};
 
     for (uint32_t i = HJ_NOT_FOR_US; i <= HJ_QUEUES_FULL; i++)
-        ends.due[i] = true;
+        ends.due[i] = i != HJ_NOT_UP;
     memcpy(ends.times, tally->onward, sizeof ends.times);
     return ends;
 }
@@ -170,7 +170,9 @@ void soak_say_tally(const struct soak_tally *tally)
         tally->calls_on[SOAK_HISTORY]);
     say("  ledgers of a port found closed", tally->ledgers);
     say("  searches that found a route", tally->found[1]);
+    say("    a longer one is not up", tally->over[1]);
     say("  searches that found none", tally->found[0]);
+    say("    one matches, and is not up", tally->over[0]);
     say("states with a few words changed", tally->states[SOAK_CHANGED]);
     say("  calls on them", tally->calls_on[SOAK_CHANGED]);
     say("garbage states", tally->states[SOAK_GARBAGE]);
@@ -183,7 +185,8 @@ void soak_say_tally(const struct soak_tally *tally)
 bool soak_is_whole(const struct soak_tally *tally)
 {
     bool whole = lengths_met(tally) == 830 && tally->ledgers > 0 &&
-                 tally->found[0] > 0 && tally->found[1] > 0 &&
+                 tally->found[0] > tally->over[0] && tally->over[0] > 0 &&
+                 tally->found[1] > tally->over[1] && tally->over[1] > 0 &&
                  all_ends(tally, false);
 
     for (int sort = 0; sort < SOAK_STATES; sort++)

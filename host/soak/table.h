@@ -24,6 +24,7 @@ struct soak_tally {
     uint64_t ends[CALLS][CALL_NUMBERS];
     uint64_t onward[CALL_NUMBERS];
     uint64_t found[2]; /* searches in histories, without a route and with one */
+    uint64_t over[2];  /* of them, where a longer one that is not up matches */
 };
 
 /* The call in a line. */

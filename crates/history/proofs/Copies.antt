@@ -24,7 +24,7 @@ use Rattle.history.proofs.Bits.{in-and, in-except, only-has}
 
 module _ (p : ℕ) where
   -- whatever a line wants has the property that port p is in it only where P
-  abbrev If : Type 0 → Wish → Type 0
+  abbrev pub If : Type 0 → Wish → Type 0
   If P NotAsked = Unit
   If P (Refused n) = Unit
   If P (Wanted g) = inSet p g ≡ true → P
@@ -54,7 +54,7 @@ module _ (p : ℕ) where
     size-if (Refused n) fitting h = h
     size-if (Wanted set) fitting h = pick-if (eqb (bitAnd set fitting) 0) (Refused TooBig) (Wanted (bitAnd set fitting)) tt (fewer set fitting h)
 
-    granted-if : (l : Wish) (c : Case) (s : Survey) → If P l → If P (grantedOf l c s)
+    pub granted-if : (l : Wish) (c : Case) (s : Survey) → If P l → If P (grantedOf l c s)
     unfolding grantedOf
     granted-if l c s h =
         let hops = afterHops l (c .spent) in

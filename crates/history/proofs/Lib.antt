@@ -1,8 +1,8 @@
 -- The demands over histories. To be read, each by itself with the definitions it cites:
 -- OneResult (every promise to C leaves no choice); Refusals, Answered, Listed, ReadBack and Onward (demand 1: what a refused call leaves; the numbers an answer can be; that C reads back the parts of an ending;
 -- the TP-ID refuses local delivery alone);
--- Meaning, Search, SearchBack, Copies, Wanted, Reach, Keys and Holds (demand 2: what addresses name on every copy granted, no one-octet address leaves its domain;
--- the route taken, and what C reads of it; which ports are wanted and granted; what holds of the settings in every state that a history reaches; that a setting holds until it
+-- Meaning, Search, SearchBack, Routed, Copies, Wanted, Reach, Keys and Holds (demand 2: what addresses name on every copy granted, no one-octet address leaves its domain;
+-- the route taken, by the search, as C reads it and by the verdict; which ports are wanted and granted; what holds of the settings in every state that a history reaches; that a setting holds until it
 -- is changed);
 -- Counters, Named, Sums, Ledger, Oldest and Takes (demand 3: every counter, the four that the customer names, by datagram and over a history, the
 -- ledger of a port, the order of a queue and of taking);
@@ -36,3 +36,4 @@ pub mod Wrong
 pub mod WrongRelays
 pub mod Wanted
 pub mod Copies
+pub mod Routed

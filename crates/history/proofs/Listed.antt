@@ -32,8 +32,9 @@ use Rattle.verdict.specs.declared.Case.{Case}
 use Rattle.verdict.specs.declared.Local.{Local}
 use Rattle.verdict.specs.declared.Local.the-variants.{No, Delivered, Unknown}
 use Rattle.verdict.specs.declared.Obstacle.{Obstacle}
+use Rattle.verdict.specs.declared.Onward.{Onward}
 use Rattle.verdict.specs.declared.Onward.the-variants as onward
-use Rattle.verdict.specs.declared.Obstacle.the-variants.{NotForUs, HopsUsedUp, NoRoute, RouteNotUp, LeavesDomain, TooBig, QueuesFull}
+use Rattle.verdict.specs.declared.Obstacle.the-variants.{NotForUs, HopsUsedUp, NoRoute, LeavesDomain, TooBig, QueuesFull}
 use Rattle.verdict.specs.declared.Wish.{Wish}
 use Rattle.verdict.specs.declared.Wish.the-variants.{NotAsked, Refused, Wanted}
 use Rattle.verdict.specs.declared.Survey.{Survey}
@@ -129,7 +130,6 @@ abbrev isOurs : Obstacle → Bool
 isOurs NotForUs = false
 isOurs HopsUsedUp = true
 isOurs NoRoute = true
-isOurs RouteNotUp = true
 isOurs LeavesDomain = true
 isOurs TooBig = true
 isOurs QueuesFull = true
@@ -162,7 +162,7 @@ module _ (bare : Bool) where
   route-numbered : (w : Way) → Numbered (routeLine w)
   unfolding routeLine
   route-numbered Lost = other NoRoute refl
-  route-numbered (By set availability) = either Numbered (eqb availability 1) refl (other RouteNotUp refl)
+  route-numbered (By port) = refl
 
   router-numbered : (t : Target) (p : Place) (w : Way) (arrival ready : ℕ) → Numbered (routerLine t p w arrival ready)
   router-numbered target.Here p w arrival ready = refl
@@ -242,7 +242,6 @@ refused-not-delivered : (o : Obstacle) → stands receiveRows (ended 0 0 (obstac
 refused-not-delivered NotForUs = refl
 refused-not-delivered HopsUsedUp = refl
 refused-not-delivered NoRoute = refl
-refused-not-delivered RouteNotUp = refl
 refused-not-delivered LeavesDomain = refl
 refused-not-delivered TooBig = refl
 refused-not-delivered QueuesFull = refl
@@ -258,11 +257,10 @@ not-delivered (Refused o) full h = refused-not-delivered o
 not-delivered (Wanted set) full h = sent-not-delivered (eqb (exceptBy set full) 0) (exceptBy set full) refl
 
 -- delivered or 26: any obstacle but that it is not for us
-ours-listed : (o : Obstacle) → isOurs o ≡ true → listed (0 ∷ 11 ∷ 12 ∷ 10 ∷ 13 ∷ 14 ∷ 15 ∷ []) (obstacleNumber o) ≡ true
+ours-listed : (o : Obstacle) → isOurs o ≡ true → listed (0 ∷ 11 ∷ 10 ∷ 13 ∷ 14 ∷ 15 ∷ []) (obstacleNumber o) ≡ true
 ours-listed NotForUs h = true-false (sym h)
 ours-listed HopsUsedUp h = refl
 ours-listed NoRoute h = refl
-ours-listed RouteNotUp h = refl
 ours-listed LeavesDomain h = refl
 ours-listed TooBig h = refl
 ours-listed QueuesFull h = refl
@@ -360,6 +358,31 @@ ended-case r port octets room false z =
 -- Every ending stands in the table's rows of a receive.
 pub every-ending-is-listed : (r : Relay) (port : ℕ) (octets : List ℕ) (room : ℕ) → stands receiveRows (endedBy (endingOf r port octets room)) ≡ true
 every-ending-is-listed r port octets room = ended-case r port octets room _ refl
+
+-- 12 is given nowhere: it ends no call, and is no onward half (page 02, W-204).
+unended : (e : Ending) → stands receiveRows (endedBy e) ≡ true → e .refusal ≡ 12 → ⊥
+unended e h is = true-false (sym h ∙ rw is)
+
+not-twelve : (o : Obstacle) → eqb (obstacleNumber o) 12 ≡ false
+not-twelve NotForUs = refl
+not-twelve HopsUsedUp = refl
+not-twelve NoRoute = refl
+not-twelve LeavesDomain = refl
+not-twelve TooBig = refl
+not-twelve QueuesFull = refl
+
+onward-not-twelve : (x : Onward) → eqb (onwardNumber x) 12 ≡ false
+onward-not-twelve onward.NotAsked = refl
+onward-not-twelve onward.SentOn = refl
+onward-not-twelve (onward.Refused o) = not-twelve o
+
+pub never-twelve : (r : Relay) (port : ℕ) (octets : List ℕ) (room : ℕ)
+    → (endingOf r port octets room .refusal ≡ 12 → ⊥) × (onwardNumber (endingOf r port octets room .ruling .onward) ≡ 12 → ⊥)
+never-twelve r port octets room =
+    let e = endingOf r port octets room in (
+      unended e (every-ending-is-listed r port octets room),
+      eqb-false (onwardNumber (e .ruling .onward)) 12 (onward-not-twelve (e .ruling .onward)),
+    )
 
 -- ---- taking
 taken-case : (t : Bool) (h : Head) → stands (numbers (16 ∷ 18 ∷ []) ∷ entries ∷ []) (takenBy (pick t (taking.Refused 16) (handsOut h))) ≡ true

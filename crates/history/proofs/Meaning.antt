@@ -56,7 +56,7 @@ zero-or-not zero = inl refl
 zero-or-not (suc n) = inr (λ e. omega arith)
 
 module _ (p : ℕ) where
-  none-in : {X : Type 0} → inSet p 0 ≡ true → X
+  pub none-in : {X : Type 0} → inSet p 0 ≡ true → X
   none-in h = true-false (sym h ∙ ap (λ (n : ℕ). eqb (n % 2) 1) (div-eq-of-lt (pow-pos p)))
 
   -- ---- with addresses of one octet, what is granted is in the domain

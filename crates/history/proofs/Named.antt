@@ -14,7 +14,7 @@ use Rattle.verdict.specs.Numbers.{localNumber, obstacleNumber, onwardNumber}
 use Rattle.verdict.specs.declared.Local.{Local}
 use Rattle.verdict.specs.declared.Local.the-variants.{No, Delivered, Unknown}
 use Rattle.verdict.specs.declared.Obstacle.{Obstacle}
-use Rattle.verdict.specs.declared.Obstacle.the-variants.{NotForUs, HopsUsedUp, NoRoute, RouteNotUp, LeavesDomain, TooBig, QueuesFull}
+use Rattle.verdict.specs.declared.Obstacle.the-variants.{NotForUs, HopsUsedUp, NoRoute, LeavesDomain, TooBig, QueuesFull}
 use Rattle.verdict.specs.declared.Onward.{Onward}
 use Rattle.verdict.specs.declared.Onward.the-variants as onward
 use Rattle.judge.specs.declared.Ending.{Ending}
@@ -49,7 +49,6 @@ not-one : (o : Obstacle) → eqb (obstacleNumber o) 1 ≡ false
 not-one NotForUs = refl
 not-one HopsUsedUp = refl
 not-one NoRoute = refl
-not-one RouteNotUp = refl
 not-one LeavesDomain = refl
 not-one TooBig = refl
 not-one QueuesFull = refl

@@ -1,10 +1,10 @@
--- Demand 2, the route taken, in every state that a history reaches: it matches, no matching entry has more mask ones, none other has as many, and "no
--- route" is said exactly where none matches. Assumes nothing.
+-- Demand 2, the route taken, in every state that a history reaches: no matching entry that is up has more mask ones, and none other has as many. What
+-- else the search answers holds of any list of routes, and stands in crate routes. Assumes nothing.
 use native.Mathlib.Omega.{arith}
 use native.Mathlib.Nat.{lt-of-not-le}
 use Prim.Native.Nat.{ℕ, zero, suc, _≤_, _<_}
 use native.Mathlib.Decide.{decLe}
-use mathlib.Core.Logic.{_↔_, by-cases}
+use mathlib.Core.Logic.{by-cases}
 use mathlib.Core.Path.{_≡_, refl, sym, ap, _∙_}
 use mathlib.Core.Bool.{Bool, true, false, _&&_}
 use mathlib.Core.List.{List, [], _∷_}
@@ -19,14 +19,12 @@ use Rattle.address.specs.declared.Address.{Address}
 use Rattle.routes.specs.Routes.{emptyRoute, routeAt, isFilled, candidate, sameEntry}
 use Rattle.routes.specs.Search.{searchOf}
 use Rattle.routes.specs.declared.Route.{Route}
-use Rattle.routes.specs.declared.Found.{Found}
-use Rattle.routes.specs.declared.Found.the-variants.{At, No}
+use Rattle.routes.specs.declared.Found.the-variants.{At}
 use Rattle.routes.proofs.Longest.{Contiguous, Distinct, maskAt, CandidateAt, taken-contiguous, search-most-ones, search-only}
-use Rattle.state.specs.Relay.{Relay}
 use Rattle.refusals.specs.Ready.{readySet}
 use Rattle.refusals.specs.Record.{recordChecks}
 use Rattle.history.specs.Calls.{Call, relayAfter}
-use Rattle.history.proofs.Reach.{Kept, kept-after}
+use Rattle.history.proofs.Reach.{kept-after}
 use Rattle.history.proofs.Keys.{keys-unique}
 
 -- beyond a list there is nothing
@@ -79,7 +77,7 @@ module _ (cs : List Call) where
   pub routes-distinct : Distinct (relayAfter cs .routes)
   routes-distinct p q h = same-place p q h (eqb p q) refl
 
-  -- No entry that matches has more mask ones than the route taken.
+  -- No matching entry that is up has more mask ones than the route taken.
   pub taken-has-most-ones : (a : Address) {p n : ℕ} {r : Route} → searchOf a (relayAfter cs .routes) ≡ At p n r
       → (q : ℕ) → CandidateAt a (relayAfter cs .routes) q → onesOf (maskAt (relayAfter cs .routes) q) ≤ n
   taken-has-most-ones a e = search-most-ones a (relayAfter cs .routes) masks-contiguous e

@@ -1,6 +1,6 @@
 -- What C reads of the answer of hj_search: page 02, W-202 ("the place number and its count of mask ones as well, and for no match a plain no"). Of any relay,
 -- found is 0 exactly where the search says no. After any history nothing is cut: the parts are the place, the ones and the port of the entry taken, which is
--- the one with most ones among those that match. Assumes nothing.
+-- the one with most ones among those that are up and match. Assumes nothing.
 use native.Mathlib.Omega.{arith}
 use native.Mathlib.Nat.{div-eq-of-lt, mod-eq-of-lt}
 use Prim.Native.Nat.{ℕ, _+_, _*_, _/_, _%_, _^_, _≤_, _<_}
@@ -54,7 +54,7 @@ pub record Named (n place ones port : ℕ) : Type 0 where
   -- the sixteen bits above are 0
   pub above : n / 2 ^ 48 ≡ 0
 
--- of the routes that match an address, the one that an answer names is the longest
+-- of the routes that are up and match an address, the one that an answer names is the longest
 pub record Longest (a : Address) (rs : List Route) (n : ℕ) : Type 0 where
   pub matches : CandidateAt a rs (foundPlace n)
   pub ones : foundOnes n ≡ onesOf (maskAt rs (foundPlace n))
@@ -132,7 +132,7 @@ module _ (cs : List Call) (a : Address) where
       let is : searchAnswer (relayAfter cs) a ≡ searchParts 1 p n (r .port) = ap foundNumber e in
       (rw is (named-whole p n (r .port) (omega arith) (omega arith) (omega arith)), (place, (ones, port)))
 
-  -- So the place read holds a route that matches, with the ones and the port read; no route that matches has more ones, and no other has as many.
+  -- So the place read holds a route that is up and matches, with the ones and the port read; no such route has more ones, and no other has as many.
   pub names-the-longest : isFound (searchAnswer (relayAfter cs) a) ≡ 1 → Longest a (relayAfter cs .routes) (searchAnswer (relayAfter cs) a)
   names-the-longest h = by-answer (searchOf a (relayAfter cs .routes)) refl
     where
@@ -152,22 +152,24 @@ module _ (cs : List Call) (a : Address) where
           }
 
   -- a route with mask 0 has the prefix 0.0.0.0, and matches every address
-  matches-all : (p : ℕ) → isFilled (routeAt (relayAfter cs .routes) p) ≡ true → maskAt (relayAfter cs .routes) p ≡ 0
+  matches-all : (p : ℕ) → isFilled (routeAt (relayAfter cs .routes) p) ≡ true → routeAt (relayAfter cs .routes) p .availability ≡ 1
+      → maskAt (relayAfter cs .routes) p ≡ 0
       → CandidateAt a (relayAfter cs .routes) p
-  matches-all p filled mask =
+  matches-all p filled up mask =
       let r = routeAt (relayAfter cs .routes) p in
       let inside = prefix-form (r .prefix) (r .mask) .0 (good-record cs p filled .1 .0) .2 in
       let none : (x : ℕ) → bitAnd x (r .mask .0) ≡ 0 = λ x. ap (bitAnd x) mask ∙ and-zero-r x in
-      candidate-is r a .1 (filled, none (a .0) ∙ sym (none (r .prefix .0)) ∙ inside)
+      candidate-is r a .1 (filled, up, none (a .0) ∙ sym (none (r .prefix .0)) ∙ inside)
 
-  -- 0 ones is not no: the route 0.0.0.0 with mask 0 is found, with 0 ones, by every address that no other route matches.
-  pub no-ones-is-found : (p : ℕ) → isFilled (routeAt (relayAfter cs .routes) p) ≡ true → maskAt (relayAfter cs .routes) p ≡ 0
+  -- 0 ones is not no: the route 0.0.0.0 with mask 0, where it is up, is found, with 0 ones, by every address that no other route that is up matches.
+  pub no-ones-is-found : (p : ℕ) → isFilled (routeAt (relayAfter cs .routes) p) ≡ true → routeAt (relayAfter cs .routes) p .availability ≡ 1
+      → maskAt (relayAfter cs .routes) p ≡ 0
       → ((q : ℕ) → CandidateAt a (relayAfter cs .routes) q → q ≡ p)
       → Named (searchAnswer (relayAfter cs) a) p 0 (routeAt (relayAfter cs .routes) p .port)
-  no-ones-is-found p filled mask alone =
+  no-ones-is-found p filled up mask alone =
       let rs = relayAfter cs .routes in
       let found =
-      search-is a rs p (matches-all p filled mask)
+      search-is a rs p (matches-all p filled up mask)
       (λ q c. let e = alone q c in rw e (omega arith)) (λ q l c. let e = alone q c in absurd (omega arith))
       in
       let ones : onesOf (maskAt rs p) ≡ 0 = ap onesOf mask ∙ mask-ones 0 (omega arith) in

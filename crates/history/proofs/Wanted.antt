@@ -18,7 +18,8 @@ use Rattle.address.specs.declared.Address.{Address}
 use Rattle.address.specs.declared.PathAddress.{PathAddress}
 use Rattle.records.specs.Held.{holdsGroup, holdsPath}
 use Rattle.lookup.specs.Lookup.{groupFound, pathFound, groupSays, pathSays, groupPlace, pathPlace}
-use Rattle.routes.specs.Routes.{isFilled, matched, candidate}
+use Rattle.routes.specs.Routes.{isFilled}
+use Rattle.routes.proofs.Candidates.{candidate-is}
 use Rattle.routes.specs.Search.{searchOf}
 use Rattle.routes.specs.declared.Found.{Found}
 use Rattle.routes.specs.declared.Found.the-variants.{At, No}
@@ -37,7 +38,7 @@ use Rattle.verdict.specs.declared.Target.the-variants as target
 use Rattle.verdict.specs.declared.Case.{Case}
 use Rattle.verdict.specs.declared.Local.{Local}
 use Rattle.verdict.specs.declared.Local.the-variants.{No, Delivered, Unknown}
-use Rattle.verdict.specs.declared.Obstacle.the-variants.{NoRoute, RouteNotUp}
+use Rattle.verdict.specs.declared.Obstacle.the-variants.{NoRoute}
 use Rattle.verdict.specs.declared.Wish.{Wish}
 use Rattle.verdict.specs.declared.Wish.the-variants.{NotAsked, Refused, Wanted}
 use Rattle.verdict.specs.declared.Place.{Place}
@@ -104,7 +105,7 @@ module _ (r : Relay) (k : Kept r) (p : ℕ) (inside : p < 8) where
 
   abbrev GoodWay : Way → Type 0
   GoodWay Lost = Unit
-  GoodWay (By set availability) = inSet p set ≡ true → isSetUp (portIn r p) ≡ true
+  GoodWay (By port) = inSet p port ≡ true → isSetUp (portIn r p) ≡ true
 
   pick-good : (t : Bool) (a b : Place) → (t ≡ true → Good a) → Good b → Good (pick t a b)
   pick-good true a b f g = f refl
@@ -133,14 +134,13 @@ module _ (r : Relay) (k : Kept r) (p : ℕ) (inside : p < 8) where
       tt
 
   found-good : (a : Address) (f : Found) → searchOf a (r .routes) ≡ f → GoodWay (wayOf f)
-  unfolding candidate
   found-good a No e = tt
   found-good a (At place ones x) e =
       λ m.
       let found = search-found a (r .routes) e in
       let l : place < 64 = rw (sym (k .routes)) (found .0) in
       let held = found .1 in
-      let filled = and-true (isFilled x) (matched x a) (found .2) .0 in
+      let filled = candidate-is x a .0 (found .2) .0 in
       let none =
       zero-none (recordChecks (readySet r) (routeIn r place)) ((λ z. omega arith), ((λ z. omega arith), ((λ z. omega arith), tt)))
       (k .good .routes place l (sym (ap isFilled held) ∙ filled)) in
@@ -175,7 +175,7 @@ module _ (r : Relay) (k : Kept r) (p : ℕ) (inside : p < 8) where
   route-line : (w : Way) → GoodWay w → GoodLine (routeLine w)
   unfolding routeLine
   route-line Lost g = tt
-  route-line (By set availability) g = pick-line (eqb availability 1) (Wanted set) (Refused RouteNotUp) g tt
+  route-line (By port) g = g
 
   unheard-line : (local : Local) → GoodLine (unheardBy local)
   unheard-line No = tt

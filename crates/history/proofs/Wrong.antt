@@ -16,13 +16,9 @@ use Rattle.meaning.specs.Asked.{spentOf}
 use Rattle.routes.specs.Refusals.{codesRefused}
 use Rattle.routes.specs.Routes.{matched, candidate}
 use Rattle.routes.specs.Search.{beaten, betterOf, searchFrom, searchOf}
-use Rattle.routes.specs.declared.Found.the-variants.{At}
+use Rattle.routes.specs.declared.Found.the-variants.{At, No}
 use Rattle.routes.specs.declared.Route.{Route}
 use Rattle.routes.proofs.Marked as marked
-use Rattle.verdict.specs.Rule.{routeLine}
-use Rattle.verdict.specs.declared.Obstacle.the-variants.{RouteNotUp}
-use Rattle.verdict.specs.declared.Wish.the-variants.{Refused}
-use Rattle.lookup.specs.ForTarget.{wayOf}
 use Rattle.state.specs.Relay.{Relay, portSetUp}
 use Rattle.survey.specs.Survey.{isFitting}
 use Rattle.survey.specs.declared.Sought.{Sought}
@@ -45,7 +41,7 @@ pub not-the-first-match : searchOf (record { 0 = dotted 10 4 9 16 }) marked.all 
 unfolding searchOf searchFrom betterOf beaten candidate matched onesOf onesBelow
 not-the-first-match = refl
 
--- a route that is not up passed over for a shorter one: case a with D not up takes D all the same, and the answer is 12
+-- a route that is not up hiding a shorter one that is: case a with D not up takes C, and nothing where no other is there
 abbrev notUp : Route
 notUp =
     record {
@@ -57,10 +53,11 @@ notUp =
       capabilities = 0;
     }
 
-pub taken-though-not-up :
-    routeLine (wayOf (searchOf (record { 0 = dotted 10 4 9 14 }) (marked.A ∷ marked.B ∷ marked.C ∷ notUp ∷ []))) ≡ Refused RouteNotUp
-unfolding searchOf searchFrom betterOf beaten candidate matched onesOf onesBelow routeLine
-taken-though-not-up = refl
+pub passed-over-if-not-up :
+    (searchOf (record { 0 = dotted 10 4 9 14 }) (marked.A ∷ marked.B ∷ marked.C ∷ notUp ∷ []) ≡ At 2 24 marked.C)
+    × (searchOf (record { 0 = dotted 10 4 9 14 }) (notUp ∷ []) ≡ No)
+unfolding searchOf searchFrom betterOf beaten candidate matched onesOf onesBelow
+passed-over-if-not-up = (refl, refl)
 
 -- capability 3 taken for both: both is 4
 pub three-is-refused : (codesRefused 1 3 ≡ true) × (codesRefused 1 4 ≡ false)

@@ -1,11 +1,12 @@
--- The wrong relays of page 01, "What a promise has to shut out". A relay is told by what it does, and it keeps its promise where that is what the
--- rules give for every input; none that does so always refuses, always names port 0, copies its first answer, does nothing, or has counts of its own.
--- What shows it is page 01's marked cases a and b, as whole calls: the settings made from a fresh relay on, then the octets received. Assumes nothing.
+-- The wrong relays of page 01, "What a promise has to shut out", and of page 02, W-204. A relay is told by what it does, and it keeps its promise where
+-- that is what the rules give for every input; none that does so always refuses, always names port 0, copies its first answer, hides a route that is up
+-- behind one that is not, does nothing, or has counts of its own. What shows it is page 01's marked cases a and b, as whole calls: the settings made from
+-- a fresh relay on, then the octets received. Assumes nothing.
 use native.Mathlib.Omega.{arith}
 use Prim.Native.Nat.{ℕ, _+_, _*_, _%_, _^_, _<_}
 use mathlib.Core.Path.{_≡_, refl, sym, ap, _∙_}
-use mathlib.Core.Bool.{true}
-use mathlib.Core.List.{List, [], _∷_, _++_}
+use mathlib.Core.Bool.{true, false}
+use mathlib.Core.List.{List, [], _∷_, _++_, map}
 use lib.ListN.{length, replicate}
 use Rattle.checks.specs.Order.{firstOf}
 use Rattle.sets.specs.Sets.{inSet}
@@ -29,10 +30,14 @@ use Rattle.settings.specs.Refusals.{otherClass, portMaskRefused, formRefused, o
 use Rattle.refusals.specs.Ready.{readySet}
 use Rattle.refusals.specs.Elsewhere.{routeElsewhere}
 use Rattle.routes.specs.Refusals.{prefixRefused, codesRefused}
-use Rattle.routes.specs.Routes.{matched, candidate, sameEntry}
+use Rattle.routes.specs.Routes.{isUp, matched, candidate, sameEntry}
 use Rattle.routes.specs.Search.{beaten, betterOf, searchFrom, searchOf}
+use Rattle.routes.specs.declared.Route.{Route}
+use Rattle.routes.specs.declared.Found.the-variants.{At}
+use Rattle.routes.proofs.Longest.{CandidateAt}
+use Rattle.routes.proofs.Marked as marked
 use Rattle.queue.specs.Queue.{fresh, putOf}
-use Rattle.state.specs.Relay.{Relay, freshRelay, queueIn, counterIn, portSetUp}
+use Rattle.state.specs.Relay.{Relay, freshRelay, routeIn, queueIn, counterIn, portSetUp}
 use Rattle.tally.specs.Tally.{counterFor, countedAt}
 use Rattle.relay.specs.Outgoing.{enteredIf, enteredAll}
 use Rattle.relay.specs.Received.{receivedState}
@@ -60,6 +65,10 @@ settings =
     ∷ route 3 (dotted 10 4 9 14) 32
     ∷ []
 
+-- and then D goes down
+abbrev pub without-d : List Call
+without-d = settings ++ (setRoute 3 (record { 0 = dotted 10 4 9 14 }) (record { 0 = maskOf 32 }) 3 2 0 ∷ [])
+
 -- a header of twelve octets and no data: TP-ID 4, addresses of four octets, from 192.0.2.2
 abbrev pub toward : ℕ → ℕ → ℕ → ℕ → List ℕ
 toward a b c d = 32 ∷ 12 ∷ 74 ∷ 65 ∷ a ∷ b ∷ c ∷ d ∷ 192 ∷ 0 ∷ 2 ∷ 2 ∷ []
@@ -77,19 +86,35 @@ sentTo set =
       size = 12;
     }
 
+-- a route as if it were up, whatever its availability
+abbrev pub asIfUp : Route → Route
+asIfUp r =
+    record {
+      filled = r .filled;
+      prefix = r .prefix;
+      mask = r .mask;
+      port = r .port;
+      availability = 1;
+      capabilities = r .capabilities;
+    }
+
 -- Case a: 10.4.9.14 goes to port 3 alone, where one entry more waits, and one more is received. Case b after it: 10.4.9.16 goes to port 2 alone.
+-- Case a with D down: D would be the longest, but C is taken, and port 2.
 abbrev then-a : List Call
 then-a = settings ++ (received (toward 10 4 9 14) ∷ [])
 
 pub record Cases : Type 0 where
   pub a : endingOf (relayAfter settings) 0 (toward 10 4 9 14) 50 ≡ sentTo (2 ^ 3)
   pub b : endingOf (relayAfter then-a) 0 (toward 10 4 9 16) 50 ≡ sentTo (2 ^ 2)
+  pub down : endingOf (relayAfter without-d) 0 (toward 10 4 9 14) 50 ≡ sentTo (2 ^ 2)
+  pub longest : searchOf (record { 0 = dotted 10 4 9 14 }) (map asIfUp (relayAfter without-d .routes)) ≡ At 3 32 marked.D
+  pub routes : CandidateAt (record { 0 = dotted 10 4 9 14 }) (relayAfter without-d .routes) 2 × (isUp (routeIn (relayAfter without-d) 3) ≡ false)
   pub waiting : (queueIn (relayAfter settings) 3 .count ≡ 0) × (queueIn (relayAfter then-a) 3 .count ≡ 1)
   pub receipts : (counterIn (relayAfter settings) 0 ≡ 0) × (counterIn (relayAfter then-a) 0 ≡ 1)
 
 pub cases : Cases
 unfolding firstOf classOf classIn familyOf scpsClass netClass otherClass portMaskRefused formRefused onesRefused maskForm onesOf onesBelow fresh freshRelay readySet routeElsewhere prefixRefused codesRefused sameEntry number controlOf forbidden addressSize stampSize layoutOf addressesOf qosOf octetOf stampOf lengthOf fieldsOf headerOf readChecks readOf aimOf originOf subnetBroadcast broadcastIn classBroadcast ownBroadcast surveyBelow targetOf localOf routeLine lineOf grantedOf copiesOf rulingOf ruledBy ruleTarget ruleOf portSetUp callChecks headerEnding endingOf receivedState countedAt counterFor enteredAll enteredIf putOf matched candidate beaten betterOf searchFrom searchOf
-cases = record { a = refl; b = refl; waiting = (refl, refl); receipts = (refl, refl) }
+cases = record { a = refl; b = refl; down = refl; longest = refl; routes = (refl, refl); waiting = (refl, refl); receipts = (refl, refl) }
 
 -- ---- verdicts
 -- what a relay makes of octets that came in by a port, with so much room for output
@@ -124,6 +149,19 @@ module _ (verdict : Verdict) (kept : (r : Relay) (port : ℕ) (octets : List ℕ
       let same = wrong settings 0 (record { 0 = 1 }) (toward 10 4 9 14) (toward 10 4 9 16) (replicate 50 0) in
       let b = kept (relayAfter then-a) 0 (toward 10 4 9 16) 50 ∙ cases .b in
       let ports : _≡_ {A = ℕ} 4 8 = ap (λ e. e .ruling .granted) (sym b ∙ same ∙ in-case-a) in omega arith
+
+  -- It does not keep back a datagram for which a route is there that is up, where the longest of all that match is not up.
+  pub hiding-a-live-route :
+      ((cs : List Call) (w x y z place ones live : ℕ) (r : Route)
+      → searchOf (record { 0 = dotted w x y z }) (map asIfUp (relayAfter cs .routes)) ≡ At place ones r
+      → isUp (routeIn (relayAfter cs) place) ≡ false
+      → CandidateAt (record { 0 = dotted w x y z }) (relayAfter cs .routes) live
+      → verdict (relayAfter cs) 0 (toward w x y z) 50 .ruling .onward ≡ SentOn
+      → ⊥)
+      → ⊥
+  hiding-a-live-route wrong =
+      wrong without-d 10 4 9 14 3 32 2 marked.D (cases .longest) (cases .routes .1) (cases .routes .0)
+      (ap (λ e. e .ruling .onward) (kept (relayAfter without-d) 0 (toward 10 4 9 14) 50 ∙ cases .down))
 
 -- ---- states
 -- what a relay leaves after a call

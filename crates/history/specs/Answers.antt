@@ -63,10 +63,10 @@ receiveRows =
     -- refused: nothing is said of the halves, and no port took an entry
     endings (16 ∷ 17 ∷ 1 ∷ 2 ∷ 4 ∷ 3 ∷ 5 ∷ 8 ∷ 7 ∷ 6 ∷ []) (0 ∷ []) (0 ∷ []) false
     -- not delivered: refused onward, or sent on
-    ∷ endings (0 ∷ []) (0 ∷ []) (9 ∷ 11 ∷ 12 ∷ 10 ∷ 13 ∷ 14 ∷ 15 ∷ []) false
+    ∷ endings (0 ∷ []) (0 ∷ []) (9 ∷ 11 ∷ 10 ∷ 13 ∷ 14 ∷ 15 ∷ []) false
     ∷ endings (0 ∷ []) (0 ∷ []) (1 ∷ []) true
     -- delivered or 26: not asked or refused onward, or sent on
-    ∷ endings (0 ∷ []) (1 ∷ 26 ∷ []) (0 ∷ 11 ∷ 12 ∷ 10 ∷ 13 ∷ 14 ∷ 15 ∷ []) false
+    ∷ endings (0 ∷ []) (1 ∷ 26 ∷ []) (0 ∷ 11 ∷ 10 ∷ 13 ∷ 14 ∷ 15 ∷ []) false
     ∷ endings (0 ∷ []) (1 ∷ 26 ∷ []) (1 ∷ []) true
     ∷ []
 

@@ -33,7 +33,7 @@ fn way_of(found: Found) -> Way
     ensures { λ r. ⌜ r ≡ wayOf found ⌝ }
 {
     match found {
-        Found::At(_, _, route) => Way::By(sets::only_port(route.port), route.availability),
+        Found::At(_, _, route) => Way::By(sets::only_port(route.port)),
         Found::No => Way::Lost,
     }
 }

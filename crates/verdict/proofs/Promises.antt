@@ -19,7 +19,7 @@ use Rattle.verdict.specs.declared.Case.{Case}
 use Rattle.verdict.specs.declared.Local.{Local}
 use Rattle.verdict.specs.declared.Local.the-variants.{No, Delivered, Unknown}
 use Rattle.verdict.specs.declared.Obstacle.{Obstacle}
-use Rattle.verdict.specs.declared.Obstacle.the-variants.{NotForUs, NoRoute, RouteNotUp}
+use Rattle.verdict.specs.declared.Obstacle.the-variants.{NotForUs, NoRoute}
 use Rattle.verdict.specs.declared.Wish.{Wish}
 use Rattle.verdict.specs.declared.Wish.the-variants.{NotAsked, Refused, Wanted}
 
@@ -58,10 +58,6 @@ path-case true true set h = refused-asked NoRoute h
 path-case true false set h = refl
 path-case false u set h = wanted-asked set h
 
-route-case : {X : Type 0} (t : Bool) (set : ℕ) → pick t (Wanted set) (Refused RouteNotUp) ≡ NotAsked → X
-route-case true set h = wanted-asked set h
-route-case false set h = refused-asked RouteNotUp h
-
 unheard-asked : (local : Local) → local ≡ No → unheardBy local ≡ NotAsked → ⊥
 unheard-asked No z h = refused-asked NotForUs h
 unheard-asked Delivered z h = true-false cc
@@ -78,7 +74,7 @@ router-asked Path Missing w arrival ready o h = refused-asked NoRoute h
 router-asked Path (Held send word) w arrival ready o h =
     eqb-false word 0 (path-case (eqb (exceptBy send arrival) 0) (eqb word 0) (exceptBy send arrival) h) o
 router-asked Route p Lost arrival ready o h = refused-asked NoRoute h
-router-asked Route p (By set availability) arrival ready o h = route-case (eqb availability 1) set h
+router-asked Route p (By port) arrival ready o h = wanted-asked port h
 
 host-asked : (t : Target) (p : Place) (local : Local) → oursBy t (hereBy p) ≡ 0 → local ≡ No → hostLine t local ≡ NotAsked → ⊥
 host-asked Here p local o z h = omega arith

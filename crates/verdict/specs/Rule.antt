@@ -15,7 +15,7 @@ use Rattle.verdict.specs.declared.Place.the-variants.{Held, Missing}
 use Rattle.verdict.specs.declared.Way.{Way}
 use Rattle.verdict.specs.declared.Way.the-variants.{By, Lost}
 use Rattle.verdict.specs.declared.Case.{Case}
-use Rattle.verdict.specs.declared.Obstacle.the-variants.{NotForUs, HopsUsedUp, NoRoute, RouteNotUp, LeavesDomain, TooBig, QueuesFull}
+use Rattle.verdict.specs.declared.Obstacle.the-variants.{NotForUs, HopsUsedUp, NoRoute, LeavesDomain, TooBig, QueuesFull}
 use Rattle.verdict.specs.declared.Wish.{Wish}
 use Rattle.verdict.specs.declared.Wish.the-variants.{NotAsked, Refused, Wanted}
 use Rattle.verdict.specs.declared.Local.{Local}
@@ -93,10 +93,10 @@ pathLine Missing arrival = Refused NoRoute
 pathLine (Held send here) arrival =
     pick (not (eqb (exceptBy send arrival) 0)) (Wanted (exceptBy send arrival)) (pick (not (eqb here 0)) NotAsked (Refused NoRoute))
 
--- the route taken, if it is up
+-- the port of the route taken; 11 if no route that is up matches (page 02, W-204)
 unfoldable pub routeLine : Way → Wish
 routeLine Lost = Refused NoRoute
-routeLine (By set availability) = pick (eqb availability 1) (Wanted set) (Refused RouteNotUp)
+routeLine (By port) = Wanted port
 
 abbrev pub routerLine : Target → Place → Way → ℕ → ℕ → Wish
 routerLine Here p w arrival ready = NotAsked

@@ -7,7 +7,7 @@
 // set of ports is a number in which port p is 2 to the power of p.
 //
 // The awkward case is a number of page 01 that both halves use, 1: delivered in one, sent on in the other. So each half is a kind of its
-// own, and has its number (0, 1, 26; 0, 1, 9 to 15) by a function.
+// own, and has its number (0, 1, 26; 0, 1, 9 to 11, 13 to 15) by a function.
 pub mod copies;
 pub mod local_half;
 pub mod onward_half;
@@ -43,9 +43,9 @@ pub enum Place {
     Missing,
 }
 
-// What the route search found: the port of the route taken, as a set, and its availability.
+// What the route search found: the port of the route taken, as a set. A route that is taken is up.
 pub enum Way {
-    By(u32, u32),
+    By(u32),
     Lost,
 }
 
@@ -72,7 +72,6 @@ pub enum Obstacle {
     NotForUs,
     HopsUsedUp,
     NoRoute,
-    RouteNotUp,
     LeavesDomain,
     TooBig,
     QueuesFull,
@@ -120,7 +119,6 @@ pub fn obstacle_number(obstacle: Obstacle) -> u32
         Obstacle::NotForUs => 9,
         Obstacle::HopsUsedUp => 10,
         Obstacle::NoRoute => 11,
-        Obstacle::RouteNotUp => 12,
         Obstacle::LeavesDomain => 13,
         Obstacle::TooBig => 14,
         Obstacle::QueuesFull => 15,

@@ -71,17 +71,14 @@ fn path_line(p: Place, arrival: u32) -> Wish
     Wish::Refused(Obstacle::NoRoute)
 }
 
-// The route taken, where it is up. Its port may be the arrival port.
+// The port of the route taken, which may be the arrival port; 11 where no route was found.
 fn route_line(w: Way) -> Wish
     ensures { λ r. ⌜ r ≡ routeLine w ⌝ }
 {
-    let Way::By(set, availability) = w else {
+    let Way::By(port) = w else {
         return Wish::Refused(Obstacle::NoRoute);
     };
-    if availability != 1 {
-        return Wish::Refused(Obstacle::RouteNotUp);
-    }
-    Wish::Wanted(set)
+    Wish::Wanted(port)
 }
 
 // What a router makes of a target.

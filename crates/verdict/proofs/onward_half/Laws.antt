@@ -2,25 +2,16 @@
 use Prim.Native.Nat.{ℕ}
 use mathlib.Core.Path.{_≡_}
 use borrow.Author.Tests.{eq-eqb, ne-eqb}
-use Rattle.verdict.specs.Rule.{exceptBy, aloneBy, groupLine, pathLine, routeLine, routerLine, hostLine, lineOf}
+use Rattle.verdict.specs.Rule.{exceptBy, aloneBy, groupLine, pathLine, routerLine, hostLine, lineOf}
 use Rattle.verdict.specs.declared.Target.{Target}
 use Rattle.verdict.specs.declared.Place.{Place}
 use Rattle.verdict.specs.declared.Place.the-variants.{Held}
 use Rattle.verdict.specs.declared.Way.{Way}
-use Rattle.verdict.specs.declared.Way.the-variants.{By}
 use Rattle.verdict.specs.declared.Case.{Case}
 use Rattle.verdict.specs.declared.Local.{Local}
-use Rattle.verdict.specs.declared.Obstacle.the-variants.{NoRoute, RouteNotUp}
+use Rattle.verdict.specs.declared.Obstacle.the-variants.{NoRoute}
 use Rattle.verdict.specs.declared.Wish.{Wish}
 use Rattle.verdict.specs.declared.Wish.the-variants.{NotAsked, Refused, Wanted}
-
-pub route-down : (set availability : ℕ) → (availability ≡ 1 → ⊥) → Refused RouteNotUp ≡ routeLine (By set availability)
-unfolding routeLine
-route-down set availability h = simp (ne-eqb availability 1 h)
-
-pub route-up : (set availability : ℕ) → availability ≡ 1 → Wanted set ≡ routeLine (By set availability)
-unfolding routeLine
-route-up set availability h = simp (eq-eqb availability 1 h)
 
 module _ (send word arrival set : ℕ) (is : set ≡ exceptBy send arrival) where
   pub path-some : (set ≡ 0 → ⊥) → Wanted set ≡ pathLine (Held send word) arrival

@@ -1,6 +1,5 @@
--- `verdict::onward_half::route_line` meets its contract: each answer by the law of its return. Assumes nothing.
+-- `verdict::onward_half::route_line` meets its contract: each answer by the way that was told. Assumes nothing.
 use Rattle.verdict.specs.Rule.{routeLine}
-use Rattle.verdict.proofs.onward_half.Laws.{route-down, route-up}
 use borrow.Author.Needs.{needs}
 use Rattle.verdict.proofs.onward_half.route_line.Statement.{statement}
 use Rattle.verdict.proofs.onward_half.route_line.Tie as tie
@@ -16,10 +15,8 @@ unfolding routeLine
 returns c = rw (c .enum-told .given .1)
 
 returns-2 : tie.Need-returns-2
-returns-2 c = rw (c .before .before .w .given .1) (route-down _ _ (c .if1 .taken))
-
-returns-3 : tie.Need-returns-3
-returns-3 c = rw (c .before .before .w .given .1) (route-up _ _ (c .if1 .left))
+unfolding routeLine
+returns-2 c = rw (c .before .w .given .1)
 
 pub route-line-spec : {M : Type 1} → statement M
-route-line-spec = tie.close (tie.spec enum-known-w enum-told returns returns-2 returns-3)
+route-line-spec = tie.close (tie.spec enum-known-w enum-told returns returns-2)
