@@ -9,6 +9,7 @@ ghost use mathlib.Core.Path.{_≡_};
 ghost use Prim.Native.Nat.{_≤_, _<_};
 ghost use lib.ListN.{length};
 ghost use Rattle.header.specs.Form.{placesOf};
+ghost use Rattle.header.specs.Limits.{longestHeader};
 ghost use Rattle.sets.specs.Limits.{portCount};
 ghost use Rattle.state.specs.Layout.{stateWords, decode};
 ghost use Rattle.relay.specs.Outgoing.{entered, enteredIf, enteredAll, sentOutput};
@@ -49,7 +50,7 @@ pub fn enter_all(state: &mut [u32], took: u32, e: Entry)
 
 // The header sent on at the front of the output, where a port took an entry.
 pub fn send(took: u32, octets: &[u8], output: &mut [u8])
-    requires { ⌜ ((took ≡ 0 → ⊥) → (50 ≤ length (now output)) × (placesOf (now octets) .size ≤ length (now octets))) ⌝ }
+    requires { ⌜ ((took ≡ 0 → ⊥) → (longestHeader ≤ length (now output)) × (placesOf (now octets) .size ≤ length (now octets))) ⌝ }
     ensures { λ _. ⌜ now (output .exit) ≡ sentOutput took (now (octets .entry)) (now (output .entry)) ⌝ }
 {
     if took == 0 {

@@ -22,7 +22,7 @@ use Rattle.address.proofs.Row.{Row}
 use Rattle.address.proofs.ClassTable.{class-one, class-row}
 use Rattle.address.proofs.Paths.{path-valid}
 use Rattle.settings.proofs.Answers.{both-true, either-true}
-use Rattle.settings.specs.Refusals.{otherClass, isInvalid, pathClassRefused, mtuRefused, flagRefused, placeRefused}
+use Rattle.settings.specs.Refusals.{otherClass, isInvalid, pathClassRefused, largestMtu, mtuRefused, flagRefused, placeRefused}
 
 -- the classes in the order of their numbers, so that the number tells the class
 classes : List Class
@@ -76,8 +76,8 @@ range-taken low high n = (
 )
 
 -- 24: An MTU is taken exactly from 1 to 8,191.
-pub mtu-taken : (mtu : ℕ) → (mtuRefused mtu ≡ false) ↔ ((1 ≤ mtu) × (mtu ≤ 8191))
-mtu-taken = range-taken 1 8191
+pub mtu-taken : (mtu : ℕ) → (mtuRefused mtu ≡ false) ↔ ((1 ≤ mtu) × (mtu ≤ largestMtu))
+mtu-taken = range-taken 1 largestMtu
 
 -- 24: A yes/no number is taken exactly where it is 0 or 1.
 pub flag-taken : (v : ℕ) → (flagRefused v ≡ false) ↔ (v < 2)

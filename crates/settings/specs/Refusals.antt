@@ -55,8 +55,11 @@ unfoldable pub portMaskRefused : Address → Mask → Bool
 portMaskRefused a m = formRefused a (maskForm (m .0))
 
 -- 24: "an MTU of 1 to 8,191"
+abbrev pub largestMtu : ℕ
+largestMtu = 8191
+
 abbrev pub mtuRefused : ℕ → Bool
-mtuRefused mtu = not (between 1 8191 mtu)
+mtuRefused mtu = not (between 1 largestMtu mtu)
 
 -- 24: a yes/no number that is neither 0 nor 1 (docs/DECISIONS.md, Settings)
 abbrev pub flagRefused : ℕ → Bool

@@ -92,14 +92,17 @@ pub fn check_port_mask(a: Address, m: Mask) -> Check
     Check::Passed
 }
 
-// Refusal 24 of a port: the MTU is 1 to 8,191.
+// The largest MTU of a port: the longest datagram.
+const LARGEST_MTU: u32 = 8191;
+
+// Refusal 24 of a port: the MTU is 1 to that.
 pub fn check_mtu(mtu: u32) -> Check
     ensures { λ r. ⌜ r ≡ checkOf (mtuRefused mtu) ⌝ }
 {
     if mtu < 1 {
         return Check::Failed;
     }
-    if 8191 < mtu {
+    if LARGEST_MTU < mtu {
         return Check::Failed;
     }
     Check::Passed
