@@ -1,9 +1,7 @@
 -- What a ruling grants to a port it takes or drops, and a port that takes has room: fullness is as it was before the call (page 01, end of
 -- "Onward half"). Assumes nothing.
 use native.Mathlib.Omega.{arith}
-use native.Mathlib.Nat.{div-eq-of-lt}
-use Prim.Native.Nat.{ℕ, _+_, _%_, _<_}
-use lib.Pow.{pow-pos}
+use Prim.Native.Nat.{ℕ, _+_, _<_}
 use mathlib.Core.Path.{_≡_, refl, sym, ap, _∙_}
 use mathlib.Core.Bool.{Bool, true, false, not, _&&_}
 use mathlib.Core.List.{List}
@@ -50,18 +48,18 @@ use Rattle.meaning.specs.Arrival.{arrivalChecks}
 use Rattle.judge.specs.Ending.{noRuling, refusedBy, callChecks, headerEnding, octetsEnding, arrivalAt, endingOf}
 use Rattle.judge.specs.declared.Ending.{Ending}
 use Rattle.history.specs.Ledger.{one}
-use Rattle.history.proofs.Bits.{in-and, in-except, in-gathered}
+use Rattle.history.proofs.Bits.{in-none, in-and, in-except, in-gathered}
 
 module _ (r : Relay) (p : ℕ) (inside : p < 8) where
   pub record Fair (x : Ruling) : Type 0 where
     pub split : one (inSet p (x .granted)) ≡ one (inSet p (x .took)) + one (inSet p (x .dropped))
     pub room : inSet p (x .took) ≡ true → ltb (queueIn r p .count) 32 ≡ true
-
-  none-in : inSet p 0 ≡ false
-  none-in = ap (λ (n : ℕ). eqb (n % 2) 1) (div-eq-of-lt (pow-pos p))
+    pub full : inSet p (x .dropped) ≡ true → ltb (queueIn r p .count) 32 ≡ false
 
   fair-none : (local : Local) (x : Onward) → Fair (record { local = local; onward = x; granted = 0; took = 0; dropped = 0 })
-  fair-none local x = record { split = simp (none-in); room = λ h. true-false (sym h ∙ none-in) }
+  fair-none local x = 
+      let none = in-none p in
+      record { split = simp none; room = λ h. true-false (sym h ∙ none); full = λ h. true-false (sym h ∙ none) }
 
   -- ---- copies
   split-case : (g f : Bool) → one g ≡ one (g && not f) + one (g && f)
@@ -97,6 +95,9 @@ module _ (r : Relay) (p : ℕ) (inside : p < 8) where
           room = λ h.
               let k = and-true (inSet p g) (not (inSet p full)) (sym (in-except p g full) ∙ h) in
               room-case (isSetUp (portIn r p)) (ltb (queueIn r p .count) 32) (fitting-ready (fitting (k .0))) (sym full-is ∙ not-true (inSet p full) (k .1));
+          full = λ h.
+              let k = and-true (inSet p g) (inSet p full) (sym (in-and p g full) ∙ h) in
+              not-true (ltb (queueIn r p .count) 32) (and-true (isSetUp (portIn r p)) (isFull (queueIn r p .count)) (sym full-is ∙ k .1) .1);
         }
 
     -- ---- what is granted has an MTU that holds the datagram

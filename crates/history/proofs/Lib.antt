@@ -8,32 +8,29 @@
 -- ledger of a port, the order of a queue and of taking);
 -- Marked (page 01's marked cases, one table), WrongRelays and Wrong (its wrong relays and its slips, each shown wrong).
 -- The others serve these: Boards, that no rule reads a counter; Small, that a set of ports is one of the eight; Bits, Fair and Queues.
-pub mod Boards
-pub mod Counters
 pub mod Bits
+pub mod Settled
 pub mod Fair
 pub mod Queues
 pub mod Ledger
+pub mod Counters
+pub mod Reach
+pub mod Keys
+pub mod Holds
 pub mod Refusals
-pub mod Meaning
-pub mod Oldest
-pub mod Takes
-pub mod Named
 pub mod Listed
 pub mod Answered
-pub mod OneResult
 pub mod Small
-pub mod Sums
 pub mod ReadBack
-pub mod Marked
-pub mod Reach
-pub mod Holds
-pub mod Keys
+pub mod Named
+pub mod Sums
+pub mod Line
+pub mod Takes
+pub mod Meaning
+pub mod Domain
 pub mod Search
 pub mod SearchBack
 pub mod Onward
-pub mod Wrong
-pub mod WrongRelays
 pub mod Wanted
 pub mod Copies
 pub mod Routed

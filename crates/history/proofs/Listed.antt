@@ -58,8 +58,9 @@ use Rattle.judge.specs.declared.Ending.{Ending}
 use Rattle.taking.specs.declared.Taking.the-variants as taking
 use Rattle.refusals.specs.Lists.{portChecks, routeChecks, groupChecks, pathChecks, routerChecks, clearChecks}
 use Rattle.adjust.specs.Settled.{newRoute}
-use Rattle.history.specs.Calls.{Call, setRouter, setPort, setRoute, setGroup, setPath, clearRoute, clearGroup, clearPath, receives, takes}
-use Rattle.history.specs.Answers.{number, ended, endedBy, takenBy, answerOf, numbers, entries, receiveRows, answersOf, listed, stands}
+use Rattle.history.specs.Calls.{Setting, setRouter, setPort, setRoute, setGroup, setPath, clearRoute, clearGroup, clearPath, takes, checksOf}
+use Rattle.history.specs.Outcome.{number, ended, ofEnding, ofTaking, outcome}
+use Rattle.history.specs.Answers.{numbers, entries, settingNumbers, endingRows, answersOf, listed, stands}
 use Rattle.history.proofs.Refusals.{refused-grants-nothing}
 
 -- ---- the lists of a receive
@@ -231,14 +232,14 @@ module _ (bare : Bool) where
 
 -- ---- the rows of a datagram that was judged
 abbrev Judged : Ruling → Type 0
-Judged x = stands receiveRows (ended 0 (localNumber (x .local)) (onwardNumber (x .onward)) (x .took)) ≡ true
+Judged x = stands endingRows (ended 0 (localNumber (x .local)) (onwardNumber (x .onward)) (x .took)) ≡ true
 
 -- a port took an entry, or all dropped theirs
 abbrev sent : Bool → ℕ
 sent none = onwardNumber (pick none (onward.Refused QueuesFull) onward.SentOn)
 
 -- not delivered: any obstacle
-refused-not-delivered : (o : Obstacle) → stands receiveRows (ended 0 0 (obstacleNumber o) 0) ≡ true
+refused-not-delivered : (o : Obstacle) → stands endingRows (ended 0 0 (obstacleNumber o) 0) ≡ true
 refused-not-delivered NotForUs = refl
 refused-not-delivered HopsUsedUp = refl
 refused-not-delivered NoRoute = refl
@@ -246,7 +247,7 @@ refused-not-delivered LeavesDomain = refl
 refused-not-delivered TooBig = refl
 refused-not-delivered QueuesFull = refl
 
-sent-not-delivered : (t : Bool) (took : ℕ) → eqb took 0 ≡ t → stands receiveRows (ended 0 0 (sent t) took) ≡ true
+sent-not-delivered : (t : Bool) (took : ℕ) → eqb took 0 ≡ t → stands endingRows (ended 0 0 (sent t) took) ≡ true
 sent-not-delivered true took h = simp (h)
 sent-not-delivered false took h = simp (h)
 
@@ -266,7 +267,7 @@ ours-listed TooBig h = refl
 ours-listed QueuesFull h = refl
 
 module _ (local : Local) (bare : eqb (localNumber local) 0 ≡ false) (yes : listed (1 ∷ 26 ∷ []) (localNumber local) ≡ true) where
-  sent-delivered : (t : Bool) (took : ℕ) → eqb took 0 ≡ t → stands receiveRows (ended 0 (localNumber local) (sent t) took) ≡ true
+  sent-delivered : (t : Bool) (took : ℕ) → eqb took 0 ≡ t → stands endingRows (ended 0 (localNumber local) (sent t) took) ≡ true
   sent-delivered true took h = simp (bare, yes, h)
   sent-delivered false took h = simp (bare, yes, h)
 
@@ -341,26 +342,26 @@ judged-ending : (r : Relay) (port : ℕ) (octets : List ℕ) (room : ℕ) → en
 judged-ending = of-every-ending Judged (λ r q t p w c. judged t p w c (surveyOf r q))
 
 -- ---- receiving
-refused-row : (n : ℕ) → eqb n 0 ≡ false → listed endNumbers n ≡ true → stands receiveRows (ended n 0 0 0) ≡ true
+refused-row : (n : ℕ) → eqb n 0 ≡ false → listed endNumbers n ≡ true → stands endingRows (ended n 0 0 0) ≡ true
 refused-row n z h = let k : listed refusals n ≡ true = rw z at h in row-first _ _ k
 
 ended-case : (r : Relay) (port : ℕ) (octets : List ℕ) (room : ℕ) (t : Bool) → eqb (endingOf r port octets room .refusal) 0 ≡ t
-    → stands receiveRows (endedBy (endingOf r port octets room)) ≡ true
+    → stands endingRows (ofEnding (endingOf r port octets room) .answer) ≡ true
 ended-case r port octets room true z =
     let n = eqb-true (endingOf r port octets room .refusal) 0 z in
     rw n (judged-ending r port octets room n)
 ended-case r port octets room false z =
     let e = endingOf r port octets room in
     let none = refused-grants-nothing r port octets room (eqb-false (e .refusal) 0 z) in
-    ap (λ (x : Ruling). stands receiveRows (ended (e .refusal) (localNumber (x .local)) (onwardNumber (x .onward)) (x .took))) none
+    ap (λ (x : Ruling). stands endingRows (ended (e .refusal) (localNumber (x .local)) (onwardNumber (x .onward)) (x .took))) none
     ∙ refused-row (e .refusal) z (end-listed r port octets room)
 
 -- Every ending stands in the table's rows of a receive.
-pub every-ending-is-listed : (r : Relay) (port : ℕ) (octets : List ℕ) (room : ℕ) → stands receiveRows (endedBy (endingOf r port octets room)) ≡ true
+pub every-ending-is-listed : (r : Relay) (port : ℕ) (octets : List ℕ) (room : ℕ) → stands endingRows (ofEnding (endingOf r port octets room) .answer) ≡ true
 every-ending-is-listed r port octets room = ended-case r port octets room _ refl
 
 -- 12 is given nowhere: it ends no call, and is no onward half (page 02, W-204).
-unended : (e : Ending) → stands receiveRows (endedBy e) ≡ true → e .refusal ≡ 12 → ⊥
+unended : (e : Ending) → stands endingRows (ofEnding e .answer) ≡ true → e .refusal ≡ 12 → ⊥
 unended e h is = true-false (sym h ∙ rw is)
 
 not-twelve : (o : Obstacle) → eqb (obstacleNumber o) 12 ≡ false
@@ -385,29 +386,29 @@ never-twelve r port octets room =
     )
 
 -- ---- taking
-taken-case : (t : Bool) (h : Head) → stands (numbers (16 ∷ 18 ∷ []) ∷ entries ∷ []) (takenBy (pick t (taking.Refused 16) (handsOut h))) ≡ true
-taken-case true h = refl
-taken-case false (First x) = refl
-taken-case false Nothing = refl
+taken-case : (port : ℕ) (t : Bool) (h : Head) → stands (numbers (16 ∷ 18 ∷ []) ∷ entries ∷ []) (ofTaking port (pick t (taking.Refused 16) (handsOut h)) .answer) ≡ true
+taken-case port true h = refl
+taken-case port false (First x) = refl
+taken-case port false Nothing = refl
 
 -- ---- settings
 pub number-row : (ns : List ℕ) (cs : Checks) → listed ns 0 ≡ true → allListed ns cs ≡ true → stands (numbers ns ∷ []) (number (firstOf cs)) ≡ true
 number-row ns cs z h = rw (first-listed ns cs z h) refl
 
--- The answer of every call that can change a relay stands in the table's rows for that call, whatever the relay.
-pub call-listed : (r : Relay) (c : Call) → stands (answersOf c) (answerOf r c) ≡ true
-unfolding takeOutcome
-call-listed r (setRouter x) = number-row (0 ∷ 24 ∷ []) (routerChecks x) refl refl
-call-listed r (setPort p address mask mtu) = number-row (0 ∷ 21 ∷ 25 ∷ 22 ∷ 24 ∷ 35 ∷ []) (portChecks r p address mask mtu) refl refl
-call-listed r (setRoute i prefix mask port availability capabilities) =
+pub setting-listed : (r : Relay) (s : Setting) → stands (numbers (settingNumbers s) ∷ []) (number (firstOf (checksOf r s))) ≡ true
+setting-listed r (setRouter x) = number-row (0 ∷ 24 ∷ []) (routerChecks x) refl refl
+setting-listed r (setPort p address mask mtu) = number-row (0 ∷ 21 ∷ 25 ∷ 22 ∷ 24 ∷ 35 ∷ []) (portChecks r p address mask mtu) refl refl
+setting-listed r (setRoute i prefix mask port availability capabilities) =
     number-row (0 ∷ 21 ∷ 22 ∷ 24 ∷ 23 ∷ []) (routeChecks r i (newRoute prefix mask port availability capabilities)) refl refl
-call-listed r (setGroup i address send subscribed) = number-row (0 ∷ 21 ∷ 25 ∷ 23 ∷ []) (groupChecks r i address send subscribed) refl refl
-call-listed r (setPath i path send here) = number-row (0 ∷ 21 ∷ 25 ∷ 24 ∷ 23 ∷ []) (pathChecks r i path send here) refl refl
-call-listed r (clearRoute i) = number-row (0 ∷ 21 ∷ []) (clearChecks i 64) refl refl
-call-listed r (clearGroup i) = number-row (0 ∷ 21 ∷ []) (clearChecks i 16) refl refl
-call-listed r (clearPath i) = number-row (0 ∷ 21 ∷ []) (clearChecks i 16) refl refl
-call-listed r (receives port slot octets output) = every-ending-is-listed r port octets (length output)
-call-listed r (takes port) = taken-case (not (portSetUp r port)) (takeOf (queueIn r port) .head)
+setting-listed r (setGroup i address send subscribed) = number-row (0 ∷ 21 ∷ 25 ∷ 23 ∷ []) (groupChecks r i address send subscribed) refl refl
+setting-listed r (setPath i path send here) = number-row (0 ∷ 21 ∷ 25 ∷ 24 ∷ 23 ∷ []) (pathChecks r i path send here) refl refl
+setting-listed r (clearRoute i) = number-row (0 ∷ 21 ∷ []) (clearChecks i 64) refl refl
+setting-listed r (clearGroup i) = number-row (0 ∷ 21 ∷ []) (clearChecks i 16) refl refl
+setting-listed r (clearPath i) = number-row (0 ∷ 21 ∷ []) (clearChecks i 16) refl refl
+
+pub taking-listed : (r : Relay) (port : ℕ) → stands (answersOf (takes port)) (outcome r (takes port) .answer) ≡ true
+unfolding takeOutcome
+taking-listed r port = taken-case port (not (portSetUp r port)) (takeOf (queueIn r port) .head)
 
 -- "No" with "not asked" never occurs: no row has it.
 unsaid : (x : Ruling) → Judged x → x .local ≡ No → x .onward ≡ onward.NotAsked → ⊥

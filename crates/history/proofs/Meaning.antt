@@ -57,7 +57,7 @@ zero-or-not (suc n) = inr (λ e. omega arith)
 
 module _ (p : ℕ) where
   pub none-in : {X : Type 0} → inSet p 0 ≡ true → X
-  none-in h = true-false (sym h ∙ ap (λ (n : ℕ). eqb (n % 2) 1) (div-eq-of-lt (pow-pos p)))
+  none-in h = true-false (sym h ∙ in-none p)
 
   -- ---- with addresses of one octet, what is granted is in the domain
   size-case : (t : Bool) (set fitting g : ℕ) → pick t (Refused TooBig) (Wanted (bitAnd set fitting)) ≡ Wanted g → inSet p g ≡ true → inSet p set ≡ true

@@ -20,8 +20,8 @@ use Rattle.verdict.specs.declared.Onward.the-variants as onward
 use Rattle.judge.specs.declared.Ending.{Ending}
 use Rattle.tally.specs.declared.Counter.{Counter}
 use Rattle.tally.specs.declared.Counter.the-variants as counter
-use Rattle.tally.specs.Tally.{CounterRow, numbered, inTable, counterFor, receiptCounter, localCounter, onwardCounter, discardCounter}
-use Rattle.history.specs.Tally.{isAt, given}
+use Rattle.tally.specs.Tally.{movesOf, CounterRow, numbered, inTable, counterFor, receiptCounter, localCounter, onwardCounter, discardCounter}
+use Rattle.history.specs.Tally.{isAt, sumAt}
 use Rattle.history.specs.Ledger.{one}
 
 -- no row of the table gives counter i
@@ -87,6 +87,10 @@ no-ones = refl
 discard-case : (t : Bool) (n : ℕ) → (t ≡ true → n ≡ 0) → pick (isAt (pick t counter.Nothing (counter.At 12)) 12) n 0 ≡ n
 discard-case true n z = sym (z refl)
 discard-case false n z = refl
+
+-- how much an ending gives counter i
+abbrev pub given : Ending → ℕ → ℕ
+given e i = sumAt (movesOf e) i
 
 module _ (e : Ending) where
   -- npInReceives counts each receipt that did not end in 16 or 17

@@ -32,24 +32,40 @@ use Rattle.address.specs.declared.PathAddress.{PathAddress}
 use Rattle.settings.specs.Refusals.{placeRefused, flagRefused}
 use Rattle.refusals.specs.Elsewhere.{routeElsewhere, groupElsewhere, pathElsewhere}
 use Rattle.refusals.specs.Lists.{entriesWait, portChecks, routeChecks, groupChecks, pathChecks, routerChecks, clearChecks}
-use Rattle.adjust.specs.Settled.{settled, newPort, newRoute, newGroup, newPath}
+use Rattle.adjust.specs.Settled.{newPort, newRoute, newGroup, newPath}
 use Rattle.address.specs.declared.Slot.{Slot}
 use Rattle.queue.specs.Queue.{takeOf}
 use Rattle.queue.specs.declared.Entry.{Entry}
 use Rattle.queue.specs.declared.Head.{Head}
 use Rattle.queue.specs.declared.Head.the-variants.{First, Nothing}
 use Rattle.queue.specs.declared.Queue.{Queue}
-use Rattle.taking.specs.Taking.{without, takenState}
+use Rattle.taking.specs.Taking.{without, takenRelay}
 use Rattle.judge.specs.Ending.{endingOf}
 use Rattle.judge.specs.declared.Ending.{Ending}
-use Rattle.tally.specs.Tally.{Move, movesOf, countedAt, countedAll}
-use Rattle.tally.specs.declared.Counter.{Counter}
-use Rattle.tally.specs.declared.Counter.the-variants as counter
 use Rattle.relay.specs.Outgoing.{entered, enteredIf, enteredAll}
-use Rattle.relay.specs.Received.{newEntry, receivedState}
-use Rattle.history.specs.Calls.{Call, setRouter, setPort, setRoute, setGroup, setPath, clearRoute, clearGroup, clearPath, receives, takes, done, runFrom, relayAfter}
+use Rattle.relay.specs.Received.{newEntry, receivedRelay}
+use Rattle.history.specs.Calls.{
+  Setting,
+  setRouter,
+  setPort,
+  setRoute,
+  setGroup,
+  setPath,
+  clearRoute,
+  clearGroup,
+  clearPath,
+  Call,
+  sets,
+  hears,
+  takes,
+  looks,
+  checksOf,
+  written,
+}
+use Rattle.history.specs.Outcome.{next, runFrom, relayAfter}
 use Rattle.history.specs.Reach.{Reached}
 use Rattle.history.proofs.Bits.{in-gathered}
+use Rattle.history.proofs.Settled.{settle-keeps}
 
 -- ---- which ports are set up only grows
 abbrev Grows : ℕ → ℕ → Type 0
@@ -146,8 +162,8 @@ module _ {A : Type 0} (P : A → Type 0) (d : A) (n : ℕ) where
       rw (ap (λ (k : ℕ). getD (set l i x) k d) same ∙ getD-set-same l i x d (rw (long, sym same) h)) new
   place-case l i x long new old j h false e = rw (getD-set-other l i j x d (eqb-false j i e)) (old j h)
 
-  written : (l : List A) (i : ℕ) (x : A) → length l ≡ n → P x → ((j : ℕ) → j < n → P (getD l j d)) → (j : ℕ) → j < n → P (getD (set l i x) j d)
-  written l i x long new old j h = place-case l i x long new old j h (eqb j i) refl
+  place-written : (l : List A) (i : ℕ) (x : A) → length l ≡ n → P x → ((j : ℕ) → j < n → P (getD l j d)) → (j : ℕ) → j < n → P (getD (set l i x) j d)
+  place-written l i x long new old j h = place-case l i x long new old j h (eqb j i) refl
 
 abbrev PortGood : Port → Type 0
 PortGood x = isSetUp x ≡ true
@@ -226,7 +242,7 @@ module _ (r : Relay) (k : Kept r) where
           routes = k .routes;
           good =
               record {
-                ports = written PortGood freshPort 8 (r .ports) p (newPort a m u) (k .eight) new (k .good .ports);
+                ports = place-written PortGood freshPort 8 (r .ports) p (newPort a m u) (k .eight) new (k .good .ports);
                 routes = λ i h. route-kept (readySet r) (readySet s) port-grows (routeIn r i) (k .good .routes i h);
                 groups = λ i h. group-kept (readySet r) (readySet s) port-grows (groupIn r i) (k .good .groups i h);
                 paths = λ i h. path-kept (readySet r) (readySet s) port-grows (pathIn r i) (k .good .paths i h);
@@ -238,7 +254,7 @@ module _ (r : Relay) (k : Kept r) where
   route-written i x new =
       let s = withRoute r i x in
       let g = same-grows (readySet r) (readySet s) (ready-same r s refl) in
-      let all = written (RouteGood (readySet r)) emptyRoute 64 (r .routes) i x (k .routes) new (k .good .routes) in
+      let all = place-written (RouteGood (readySet r)) emptyRoute 64 (r .routes) i x (k .routes) new (k .good .routes) in
       record {
         eight = k .eight;
         groups = k .groups;
@@ -257,7 +273,7 @@ module _ (r : Relay) (k : Kept r) where
   group-written i x new =
       let s = withGroup r i x in
       let g = same-grows (readySet r) (readySet s) (ready-same r s refl) in
-      let all = written (GroupGood (readySet r)) freshGroup 16 (r .mission .groups) i x (k .groups) new (k .good .groups) in
+      let all = place-written (GroupGood (readySet r)) freshGroup 16 (r .mission .groups) i x (k .groups) new (k .good .groups) in
       record {
         eight = k .eight;
         groups = length-set (r .mission .groups) i x ∙ k .groups;
@@ -276,7 +292,7 @@ module _ (r : Relay) (k : Kept r) where
   path-written i x new =
       let s = withPath r i x in
       let g = same-grows (readySet r) (readySet s) (ready-same r s refl) in
-      let all = written (PathGood (readySet r)) freshPath 16 (r .mission .paths) i x (k .paths) new (k .good .paths) in
+      let all = place-written (PathGood (readySet r)) freshPath 16 (r .mission .paths) i x (k .paths) new (k .good .paths) in
       record {
         eight = k .eight;
         groups = k .groups;
@@ -311,14 +327,6 @@ module _ (r : Relay) (k : Kept r) where
       numbered-five _ _ _ _ _ 21 21 25 24 23 (λ z. omega arith) (λ z. omega arith) (λ z. omega arith) (λ z. omega arith) (λ z. omega arith) taken in
       (none .1 .1 .0, none .1 .0)
 
-  -- taken, or refused and left as it was
-  settled-case : (t : Bool) (n : ℕ) (s : Relay) → eqb n 0 ≡ t → (n ≡ 0 → Kept s) → Kept (pick t s r)
-  settled-case true n s e f = f (eqb-true n 0 e)
-  settled-case false n s e f = k
-
-  settled-kept : (n : ℕ) (s : Relay) → (n ≡ 0 → Kept s) → Kept (settled n s r)
-  settled-kept n s f = settled-case (eqb n 0) n s refl f
-
 -- ---- datagrams leave the settings
 abbrev pub settingsOf : Relay → List Port × (List Group × (List PathPlace × List Route))
 settingsOf r = (r .ports, (r .mission .groups, (r .mission .paths, r .routes)))
@@ -330,15 +338,6 @@ by-settings r s k e = same-kept r s k (ap (λ x. x .0) e) (ap (λ x. x .1 .0) e)
 abbrev pub madeOf : Relay → ℕ × (List Port × (List Group × (List PathPlace × List Route)))
 madeOf r = (r .router, settingsOf r)
 
-counted-case : (r : Relay) (c : Counter) (n : ℕ) → madeOf (countedAt r c n) ≡ madeOf r
-unfolding countedAt
-counted-case r (counter.At place) n = refl
-counted-case r counter.Nothing n = refl
-
-counted-made : (moves : List Move) (r : Relay) → madeOf (countedAll r moves) ≡ madeOf r
-counted-made [] r = refl
-counted-made (move ∷ moves) r = counted-made moves (countedAt r (move .0) (move .1)) ∙ counted-case r (move .0) (move .1)
-
 entered-case : (t : Bool) (r : Relay) (p : ℕ) (e : Entry) → madeOf (pick t r (entered r p e)) ≡ madeOf r
 entered-case true r p e = refl
 entered-case false r p e = refl
@@ -349,51 +348,49 @@ entered-made took e zero r = refl
 entered-made took e (suc p) r =
     entered-case (eqb (bitAnd took (onlyPort p)) 0) (enteredAll r took e p) p e ∙ entered-made took e p r
 
-pub received-made : (r : Relay) (slot : Slot) (e : Ending) → madeOf (receivedState r slot e) ≡ madeOf r
-unfolding receivedState
-received-made r slot e = entered-made (e .ruling .took) (newEntry slot e) 8 (countedAll r (movesOf e)) ∙ counted-made (movesOf e) r
+pub received-made : (r : Relay) (slot : Slot) (e : Ending) → madeOf (receivedRelay r slot e) ≡ madeOf r
+unfolding receivedRelay
+received-made r slot e = entered-made (e .ruling .took) (newEntry slot e) 8 r
 
 taken-case : (t : Bool) (r : Relay) (port : ℕ) (q : Queue) (h : Head) → madeOf (pick t r (without r port q h)) ≡ madeOf r
 taken-case true r port q h = refl
 taken-case false r port q (First e) = refl
 taken-case false r port q Nothing = refl
 
-pub taken-made : (r : Relay) (port : ℕ) → madeOf (takenState r port) ≡ madeOf r
-unfolding takenState
+pub taken-made : (r : Relay) (port : ℕ) → madeOf (takenRelay r port) ≡ madeOf r
+unfolding takenRelay
 taken-made r port = taken-case (not (portSetUp r port)) r port (takeOf (queueIn r port) .queue) (takeOf (queueIn r port) .head)
 
-pub received-settings : (r : Relay) (slot : Slot) (e : Ending) → settingsOf (receivedState r slot e) ≡ settingsOf r
+pub received-settings : (r : Relay) (slot : Slot) (e : Ending) → settingsOf (receivedRelay r slot e) ≡ settingsOf r
 received-settings r slot e = ap (λ x. x .1) (received-made r slot e)
 
-pub taken-settings : (r : Relay) (port : ℕ) → settingsOf (takenState r port) ≡ settingsOf r
+pub taken-settings : (r : Relay) (port : ℕ) → settingsOf (takenRelay r port) ≡ settingsOf r
 taken-settings r port = ap (λ x. x .1) (taken-made r port)
 
 -- ---- each call, and then all
-pub one-kept : (r : Relay) (c : Call) → Kept r → Kept (done r c)
-one-kept r (setRouter x) k = settled-kept r k (firstOf (routerChecks x)) (withRouter r x) (λ z. same-kept r (withRouter r x) k refl refl refl refl)
-one-kept r (setPort p a m u) k = settled-kept r k (firstOf (portChecks r p a m u)) (withPort r p (newPort a m u)) (port-kept r k p a m u)
-one-kept r (setRoute i prefix mask port availability capabilities) k =
+taken-kept : (r : Relay) (k : Kept r) (s : Setting) → firstOf (checksOf r s) ≡ 0 → Kept (written r s)
+taken-kept r k (setRouter x) z = same-kept r (withRouter r x) k refl refl refl refl
+taken-kept r k (setPort p a m u) z = port-kept r k p a m u z
+taken-kept r k (setRoute i prefix mask port availability capabilities) z =
     let x = newRoute prefix mask port availability capabilities in
-    settled-kept r k (firstOf (routeChecks r i x)) (withRoute r i x) (λ z. route-written r k i x (route-new r k i x z))
-one-kept r (setGroup i a send subscribed) k =
-    settled-kept r k (firstOf (groupChecks r i a send subscribed)) (withGroup r i (newGroup a send subscribed))
-    (λ z. group-written r k i (newGroup a send subscribed) (group-new r k i a send subscribed z))
-one-kept r (setPath i p send here) k =
-    settled-kept r k (firstOf (pathChecks r i p send here)) (withPath r i (newPath p send here))
-    (λ z. path-written r k i (newPath p send here) (path-new r k i p send here z))
-one-kept r (clearRoute i) k =
-    settled-kept r k (firstOf (clearChecks i 64)) (withRoute r i emptyRoute) (λ z. route-written r k i emptyRoute (λ h. true-false (sym h)))
-one-kept r (clearGroup i) k =
-    settled-kept r k (firstOf (clearChecks i 16)) (withGroup r i freshGroup) (λ z. group-written r k i freshGroup (λ h. true-false (sym h)))
-one-kept r (clearPath i) k =
-    settled-kept r k (firstOf (clearChecks i 16)) (withPath r i freshPath) (λ z. path-written r k i freshPath (λ h. true-false (sym h)))
-one-kept r (receives port slot octets output) k =
-    by-settings r (done r (receives port slot octets output)) k (received-settings r slot (endingOf r port octets (length output)))
-one-kept r (takes port) k = by-settings r (done r (takes port)) k (taken-settings r port)
+    route-written r k i x (route-new r k i x z)
+taken-kept r k (setGroup i a send subscribed) z = group-written r k i (newGroup a send subscribed) (group-new r k i a send subscribed z)
+taken-kept r k (setPath i p send here) z = path-written r k i (newPath p send here) (path-new r k i p send here z)
+taken-kept r k (clearRoute i) z = route-written r k i emptyRoute (λ h. true-false (sym h))
+taken-kept r k (clearGroup i) z = group-written r k i freshGroup (λ h. true-false (sym h))
+taken-kept r k (clearPath i) z = path-written r k i freshPath (λ h. true-false (sym h))
+
+pub one-kept : (r : Relay) (c : Call) → Kept r → Kept (next r c)
+one-kept r (sets s) k = settle-keeps Kept r s k (taken-kept r k s)
+one-kept r (hears port slot octets output) k =
+    let e = endingOf r port octets (length output) in
+    by-settings r (receivedRelay r slot e) k (received-settings r slot e)
+one-kept r (takes port) k = by-settings r (takenRelay r port) k (taken-settings r port)
+one-kept r (looks l) k = k
 
 all-kept : (cs : List Call) (r : Relay) → Kept r → Kept (runFrom r cs)
 all-kept [] r k = k
-all-kept (c ∷ cs) r k = all-kept cs (done r c) (one-kept r c k)
+all-kept (c ∷ cs) r k = all-kept cs (next r c) (one-kept r c k)
 
 pub fresh-kept : Kept freshRelay
 unfolding freshRelay

@@ -23,7 +23,8 @@ use Rattle.routes.specs.declared.Found.the-variants.{At}
 use Rattle.routes.proofs.Longest.{Contiguous, Distinct, maskAt, CandidateAt, taken-contiguous, search-most-ones, search-only}
 use Rattle.refusals.specs.Ready.{readySet}
 use Rattle.refusals.specs.Record.{recordChecks}
-use Rattle.history.specs.Calls.{Call, relayAfter}
+use Rattle.history.specs.Calls.{Call}
+use Rattle.history.specs.Outcome.{relayAfter}
 use Rattle.history.proofs.Reach.{kept-after}
 use Rattle.history.proofs.Keys.{keys-unique}
 

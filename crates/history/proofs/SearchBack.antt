@@ -27,7 +27,8 @@ use Rattle.state.specs.Relay.{Relay}
 use Rattle.settings.specs.Sets.{isReady}
 use Rattle.answers.proofs.Digits.{digit, partAt}
 use Rattle.harpjuniper_reads.specs.Search.{searchParts, foundNumber, searchAnswer}
-use Rattle.history.specs.Calls.{Call, relayAfter}
+use Rattle.history.specs.Calls.{Call}
+use Rattle.history.specs.Outcome.{relayAfter}
 use Rattle.history.proofs.Reach.{not-false-true, kept-after}
 use Rattle.history.proofs.Search.{good-record, taken-has-most-ones, taken-is-the-only}
 

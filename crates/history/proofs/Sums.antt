@@ -12,58 +12,62 @@ use borrow.Author.Tests.{eqb-true}
 use Rattle.checks.specs.Order.{pick}
 use Rattle.checks.proofs.Bools.{true-false}
 use Rattle.address.specs.Mask.{onesBelow, onesOf}
-use Rattle.state.specs.Relay.{Relay, counterIn}
+use Rattle.queue.specs.declared.Entry.{Entry}
+use Rattle.state.specs.Relay.{Relay, freshRelay, counterIn}
 use Rattle.verdict.specs.Numbers.{localNumber, onwardNumber}
 use Rattle.judge.specs.Ending.{endingOf}
 use Rattle.judge.specs.declared.Ending.{Ending}
-use Rattle.history.specs.Calls.{Call, setRouter, setPort, setRoute, setGroup, setPath, clearRoute, clearGroup, clearPath, receives, takes, relayAfter}
-use Rattle.history.specs.Board.{Board, onBoard, freshBoard, next}
-use Rattle.history.specs.Over.{byEnding, sumOver}
-use Rattle.history.specs.Tally.{given, givenBy, tallyFrom}
+use Rattle.taking.specs.Taking.{takeOutcome}
+use Rattle.taking.specs.declared.Taking.{Taking}
+use Rattle.taking.specs.declared.Taking.the-variants.{Handed, Refused}
+use Rattle.tally.specs.Tally.{movesOf}
+use Rattle.history.specs.Calls.{Call, sets, hears, takes, looks}
+use Rattle.history.specs.Outcome.{number, ended, Outcome, quiet, ofEnding, ofTaking, outcome, next, sumFrom, sumOver}
+use Rattle.history.specs.Answers.{endingRows, stands}
+use Rattle.history.specs.Tally.{sumAt, stateAfter}
 use Rattle.history.specs.Ledger.{one}
-use Rattle.history.specs.Sums.{receipt, delivery, forwarded, portsIn, drops, totalOver}
-use Rattle.history.specs.Answers.{ended, receiveRows, stands}
+use Rattle.history.specs.Sums.{receipts, deliveries, forwardings, portsIn, drops}
 use Rattle.history.proofs.Counters.{counters}
-use Rattle.history.proofs.Named.{receives-counted, delivers-counted, forwards-counted, discards-counted}
+use Rattle.history.proofs.Named.{given, receives-counted, delivers-counted, forwards-counted, discards-counted}
 use Rattle.history.proofs.Listed.{every-ending-is-listed}
 use Rattle.history.proofs.Small.{sets-small}
 
--- ---- a counter that each ending gives f of it is the total of f
-module _ (i : ℕ) (f : Ending → ℕ)
-    (each : (r : Relay) (port : ℕ) (octets output : List ℕ) → given (endingOf r port octets (length output)) i ≡ f (endingOf r port octets (length output))) where
-  one-call : (b : Board) (c : Call) → givenBy b c i ≡ byEnding f b c
-  one-call b (setRouter x) = refl
-  one-call b (setPort p address mask mtu) = refl
-  one-call b (setRoute place prefix mask port availability capabilities) = refl
-  one-call b (setGroup place address send subscribed) = refl
-  one-call b (setPath place path send here) = refl
-  one-call b (clearRoute place) = refl
-  one-call b (clearGroup place) = refl
-  one-call b (clearPath place) = refl
-  one-call b (receives port slot octets output) = each (onBoard b) port octets output
-  one-call b (takes port) = refl
+-- ---- a counter that each outcome gives f of it is the total of f
+module _ (i : ℕ) (f : Outcome → ℕ)
+    (quiet-none : (n : ℕ) → f (quiet (number n)) ≡ 0)
+    (handed-none : (p : ℕ) (e : Entry) → f (ofTaking p (Handed e)) ≡ 0)
+    (each : (r : Relay) (port : ℕ) (octets : List ℕ) (room : ℕ) → sumAt (movesOf (endingOf r port octets room)) i ≡ f (ofEnding (endingOf r port octets room))) where
+  taking-gives : (p : ℕ) (x : Taking) → sumAt (ofTaking p x .moves) i ≡ f (ofTaking p x)
+  taking-gives p (Handed e) = sym (handed-none p e)
+  taking-gives p (Refused n) = sym (quiet-none n)
 
-  all-calls : (cs : List Call) (b : Board) → tallyFrom b cs i ≡ sumOver (byEnding f) b cs
-  all-calls [] b = refl
-  all-calls (c ∷ cs) b = rw (one-call b c, all-calls cs (next b c))
+  one-call : (r : Relay) (c : Call) → sumAt (outcome r c .moves) i ≡ f (outcome r c)
+  one-call r (sets s) = sym (quiet-none _)
+  one-call r (hears port slot octets output) = each r port octets (length output)
+  one-call r (takes port) = taking-gives port (takeOutcome r port)
+  one-call r (looks l) = sym (quiet-none _)
 
-  totalled : i < 15 → (cs : List Call) → counterIn (relayAfter cs) i ≡ totalOver f cs % 2 ^ 32
-  totalled inside cs = counters i inside cs ∙ ap (λ (n : ℕ). n % 2 ^ 32) (all-calls cs freshBoard)
+  all-calls : (cs : List Call) (r : Relay) → sumFrom (λ (o : Outcome). sumAt (o .moves) i) r cs ≡ sumFrom f r cs
+  all-calls [] r = refl
+  all-calls (c ∷ cs) r = rw (one-call r c, all-calls cs (next r c))
+
+  totalled : i < 15 → (cs : List Call) → counterIn (stateAfter cs .counters) i ≡ sumOver f cs % 2 ^ 32
+  totalled inside cs = counters i inside cs ∙ ap (λ (n : ℕ). n % 2 ^ 32) (all-calls cs freshRelay)
 
 -- npInReceives is the number of receives that did not end in 16 or 17.
 receipt-case : (t : Bool) → _≡_ {A = ℕ} (pick t 0 1) (one (not t))
 receipt-case true = refl
 receipt-case false = refl
 
-receipts : (e : Ending) → given e 0 ≡ receipt e
-receipts e = receives-counted e ∙ receipt-case (eqb (e .refusal) 16 || eqb (e .refusal) 17)
+receipt-given : (e : Ending) → given e 0 ≡ receipts (ofEnding e)
+receipt-given e = receives-counted e ∙ receipt-case (eqb (e .refusal) 16 || eqb (e .refusal) 17)
 
-pub receives-sum : (cs : List Call) → counterIn (relayAfter cs) 0 ≡ totalOver receipt cs % 2 ^ 32
-receives-sum = totalled 0 receipt (λ r port octets output. receipts (endingOf r port octets (length output))) (omega arith)
+pub receives-sum : (cs : List Call) → counterIn (stateAfter cs .counters) 0 ≡ sumOver receipts cs % 2 ^ 32
+receives-sum = totalled 0 receipts (λ n. refl) (λ p e. refl) (λ r port octets room. receipt-given (endingOf r port octets room)) (omega arith)
 
 -- npInDelivers is the number of datagrams that were delivered.
-pub delivers-sum : (cs : List Call) → counterIn (relayAfter cs) 8 ≡ totalOver delivery cs % 2 ^ 32
-delivers-sum = totalled 8 delivery (λ r port octets output. delivers-counted (endingOf r port octets (length output))) (omega arith)
+pub delivers-sum : (cs : List Call) → counterIn (stateAfter cs .counters) 8 ≡ sumOver deliveries cs % 2 ^ 32
+delivers-sum = totalled 8 deliveries (λ n. refl) (λ p e. refl) (λ r port octets room. delivers-counted (endingOf r port octets room)) (omega arith)
 
 -- ---- 1 stands in the onward half where a port took an entry, and only there
 and-false : (t : Bool) → (t && false) ≡ false
@@ -71,7 +75,7 @@ and-false true = refl
 and-false false = refl
 
 sent-case : (refusal local onward took : ℕ) (t u : Bool) → eqb took 0 ≡ t → eqb onward 1 ≡ u
-    → stands receiveRows (ended refusal local onward took) ≡ true → u ≡ not t
+    → stands endingRows (ended refusal local onward took) ≡ true → u ≡ not t
 sent-case refusal local onward took true true h k s =
     let z : onward ≡ 1 = eqb-true onward 1 k in
     true-false (sym (simp (z, h, and-false) at s))
@@ -79,17 +83,17 @@ sent-case refusal local onward took true false h k s = refl
 sent-case refusal local onward took false true h k s = refl
 sent-case refusal local onward took false false h k s = true-false (sym (simp (k, h, and-false) at s))
 
-forwards : (r : Relay) (port : ℕ) (octets output : List ℕ) → given (endingOf r port octets (length output)) 10 ≡ forwarded (endingOf r port octets (length output))
-forwards r port octets output =
-    let e = endingOf r port octets (length output) in
+forwards : (r : Relay) (port : ℕ) (octets : List ℕ) (room : ℕ) → given (endingOf r port octets room) 10 ≡ forwardings (ofEnding (endingOf r port octets room))
+forwards r port octets room =
+    let e = endingOf r port octets room in
     let x = e .ruling in
     forwards-counted e
     ∙ ap one (sent-case (e .refusal) (localNumber (x .local)) (onwardNumber (x .onward)) (x .took) (eqb (x .took) 0) (eqb (onwardNumber (x .onward)) 1) refl refl
-    (every-ending-is-listed r port octets (length output)))
+    (every-ending-is-listed r port octets room))
 
 -- npForwDatagrams is the number of datagrams that some port took, not of their copies.
-pub forwards-sum : (cs : List Call) → counterIn (relayAfter cs) 10 ≡ totalOver forwarded cs % 2 ^ 32
-forwards-sum = totalled 10 forwarded forwards (omega arith)
+pub forwards-sum : (cs : List Call) → counterIn (stateAfter cs .counters) 10 ≡ sumOver forwardings cs % 2 ^ 32
+forwards-sum = totalled 10 forwardings (λ n. refl) (λ p e. refl) forwards (omega arith)
 
 -- ---- the ones of a set of the eight ports are its ports
 bit-case : (b : ℕ) → b < 2 → one (eqb b 1) ≡ b
@@ -122,11 +126,11 @@ module _ (set : ℕ) (small : set < 256) where
   unfolding onesOf
   ones-eight = all-more 24 8 (omega arith) (ones-ports 8 set)
 
-discards : (r : Relay) (port : ℕ) (octets output : List ℕ) → given (endingOf r port octets (length output)) 12 ≡ drops (endingOf r port octets (length output))
-discards r port octets output =
-    let e = endingOf r port octets (length output) in
-    discards-counted e ∙ ones-eight (e .ruling .dropped) (sets-small r port octets (length output) .dropped)
+discards : (r : Relay) (port : ℕ) (octets : List ℕ) (room : ℕ) → given (endingOf r port octets room) 12 ≡ drops (ofEnding (endingOf r port octets room))
+discards r port octets room =
+    let e = endingOf r port octets room in
+    discards-counted e ∙ ones-eight (e .ruling .dropped) (sets-small r port octets room .dropped)
 
 -- npOutDiscards is the number of copies that were dropped, each port's copy counted.
-pub discards-sum : (cs : List Call) → counterIn (relayAfter cs) 12 ≡ totalOver drops cs % 2 ^ 32
-discards-sum = totalled 12 drops discards (omega arith)
+pub discards-sum : (cs : List Call) → counterIn (stateAfter cs .counters) 12 ≡ sumOver drops cs % 2 ^ 32
+discards-sum = totalled 12 drops (λ n. refl) (λ p e. refl) discards (omega arith)

@@ -45,7 +45,8 @@ use Rattle.verdict.specs.declared.Place.{Place}
 use Rattle.verdict.specs.declared.Place.the-variants.{Held, Missing}
 use Rattle.verdict.specs.declared.Way.{Way}
 use Rattle.verdict.specs.declared.Way.the-variants.{By, Lost}
-use Rattle.history.specs.Calls.{Call, relayAfter}
+use Rattle.history.specs.Calls.{Call}
+use Rattle.history.specs.Outcome.{relayAfter}
 use Rattle.history.proofs.Reach.{Kept, ready-is, not-false-true, kept-after}
 use Rattle.history.proofs.Bits.{in-except, in-gathered, only-that}
 
