@@ -20,6 +20,10 @@ module _ {A : Type 0} where
   order-later R [] h = tt
   order-later R (x ∷ l) h = h .1
 
+  pub each-append : (P : A → Type 0) (l r : List A) → Each P l → Each P r → Each P (l ++ r)
+  each-append P [] r h k = k
+  each-append P (x ∷ l) r h k = (h .0, each-append P l r (h .1) k)
+
   each-rest : (P : A → Type 0) (l r : List A) → Each P (l ++ r) → Each P r
   each-rest P [] r h = h
   each-rest P (x ∷ l) r h = each-rest P l r (h .1)
