@@ -1,4 +1,4 @@
--- The laws of the queue. To be read: Order, Cases, Waiting, Sound, Turns, Waits and Marked; the others serve these and the code's proofs.
+-- The laws of the queue. To be read: Order, Cases, Waiting, Sound, Turns, Waits, Foretold and Marked; the others serve these and the code's proofs.
 mod Compare
 pub mod Each
 pub mod Order
@@ -8,4 +8,5 @@ pub mod Waiting
 pub mod Sound
 pub mod Turns
 pub mod Waits
+pub mod Foretold
 pub mod Marked

@@ -82,6 +82,22 @@ module _ {A : Type 0} (rank : A → ℕ) where
   ordered-each P [] all = tt
   ordered-each P (x ∷ l) all = oldest-each P x (ordered rank l) (all .0) (ordered-each P l (all .1))
 
+  each-of-oldest : (P : A → Type 0) (x : A) (l : List A) → Each P (insertOldest rank x l) → P x × Each P l
+  unfolding insertOldest
+  each-of-oldest P x [] all = all
+  each-of-oldest P x (y ∷ l) all =
+      by-order (rank x) (rank y)
+      (λ passed.
+      let put : Each P (y ∷ insertOldest rank x l) = rw (oldest-passed x y l passed) at all in
+      let rest : P x × Each P l = each-of-oldest P x l (put .1) in
+      (rest .0, (put .0, rest .1)))
+      (λ here. rw (oldest-here x y l here) at all)
+
+  pub each-of-ordered : (P : A → Type 0) (l : List A) → Each P (ordered rank l) → Each P l
+  unfolding ordered
+  each-of-ordered P [] all = tt
+  each-of-ordered P (x ∷ l) all = let h = each-of-oldest P x (ordered rank l) all in (h .0, each-of-ordered P l (h .1))
+
   oldest-sorted : (x : A) (l : List A) → Sorted rank l → Sorted rank (insertOldest rank x l)
   unfolding insertOldest
   oldest-sorted x [] sorted = (tt, tt)
@@ -94,6 +110,14 @@ module _ {A : Type 0} (rank : A → ℕ) where
   unfolding ordered
   ordered-sorted [] = tt
   ordered-sorted (x ∷ l) = oldest-sorted x (ordered rank l) (ordered-sorted l)
+
+  pub ordered-empty : (l : List A) → (ordered rank l ≡ []) ↔ (l ≡ [])
+  unfolding ordered
+  ordered-empty l = (none l, λ h. ap (ordered rank) h)
+    where
+      none : (l : List A) → ordered rank l ≡ [] → l ≡ []
+      none [] h = refl
+      none (x ∷ l) h = let e : length (ordered rank (x ∷ l)) ≡ 0 = ap length h in absurd (omega (arith, ordered-length (x ∷ l)))
 
   -- ---- the choice is what the page asks for
 
@@ -165,6 +189,9 @@ module _ {A : Type 0} (rank : A → ℕ) where
   asked-only l nobody h = ap (chosen rank) h
   asked-only l (one x others) h =
       ap (chosen rank) (h .was) ∙ finds (h .before) x (h .after) (h .before-lower) (h .after-not-higher) ∙ ap (one x) (sym (h .leaves))
+
+  pub chosen-nobody : (l : List A) → (chosen rank l ≡ nobody) ↔ (l ≡ [])
+  chosen-nobody l = (λ h. rw h at (chosen-asked l), asked-only l nobody)
 
   -- ---- the first to go out is the one chosen, and the others go out after it
 
@@ -259,5 +286,5 @@ module _ {A : Type 0} (entryOf : A → Entry) where
     waits-nothing = (found (chosen rank line) refl, λ empty. ap (λ (t : Taken). t .head) (waits-none empty))
       where
         found : (c : Chosen A) → chosen rank line ≡ c → takeOf q .head ≡ Nothing → line ≡ []
-        found nobody is h = rw is at (chosen-asked rank line)
+        found nobody is h = chosen-nobody rank line .0 is
         found (one x others) is h = let z : _≡_ {A = ℕ} 0 1 = cc (waits-take x others is .0) in absurd (omega arith)

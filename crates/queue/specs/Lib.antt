@@ -3,3 +3,4 @@ pub mod Order
 pub mod Queue
 pub mod Turns
 pub mod Waits
+pub mod Foretold
