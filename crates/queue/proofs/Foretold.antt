@@ -130,3 +130,82 @@ module _ {A : Type 0} (rank turn : A → ℕ) (x : A) where
           (arith,
             many-all notLower (p .before) (each-so (p .before) (λ y h. le-leb _ _ h) (p .before-not-lower)),
             many-none notLower (p .after) (each-so (p .after) (λ y h. lt-leb _ _ h) (after-lower rank x (ordered-sorted rank line) p)))
+
+  module _ {line : List A} {n : ℕ} (p : Place line n) where
+    -- a higher one enters before x, and any other behind it
+    enter-before : (y : A) → rank x < rank y → Other turn x y → Place (line ++ (y ∷ [])) (suc n)
+    enter-before y higher other =
+        record {
+          front = insertBy rank y (p .front);
+          back = p .back;
+          goes = ordered-enters rank y line ∙ ap (insertBy rank y) (p .goes) ∙ insert-ahead rank y (p .front) x (p .back) higher;
+          number = insert-length rank y (p .front) ∙ ap suc (p .number);
+          front-other = insert-each rank y (Other turn x) (p .front) other (p .front-other);
+          back-other = p .back-other;
+        }
+
+    enter-behind : (y : A) → rank y ≤ rank x → Other turn x y → Place (line ++ (y ∷ [])) n
+    enter-behind y lower other =
+        record {
+          front = p .front;
+          back = insertBy rank y (p .back);
+          goes =
+              ordered-enters rank y line
+              ∙ ap (insertBy rank y) (p .goes)
+              ∙ insert-behind rank y (p .front) x (p .back) (rw (p .goes) at (ordered-sorted rank line)) lower;
+          number = p .number;
+          front-other = p .front-other;
+          back-other = insert-each rank y (Other turn x) (p .back) other (p .back-other);
+        }
+
+  -- what the next take hands out: x itself, where none goes out before it, or one of those that do
+  data Next (line : List A) (n : ℕ) : Type 0 where
+    itself : n ≡ 0 → (others : List A) → chosen rank line ≡ one x others → Each (Other turn x) others → Next line n
+    another : (m : ℕ) → n ≡ suc m → (y : A) → Other turn x y → (others : List A) → chosen rank line ≡ one y others → Place others m → Next line n
+
+  next : {line : List A} {n : ℕ} → Place line n → Next line n
+  next {line} {n} p = by (p .front) (p .front-other) (p .number) (chosen rank line) refl (sym (ordered-chosen rank line) ∙ p .goes)
+    where
+      by : (front : List A) → Each (Other turn x) front → length front ≡ n → (c : Chosen A) → chosen rank line ≡ c
+          → goesOut rank c ≡ front ++ x ∷ p .back → Next line n
+      by front other number nobody is goes = absurd (omega (arith, ap length goes, length-append front (x ∷ p .back)))
+      by [] other number (one y others) is goes =
+          let same : y ≡ x = cc in
+          let rest : ordered rank others ≡ p .back = cc in
+          itself (sym number) others (is ∙ ap (λ (t : A). one t others) same) (each-of-ordered rank _ others (rw rest (p .back-other)))
+      by (z ∷ front) other number (one y others) is goes =
+          let same : y ≡ z = cc in
+          let rest : ordered rank others ≡ front ++ x ∷ p .back = cc in
+          another (length front) (sym number) z (other .0) others (is ∙ ap (λ (t : A). one t others) same)
+          (record { front = front; back = p .back; goes = rest; number = refl; front-other = other .1; back-other = p .back-other })
+
+  -- ---- while x waits, one fewer goes out before it after a take, and one more after a higher one has entered
+
+  record Kept (line : List A) (n : ℕ) (es : List (Deed A)) : Type 0 where
+    still : ℕ
+    place : Place (lineAfter rank line es) still
+    number : still + takesIn es ≡ n + higherIn rank x es
+    made : length (handed rank line es) ≡ takesIn es
+
+  kept-take : (line : List A) (n : ℕ) (es : List (Deed A)) → Next line n
+      → ((others : List A) (m : ℕ) → Place others m → Each (Other turn x) (handed rank others es) → Kept others m es)
+      → Each (Other turn x) (handed rank line (handsOut ∷ es)) → Kept line n (handsOut ∷ es)
+  unfolding handed lineAfter
+  kept-take line n es (itself none others is rest) further stays = absurd ((rw is at stays) .0 refl)
+  kept-take line n es (another m more y other others is q) further stays =
+      let k : Kept others m es = further others m q ((rw is at stays) .1) in
+      record { still = k .still; place = rw is (k .place); number = omega (arith, k .number); made = rw is (ap suc (k .made)) }
+
+  kept : (es : List (Deed A)) (line : List A) (n : ℕ) → Place line n → Each (Other turn x) (entered es)
+      → Each (Other turn x) (handed rank line es) → Kept line n es
+  unfolding handed lineAfter
+  kept [] line n p come stays = record { still = n; place = p; number = refl; made = refl }
+  kept (enters y ∷ es) line n p come stays =
+      by-order (rank x) (rank y)
+      (λ higher.
+      let k : Kept (line ++ (y ∷ [])) (suc n) es = kept es _ (suc n) (enter-before p y higher (come .0)) (come .1) stays in
+      record { still = k .still; place = k .place; number = rw (lt-ltb _ _ higher) (omega (arith, k .number)); made = k .made })
+      (λ other.
+      let k : Kept (line ++ (y ∷ [])) n es = kept es _ n (enter-behind p y other (come .0)) (come .1) stays in
+      record { still = k .still; place = k .place; number = rw (le-ltb _ _ other) (omega (arith, k .number)); made = k .made })
+  kept (handsOut ∷ es) line n p come stays = kept-take line n es (next p) (λ others m q s. kept es others m q come s) stays
