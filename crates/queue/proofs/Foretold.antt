@@ -179,6 +179,14 @@ module _ {A : Type 0} (rank turn : A → ℕ) (x : A) where
           another (length front) (sym number) z (other .0) others (is ∙ ap (λ (t : A). one t others) same)
           (record { front = front; back = p .back; goes = rest; number = refl; front-other = other .1; back-other = p .back-other })
 
+  next-none : {line : List A} {n : ℕ} → Next line n → IsNext rank x line → n ≡ 0
+  next-none (itself none others is rest) h = none
+  next-none (another m more y other others is q) h = let same : y ≡ x = cc (is, h .1) in absurd (other (ap turn same))
+
+  none-next : {line : List A} {n : ℕ} → Next line n → n ≡ 0 → IsNext rank x line
+  none-next (itself none others is rest) h = (others, is)
+  none-next (another m more y other others is q) h = absurd (omega arith)
+
   -- ---- while x waits, one fewer goes out before it after a take, and one more after a higher one has entered
 
   record Kept (line : List A) (n : ℕ) (es : List (Deed A)) : Type 0 where
@@ -209,3 +217,131 @@ module _ {A : Type 0} (rank turn : A → ℕ) (x : A) where
       let k : Kept (line ++ (y ∷ [])) n es = kept es _ n (enter-behind p y other (come .0)) (come .1) stays in
       record { still = k .still; place = k .place; number = rw (le-ltb _ _ other) (omega (arith, k .number)); made = k .made })
   kept (handsOut ∷ es) line n p come stays = kept-take line n es (next p) (λ others m q s. kept es others m q come s) stays
+
+  -- ---- at each moment while x waits
+
+  module _
+      (line : List A)
+      (es : List (Deed A))
+      (others : Each (Other turn x) (line ++ entered es))
+      (stays : Each (Other turn x) (handed rank (line ++ (x ∷ [])) es)) where
+    waited : Kept (line ++ (x ∷ [])) (standingBefore rank x line) es
+    waited = kept es (line ++ (x ∷ [])) _ (placed line (each-front _ line (entered es) others)) (each-rest _ line (entered es) others) stays
+
+    -- no more takes have been made than go before it
+    pub takes-at-most : takesIn es ≤ standingBefore rank x line + higherIn rank x es
+    takes-at-most = omega (arith, waited .number)
+
+    -- each take has handed one out
+    pub takes-hand-out : length (handed rank (line ++ (x ∷ [])) es) ≡ takesIn es
+    takes-hand-out = waited .made
+
+    -- the next take hands x out exactly where as many have been made
+    pub next-exactly : IsNext rank x (lineAfter rank (line ++ (x ∷ [])) es) ↔ (takesIn es ≡ standingBefore rank x line + higherIn rank x es)
+    next-exactly =
+        (λ h. let none : waited .still ≡ 0 = next-none (next (waited .place)) h in omega (arith, waited .number),
+        λ h. none-next (next (waited .place)) (omega (arith, waited .number)))
+
+  -- ---- over any deeds
+
+  abbrev joined : List A → List A
+  joined line = line ++ (x ∷ [])
+
+  -- es are all of ds, or those before the take that hands x out
+  data Course (line : List A) (ds es : List (Deed A)) : Type 0 where
+    never : ds ≡ es → Course line ds es
+    then : (fs : List (Deed A)) → ds ≡ es ++ handsOut ∷ fs → isOut turn x (chosen rank (lineAfter rank line es)) ≡ true → Course line ds es
+
+  course : (line : List A) (ds : List (Deed A)) → Course line ds (whileWaits rank turn x line ds)
+  unfolding whileWaits lineAfter
+  course line [] = never refl
+  course line (enters y ∷ ds) = on (course (line ++ (y ∷ [])) ds)
+    where
+      on : {es : List (Deed A)} → Course (line ++ (y ∷ [])) ds es → Course line (enters y ∷ ds) (enters y ∷ es)
+      on (never e) = never (ap (λ (t : List (Deed A)). enters y ∷ t) e)
+      on (then fs e is) = then fs (ap (λ (t : List (Deed A)). enters y ∷ t) e) is
+  course line (handsOut ∷ ds) = by (isOut turn x (chosen rank line)) refl (course (left (chosen rank line)) ds)
+    where
+      by : (t : Bool) → isOut turn x (chosen rank line) ≡ t → {es : List (Deed A)} → Course (left (chosen rank line)) ds es
+          → Course line (handsOut ∷ ds) (pick t [] (handsOut ∷ es))
+      by true is c = then ds refl is
+      by false is (never e) = never (ap (λ (t : List (Deed A)). handsOut ∷ t) e)
+      by false is (then fs e later) = then fs (ap (λ (t : List (Deed A)). handsOut ∷ t) e) later
+
+  stays-while : (line : List A) (ds : List (Deed A)) → Each (Other turn x) (handed rank line (whileWaits rank turn x line ds))
+  unfolding whileWaits handed
+  stays-while line [] = tt
+  stays-while line (enters y ∷ ds) = stays-while (line ++ (y ∷ [])) ds
+  stays-while line (handsOut ∷ ds) = by (isOut turn x (chosen rank line)) refl _ (stays-while (left (chosen rank line)) ds)
+    where
+      not-out : (c : Chosen A) → isOut turn x c ≡ false → Each (Other turn x) (out c)
+      not-out nobody h = tt
+      not-out (one y others) h = (eqb-false _ _ h, tt)
+
+      by : (t : Bool) → isOut turn x (chosen rank line) ≡ t → (es : List (Deed A)) → Each (Other turn x) (handed rank (left (chosen rank line)) es)
+          → Each (Other turn x) (handed rank line (pick t [] (handsOut ∷ es)))
+      by true is es h = tt
+      by false is es h = each-append _ (out (chosen rank line)) _ (not-out (chosen rank line) is) h
+
+  -- x stands once in a list
+  one-place : (a b c d : List A) → Each (Other turn x) a → Each (Other turn x) b → a ++ x ∷ b ≡ c ++ x ∷ d → length a ≡ length c
+  one-place [] b [] d h k e = refl
+  one-place [] b (y ∷ c) d h k e =
+      let rest : b ≡ c ++ x ∷ d = cc in
+      absurd (each-rest _ c (x ∷ d) (rw rest at k) .0 refl)
+  one-place (y ∷ a) b [] d h k e = let same : y ≡ x = cc in absurd (h .0 (ap turn same))
+  one-place (y ∷ a) b (z ∷ c) d h k e = let rest : a ++ x ∷ b ≡ c ++ x ∷ d = cc in ap suc (one-place a b c d (h .1) k rest)
+
+  never-out : (all : List A) (k n takes : ℕ) → Each (Other turn x) all → takes ≤ n → AtTake k x all ↔ ((k ≡ n + 1) × (k ≤ takes))
+  never-out all k n takes others few =
+      (λ at. absurd (each-rest _ (at .earlier) (x ∷ at .later) (rw (at .are) at others) .0 refl), λ h. absurd (omega (arith, h .0, h .1)))
+
+  once-out : (all a b : List A) (k n takes : ℕ) → all ≡ a ++ x ∷ b → Each (Other turn x) a → Each (Other turn x) b → length a ≡ n → n < takes
+      → AtTake k x all ↔ ((k ≡ n + 1) × (k ≤ takes))
+  once-out all a b k n takes are before-other after-other number enough =
+      (λ at.
+      let same : length a ≡ length (at .earlier) = one-place a b (at .earlier) (at .later) before-other after-other (sym are ∙ at .are) in
+      let is : k ≡ n + 1 = omega (arith, at .number) in
+      (is, omega arith),
+      λ h. record { earlier = a; later = b; are = are; number = omega (arith, h .0) })
+
+  then-out : (line : List A) (es fs : List (Deed A)) (k : ℕ) → Each (Other turn x) (line ++ entered (es ++ handsOut ∷ fs))
+      → isOut turn x (chosen rank (lineAfter rank (joined line) es)) ≡ true
+      → Each (Other turn x) (handed rank (joined line) es)
+      → AtTake k x (handed rank (joined line) (es ++ handsOut ∷ fs))
+      ↔ ((k ≡ standingBefore rank x line + higherIn rank x es + 1) × (k ≤ takesIn (es ++ handsOut ∷ fs)))
+  unfolding handed
+  then-out line es fs k others is stays = by (next (before .place))
+    where
+      all : Each (Other turn x) (line ++ (entered es ++ entered fs))
+      all = rw (entered-append es (handsOut ∷ fs)) at others
+
+      come : Each (Other turn x) (entered es ++ entered fs)
+      come = each-rest _ line _ all
+
+      before : Kept (joined line) (standingBefore rank x line) es
+      before = waited line es (each-append _ line (entered es) (each-front _ line _ all) (each-front _ (entered es) (entered fs) come)) stays
+
+      by : Next (lineAfter rank (joined line) es) (before .still)
+          → AtTake k x (handed rank (joined line) (es ++ handsOut ∷ fs))
+          ↔ ((k ≡ standingBefore rank x line + higherIn rank x es + 1) × (k ≤ takesIn (es ++ handsOut ∷ fs)))
+      by (itself none rest this rest-other) =
+          once-out _ (handed rank (joined line) es) (handed rank rest fs) k _ _
+          (handed-append rank (joined line) es (handsOut ∷ fs)
+          ∙ ap (λ (c : Chosen A). handed rank (joined line) es ++ (out c ++ handed rank (left c) fs)) this)
+          stays
+          (each-handed rank _ rest fs rest-other (each-rest _ (entered es) (entered fs) come))
+          (omega (arith, before .made, before .number))
+          (omega (arith, before .number, takes-append es (handsOut ∷ fs)))
+      by (another m more y other rest this q) = absurd (other (eqb-true _ _ (rw this at is)))
+
+  -- W-213: take number k hands x out exactly where k is r + h + 1 and that many takes are made
+  pub foretold : (line : List A) (ds : List (Deed A)) → Each (Other turn x) (line ++ entered ds) → (k : ℕ)
+      → AtTake k x (handed rank (line ++ (x ∷ [])) ds)
+      ↔ ((k ≡ standingBefore rank x line + higherIn rank x (whileWaits rank turn x (line ++ (x ∷ [])) ds) + 1) × (k ≤ takesIn ds))
+  foretold line ds others k = by (whileWaits rank turn x (joined line) ds) (course (joined line) ds) (stays-while (joined line) ds)
+    where
+      by : (es : List (Deed A)) → Course (joined line) ds es → Each (Other turn x) (handed rank (joined line) es)
+          → AtTake k x (handed rank (joined line) ds) ↔ ((k ≡ standingBefore rank x line + higherIn rank x es + 1) × (k ≤ takesIn ds))
+      by es (never e) stays = rw e (never-out (handed rank (joined line) es) k _ _ stays (takes-at-most line es (rw e at others) stays))
+      by es (then fs e is) stays = rw e (then-out line es fs k (rw e at others) is stays)
