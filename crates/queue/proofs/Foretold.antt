@@ -4,17 +4,20 @@ use Prim.Native.Nat.{ℕ, zero, suc, _+_, _≤_, _<_}
 use mathlib.Core.Bool.{Bool, true, false}
 use mathlib.Core.Path.{_≡_, refl, sym, ap, ap₂, _∙_}
 use mathlib.Core.Logic.{_↔_, _⊎_, inl, inr, ⊎-elim}
-use mathlib.Core.List.{List, [], _∷_, _++_, append-assoc}
+use mathlib.Core.List.{List, [], _∷_, _++_, map, append-assoc}
 use native.Mathlib.Omega.{arith}
 use lib.Dec.{ltb, leb, eqb}
 use lib.ListN.{length, length-append}
 use borrow.Author.Tests.{lt-ltb, le-ltb, le-leb, lt-leb, eq-eqb, eqb-true, eqb-false}
 use Rattle.checks.specs.Order.{pick}
 use Rattle.queue.specs.Order.{Each, Sorted, insertBy, Placed}
-use Rattle.queue.specs.Waits.{Chosen, nobody, one, chosen, insertOldest, ordered}
+use Rattle.queue.specs.Queue.{waiting, precedenceOf}
+use Rattle.queue.specs.Waits.{Chosen, nobody, one, chosen, insertOldest, ordered, rankBy, Waits}
 use Rattle.queue.specs.Foretold.{Deed, enters, handsOut, entered, takesIn, howMany, out, left, AtTake, lineAfter, handed, standingBefore, higherIn, IsNext, InTurn, Other, isOut, whileWaits}
+use Rattle.queue.specs.declared.Entry.{Entry}
+use Rattle.queue.specs.declared.Queue.{Queue}
 use Rattle.queue.proofs.Compare.{by-order}
-use Rattle.queue.proofs.Each.{each-so, each-append, each-front, each-rest}
+use Rattle.queue.proofs.Each.{each-so, each-append, each-front, each-rest, order-front, order-rest}
 use Rattle.queue.proofs.Order.{insert-length, insert-each, insert-placed, after-lower, insert-ahead, insert-behind}
 use Rattle.queue.proofs.Waits.{ordered-enters, ordered-each, each-of-ordered, ordered-sorted, EachOf, chosen-each, goesOut, ordered-chosen}
 
@@ -49,6 +52,33 @@ module _ {A : Type 0} (test : A → Bool) where
   unfolding ordered
   many-ordered rank [] = refl
   many-ordered rank (x ∷ l) = many-oldest rank x (ordered rank l) ∙ ap (λ (n : ℕ). pick (test x) 1 0 + n) (many-ordered rank l)
+
+many-map : {A B : Type 0} (test : B → Bool) (f : A → B) (l : List A) → howMany test (map f l) ≡ howMany (λ (y : A). test (f y)) l
+many-map test f [] = refl
+many-map test f (x ∷ l) = ap (λ (n : ℕ). pick (test (f x)) 1 0 + n) (many-map test f l)
+
+-- where a newcomer is placed, just those that are not lower stand before it
+module _ {A : Type 0} (rank : A → ℕ) (e : A) where
+  abbrev notLower : A → Bool
+  notLower y = leb (rank e) (rank y)
+
+  before-many : {old new : List A} → Sorted rank old → (p : Placed rank e old new) → length (p .before) ≡ howMany notLower old
+  before-many sorted p =
+      rw (p .was)
+      (omega
+      (arith,
+        many-append notLower (p .before) (p .after),
+        many-all notLower (p .before) (each-so (p .before) (λ y h. le-leb _ _ h) (p .before-not-lower)),
+        many-none notLower (p .after) (each-so (p .after) (λ y h. lt-leb _ _ h) (after-lower rank e sorted p))))
+
+-- r is what a put makes stand before the newcomer in the queue
+pub stand-before : {A : Type 0} (entryOf : A → Entry) {q : Queue} {line : List A} → Waits entryOf q line → (x : A) {new : List Entry}
+    → (p : Placed precedenceOf (entryOf x) (waiting q) new) → length (p .before) ≡ standingBefore (rankBy entryOf) x line
+stand-before entryOf {q} {line} waits x p =
+    before-many precedenceOf (entryOf x) (waits .sound .sorted) p
+    ∙ ap (howMany (notLower precedenceOf (entryOf x))) (waits .same)
+    ∙ many-map _ entryOf (ordered (rankBy entryOf) line)
+    ∙ many-ordered _ (rankBy entryOf) line
 
 -- ---- deeds, and more deeds
 
@@ -89,6 +119,13 @@ module _ {A : Type 0} (rank : A → ℕ) where
         let c = chosen-each rank P line here in
         each-append P (out (chosen rank line)) _ (each-out (chosen rank line) c) (each-handed (left (chosen rank line)) ds (each-left (chosen rank line) c) come)
 
+-- turns that grow are each one's own
+pub in-turn-other : {A : Type 0} (turn : A → ℕ) (x : A) (line come : List A) → InTurn turn (line ++ x ∷ come) → Each (Other turn x) (line ++ come)
+in-turn-other turn x line come h =
+    each-append _ line come
+    (each-so line (λ y earlier same. omega arith) (order-front _ line x come h))
+    (each-so come (λ y later same. omega arith) (order-rest _ line (x ∷ come) h .0))
+
 -- ---- where x stands in the order of going out
 
 module _ {A : Type 0} (rank turn : A → ℕ) (x : A) where
@@ -101,16 +138,13 @@ module _ {A : Type 0} (rank turn : A → ℕ) (x : A) where
     front-other : Each (Other turn x) front
     back-other : Each (Other turn x) back
 
-  abbrev notLower : A → Bool
-  notLower y = leb (rank x) (rank y)
-
   placed : (line : List A) → Each (Other turn x) line → Place (line ++ (x ∷ [])) (standingBefore rank x line)
   placed line others =
       record {
         front = p .before;
         back = p .after;
         goes = ordered-enters rank x line ∙ p .becomes;
-        number = sym count;
+        number = before-many rank x (ordered-sorted rank line) p ∙ many-ordered _ rank line;
         front-other = each-front _ (p .before) (p .after) all;
         back-other = each-rest _ (p .before) (p .after) all;
       }
@@ -120,16 +154,6 @@ module _ {A : Type 0} (rank turn : A → ℕ) (x : A) where
 
       all : Each (Other turn x) (p .before ++ p .after)
       all = rw (p .was) at (ordered-each rank (Other turn x) line others)
-
-      count : standingBefore rank x line ≡ length (p .before)
-      count =
-          sym (many-ordered notLower rank line)
-          ∙ ap (howMany notLower) (p .was)
-          ∙ many-append notLower (p .before) (p .after)
-          ∙ omega
-          (arith,
-            many-all notLower (p .before) (each-so (p .before) (λ y h. le-leb _ _ h) (p .before-not-lower)),
-            many-none notLower (p .after) (each-so (p .after) (λ y h. lt-leb _ _ h) (after-lower rank x (ordered-sorted rank line) p)))
 
   module _ {line : List A} {n : ℕ} (p : Place line n) where
     -- a higher one enters before x, and any other behind it
