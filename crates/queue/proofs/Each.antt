@@ -20,7 +20,15 @@ module _ {A : Type 0} where
   order-later R [] h = tt
   order-later R (x ∷ l) h = h .1
 
-  each-rest : (P : A → Type 0) (l r : List A) → Each P (l ++ r) → Each P r
+  pub each-append : (P : A → Type 0) (l r : List A) → Each P l → Each P r → Each P (l ++ r)
+  each-append P [] r h k = k
+  each-append P (x ∷ l) r h k = (h .0, each-append P l r (h .1) k)
+
+  pub each-front : (P : A → Type 0) (l r : List A) → Each P (l ++ r) → Each P l
+  each-front P [] r h = tt
+  each-front P (x ∷ l) r h = (h .0, each-front P l r (h .1))
+
+  pub each-rest : (P : A → Type 0) (l r : List A) → Each P (l ++ r) → Each P r
   each-rest P [] r h = h
   each-rest P (x ∷ l) r h = each-rest P l r (h .1)
 
