@@ -4,7 +4,6 @@ pub mod Board
 pub mod Over
 pub mod Answers
 pub mod Looks
-pub mod Promised
 pub mod Tally
 pub mod Ledger
 pub mod Sums

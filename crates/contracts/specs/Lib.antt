@@ -1,0 +1,3 @@
+-- Promised: what the contracts of the 25 calls from C say, as one table. Contracts: what they say as they stand in the source.
+pub mod Promised
+pub mod Contracts
