@@ -1,2 +1,3 @@
 pub mod OneResult
 pub mod Rows
+pub mod Given

@@ -1,6 +1,6 @@
 -- The contract of each call from C, as it stands in the source (crates harpjuniper*, src/): what it says of what is told and left, for whatever is
--- lent. No clause is written again here: `Learnt` of a function's `Reads` is what the clauses of its contract tell its caller. Page 01, "Rules":
--- every function that C calls is proved to its contract. Assumes nothing.
+-- lent. No clause is written again here: `Learnt` of a function's `Reads` is what the clauses of its contract tell its caller (page 01, "What a promise
+-- has to shut out": "No public function lacks such a promise"). Assumes nothing.
 use Prim.Native.Nat.{ℕ}
 use mathlib.Core.Path.{_≡_}
 use mathlib.Core.List.{List, []}
@@ -12,31 +12,31 @@ use Rattle.harpjuniper_reads.specs.declared.PortBack.{PortBack}
 use Rattle.harpjuniper_reads.specs.declared.RouteBack.{RouteBack}
 use Rattle.harpjuniper_reads.specs.declared.GroupBack.{GroupBack}
 use Rattle.harpjuniper_reads.specs.declared.PathBack.{PathBack}
-use Rattle.harpjuniper.proofs.hj_read.Reads as read
-use Rattle.harpjuniper.proofs.hj_build.Reads as build
-use Rattle.harpjuniper_address.proofs.hj_class.Reads as class
-use Rattle.harpjuniper_address.proofs.hj_path.Reads as form
-use Rattle.harpjuniper_address.proofs.hj_checksum.Reads as checksum
-use Rattle.harpjuniper_settings.proofs.hj_fresh.Reads as fresh
-use Rattle.harpjuniper_settings.proofs.hj_set_router.Reads as set-router
-use Rattle.harpjuniper_settings.proofs.hj_set_port.Reads as set-port
-use Rattle.harpjuniper_settings.proofs.hj_set_route.Reads as set-route
-use Rattle.harpjuniper_settings.proofs.hj_clear_route.Reads as clear-route
-use Rattle.harpjuniper_settings.proofs.groups_and_paths.hj_set_group.Reads as set-group
-use Rattle.harpjuniper_settings.proofs.groups_and_paths.hj_set_path.Reads as set-path
-use Rattle.harpjuniper_settings.proofs.groups_and_paths.hj_clear_group.Reads as clear-group
-use Rattle.harpjuniper_settings.proofs.groups_and_paths.hj_clear_path.Reads as clear-path
-use Rattle.harpjuniper_reads.proofs.hj_get_router.Reads as get-router
-use Rattle.harpjuniper_reads.proofs.hj_get_port.Reads as get-port
-use Rattle.harpjuniper_reads.proofs.hj_get_route.Reads as get-route
-use Rattle.harpjuniper_reads.proofs.hj_get_group.Reads as get-group
-use Rattle.harpjuniper_reads.proofs.hj_get_path.Reads as get-path
-use Rattle.harpjuniper_reads.proofs.search.hj_search.Reads as search-route
-use Rattle.harpjuniper_receive.proofs.hj_receive.Reads as receive
-use Rattle.harpjuniper_relay.proofs.hj_state_words.Reads as state-words
-use Rattle.harpjuniper_relay.proofs.hj_take.Reads as take
-use Rattle.harpjuniper_relay.proofs.hj_counter.Reads as counter
-use Rattle.harpjuniper_relay.proofs.hj_waiting.Reads as waiting
+use Rattle.harpjuniper.proofs.hj_read as read
+use Rattle.harpjuniper.proofs.hj_build as build
+use Rattle.harpjuniper_address.proofs.hj_class as class
+use Rattle.harpjuniper_address.proofs.hj_path as form
+use Rattle.harpjuniper_address.proofs.hj_checksum as checksum
+use Rattle.harpjuniper_relay.proofs.hj_state_words as state-words
+use Rattle.harpjuniper_settings.proofs.hj_fresh as fresh
+use Rattle.harpjuniper_settings.proofs.hj_set_router as set-router
+use Rattle.harpjuniper_settings.proofs.hj_set_port as set-port
+use Rattle.harpjuniper_settings.proofs.hj_set_route as set-route
+use Rattle.harpjuniper_settings.proofs.groups_and_paths.hj_set_group as set-group
+use Rattle.harpjuniper_settings.proofs.groups_and_paths.hj_set_path as set-path
+use Rattle.harpjuniper_settings.proofs.hj_clear_route as clear-route
+use Rattle.harpjuniper_settings.proofs.groups_and_paths.hj_clear_group as clear-group
+use Rattle.harpjuniper_settings.proofs.groups_and_paths.hj_clear_path as clear-path
+use Rattle.harpjuniper_reads.proofs.hj_get_router as get-router
+use Rattle.harpjuniper_reads.proofs.hj_get_port as get-port
+use Rattle.harpjuniper_reads.proofs.hj_get_route as get-route
+use Rattle.harpjuniper_reads.proofs.hj_get_group as get-group
+use Rattle.harpjuniper_reads.proofs.hj_get_path as get-path
+use Rattle.harpjuniper_reads.proofs.search.hj_search as search-route
+use Rattle.harpjuniper_receive.proofs.hj_receive as receive
+use Rattle.harpjuniper_relay.proofs.hj_take as take
+use Rattle.harpjuniper_relay.proofs.hj_counter as counter
+use Rattle.harpjuniper_relay.proofs.hj_waiting as waiting
 use Rattle.contracts.specs.Promised.{
   Told,
   number,
@@ -115,42 +115,42 @@ module _ (y : Lying) where
   into l = lies (y .output) l
 
   abbrev pub Contract : Exported → Result → Type 0
-  Contract (hj-read l) x = Looks [] reading x (λ (n : Reading). read.Learnt (once y) (from l, tt) n (from l, tt))
+  Contract (hj-read l) x = Looks [] reading x (λ (n : Reading). read.Reads.Learnt (once y) (from l, tt) n (from l, tt))
   Contract (hj-build fields size o) x =
-      (x .words ≡ []) × Tells number x (λ (n : ℕ). build.Learnt (once y) (fields, (size, (into o, tt))) n (fields, (size, (into (x .output), tt))))
-  Contract (hj-class a) x = Looks [] number x (λ (n : ℕ). class.Learnt tt (a, tt) n (a, tt))
-  Contract (hj-path p) x = Looks [] number x (λ (n : ℕ). form.Learnt tt (p, tt) n (p, tt))
-  Contract (hj-checksum l) x = Looks [] number x (λ (n : ℕ). checksum.Learnt (once y) (from l, tt) n (from l, tt))
-  Contract hj-state-words x = Looks [] number x (λ (n : ℕ). state-words.Learnt tt tt n tt)
-  Contract (hj-fresh w) x = Writes x (λ (n : ℕ). fresh.Learnt (once y) (at w, tt) n (at (x .words), tt))
-  Contract (hj-set-router w router) x = Writes x (λ (n : ℕ). set-router.Learnt (once y) (at w, (router, tt)) n (at (x .words), (router, tt)))
+      (x .words ≡ []) × Tells number x (λ (n : ℕ). build.Reads.Learnt (once y) (fields, (size, (into o, tt))) n (fields, (size, (into (x .output), tt))))
+  Contract (hj-class a) x = Looks [] number x (λ (n : ℕ). class.Reads.Learnt tt (a, tt) n (a, tt))
+  Contract (hj-path p) x = Looks [] number x (λ (n : ℕ). form.Reads.Learnt tt (p, tt) n (p, tt))
+  Contract (hj-checksum l) x = Looks [] number x (λ (n : ℕ). checksum.Reads.Learnt (once y) (from l, tt) n (from l, tt))
+  Contract hj-state-words x = Looks [] number x (λ (n : ℕ). state-words.Reads.Learnt tt tt n tt)
+  Contract (hj-fresh w) x = Writes x (λ (n : ℕ). fresh.Reads.Learnt (once y) (at w, tt) n (at (x .words), tt))
+  Contract (hj-set-router w router) x = Writes x (λ (n : ℕ). set-router.Reads.Learnt (once y) (at w, (router, tt)) n (at (x .words), (router, tt)))
   Contract (hj-set-port w p address mask mtu) x =
-      Writes x (λ (n : ℕ). set-port.Learnt (once y) (at w, (p, (address, (mask, (mtu, tt))))) n (at (x .words), (p, (address, (mask, (mtu, tt))))))
+      Writes x (λ (n : ℕ). set-port.Reads.Learnt (once y) (at w, (p, (address, (mask, (mtu, tt))))) n (at (x .words), (p, (address, (mask, (mtu, tt))))))
   Contract (hj-set-route w i prefix mask p availability capabilities) x =
-      Writes x (λ (n : ℕ). set-route.Learnt (once y) (at w, (i, (prefix, (mask, (p, (availability, (capabilities, tt))))))) n (at (x .words), (i, (prefix, (mask, (p, (availability, (capabilities, tt))))))))
+      Writes x (λ (n : ℕ). set-route.Reads.Learnt (once y) (at w, (i, (prefix, (mask, (p, (availability, (capabilities, tt))))))) n (at (x .words), (i, (prefix, (mask, (p, (availability, (capabilities, tt))))))))
   Contract (hj-set-group w i address send subscribed) x =
-      Writes x (λ (n : ℕ). set-group.Learnt (once y) (at w, (i, (address, (send, (subscribed, tt))))) n (at (x .words), (i, (address, (send, (subscribed, tt))))))
+      Writes x (λ (n : ℕ). set-group.Reads.Learnt (once y) (at w, (i, (address, (send, (subscribed, tt))))) n (at (x .words), (i, (address, (send, (subscribed, tt))))))
   Contract (hj-set-path w i to send here) x =
-      Writes x (λ (n : ℕ). set-path.Learnt (once y) (at w, (i, (to, (send, (here, tt))))) n (at (x .words), (i, (to, (send, (here, tt))))))
-  Contract (hj-clear-route w i) x = Writes x (λ (n : ℕ). clear-route.Learnt (once y) (at w, (i, tt)) n (at (x .words), (i, tt)))
-  Contract (hj-clear-group w i) x = Writes x (λ (n : ℕ). clear-group.Learnt (once y) (at w, (i, tt)) n (at (x .words), (i, tt)))
-  Contract (hj-clear-path w i) x = Writes x (λ (n : ℕ). clear-path.Learnt (once y) (at w, (i, tt)) n (at (x .words), (i, tt)))
-  Contract (hj-get-router w) x = Looks w number x (λ (n : ℕ). get-router.Learnt (once y) (at w, tt) n (at w, tt))
-  Contract (hj-get-port w p) x = Looks w port x (λ (n : PortBack). get-port.Learnt (once y) (at w, (p, tt)) n (at w, (p, tt)))
-  Contract (hj-get-route w i) x = Looks w route x (λ (n : RouteBack). get-route.Learnt (once y) (at w, (i, tt)) n (at w, (i, tt)))
-  Contract (hj-get-group w i) x = Looks w group x (λ (n : GroupBack). get-group.Learnt (once y) (at w, (i, tt)) n (at w, (i, tt)))
-  Contract (hj-get-path w i) x = Looks w path x (λ (n : PathBack). get-path.Learnt (once y) (at w, (i, tt)) n (at w, (i, tt)))
-  Contract (hj-search w a) x = Looks w number x (λ (n : ℕ). search-route.Learnt (once y) (at w, (a, tt)) n (at w, (a, tt)))
+      Writes x (λ (n : ℕ). set-path.Reads.Learnt (once y) (at w, (i, (to, (send, (here, tt))))) n (at (x .words), (i, (to, (send, (here, tt))))))
+  Contract (hj-clear-route w i) x = Writes x (λ (n : ℕ). clear-route.Reads.Learnt (once y) (at w, (i, tt)) n (at (x .words), (i, tt)))
+  Contract (hj-clear-group w i) x = Writes x (λ (n : ℕ). clear-group.Reads.Learnt (once y) (at w, (i, tt)) n (at (x .words), (i, tt)))
+  Contract (hj-clear-path w i) x = Writes x (λ (n : ℕ). clear-path.Reads.Learnt (once y) (at w, (i, tt)) n (at (x .words), (i, tt)))
+  Contract (hj-get-router w) x = Looks w number x (λ (n : ℕ). get-router.Reads.Learnt (once y) (at w, tt) n (at w, tt))
+  Contract (hj-get-port w p) x = Looks w port x (λ (n : PortBack). get-port.Reads.Learnt (once y) (at w, (p, tt)) n (at w, (p, tt)))
+  Contract (hj-get-route w i) x = Looks w route x (λ (n : RouteBack). get-route.Reads.Learnt (once y) (at w, (i, tt)) n (at w, (i, tt)))
+  Contract (hj-get-group w i) x = Looks w group x (λ (n : GroupBack). get-group.Reads.Learnt (once y) (at w, (i, tt)) n (at w, (i, tt)))
+  Contract (hj-get-path w i) x = Looks w path x (λ (n : PathBack). get-path.Reads.Learnt (once y) (at w, (i, tt)) n (at w, (i, tt)))
+  Contract (hj-search w a) x = Looks w number x (λ (n : ℕ). search-route.Reads.Learnt (once y) (at w, (a, tt)) n (at w, (a, tt)))
   Contract (hj-receive w p slot l o) x =
       Tells number x (λ (n : ℕ).
-      receive.Learnt
+      receive.Reads.Learnt
       (y .lifetimes)
       (at w, (p, (slot, (from l, (into o, tt)))))
       n
       (at (x .words), (p, (slot, (from l, (into (x .output), tt))))))
-  Contract (hj-take w p) x = Writes x (λ (n : ℕ). take.Learnt (once y) (at w, (p, tt)) n (at (x .words), (p, tt)))
-  Contract (hj-counter w i) x = Looks w number x (λ (n : ℕ). counter.Learnt (once y) (at w, (i, tt)) n (at w, (i, tt)))
-  Contract (hj-waiting w p) x = Looks w number x (λ (n : ℕ). waiting.Learnt (once y) (at w, (p, tt)) n (at w, (p, tt)))
+  Contract (hj-take w p) x = Writes x (λ (n : ℕ). take.Reads.Learnt (once y) (at w, (p, tt)) n (at (x .words), (p, tt)))
+  Contract (hj-counter w i) x = Looks w number x (λ (n : ℕ). counter.Reads.Learnt (once y) (at w, (i, tt)) n (at w, (i, tt)))
+  Contract (hj-waiting w p) x = Looks w number x (λ (n : ℕ). waiting.Reads.Learnt (once y) (at w, (p, tt)) n (at w, (p, tt)))
 
 -- what a call's contract lets it give back, wherever what is lent lies
 abbrev pub Says : Exported → Result → Type 0
