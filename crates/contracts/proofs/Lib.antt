@@ -1,3 +1,4 @@
 pub mod OneResult
 pub mod Rows
+pub mod Formed
 pub mod Given
