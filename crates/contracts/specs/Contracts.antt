@@ -1,7 +1,7 @@
 -- The contract of each call from C, as it stands in the source (crates harpjuniper*, src/): what it says of what is told and left, for whatever is
 -- lent. No clause is written again here: `Learnt` of a function's `Reads` is what the clauses of its contract tell its caller (page 01, "What a promise
 -- has to shut out": "No public function lacks such a promise"). Assumes nothing.
-use Prim.Native.Nat.{ℕ}
+use Prim.Native.Nat.{ℕ, _<_}
 use mathlib.Core.Path.{_≡_}
 use mathlib.Core.List.{List, []}
 use base.Fml.{GName}
@@ -155,3 +155,7 @@ module _ (y : Lying) where
 -- what a call's contract lets it give back, wherever what is lent lies
 abbrev pub Says : Exported → Result → Type 0
 Says c x = (y : Lying) × Contract y c x
+
+-- What C can pass: numbers here have no end and C's have, which matters of one argument alone, the slot, a number of 16 bits.
+abbrev pub Passable : Exported → Type 0
+Passable c = (w : List ℕ) (p slot : ℕ) (l o : List ℕ) → c ≡ hj-receive w p slot l o → slot < 65536
