@@ -1,5 +1,5 @@
 -- The demands over histories. To be read, each by itself with the definitions it cites:
--- OneResult (every promise to C leaves no choice); Refusals, Answered, Listed, ReadBack and Onward (demand 1: what a refused call leaves; the numbers an answer can be; that C reads back the parts of an ending;
+-- Refusals, Answered, Listed, ReadBack and Onward (demand 1: what a refused call leaves; the numbers an answer can be; that C reads back the parts of an ending;
 -- the TP-ID refuses local delivery alone);
 -- Meaning, Search, SearchBack, Routed, Copies, Wanted, Reach, Keys and Holds (demand 2: what addresses name on every copy granted, no one-octet address leaves its domain;
 -- the route taken, by the search, as C reads it and by the verdict; which ports are wanted and granted; what holds of the settings in every state that a history reaches; that a setting holds until it

@@ -4,6 +4,7 @@ pub mod Looks
 pub mod Outcome
 pub mod Answers
 pub mod Tally
+pub mod Sums
 pub mod Ledger
 pub mod Line
 pub mod Parts

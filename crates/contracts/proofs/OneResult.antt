@@ -3,7 +3,7 @@ use mathlib.Core.Path.{_≡_, ap, sym, _∙_}
 use mathlib.Core.List.{List}
 use Prim.Native.Nat.{ℕ}
 use Rattle.lent_state.proofs.Same.{one-result}
-use Rattle.history.specs.Promised.{Told, Result, Promise, Allows, Exported, promised}
+use Rattle.contracts.specs.Promised.{Told, Result, Promise, Allows, Exported, promised}
 
 -- equal where all parts are
 same-parts : (x y : Result) → x .answer ≡ y .answer → x .words ≡ y .words → x .output ≡ y .output → x ≡ y
