@@ -122,14 +122,14 @@ module _ (r : Relay) (formed : Formed r) where
 
   written : List (List ℕ)
   written =
-    (r .router ∷ [])
-    ∷ flat portWords (r .ports)
-    ∷ flat groupWords (r .mission .groups)
-    ∷ flat pathWords (r .mission .paths)
-    ∷ flat queueWords (r .mission .queues)
-    ∷ r .mission .counters
-    ∷ flat routeWords (r .routes)
-    ∷ []
+      (r .router ∷ [])
+      ∷ flat portWords (r .ports)
+      ∷ flat groupWords (r .mission .groups)
+      ∷ flat pathWords (r .mission .paths)
+      ∷ flat queueWords (r .mission .queues)
+      ∷ r .mission .counters
+      ∷ flat routeWords (r .routes)
+      ∷ []
 
   lengths : map length written ≡ sections
   unfolding written
