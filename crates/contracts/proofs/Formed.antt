@@ -1,29 +1,23 @@
 -- Which relays words hold: those in which each list is as long as the layout says and each slot is one that its type holds (page 01, "Numbers that
--- hold everywhere"). Any 824 words hold such a relay, each such relay has its words, and each update keeps it so. Assumes nothing.
+-- hold everywhere"). Any 824 words hold such a relay, and each such relay has its words. Assumes nothing.
 use native.Mathlib.Omega.{arith}
 use native.Mathlib.Nat.{suc-mul, zero-mul}
 use Prim.Native.Nat.{ℕ, zero, suc, _+_, _*_, _<_}
 use mathlib.Core.Path.{_≡_, refl, sym, ap, _∙_}
-use mathlib.Core.Bool.{Bool, true, false}
-use mathlib.Core.List.{List, [], _∷_, _++_, map}
-use lib.ListN.{length, take, drop, getD, set, length-append, length-map, length-drop}
+use mathlib.Core.List.{List, [], _∷_, map}
+use lib.ListN.{length, take, drop, length-append, length-map, length-drop}
 use lib.Seq.{take-at, drop-at, length-take-le}
-use Rattle.checks.specs.Order.{pick}
 use Rattle.queue.specs.Order.{Each}
 use Rattle.queue.specs.declared.Entry.{Entry}
 use Rattle.queue.specs.declared.Queue.{Queue}
 use Rattle.queue.proofs.Each.{each, each-so}
-use Rattle.routes.specs.declared.Route.{Route}
-use Rattle.records.specs.declared.Port.{Port}
-use Rattle.records.specs.declared.Group.{Group}
-use Rattle.records.specs.declared.PathPlace.{PathPlace}
 use Rattle.words.specs.Cut.{total, cuts, cut, joined, pieces, rows, flat}
-use Rattle.state.specs.Relay.{Relay, withRouter, withPort, withGroup, withPath, withQueue, withCounter, withRoute}
+use Rattle.state.specs.Relay.{Relay}
 use Rattle.state.specs.Layout.{sections, stateWords, relayOf, decode, encode, entryOfWord}
 use Rattle.state.specs.Layout.{portOf, portWords, groupOf, groupWords, pathOf, pathWords, queueOf, queueWords, routeOf, routeWords}
 use Rattle.state.proofs.Records.{Slots, queue-record, queue-length}
 use Rattle.state.proofs.Words.{section-length}
-use Rattle.state.proofs.Sizes.{Sized, many, decode-sized, port-sizes, group-sizes, path-sizes, queue-sizes, counter-sizes, route-sizes}
+use Rattle.state.proofs.Sizes.{Sized, many, decode-sized}
 
 -- ---- the definition
 abbrev pub SlotFits : Entry → Type 0
@@ -122,14 +116,14 @@ module _ (r : Relay) (formed : Formed r) where
 
   written : List (List ℕ)
   written =
-    (r .router ∷ [])
-    ∷ flat portWords (r .ports)
-    ∷ flat groupWords (r .mission .groups)
-    ∷ flat pathWords (r .mission .paths)
-    ∷ flat queueWords (r .mission .queues)
-    ∷ r .mission .counters
-    ∷ flat routeWords (r .routes)
-    ∷ []
+      (r .router ∷ [])
+      ∷ flat portWords (r .ports)
+      ∷ flat groupWords (r .mission .groups)
+      ∷ flat pathWords (r .mission .paths)
+      ∷ flat queueWords (r .mission .queues)
+      ∷ r .mission .counters
+      ∷ flat routeWords (r .routes)
+      ∷ []
 
   lengths : map length written ≡ sections
   unfolding written

@@ -92,15 +92,15 @@ abbrev once : Lying → Lfts 1
 once y = (y .lifetimes .0, tt)
 
 -- ---- what is told is an answer of which P holds
-abbrev Tells : {A : Type 0} → (A → Told) → Result → (A → Type 0) → Type 0
+abbrev pub Tells : {A : Type 0} → (A → Told) → Result → (A → Type 0) → Type 0
 Tells {A} of x P = (n : A) × ((x .answer ≡ of n) × P n)
 
 -- words w are lent to be read or none are, and no output is
-abbrev Looks : {A : Type 0} → List ℕ → (A → Told) → Result → (A → Type 0) → Type 0
+abbrev pub Looks : {A : Type 0} → List ℕ → (A → Told) → Result → (A → Type 0) → Type 0
 Looks w of x P = (x .words ≡ w) × ((x .output ≡ []) × Tells of x P)
 
 -- words are lent to be written, and no output is
-abbrev Writes : Result → (ℕ → Type 0) → Type 0
+abbrev pub Writes : Result → (ℕ → Type 0) → Type 0
 Writes x P = (x .output ≡ []) × Tells number x P
 
 -- ---- the contracts

@@ -1,6 +1,7 @@
--- The promises of all calls from C in one table: what each answers, the view of the words that it leaves, and the octets of the output that it leaves,
--- each as the function's own contract states it (crates harpjuniper*, src/lib.rt). Words that are lent to be read alone are left as they are. Assumes
--- nothing.
+-- The promises of all calls from C in one table: what each answers, the view of the words that it leaves, and the octets of the output that it leaves
+-- (page 01, "What a promise has to shut out": a promise "determines the answer, the state and each lent octet"). Words that are lent to be read alone
+-- are left as they are. That each row is what the function's own contract states (crates harpjuniper*, src/) is proved: `contract-is-row`, in
+-- proofs/Rows.antt. Assumes nothing.
 use Prim.Native.Nat.{ℕ}
 use mathlib.Core.Path.{_≡_}
 use mathlib.Core.List.{List, []}
