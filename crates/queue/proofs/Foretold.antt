@@ -1,14 +1,14 @@
 -- How long one waits (page 02, W-213): it is handed out at the take numbered r + h + 1 and at no other. Those that go out before it are as
 -- many as stood before it and have entered higher, less the takes made. Assumes nothing.
-use Prim.Native.Nat.{ℕ, zero, suc, _+_, _≤_, _<_}
+use Prim.Native.Nat.{ℕ, suc, _+_, _≤_, _<_}
 use mathlib.Core.Bool.{Bool, true, false}
-use mathlib.Core.Path.{_≡_, refl, sym, ap, ap₂, _∙_}
-use mathlib.Core.Logic.{_↔_, _⊎_, inl, inr, ⊎-elim}
+use mathlib.Core.Path.{_≡_, refl, sym, ap, _∙_}
+use mathlib.Core.Logic.{_↔_}
 use mathlib.Core.List.{List, [], _∷_, _++_, map, append-assoc}
 use native.Mathlib.Omega.{arith}
-use lib.Dec.{ltb, leb, eqb}
+use lib.Dec.{ltb, leb}
 use lib.ListN.{length, length-append}
-use borrow.Author.Tests.{lt-ltb, le-ltb, le-leb, lt-leb, eq-eqb, eqb-true, eqb-false}
+use borrow.Author.Tests.{lt-ltb, le-ltb, le-leb, lt-leb, eqb-true, eqb-false}
 use Rattle.checks.specs.Order.{pick}
 use Rattle.queue.specs.Order.{Each, Sorted, insertBy, Placed}
 use Rattle.queue.specs.Queue.{waiting, precedenceOf}
@@ -65,11 +65,12 @@ module _ {A : Type 0} (rank : A → ℕ) (e : A) where
   before-many : {old new : List A} → Sorted rank old → (p : Placed rank e old new) → length (p .before) ≡ howMany notLower old
   before-many sorted p =
       rw (p .was)
-      (omega
-      (arith,
+      (omega (
+        arith,
         many-append notLower (p .before) (p .after),
         many-all notLower (p .before) (each-so (p .before) (λ y h. le-leb _ _ h) (p .before-not-lower)),
-        many-none notLower (p .after) (each-so (p .after) (λ y h. lt-leb _ _ h) (after-lower rank e sorted p))))
+        many-none notLower (p .after) (each-so (p .after) (λ y h. lt-leb _ _ h) (after-lower rank e sorted p)),
+      ))
 
 -- r is what a put makes stand before the newcomer in the queue
 pub stand-before : {A : Type 0} (entryOf : A → Entry) {q : Queue} {line : List A} → Waits entryOf q line → (x : A) {new : List Entry}
@@ -262,9 +263,10 @@ module _ {A : Type 0} (rank turn : A → ℕ) (x : A) where
 
     -- the next take hands x out exactly where as many have been made
     pub next-exactly : IsNext rank x (lineAfter rank (line ++ (x ∷ [])) es) ↔ (takesIn es ≡ standingBefore rank x line + higherIn rank x es)
-    next-exactly =
-        (λ h. let none : waited .still ≡ 0 = next-none (next (waited .place)) h in omega (arith, waited .number),
-        λ h. none-next (next (waited .place)) (omega (arith, waited .number)))
+    next-exactly = (
+      λ h. let none : waited .still ≡ 0 = next-none (next (waited .place)) h in omega (arith, waited .number),
+      λ h. none-next (next (waited .place)) (omega (arith, waited .number)),
+    )
 
   -- ---- over any deeds
 
@@ -322,12 +324,13 @@ module _ {A : Type 0} (rank turn : A → ℕ) (x : A) where
 
   once-out : (all a b : List A) (k n takes : ℕ) → all ≡ a ++ x ∷ b → Each (Other turn x) a → Each (Other turn x) b → length a ≡ n → n < takes
       → AtTake k x all ↔ ((k ≡ n + 1) × (k ≤ takes))
-  once-out all a b k n takes are before-other after-other number enough =
-      (λ at.
-      let same : length a ≡ length (at .earlier) = one-place a b (at .earlier) (at .later) before-other after-other (sym are ∙ at .are) in
-      let is : k ≡ n + 1 = omega (arith, at .number) in
-      (is, omega arith),
-      λ h. record { earlier = a; later = b; are = are; number = omega (arith, h .0) })
+  once-out all a b k n takes are before-other after-other number enough = (
+    λ at.
+        let same : length a ≡ length (at .earlier) = one-place a b (at .earlier) (at .later) before-other after-other (sym are ∙ at .are) in
+        let is : k ≡ n + 1 = omega (arith, at .number) in
+        (is, omega arith),
+    λ h. record { earlier = a; later = b; are = are; number = omega (arith, h .0) },
+  )
 
   then-out : (line : List A) (es fs : List (Deed A)) (k : ℕ) → Each (Other turn x) (line ++ entered (es ++ handsOut ∷ fs))
       → isOut turn x (chosen rank (lineAfter rank (joined line) es)) ≡ true

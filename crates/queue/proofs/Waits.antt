@@ -5,7 +5,7 @@ use mathlib.Core.Bool.{Bool, true, false}
 use mathlib.Core.Path.{_≡_, refl, sym, ap, _∙_}
 use mathlib.Core.Logic.{_↔_}
 use mathlib.Core.List.{List, [], _∷_, _++_, map}
-use native.Mathlib.Nat.{le-refl, le-trans, le-of-lt}
+use native.Mathlib.Nat.{le-trans, le-of-lt}
 use native.Mathlib.Omega.{arith}
 use lib.Dec.{ltb}
 use lib.ListN.{length, drop, length-map}
@@ -13,7 +13,7 @@ use borrow.Author.Tests.{lt-ltb, le-ltb}
 use Rattle.checks.specs.Order.{pick}
 use Rattle.queue.specs.Order.{Each, Sorted, insertBy}
 use Rattle.queue.specs.Queue.{fresh, waiting, precedenceOf, putOf, takeOf, headOf, Bounded}
-use Rattle.queue.specs.Waits.{Chosen, nobody, one, Highest, AsAsked, chosenWith, chosen, insertOldest, ordered, rankBy, Waits}
+use Rattle.queue.specs.Waits.{Chosen, nobody, one, AsAsked, chosenWith, chosen, insertOldest, ordered, rankBy, Waits}
 use Rattle.queue.specs.declared.Entry.{Entry}
 use Rattle.queue.specs.declared.Queue.{Queue}
 use Rattle.queue.specs.declared.Taken.{Taken}
@@ -45,7 +45,10 @@ module _ {A : Type 0} (rank : A → ℕ) where
       (λ lower.
       by-order (rank old) (rank x)
       (λ passed. simp (lt-ltb _ _ lower, lt-ltb _ _ passed, lt-ltb _ _ (let h : rank old < rank new = omega arith in h)))
-      (λ here. by-order (rank old) (rank new) (λ h. simp (lt-ltb _ _ lower, le-ltb _ _ here, lt-ltb _ _ h)) (λ h. simp (lt-ltb _ _ lower, le-ltb _ _ here, le-ltb _ _ h))))
+      (λ here.
+      by-order (rank old) (rank new)
+      (λ below. simp (lt-ltb _ _ lower, le-ltb _ _ here, lt-ltb _ _ below))
+      (λ above. simp (lt-ltb _ _ lower, le-ltb _ _ here, le-ltb _ _ above))))
       (λ other.
       by-order (rank old) (rank x)
       (λ passed. simp (le-ltb _ _ other, lt-ltb _ _ passed) (ap (λ (t : List A). x ∷ t) (newest-oldest new old l)))
@@ -199,7 +202,8 @@ module _ {A : Type 0} (rank : A → ℕ) where
   goesOut nobody = []
   goesOut (one x others) = x ∷ ordered rank others
 
-  goes-with : (x : A) (l : List A) (c : Chosen A) → ordered rank l ≡ goesOut c → insertOldest rank x (ordered rank l) ≡ goesOut (chosenWith rank x l c)
+  goes-with : (x : A) (l : List A) (c : Chosen A) → ordered rank l ≡ goesOut c
+      → insertOldest rank x (ordered rank l) ≡ goesOut (chosenWith rank x l c)
   unfolding ordered insertOldest
   goes-with x l nobody h = ap (insertOldest rank x) h ∙ ap (λ (t : List A). x ∷ t) (sym h)
   goes-with x l (one y others) h =
@@ -222,7 +226,8 @@ module _ {A B : Type 0} (rank : A → ℕ) (rankThere : B → ℕ) (f : A → B)
     where
       by : map f (insertOldest rank x l) ≡ insertOldest rankThere (f x) (map f l)
           → (t : Bool)
-          → map f (pick t (y ∷ insertOldest rank x l) (x ∷ y ∷ l)) ≡ pick t (f y ∷ insertOldest rankThere (f x) (map f l)) (f x ∷ f y ∷ map f l)
+          → map f (pick t (y ∷ insertOldest rank x l) (x ∷ y ∷ l))
+          ≡ pick t (f y ∷ insertOldest rankThere (f x) (map f l)) (f x ∷ f y ∷ map f l)
       by h true = ap (λ (t : List B). f y ∷ t) h
       by h false = refl
 
@@ -277,10 +282,13 @@ module _ {A : Type 0} (entryOf : A → Entry) where
 
     pub waits-take : (x : A) (others : List A) → chosen rank line ≡ one x others
         → (takeOf q .head ≡ First (entryOf x)) × Waits entryOf (takeOf q .queue) others
-    waits-take x others is = (take-head q bounded ∙ ap headOf out, record { sound = take-sound q (waits .sound); same = take-waiting q bounded ∙ ap (drop 1) out })
+    waits-take x others is = (take-head q bounded ∙ ap headOf out, record { sound = take-sound q (waits .sound); same = rest })
       where
         out : waiting q ≡ map entryOf (x ∷ ordered rank others)
         out = waits .same ∙ ap (map entryOf) (ordered-chosen rank line ∙ ap (goesOut rank) is)
+
+        rest : waiting (takeOf q .queue) ≡ map entryOf (ordered rank others)
+        rest = take-waiting q bounded ∙ ap (drop 1) out
 
     pub waits-nothing : (takeOf q .head ≡ Nothing) ↔ (line ≡ [])
     waits-nothing = (found (chosen rank line) refl, λ empty. ap (λ (t : Taken). t .head) (waits-none empty))
