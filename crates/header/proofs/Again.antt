@@ -17,6 +17,7 @@ use Rattle.header.specs.Limits.{longestHeader, mostData, lengthLimit}
 use Rattle.header.specs.Form.{controlOf, layoutOf, placesOf, bitWeight, headerBit, secondFollows, thirdFollows, hasChecksum, hasHops, hasQos, hasExpanded, stampFormat}
 use Rattle.header.specs.Read.{fieldsOf, headerOf, lengthOf, readOf}
 use Rattle.header.specs.Build.{present, thirdOctet, secondOctet, firstBits, frontOctets, restOctets, bodyOctets, sizeOf, headerOctets, buildChecks, builtOf, builtOutput}
+use Rattle.header.specs.Shortest.{shortest}
 use Rattle.header.specs.declared.Control.{Control}
 use Rattle.header.specs.declared.Layout.{Layout}
 use Rattle.header.specs.declared.Fields.{Fields}
@@ -28,10 +29,6 @@ use Rattle.header.proofs.Passed.{Passed, passed}
 use Rattle.header.proofs.BuiltLaws.{not-out}
 use Rattle.header.proofs.Answers.{read-in-range}
 use Rattle.header.proofs.Back.{zero-or-one, number-back, octet-back, control-again, octet-again, qos-again, stamp-again, addresses-again, checksum-again}
-
--- page 01, "where the control field was shortest": no octet of it stands there to say nothing
-abbrev pub shortest : Control → Type 0
-shortest k = (secondFollows (k .first) ≡ present (k .second)) × (thirdFollows (k .second) ≡ present (k .third))
 
 -- the octets of a control field are octets
 control-lt : (s : List ℕ) → ((i : ℕ) → getD s i 0 < 256) → (controlOf s .second < 256) × (controlOf s .third < 256)

@@ -9,6 +9,7 @@ pub mod BuiltLaws
 pub mod Trip
 pub mod Back
 pub mod Again
+pub mod Shortest
 pub mod Answers
 pub mod SentOn
 pub mod Refusals

@@ -7,11 +7,12 @@ use Rattle.header.specs.Limits.{longestHeader, mostData}
 use Rattle.header.specs.Form.{controlOf}
 use Rattle.header.specs.Read.{readOf}
 use Rattle.header.specs.Build.{builtOf, builtOutput}
+use Rattle.header.specs.Shortest.{shortest}
 use Rattle.header.specs.Onward.{headerSentOn, oneLess}
 use Rattle.header.specs.declared.Header.{Header}
 use Rattle.header.specs.declared.Read.the-variants.{Good}
 use Rattle.header.specs.declared.Built.the-variants.{Done}
-use Rattle.header.proofs.Again.{shortest, done-again, output-again}
+use Rattle.header.proofs.Again.{done-again, output-again}
 use Rattle.header.proofs.SentOn.{withHops, read-sent-on, sent-as-it-came}
 
 -- building what was read gives the same header octets, where the control field was shortest and the data at most 8,141 octets
