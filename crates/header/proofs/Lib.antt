@@ -1,4 +1,4 @@
--- The laws of headers. To be read: Refusals, Answers, Trip, Again, SentOn, BuiltLaws, Promises; the others serve them and the code's proofs. Tests
+-- The laws of headers. To be read: Refusals, Answers, Trip, Again, Shortest, Beyond, SentOn, BuiltLaws, Promises; the others serve them and the code's proofs. Tests
 -- is for callers of this crate's functions.
 pub mod Tests
 pub mod Bounds
@@ -10,6 +10,8 @@ pub mod Trip
 pub mod Back
 pub mod Again
 pub mod Shortest
+pub mod Alike
+pub mod Beyond
 pub mod Answers
 pub mod SentOn
 pub mod Refusals

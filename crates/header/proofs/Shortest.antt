@@ -72,9 +72,9 @@ module _ (s : List ℕ) (small : (i : ℕ) → getD s i 0 < 256) (least : noneSh
 -- a control field is shortest exactly where none that says the same ends earlier
 pub shortest-exactly : (s : List ℕ) → ((i : ℕ) → getD s i 0 < 256) → shortest (controlOf s) ↔ noneShorter s
 shortest-exactly s small = (
-      λ short t octets same. shortest-least s t small short (same .1) (same .2),
-      λ least. says-case s small least (zero-or-one _ (omega arith)) (zero-or-one _ (omega arith)),
-    )
+  λ short t octets same. shortest-least s t small short (same .1) (same .2),
+  λ least. says-case s small least (zero-or-one _ (omega arith)) (zero-or-one _ (omega arith)),
+)
 
 -- ---- what is built, and what is read
 
@@ -95,9 +95,9 @@ read-unused-zero s h e =
 pub same-octets-exactly : (s : List ℕ) (h : Header) → ((i : ℕ) → getD s i 0 < 256) → readOf s ≡ Good h → h .length - h .size ≤ mostData
     → (headerOctets (h .fields) (h .length - h .size) ≡ take (h .size) s) ↔ (shortest (controlOf s) × unusedZero (controlOf s))
 same-octets-exactly s h small e enough = (
-      λ same. (
-          let whole : headerOctets (h .fields) (h .length - h .size) ++ drop (h .size) s ≡ s = rw same (take-append-drop (h .size) s) in
-          rw whole at (built-shortest (h .fields) (h .length - h .size) (drop (h .size) s) (read-in-range s h small e) enough)
-          ),
-      λ short. built-again s h small e (short .0),
-    )
+  λ same. (
+      let whole : headerOctets (h .fields) (h .length - h .size) ++ drop (h .size) s ≡ s = rw same (take-append-drop (h .size) s) in
+      rw whole at (built-shortest (h .fields) (h .length - h .size) (drop (h .size) s) (read-in-range s h small e) enough)
+      ),
+  λ short. built-again s h small e (short .0),
+)
