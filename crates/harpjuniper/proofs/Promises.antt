@@ -20,16 +20,13 @@ use Rattle.header.proofs.BuiltLaws.{header-length, built-size, in-range}
 use Rattle.header.proofs.Trip.{read-built}
 use Rattle.numbers.specs.declared.Numbers.{Numbers}
 use Rattle.numbers.specs.Fields.{fieldsFrom}
-use Rattle.numbers.proofs.fields_from.Bounds.{Words, typed}
+use Rattle.numbers.specs.Words.{Words}
+use Rattle.numbers.proofs.fields_from.Bounds.{typed}
 use Rattle.numbers.specs.Out.{numbersOut}
 use Rattle.numbers.proofs.validity.Inverse.{numbers-back}
-use Rattle.harpjuniper.specs.Face.{readingOf, answerBy, numbersChecks, buildAnswer, buildOutput}
+use Rattle.harpjuniper.specs.Face.{readingOf, answerBy, fieldsOut, numbersChecks, buildAnswer, buildOutput}
 
--- the numbers stand for no fields, or for fields out of range
-abbrev pub fieldsOut : Numbers → Bool
-fieldsOut n = numbersOut n || outOfRange (fieldsFrom n)
-
-fields-in : (n : Numbers) → Words n → fieldsOut n ≡ false → InRange (fieldsFrom n)
+pub fields-in : (n : Numbers) → Words n → fieldsOut n ≡ false → InRange (fieldsFrom n)
 fields-in n w h = in-range (fieldsFrom n) (typed n w) (or-false (numbersOut n) (outOfRange (fieldsFrom n)) h .1)
 
 -- ---- refusals

@@ -1,5 +1,5 @@
--- "Octets beyond the length field are ignored" (page 01, step 2). What is read, or refused, hangs on the octets up to where the length field says, and
--- on those of the control field, which is looked at before the length field and may lie behind it (docs/DECISIONS.md). Assumes nothing.
+-- "Octets beyond the length field are ignored" (page 01, step 2). What is read, or refused, hangs on the octets that the length field counts and on
+-- those of the control field, which is judged before the length field and may end behind it (docs/DECISIONS.md, D-2). Assumes nothing.
 use native.Mathlib.Omega.{arith}
 use Prim.Native.Nat.{ℕ, zero, suc, _+_, _≤_, _<_}
 use mathlib.Core.Path.{_≡_, refl, ap, sym, _∙_}

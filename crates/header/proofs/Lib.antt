@@ -1,5 +1,5 @@
--- The laws of headers. To be read: Refusals, Answers, Trip, Again, Shortest, Beyond, SentOn, BuiltLaws, Promises; the others serve them and the code's proofs. Tests
--- is for callers of this crate's functions.
+-- The laws of headers. To be read: Refusals, Answers, Trip, Again, Shortest, Beyond, SentOn, BuiltLaws, Promises; the others serve them and the
+-- code's proofs. Tests is for callers of this crate's functions.
 pub mod Tests
 pub mod Bounds
 pub mod Passed

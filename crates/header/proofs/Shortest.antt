@@ -3,16 +3,17 @@
 use native.Mathlib.Omega.{arith}
 use native.Mathlib.Nat.{zero-mul, one-mul}
 use Prim.Native.Nat.{ℕ, zero, suc, _-_, _≤_, _<_}
-use mathlib.Core.Path.{_≡_, refl}
+use mathlib.Core.Path.{_≡_, refl, ap, sym, _∙_}
 use mathlib.Core.List.{List, [], _∷_, _++_}
 use mathlib.Core.Logic.{_⊎_, inl, inr, _↔_}
-use lib.ListN.{getD, take, drop, take-append-drop}
+use lib.ListN.{getD, length, take}
+use lib.Seq.{length-take-le}
 use borrow.Author.Tests.{ne-eqb}
 use Rattle.octets.specs.Octets.{octet}
 use Rattle.header.specs.Limits.{mostData}
 use Rattle.header.specs.Form.{controlOf, firstControl, secondControl, thirdControl, secondFollows, thirdFollows}
 use Rattle.header.specs.Read.{readOf}
-use Rattle.header.specs.Build.{present, headerOctets}
+use Rattle.header.specs.Build.{present, headerOctets, sizeOf}
 use Rattle.header.specs.Shortest.{shortest, unusedZero, noneShorter}
 use Rattle.header.specs.Range.{InRange}
 use Rattle.header.specs.declared.Fields.{Fields}
@@ -20,11 +21,12 @@ use Rattle.header.specs.declared.Header.{Header}
 use Rattle.header.specs.declared.Read.the-variants.{Good}
 use Rattle.header.proofs.Bounds.{allowed}
 use Rattle.header.proofs.Passed.{passed}
-use Rattle.header.proofs.Answers.{read-in-range}
+use Rattle.header.proofs.Answers.{read-in-range, read-bounds}
 use Rattle.header.proofs.Bits.{bits}
+use Rattle.header.proofs.BuiltLaws.{header-length}
 use Rattle.header.proofs.Trip.{built-control}
 use Rattle.header.proofs.Back.{zero-or-one}
-use Rattle.header.proofs.Again.{shortest-least, built-again}
+use Rattle.header.proofs.Again.{shortest-least, as-long-shortest, built-again}
 
 -- ---- what the word means
 
@@ -91,13 +93,16 @@ read-unused-zero s h e =
     let a = allowed (controlOf s) (passed s h e .allowed) in
     (a .zero21, a .zero29, a .zero32, a .zeros)
 
--- building what was read gives the same header octets exactly where the control field was shortest and unused bits zero
-pub same-octets-exactly : (s : List ℕ) (h : Header) → ((i : ℕ) → getD s i 0 < 256) → readOf s ≡ Good h → h .length - h .size ≤ mostData
+-- building what was read gives the same header octets exactly where the control field was shortest and unused bits zero, and a shorter header else
+-- (`built-no-longer`, `as-long-shortest`)
+pub same-octets-exactly : (s : List ℕ) (h : Header) → ((i : ℕ) → getD s i 0 < 256) → readOf s ≡ Good h
     → (headerOctets (h .fields) (h .length - h .size) ≡ take (h .size) s) ↔ (shortest (controlOf s) × unusedZero (controlOf s))
-same-octets-exactly s h small e enough = (
+same-octets-exactly s h small e = (
   λ same. (
-      let whole : headerOctets (h .fields) (h .length - h .size) ++ drop (h .size) s ≡ s = rw same (take-append-drop (h .size) s) in
-      rw whole at (built-shortest (h .fields) (h .length - h .size) (drop (h .size) s) (read-in-range s h small e) enough)
+      let bounds = read-bounds s h small e in
+      let range = read-in-range s h small e in
+      let size : sizeOf (h .fields) ≡ h .size = sym (header-length (h .fields) (h .length - h .size) (range .checksum)) ∙ (ap length same ∙ length-take-le (h .size) s (omega (arith, bounds))) in
+      (as-long-shortest s h small e size, read-unused-zero s h e)
       ),
   λ short. built-again s h small e (short .0),
 )
