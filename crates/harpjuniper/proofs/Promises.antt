@@ -4,7 +4,7 @@ use native.Mathlib.Omega.{arith}
 use Prim.Native.Nat.{ℕ, _+_, _*_, _^_, _≤_, _<_}
 use mathlib.Core.Path.{_≡_, refl}
 use mathlib.Core.List.{List, [], _∷_, _++_}
-use mathlib.Core.Bool.{Bool, true, false, _||_}
+use mathlib.Core.Bool.{Bool, true, false}
 use mathlib.Core.Logic.{_↔_}
 use lib.ListN.{length, take, drop}
 use lib.Seq.{take-at}
@@ -78,14 +78,19 @@ refusal-writes-nothing n w dataSize lent h =
 
 -- ---- what was built
 
+-- a flag that is one is all that this asks of the fields
+pub written : (n : Numbers) → fieldsFrom n .checksum < 2 → (dataSize : ℕ) (lent : List ℕ) → longestHeader ≤ length lent → fieldsOut n ≡ false → dataSize ≤ mostData
+    → (buildAnswer n dataSize (length lent) ≡ sizeOf (fieldsFrom n)) × (buildOutput n dataSize lent ≡ headerOctets (fieldsFrom n) dataSize ++ drop (sizeOf (fieldsFrom n)) lent)
+unfolding buildAnswer buildOutput numbersChecks firstOf
+written n flag dataSize lent room good short =
+    let a = le-ltb (length lent) longestHeader room in
+    let c = le-ltb mostData dataSize short in
+    (simp (a, good, c), simp (a, good, c) (rw (header-length (fieldsFrom n) dataSize flag)))
+
 -- the answer is the header's length, and the header stands at the front of the output
 pub built-octets : (n : Numbers) → Words n → (dataSize : ℕ) (lent : List ℕ) → longestHeader ≤ length lent → fieldsOut n ≡ false → dataSize ≤ mostData
     → (buildAnswer n dataSize (length lent) ≡ sizeOf (fieldsFrom n)) × (buildOutput n dataSize lent ≡ headerOctets (fieldsFrom n) dataSize ++ drop (sizeOf (fieldsFrom n)) lent)
-unfolding buildAnswer buildOutput numbersChecks firstOf
-built-octets n w dataSize lent room good short =
-    let a = le-ltb (length lent) longestHeader room in
-    let c = le-ltb mostData dataSize short in
-    (simp (a, good, c), simp (a, good, c) (rw (header-length (fieldsFrom n) dataSize (fields-in n w good .checksum))))
+built-octets n w dataSize lent room good short = written n (fields-in n w good .checksum) dataSize lent room good short
 
 -- with its data after it, the header is read as the numbers that it was built from
 pub built-then-read : (n : Numbers) → Words n → (dataSize : ℕ) (userData : List ℕ) → fieldsOut n ≡ false → dataSize ≤ mostData → dataSize ≤ length userData

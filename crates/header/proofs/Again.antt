@@ -1,5 +1,6 @@
 -- Building what was read gives the same header octets where the control field was shortest and the data at most 8,141 octets (page 01, "Refusal
--- numbers"). That unused bits are zero is no hypothesis: others are refused by 4. Assumes nothing.
+-- numbers"). It is never longer than what was read, and as long only there. That unused bits are zero is no hypothesis: others are refused by 4.
+-- Assumes nothing.
 use native.Mathlib.Omega.{arith}
 use native.Mathlib.Nat.{zero-mul, mod-eq-of-lt, div-add-mod'}
 use Prim.Native.Nat.{ℕ, zero, suc, _+_, _*_, _-_, _/_, _%_, _≤_, _<_}
@@ -172,14 +173,14 @@ module _ (s : List ℕ) (h : Header) (small : (i : ℕ) → getD s i 0 < 256) (e
   unfolding controlOf
   end-is = refl
 
+  -- bit 24 is as it was where it announced a third octet that says something
+  second-whole : thirdFollows (k .second) ≡ present (k .third) → secondOctet f ≡ k .second
+  second-whole most = omega (arith, same .second)
+
   -- what is built is no longer than what was read
   pub built-no-longer : sizeOf (h .fields) ≤ h .size
   unfolding headerOf
   built-no-longer = rw (p .is) (omega (arith, size-built, end-is, third-under, second-under))
-
-  -- bit 24 is as it was where it announced a third octet that says something
-  second-whole : thirdFollows (k .second) ≡ present (k .third) → secondOctet f ≡ k .second
-  second-whole most = omega (arith, same .second)
 
   -- and is as long only where the control field was shortest
   pub as-long-shortest : sizeOf (h .fields) ≡ h .size → shortest (controlOf s)
@@ -233,12 +234,15 @@ module _ (s : List ℕ) (h : Header) (small : (i : ℕ) → getD s i 0 < 256) (e
     unfolding headerOf
     built-again = rw (p .is) header-is
 
+    pub size-again : sizeOf (h .fields) ≡ h .size
+    unfolding headerOf
+    size-again = rw (p .is) size-is
+
     -- the builder refuses it for nothing but its data, and says the size that was read
     pub done-again : (room : ℕ) → longestHeader ≤ room → h .length - h .size ≤ mostData → builtOf (h .fields) (h .length - h .size) room ≡ Done (h .size)
-    unfolding headerOf builtOf buildChecks firstOf
+    unfolding builtOf buildChecks firstOf
     done-again room enough few =
-        let size : sizeOf (h .fields) ≡ h .size = rw (p .is) size-is in
-        simp (le-ltb room longestHeader enough, not-out (h .fields) (read-in-range s h small e), le-ltb mostData (h .length - h .size) few, size)
+        simp (le-ltb room longestHeader enough, not-out (h .fields) (read-in-range s h small e), le-ltb mostData (h .length - h .size) few, size-again)
 
     -- and writes the octets that were read
     pub output-again : (lent : List ℕ) → longestHeader ≤ length lent → h .length - h .size ≤ mostData

@@ -1,6 +1,5 @@
 -- The fields that numbers stand for are within the bounds of their types. Assumes nothing.
 use native.Mathlib.Omega.{arith}
-use Prim.Native.Nat.{_^_, _<_}
 use lib.Dec.{eqb}
 use Rattle.checks.proofs.Laws.{either}
 use Rattle.header.specs.Range.{addressesFit, octetFits}
