@@ -78,7 +78,7 @@ refusal-writes-nothing n w dataSize lent h =
 
 -- ---- what was built
 
--- a flag that is one is all that this asks of the fields
+-- asks of the fields only that the checksum's flag is one
 pub written : (n : Numbers) → fieldsFrom n .checksum < 2 → (dataSize : ℕ) (lent : List ℕ) → longestHeader ≤ length lent → fieldsOut n ≡ false → dataSize ≤ mostData
     → (buildAnswer n dataSize (length lent) ≡ sizeOf (fieldsFrom n)) × (buildOutput n dataSize lent ≡ headerOctets (fieldsFrom n) dataSize ++ drop (sizeOf (fieldsFrom n)) lent)
 unfolding buildAnswer buildOutput numbersChecks firstOf

@@ -155,7 +155,7 @@ built-no-longer-than-read s small r told none enough lent room =
 
 -- ---- octets beyond the length field
 
--- hj_read answers the same for octets that agree up to the end of the length field and of the control field
+-- hj_read answers the same for octets that agree as far as the length field counts, and to the end of the control field
 pub hj-read-agrees : (s t : List ℕ) (n : ℕ) → lengthOf s ≤ n → controlOf s .end ≤ n → take n t ≡ take n s → readingOf (readOf t) ≡ readingOf (readOf s)
 hj-read-agrees s t n long whole agree = ap readingOf (agree-up-to-the-length s t n long whole agree)
 
@@ -163,7 +163,7 @@ hj-read-agrees s t n long whole agree = ap readingOf (agree-up-to-the-length s t
 pub hj-read-beyond-the-length : (s : List ℕ) (n : ℕ) → lengthOf s ≤ n → controlOf s .end ≤ n → readingOf (readOf (take n s)) ≡ readingOf (readOf s)
 hj-read-beyond-the-length s n long whole = ap readingOf (beyond-the-length s n long whole)
 
--- and where it refuses nothing, whatever octets stand behind the length that it tells
+-- and where it refuses nothing, whatever octets stand behind as many as the length that it tells
 pub hj-read-whatever-follows : (s rest : List ℕ) (r : Reading) → r ≡ readingOf (readOf s) → r .refusal ≡ 0 → readingOf (readOf (take (r .length) s ++ rest)) ≡ r
 unfolding readingOf
 hj-read-whatever-follows s rest r told none =
