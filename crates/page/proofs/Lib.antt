@@ -1,0 +1,4 @@
+-- That receiving does what the tables of page 01 say.
+pub mod Bits
+pub mod Sets
+pub mod Ports

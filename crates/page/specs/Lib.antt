@@ -1,0 +1,2 @@
+-- Page 01's verdict as tables.
+pub mod Table
