@@ -1,4 +1,5 @@
 -- What receiving gathers of the ports in one walk, as the table's tests of a port's number. Assumes nothing.
+use native.Mathlib.Omega.{arith}
 use Prim.Native.Nat.{ℕ, _/_, _^_, _<_}
 use mathlib.Core.Path.{_≡_, refl, sym, ap, ap₂, _∙_}
 use mathlib.Core.Bool.{Bool, true, false, not, _&&_, _||_}
@@ -21,7 +22,7 @@ use Rattle.state.specs.Relay.{Relay, portIn, queueIn, portSetUp}
 use Rattle.survey.specs.Survey.{broadcastIs, ownBroadcast, isAddressed, isBroadcast, inDomain, isFitting, isFull, portsBelow, surveyBelow, surveyOf}
 use Rattle.survey.specs.declared.Sought.{Sought}
 use Rattle.verdict.specs.Rule.{exceptBy}
-use Rattle.judge.specs.Ruling.{destinationAsked}
+use Rattle.judge.specs.Ruling.{destinationAsked, soughtOf}
 use Rattle.page.specs.Table.{Ports, somePort, destinationIs, equalsPort, endsNet, broadcastOf, broadcastOfOurs, otherPorts, hasRoom}
 use Rattle.page.proofs.Bits.{in-except, in-gathered}
 use Rattle.page.proofs.Sets.{empty-is, only-is}
@@ -110,8 +111,8 @@ module _ (r : Relay) where
   and-true-right false = refl
 
   module _ (x : Aim) (domain length : ℕ) where
-    abbrev pub survey : Sought
-    survey = record { destination = destinationAsked x; domain = domain; length = length }
+    abbrev survey : Sought
+    survey = soughtOf x domain length
 
     -- "the destination equals any port's address"
     pub addressed-none : eqb (surveyOf r survey .addressed) 0 ≡ not (equalsPort r x)
@@ -144,14 +145,18 @@ module _ (r : Relay) where
       pub others-in : (at : ℕ) → inSet p (exceptBy (surveyOf r survey .ready) (onlyPort at)) ≡ otherPorts r at p
       others-in at = in-except p _ (onlyPort at) ∙ ap₂ (λ (s t : Bool). s && not t) ready-in (only-is p at l)
 
+    pub domain-small : surveyOf r survey .domain < 256
+    unfolding surveyBelow
+    domain-small = small (λ (i : ℕ). inDomain (portIn r i) survey)
+
     pub fitting-small : surveyOf r survey .fitting < 256
     unfolding surveyBelow
-    fitting-small = small _
+    fitting-small = small (λ (i : ℕ). isFitting (portIn r i) survey)
 
-    pub ready-small : surveyOf r survey .ready < 256
+    ready-small : surveyOf r survey .ready < 256
     unfolding surveyBelow
-    ready-small = small _
+    ready-small = small (λ (i : ℕ). true)
 
     -- "if there are none"
     pub others-none : (at : ℕ) → eqb (exceptBy (surveyOf r survey .ready) (onlyPort at)) 0 ≡ not (somePort (otherPorts r at))
-    others-none at = empty-is _ (otherPorts r at) ? (λ p l. others-in p l at)
+    others-none at = empty-is _ (otherPorts r at) (omega (arith, ready-small)) (λ p l. others-in p l at)

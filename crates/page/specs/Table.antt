@@ -282,8 +282,8 @@ module _ (r : Relay) (at : ℕ) (h : Header) (ports : Ports) where
   ofSize p = ofDomain p && (portSetUp r p && not (ltb (portIn r p .mtu) (h .length)))
 
   -- "The ports left are the granted copies."
-  abbrev pub grantedOf : Ports
-  grantedOf p = not (hopsUsedUp (h .fields .hops)) && ofSize p
+  abbrev pub grantedPorts : Ports
+  grantedPorts p = not (hopsUsedUp (h .fields .hops)) && ofSize p
 
   -- "With ports wanted, in this order": else 1, where some port took an entry
   unfoldable pub copyRows : Checks
@@ -295,7 +295,7 @@ module _ (r : Relay) (at : ℕ) (h : Header) (ports : Ports) where
       -- "none left: 14."
       ∷ (not (somePort ofSize), 14)
       -- "all dropped: 15"
-      ∷ (not (somePort (takenBy r grantedOf)), 15)
+      ∷ (not (somePort (takenBy r grantedPorts)), 15)
       ∷ (true, 1)
       ∷ []
 
@@ -320,7 +320,7 @@ lineNumber r at h (wanted ports) = firstOf (copyRows r at h ports)
 abbrev pub lineGrants : Relay → ℕ → Header → Line → Ports
 lineGrants r at h notAsked = nobody
 lineGrants r at h (refused n) = nobody
-lineGrants r at h (wanted ports) = grantedOf r at h ports
+lineGrants r at h (wanted ports) = grantedPorts r at h ports
 
 abbrev pub halves : Relay → ℕ → Header → ℕ → Line → Verdict
 halves r at h local line =
