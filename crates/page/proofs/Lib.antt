@@ -3,3 +3,4 @@ pub mod Bits
 pub mod Sets
 pub mod Ports
 pub mod Copies
+pub mod Best
