@@ -4,3 +4,4 @@ pub mod Sets
 pub mod Ports
 pub mod Copies
 pub mod Best
+pub mod Lines
