@@ -4,4 +4,6 @@ pub mod Sets
 pub mod Ports
 pub mod Copies
 pub mod Best
+pub mod Local
 pub mod Lines
+pub mod Halves
