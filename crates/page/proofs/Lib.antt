@@ -7,3 +7,4 @@ pub mod Best
 pub mod Local
 pub mod Lines
 pub mod Halves
+pub mod Verdict
