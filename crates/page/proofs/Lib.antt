@@ -8,3 +8,4 @@ pub mod Local
 pub mod Lines
 pub mod Halves
 pub mod Verdict
+pub mod Exactly

@@ -120,7 +120,7 @@ module _ (r : Relay) (at : ℕ) (octets : List ℕ) (room : ℕ) where
       ∙ ap (λ (i : ℕ). orElse i (ruledEnding r (arrivalAt r at) header)) (sym steps-are)
 
   -- ---- where no row holds
-  steps-numbers : areNumbers (stepRows r at octets room) ≡ true
+  pub steps-numbers : areNumbers (stepRows r at octets room) ≡ true
   unfolding stepRows
   steps-numbers = refl
 
@@ -142,7 +142,11 @@ pub record Ends (e : Ending) (v : Verdict) : Type 0 where
   pub refusal : e .refusal ≡ v .refusal
   pub ruling : Agrees (e .ruling) v
 
-module _ (more : Route → Route → Bool) (r : Relay) (compares : (a : Address) → Compares more a (r .routes)) (at : ℕ) (octets : List ℕ) (room : ℕ) where
+-- of the routes that match, the comparison chooses as that of masks does
+abbrev pub Chooses : (Route → Route → Bool) → Relay → Type 0
+Chooses more r = (a : Address) → Compares more a (r .routes)
+
+module _ (more : Route → Route → Bool) (r : Relay) (compares : Chooses more r) (at : ℕ) (octets : List ℕ) (room : ℕ) where
   abbrev h : Header
   h = headerOf octets
 
@@ -165,8 +169,8 @@ module _ (more : Route → Route → Bool) (r : Relay) (compares : (a : Address)
     };
   }
 
-  -- by any comparison that goes with the masks
-  ends : Ends (endingOf r at octets room) (verdictBy more r at octets room)
+  -- Receiving ends as page 01 says, by any comparison that so chooses.
+  pub ends : Ends (endingOf r at octets room) (verdictBy more r at octets room)
   unfolding verdictBy
   ends =
       let n = firstOf (stepRows r at octets room) in
@@ -181,20 +185,25 @@ tests-agree {a} {b} {c} {d} f = by (ltb c d) refl
     by true e = lt-ltb a b (f .1 (ltb-true c d e))
     by false e = refuted (ltb a b) (λ t. true-false (sym (lt-ltb c d (f .0 (ltb-true a b t))) ∙ e))
 
-ones-compare : (rs : List Route) → Contiguous rs → (a : Address) → Compares moreOnes a rs
-ones-compare rs contiguous a p q hp hq =
+-- Masks as numbers choose so on any relay, and ones where masks are ones and then zeros, as 22 leaves them.
+pub masks-choose : (r : Relay) → Chooses longerMask r
+masks-choose r a p q hp hq = refl
+
+pub ones-choose : (r : Relay) → Contiguous (r .routes) → Chooses moreOnes r
+ones-choose r contiguous a p q hp hq =
+    let rs = r .routes in
     let fp = contiguous p (candidate-is (routeAt rs p) a .0 hp .0) in
     let fq = contiguous q (candidate-is (routeAt rs q) a .0 hq .0) in
     let mp = form-ones _ _ .0 (fp .1) in
     let mq = form-ones _ _ .0 (fq .1) in
     rw (form-count _ _ (fp .1), form-count _ _ (fq .1), mp .1, mq .1) (tests-agree (mask-order (fq .0) (fp .0) (mq .0) (mp .0)))
 
--- For any relay whatever: receiving ends as page 01 says, where masks are compared as numbers.
+-- For any relay whatever receiving ends as page 01 says, masks compared as numbers ..
 pub verdict-of-any-relay : (r : Relay) (at : ℕ) (octets : List ℕ) (room : ℕ)
     → Ends (endingOf r at octets room) (verdictBy longerMask r at octets room)
-verdict-of-any-relay r = ends longerMask r (λ a p q hp hq. refl)
+verdict-of-any-relay r = ends longerMask r (masks-choose r)
 
--- The same by ones, as the page says it, where the routes' masks are ones and then zeros, as 22 leaves them.
+-- .. and by their ones, in the page's own words, where they are ones and then zeros.
 pub verdict-is-the-page : (r : Relay) → Contiguous (r .routes) → (at : ℕ) (octets : List ℕ) (room : ℕ)
     → Ends (endingOf r at octets room) (verdictOf r at octets room)
-verdict-is-the-page r contiguous = ends moreOnes r (ones-compare (r .routes) contiguous)
+verdict-is-the-page r contiguous = ends moreOnes r (ones-choose r contiguous)

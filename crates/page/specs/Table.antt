@@ -2,11 +2,13 @@
 -- from page 02, W-204 ("Only routes that are up are now candidates"; 12 is given nowhere), not from the code: a set of ports is a test of a
 -- port's number here, and nothing is gathered beforehand. proofs/Verdict.antt has that receiving does exactly this. Assumes nothing.
 use Prim.Native.Nat.{ℕ, _/_, _^_}
+use mathlib.Core.Path.{_≡_}
+use mathlib.Core.Logic.{_⊎_, _↔_, _≢_}
 use mathlib.Core.Bool.{Bool, true, false, not, _&&_, _||_}
 use mathlib.Core.List.{List, [], _∷_}
 use lib.Dec.{eqb, ltb}
 use lib.ListN.{length}
-use Rattle.checks.specs.Order.{pick, Checks, firstOf}
+use Rattle.checks.specs.Order.{pick, Checks, firstOf, noneHolds, firstHolds}
 use Rattle.sets.specs.Limits.{portCount, groupPlaces, pathPlaces}
 use Rattle.sets.specs.Sets.{inSet, anyBelow}
 use Rattle.address.specs.Octets.{dotted}
@@ -42,6 +44,16 @@ use Rattle.state.specs.Relay.{Relay, portIn, groupIn, pathIn, queueIn, routeIn,
 abbrev pub firstRow : {A : Type 0} → List (Bool × A) → A → A
 firstRow [] last = last
 firstRow (row ∷ rows) last = pick (row .0) (row .1) (firstRow rows last)
+
+-- a row whose condition holds, and none before it, says what P asks; or none holds, and the last does
+abbrev pub Decides : {A : Type 0} → (A → Type 0) → List (Bool × A) → A → Type 0
+Decides P [] last = P last
+Decides P (row ∷ rows) last = ((row .0 ≡ true) × P (row .1)) ⊎ ((row .0 ≡ false) × Decides P rows last)
+
+-- a number as these rows give it: 0 exactly where no condition holds, and another exactly where the condition of a row that has it holds and
+-- none before
+abbrev pub GivenBy : Checks → ℕ → Type 0
+GivenBy rows m = ((m ≡ 0) ↔ noneHolds rows) × ((n : ℕ) → n ≢ 0 → (m ≡ n) ↔ firstHolds rows n)
 
 -- ---- sets of ports
 
@@ -316,6 +328,12 @@ abbrev pub lineNumber : Relay → ℕ → Header → Line → ℕ
 lineNumber r at h notAsked = 0
 lineNumber r at h (refused n) = n
 lineNumber r at h (wanted ports) = firstOf (copyRows r at h ports)
+
+-- the line's number is n: by itself, or by the first of the rows on copies that holds
+abbrev pub Gives : Relay → ℕ → Header → ℕ → Line → Type 0
+Gives r at h n notAsked = 0 ≡ n
+Gives r at h n (refused m) = m ≡ n
+Gives r at h n (wanted ports) = firstHolds (copyRows r at h ports) n
 
 abbrev pub lineGrants : Relay → ℕ → Header → Line → Ports
 lineGrants r at h notAsked = nobody
