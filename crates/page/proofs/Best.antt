@@ -77,8 +77,11 @@ module _ (more : Route → Route → Bool) (r : Relay) (a : Address) (compares :
     is-best : best place ≡ true
     unfolding isBest
     is-best =
-        rw (fits, refuted (anyBelow (λ (k : ℕ). better k place) (length rs)) (λ h.
-        let at = any-is (λ (k : ℕ). better k place) (length rs) .0 h in not-outdone (at .0) (at .2)))
+        rw (
+          fits,
+          refuted (anyBelow (λ (k : ℕ). better k place) (length rs)) (λ h.
+              let at = any-is (λ (k : ℕ). better k place) (length rs) .0 h in not-outdone (at .0) (at .2)),
+        )
 
     -- .. and it outdoes every other
     not-before : (q : ℕ) → CandidateAt a rs q → q ≢ place → maskAt rs place ≤ maskAt rs q → q ≤ place → ⊥

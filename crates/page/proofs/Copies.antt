@@ -2,7 +2,7 @@
 use native.Mathlib.Omega.{arith}
 use Prim.Native.Nat.{ℕ, _<_}
 use mathlib.Core.Path.{_≡_, refl, sym, ap, ap₂, subst, _∙_}
-use mathlib.Core.Bool.{Bool, true, false, not, _&&_, _||_}
+use mathlib.Core.Bool.{Bool, true, false, not, _&&_, _||_, and-true}
 use mathlib.Core.List.{[], _∷_}
 use lib.Bits.{bitAnd, and-le-l, and-le-r}
 use lib.Dec.{eqb, ltb}
@@ -78,10 +78,6 @@ none-passes : (ports : Ports) → somePort ports ≡ false → (p : ℕ) → p <
 unfolding somePort
 none-passes ports e p l = refuted (ports p) (λ h. true-false (sym (any-found ports p 8 l h) ∙ e))
 
-and-right : (t : Bool) → (t && true) ≡ t
-and-right true = refl
-and-right false = refl
-
 -- a port that is left is set up
 taken-case : (d u m room : Bool) → ((d && (u && m)) && not (u && not room)) ≡ ((d && (u && m)) && room)
 taken-case false u m room = refl
@@ -137,7 +133,7 @@ module _ (r : Relay) (at : ℕ) (x : Aim) (h : Header) (local : Local) where
         ∙ ap (λ (t : Bool). ports p && (not t || inDomain p)) (sym e)
 
     all-same : oneOctet (h .fields .addresses) ≡ false → (p : ℕ) → p < 8 → inSet p set ≡ domain p
-    all-same e p l = same p l ∙ sym (and-right (ports p)) ∙ ap (λ (t : Bool). ports p && (not t || inDomain p)) (sym e)
+    all-same e p l = same p l ∙ sym (and-true (ports p)) ∙ ap (λ (t : Bool). ports p && (not t || inDomain p)) (sym e)
 
     struck-none : oneOctet (h .fields .addresses) ≡ true → eqb struck 0 ≡ not (somePort domain)
     struck-none e =

@@ -119,7 +119,7 @@ module _ (r : Relay) (at : ℕ) (octets : List ℕ) (room : ℕ) where
   unfolding judged localRows
   local-exactly none =
       let is : local ≡ firstOf (localRows r at x (h .fields)) =
-            ends longerMask r (masks-choose r) at octets room .ruling .local ∙ ap (λ (v : Verdict). v .local) (judged-is longerMask (passed .1 none)) in
+      ends longerMask r (masks-choose r) at octets room .ruling .local ∙ ap (λ (v : Verdict). v .local) (judged-is longerMask (passed .1 none)) in
       subst (GivenBy (localRows r at x (h .fields))) (sym is) (decided (localRows r at x (h .fields)) refl)
 
   -- So of any call: 26 and 1 exactly where no step refuses and their rows decide.
@@ -147,7 +147,7 @@ module _ (r : Relay) (at : ℕ) (octets : List ℕ) (room : ℕ) where
     onward-exactly none n =
         let line = onwardLine more r at x (h .fields) in
         let is : onward ≡ lineNumber r at h line =
-              ends more r chooses at octets room .ruling .onward ∙ ap (λ (v : Verdict). v .onward) (judged-is more (passed .1 none)) in
+        ends more r chooses at octets room .ruling .onward ∙ ap (λ (v : Verdict). v .onward) (judged-is more (passed .1 none)) in
         let gives = gives-is r at h n line in
         let decides = row-decides (Gives r at h n) (onwardRows r at x (h .fields)) (wanted (bestPort more r x)) in
         (λ e. decides .0 (gives .0 (sym is ∙ e)), λ d. is ∙ gives .1 (decides .1 d))

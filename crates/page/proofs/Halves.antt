@@ -1,7 +1,7 @@
 -- Both halves of the verdict, for whatever the destination names: receiving rules as the table says. Assumes nothing.
 use Prim.Native.Nat.{ℕ, _<_}
 use mathlib.Core.Path.{_≡_, refl, sym, ap, ap₂, subst, _∙_}
-use mathlib.Core.Bool.{Bool, true, false, not, _&&_, _||_}
+use mathlib.Core.Bool.{Bool, true, false, not, _&&_, _||_, or-false, Bool·not-not}
 use lib.Dec.{eqb}
 use lib.ListN.{length}
 use Rattle.checks.specs.Order.{pick, firstOf}
@@ -43,7 +43,7 @@ use Rattle.page.proofs.Ports.{addressed-none, broadcast-none}
 use Rattle.page.proofs.Copies.{Agrees, Same, line-agrees}
 use Rattle.page.proofs.Best.{Compares, route-same}
 use Rattle.page.proofs.Local.{oursByName, local-is}
-use Rattle.page.proofs.Lines.{not-not, host-same, broadcast-same, group-same, path-same}
+use Rattle.page.proofs.Lines.{host-same, broadcast-same, group-same, path-same}
 
 -- ---- the target, by the table's tests: a port's address, a broadcast of ours, limited broadcast, multicast
 abbrev byClass : Bool → Bool → Target
@@ -80,10 +80,6 @@ module _ (r : Relay) (x : Aim) (none : (test : Address → Bool) → destination
   ours-none : broadcastOfOurs r x ≡ false
   unfolding broadcastOfOurs
   ours-none = unnamed (λ (p : ℕ). broadcastOf (portIn r p))
-
-or-none : (t : Bool) → t ≡ (t || false)
-or-none true = refl
-or-none false = refl
 
 module _ (more : Route → Route → Bool) (r : Relay) (at : ℕ) (inside : at < 8) (h : Header) (flag : h .fields .intermediate < 2) where
   abbrev c : Case
@@ -129,8 +125,8 @@ module _ (more : Route → Route → Bool) (r : Relay) (at : ℕ) (inside : at <
     target-is =
         ap (λ (t : Target). pick (not (eqb (survey (Node a) .addressed) 0)) target.Here (pick (not (eqb (survey (Node a) .broadcast) 0)) (overBroadcast t) t)) (class-is a)
         ∙ ap₂ (λ (u v : Bool). byTests u v (isLimited a) (isMulticast a))
-        (ap not (addressed-none r (Node a) domain (h .length)) ∙ not-not (equalsPort r (Node a)))
-        (ap not (broadcast-none r (Node a) domain (h .length)) ∙ not-not (broadcastOfOurs r (Node a)))
+        (ap not (addressed-none r (Node a) domain (h .length)) ∙ Bool·not-not (equalsPort r (Node a)))
+        (ap not (broadcast-none r (Node a) domain (h .length)) ∙ Bool·not-not (broadcastOfOurs r (Node a)))
 
     subscribed-none : eqb (hereBy (groupPlace r a arrival)) 0 ≡ not (isSubscribed r at a)
     unfolding groupPlace
@@ -143,13 +139,13 @@ module _ (more : Route → Route → Bool) (r : Relay) (at : ℕ) (inside : at <
 
     node-ours : (own ours limited multicast : Bool)
         → eqb (oursBy (byTests own ours limited multicast) (hereBy (placeFor r (byTests own ours limited multicast) a arrival))) 0
-        ≡ not (own || (limited || (ours || ((multicast && isSubscribed r at a) || false))))
+        ≡ not (own || limited || ours || (multicast && isSubscribed r at a) || false)
     node-ours true ours limited multicast = refl
     node-ours false true true multicast = refl
     node-ours false false true multicast = refl
     node-ours false true false true = refl
     node-ours false true false false = refl
-    node-ours false false false true = subscribed-none ∙ ap not (or-none (isSubscribed r at a))
+    node-ours false false false true = subscribed-none ∙ ap not (sym (or-false (isSubscribed r at a)))
     node-ours false false false false = refl
 
     module _ (local : Local) (is : localNumber local ≡ here (Node a)) where
@@ -164,7 +160,7 @@ module _ (more : Route → Route → Bool) (r : Relay) (at : ℕ) (inside : at <
           (pick host (refused 9)
           (pick (ours && noOther) notAsked
           (pick ours (wanted (otherPorts r at))
-          (pick (multicast && (isSubscribed r at a && noOther)) notAsked
+          (pick (multicast && isSubscribed r at a && noOther) notAsked
           (pick (multicast && (not (hasGroup r a) || nothingBut at (groupSet r a))) (refused 11)
           (pick multicast (wanted (without at (groupPorts r (Node a))))
           (pick (not (someMatches r (Node a))) (refused 11) (wanted (bestPort more r (Node a)))))))))))
@@ -190,7 +186,7 @@ module _ (more : Route → Route → Bool) (r : Relay) (at : ℕ) (inside : at <
     node-agrees =
         let t = byTests (equalsPort r (Node a)) (broadcastOfOurs r (Node a)) (isLimited a) (isMulticast a) in
         subst (λ (u : Target). Agrees (ruleTarget r u a c (survey (Node a))) (judged more r at (Node a) h)) (sym target-is)
-        (ruled-agrees (Node a) t (placeFor r t a arrival) (wayFor r t a) (node-ours (equalsPort r (Node a)) (broadcastOfOurs r (Node a)) (isLimited a) (isMulticast a)) 
+        (ruled-agrees (Node a) t (placeFor r t a arrival) (wayFor r t a) (node-ours (equalsPort r (Node a)) (broadcastOfOurs r (Node a)) (isLimited a) (isMulticast a))
         (λ local is. node-line local is (equalsPort r (Node a)) (broadcastOfOurs r (Node a)) (isLimited a) (isMulticast a) (isHost r)))
 
   -- ---- what is no address: of the lines above the path's the host's alone fits
@@ -213,7 +209,7 @@ module _ (more : Route → Route → Bool) (r : Relay) (at : ℕ) (inside : at <
     no-address = by-tests (equalsPort r x) (broadcastOfOurs r x) (isHost r) (equals-none r x none) (ours-none r x none)
 
   no-port : (x : Aim) → ((test : Address → Bool) → destinationIs x test ≡ false) → (t : Bool)
-      → (equalsPort r x || (false || (broadcastOfOurs r x || (false || t)))) ≡ t
+      → (equalsPort r x || false || broadcastOfOurs r x || false || t) ≡ t
   no-port x none t = rw (equals-none r x none, ours-none r x none)
 
   -- a path
@@ -223,7 +219,7 @@ module _ (more : Route → Route → Bool) (r : Relay) (at : ℕ) (inside : at <
     here-none = by (hasPath r y)
       where
         by : (t : Bool) → eqb (hereBy (pick t (pathSays (pathIn r (pathFound r y))) Missing)) 0 ≡ not (t && not (eqb (pathIn r (pathFound r y) .here) 0))
-        by true = sym (not-not (eqb (pathIn r (pathFound r y) .here) 0))
+        by true = sym (Bool·not-not (eqb (pathIn r (pathFound r y) .here) 0))
         by false = refl
 
     path-agrees : Agrees (ruleAim r (Path y) c (survey (Path y))) (judged more r at (Path y) h)

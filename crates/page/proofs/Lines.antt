@@ -1,7 +1,7 @@
 -- The lines of the onward half, one by one: receiving wants what the table's rows want. Assumes nothing.
 use Prim.Native.Nat.{ℕ, _<_}
 use mathlib.Core.Path.{_≡_, refl, sym, ap, ap₂, subst, _∙_}
-use mathlib.Core.Bool.{Bool, true, false, not, _&&_, _||_}
+use mathlib.Core.Bool.{Bool, true, false, not, _&&_, _||_, Bool·not-not}
 use lib.Bits.{bitAnd}
 use lib.Dec.{eqb}
 use lib.ListN.{length}
@@ -32,10 +32,6 @@ use Rattle.page.proofs.Ports.{others-in, others-none}
 use Rattle.page.proofs.Copies.{Same}
 
 -- ---- tests
-pub not-not : (t : Bool) → not (not t) ≡ t
-not-not true = refl
-not-not false = refl
-
 pick-one : (t : Bool) → eqb (pick t 1 0) 1 ≡ t
 pick-one true = refl
 pick-one false = refl
@@ -88,7 +84,7 @@ module _ (r : Relay) (at : ℕ) (inside : at < 8) where
           alone =
               pick-one _
               ∙ ap₂ (λ (s t : Bool). not s && t) (only-in at (group .subscribed) inside) (others-none r x domain length at)
-              ∙ ap (λ (t : Bool). t && noOther) (not-not (inSet at (group .subscribed)))
+              ∙ ap (λ (t : Bool). t && noOther) (Bool·not-not (inSet at (group .subscribed)))
 
           by : (t : Bool) → Same (groupLine (pick t (groupSays group (onlyPort at)) Missing) (onlyPort at) others)
               (pick ((t && inSet at (group .subscribed)) && noOther) notAsked

@@ -21,20 +21,11 @@ use Rattle.judge.specs.Ruling.{caseOf}
 use Rattle.page.specs.Table.{destinationIs, pathIs, equalsPort, isLimited, broadcastOfOurs, isMulticast, isSubscribed, isHere, isOurs, localRows}
 
 -- ---- whether it is ours
-split : (a b c d e i : Bool) → (a || (b || (c || (d || (e || i))))) ≡ ((a || (b || (c || (d || e)))) || i)
-split true b c d e i = refl
-split false true c d e i = refl
-split false false true d e i = refl
-split false false false true e i = refl
-split false false false false true i = refl
-split false false false false false i = refl
-
 -- what makes it ours but for the flag
 abbrev pub oursByName : Relay → ℕ → Aim → Bool
 oursByName r at x =
-    equalsPort r x
-    || (destinationIs x isLimited
-    || (broadcastOfOurs r x || (destinationIs x (λ a. isMulticast a && isSubscribed r at a) || pathIs x (isHere r))))
+    equalsPort r x || destinationIs x isLimited || broadcastOfOurs r x || destinationIs x (λ a. isMulticast a && isSubscribed r at a)
+    || pathIs x (isHere r)
 
 pick-zero : (t : Bool) → eqb (pick t 1 0) 0 ≡ not t
 pick-zero true = refl
@@ -48,12 +39,6 @@ flag-is (suc (suc n)) h = absurd (omega arith)
 module _ (r : Relay) (at : ℕ) (x : Aim) (f : Fields) (flag : f .intermediate < 2) where
   abbrev c : Case
   c = caseOf (r .router) (onlyPort at) f
-
-  ours-is : isOurs r at x f ≡ (oursByName r at x || eqb (f .intermediate) 1)
-  unfolding isOurs
-  ours-is =
-      split (equalsPort r x) (destinationIs x isLimited) (broadcastOfOurs r x) (destinationIs x (λ a. isMulticast a && isSubscribed r at a))
-      (pathIs x (isHere r)) (eqb (f .intermediate) 1)
 
   local-case : (u t : Bool) → localNumber (pick (not u) No (pick (not t) Unknown Delivered)) ≡ firstOf ((u && not t, 26) ∷ (u, 1) ∷ [])
   unfolding firstOf
@@ -72,12 +57,11 @@ module _ (r : Relay) (at : ℕ) (x : Aim) (f : Fields) (flag : f .intermediate <
   -- The local half, where the target and its place make it ours by its name.
   pub local-is : (t : Target) (p : Place) → eqb (oursBy t (hereBy p)) 0 ≡ not (oursByName r at x)
       → localNumber (localOf t p c) ≡ firstOf (localRows r at x f)
-  unfolding localOf localRows
+  unfolding localOf localRows isOurs
   local-is t p e =
       let un : eqb (wantedHere (oursBy t (hereBy p)) (f .intermediate)) 0 ≡ not (isOurs r at x f) =
-            wanted-case (eqb (oursBy t (hereBy p)) 0 && eqb (f .intermediate) 0)
-            ∙ ap₂ _&&_ e (flag-is (f .intermediate) flag)
-            ∙ not-or (oursByName r at x) (eqb (f .intermediate) 1)
-            ∙ ap not (sym ours-is) in
+      wanted-case (eqb (oursBy t (hereBy p)) 0 && eqb (f .intermediate) 0)
+      ∙ ap₂ _&&_ e (flag-is (f .intermediate) flag)
+      ∙ not-or (oursByName r at x) (eqb (f .intermediate) 1) in
       ap₂ (λ (s t : Bool). localNumber (pick s No (pick t Unknown Delivered))) un (pick-zero (isAssigned (f .tpid)))
       ∙ local-case (isOurs r at x f) (isAssigned (f .tpid))

@@ -2,7 +2,7 @@
 use native.Mathlib.Omega.{arith}
 use Prim.Native.Nat.{ℕ, _/_, _^_, _<_}
 use mathlib.Core.Path.{_≡_, refl, sym, ap, ap₂, _∙_}
-use mathlib.Core.Bool.{Bool, true, false, not, _&&_, _||_}
+use mathlib.Core.Bool.{Bool, true, false, not, _&&_, _||_, and-true, or-false}
 use lib.Dec.{eqb, ltb}
 use borrow.Author.Tests.{lt-ltb}
 use Rattle.checks.specs.Order.{pick}
@@ -36,14 +36,10 @@ isScps family.Scps = true
 isScps family.Multicast = false
 isScps family.Invalid = false
 
-or-none : (t : Bool) → t ≡ (t || false)
-or-none true = refl
-or-none false = refl
-
 in-family : (f : Family) (own : ℕ) (d : Address)
     → broadcastIs (broadcastIn f own) d ≡ (endsNet f own (d .0) || (isScps f && eqb (dotted 10 255 255 255) (d .0)))
 unfolding broadcastIn
-in-family (family.Net hosts) own d = or-none _
+in-family (family.Net hosts) own d = sym (or-false _)
 in-family family.Scps own d = refl
 in-family family.Multicast own d = refl
 in-family family.Invalid own d = refl
@@ -62,10 +58,11 @@ scps-ten first = by (eqb first 10) (between 1 126 first) (between 128 191 first)
     by false false false false true = refl
     by false false false false false = refl
 
-or-swap : (s e t : Bool) → (s || (e || t)) ≡ (e || (s || t))
+or-swap : (s e t : Bool) → (s || (e || t)) ≡ (e || s || t)
 or-swap true true t = refl
 or-swap true false t = refl
-or-swap false e t = refl
+or-swap false true t = refl
+or-swap false false t = refl
 
 pub broadcast-is : (own : Port) (d : Address) → ownBroadcast own d ≡ broadcastOf own d
 unfolding ownBroadcast broadcastOf classBroadcast
@@ -106,10 +103,6 @@ module _ (r : Relay) where
   ours-is (Path x) own = refl
   ours-is Uncarried own = refl
 
-  and-true-right : (t : Bool) → (t && true) ≡ t
-  and-true-right true = refl
-  and-true-right false = refl
-
   module _ (x : Aim) (domain length : ℕ) where
     abbrev survey : Sought
     survey = soughtOf x domain length
@@ -127,7 +120,7 @@ module _ (r : Relay) where
     module _ (p : ℕ) (l : p < 8) where
       pub ready-in : inSet p (surveyOf r survey .ready) ≡ portSetUp r p
       unfolding surveyBelow
-      ready-in = gathered (λ (i : ℕ). true) p l ∙ and-true-right (portSetUp r p)
+      ready-in = gathered (λ (i : ℕ). true) p l ∙ and-true (portSetUp r p)
 
       pub domain-in : inSet p (surveyOf r survey .domain) ≡ (portSetUp r p && eqb (domainOf (portIn r p .address)) domain)
       unfolding surveyBelow

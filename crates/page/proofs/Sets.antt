@@ -6,7 +6,7 @@ use native.Mathlib.Decide.{decLe}
 use Prim.Native.Nat.{ℕ, zero, suc, _-_, _*_, _%_, _^_, _<_, _≤_}
 use mathlib.Core.Path.{_≡_, refl, sym, ap, subst, _∙_}
 use mathlib.Core.Logic.{by-cases}
-use mathlib.Core.Bool.{Bool, true, false, not, _&&_, _||_}
+use mathlib.Core.Bool.{Bool, true, false, not, _||_, or-false}
 use lib.Dec.{eqb, ltb}
 use lib.Bits.{bitAnd}
 use lib.Pow.{pow-pos}
@@ -71,10 +71,6 @@ nothing-is at set l =
     own-bit : bit at (2 ^ at) ≡ 1
     own-bit = eqb-true _ 1 (ap (inSet at) (sym (simp (lt-ltb at 8 l))) ∙ only-has at l)
 
-    or-none : (t : Bool) → t ≡ (t || false)
-    or-none true = refl
-    or-none false = refl
-
     same : (w : ℕ) → w ≤ set → 0 < w → (t : Bool) → eqb set w ≡ t → eqb (set - w) 0 ≡ t
     same w under some true e = eq-eqb (set - w) 0 (omega (arith, eqb-true set w e))
     same w under some false e = ne-eqb (set - w) 0 (λ z. eqb-false set w e (omega arith))
@@ -82,7 +78,7 @@ nothing-is at set l =
     by : (b w : ℕ) → b < 2 → b ≡ bit at set → w ≡ 2 ^ at → eqb (set - b * w) 0 ≡ (eqb set 0 || eqb set w)
     by zero w h e f =
         let other : eqb set w ≡ false = ne-eqb set w (λ z. omega (arith, e, own-bit, ap (bit at) (z ∙ f))) in
-        ap (λ (n : ℕ). eqb n 0) (let z : set - 0 * w ≡ set = omega arith in z) ∙ rw other (or-none (eqb set 0))
+        ap (λ (n : ℕ). eqb n 0) (let z : set - 0 * w ≡ set = omega arith in z) ∙ rw other (sym (or-false (eqb set 0)))
     by (suc zero) w h e f =
         let under : w ≤ set = subst (λ (n : ℕ). n ≤ set) (sym f) (with-port at set (sym e)) in
         let some : 0 < w = subst (λ (n : ℕ). 0 < n) (sym f) (pow-pos at) in

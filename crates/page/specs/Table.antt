@@ -134,7 +134,8 @@ endsNet family.Invalid own d = false
 unfoldable pub broadcastOf : Port → Address → Bool
 broadcastOf own d =
     endsNet (familyOf (own .address .0 / 2 ^ 24)) (own .address .0) (d .0)
-    || (eqb (subnetBroadcast (own .address) (own .mask) .0) (d .0) || (inNet10 (own .address) && eqb (dotted 10 255 255 255) (d .0)))
+    || eqb (subnetBroadcast (own .address) (own .mask) .0) (d .0)
+    || (inNet10 (own .address) && eqb (dotted 10 255 255 255) (d .0))
 
 -- "or is a broadcast of ours"
 unfoldable pub broadcastOfOurs : Relay → Aim → Bool
@@ -166,15 +167,15 @@ isOurs r at x f =
     -- "the destination equals any port's address;"
     equalsPort r x
     -- "or is limited broadcast;"
-    || (destinationIs x isLimited
+    || destinationIs x isLimited
     -- "or is a broadcast of ours ..;"
-    || (broadcastOfOurs r x
+    || broadcastOfOurs r x
     -- "or is multicast with a subscription on the arrival port;"
-    || (destinationIs x (λ a. isMulticast a && isSubscribed r at a)
+    || destinationIs x (λ a. isMulticast a && isSubscribed r at a)
     -- "or the path place says so;"
-    || (pathIs x (isHere r)
+    || pathIs x (isHere r)
     -- "or the intermediate delivery flag is 1."
-    || eqb (f .intermediate) 1))))
+    || eqb (f .intermediate) 1
 
 -- "If it would be delivered and its TP-ID is not assigned in table 3-2, the local half is 26": else 1 is delivered, and 0 is no
 unfoldable pub localRows : Relay → ℕ → Aim → Fields → Checks
@@ -245,7 +246,7 @@ onwardRows r at x f =
     ∷ (broadcastOfOurs r x, wanted (otherPorts r at))
     -- "multicast: the group's set without the arrival port; not asked if subscribed on the arrival port and no other port is set up; else 11 if
     -- there is no group or that set is empty;"
-    ∷ (destinationIs x (λ a. isMulticast a && (isSubscribed r at a && not (somePort (otherPorts r at)))), notAsked)
+    ∷ (destinationIs x (λ a. isMulticast a && isSubscribed r at a && not (somePort (otherPorts r at))), notAsked)
     ∷ (destinationIs x (λ a. isMulticast a && (not (hasGroup r a) || nothingBut at (groupSet r a))), refused 11)
     ∷ (destinationIs x isMulticast, wanted (without at (groupPorts r x)))
     -- "path: the place's set without the arrival port; 11 if there is no place, or the set is empty and the place is not delivered here; not
