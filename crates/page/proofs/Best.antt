@@ -9,7 +9,7 @@ use mathlib.Core.Bool.{Bool, true, false, not, _&&_, _||_}
 use mathlib.Core.List.{List}
 use lib.Dec.{eqb, ltb}
 use lib.ListN.{length}
-use borrow.Author.Tests.{eqb-true, eqb-false, eq-eqb, ltb-true, ltb-false, lt-ltb, le-ltb, not-true}
+use borrow.Author.Tests.{eqb-true, eqb-false, ltb-true, ltb-false, lt-ltb, le-ltb, not-true}
 use Rattle.checks.specs.Order.{pick}
 use Rattle.checks.proofs.Bools.{true-false, refuted, and-true, or-true}
 use Rattle.sets.specs.Sets.{anyBelow}
@@ -23,7 +23,7 @@ use Rattle.routes.specs.declared.Found.the-variants.{At, No}
 use Rattle.routes.proofs.Longest.{CandidateAt, maskAt, search-found, search-no, search-greatest, search-first}
 use Rattle.meaning.specs.declared.Aim.the-variants.{Node}
 use Rattle.lookup.specs.ForTarget.{wayOf}
-use Rattle.state.specs.Relay.{Relay, routeIn}
+use Rattle.state.specs.Relay.{Relay}
 use Rattle.verdict.specs.Rule.{routeLine}
 use Rattle.page.specs.Table.{refused, wanted, matches, someMatches, outdoes, isBest, bestPort}
 use Rattle.page.proofs.Sets.{only-is}

@@ -3,14 +3,14 @@
 use Prim.Native.Nat.{ℕ}
 use mathlib.Core.Path.{_≡_, refl, sym, ap, subst, _∙_}
 use mathlib.Core.Logic.{_↔_, _≢_, _⊎_, inl, inr, ⊎-elim}
-use mathlib.Core.Bool.{Bool, true, false, not, _&&_}
+use mathlib.Core.Bool.{Bool, true, false}
 use mathlib.Core.List.{List, [], _∷_}
 use lib.Dec.{eqb}
 use borrow.Author.Tests.{eqb-true, eqb-false, eq-eqb, ne-eqb}
 use Rattle.checks.specs.Order.{pick, Checks, firstOf, noneHolds, firstHolds}
 use Rattle.checks.proofs.Bools.{true-false}
 use Rattle.checks.proofs.Laws.{number-first, first-number}
-use Rattle.refusals.proofs.Chains.{Decided, decided}
+use Rattle.refusals.proofs.Chains.{decided}
 use Rattle.header.specs.Read.{headerOf}
 use Rattle.header.specs.declared.Header.{Header}
 use Rattle.meaning.specs.Names.{aimOf}
@@ -21,7 +21,7 @@ use Rattle.state.specs.Relay.{Relay, portIn}
 use Rattle.verdict.specs.Numbers.{localNumber, onwardNumber}
 use Rattle.judge.specs.Ending.{endingOf}
 use Rattle.judge.specs.declared.Ending.{Ending}
-use Rattle.page.specs.Table.{Ports, firstRow, Decides, stepRows, localRows, bestPort, Line, notAsked, refused, wanted, onwardRows, onwardLine, copyRows, lineNumber, Gives, GivenBy, Verdict, judged, refusedWith, verdictBy}
+use Rattle.page.specs.Table.{Ports, firstRow, Decides, stepRows, localRows, localHalf, bestPort, Line, notAsked, refused, wanted, onwardRows, onwardLine, copyRows, lineNumber, Gives, GivenBy, Verdict, judged, refusedWith, verdictBy}
 use Rattle.page.proofs.Verdict.{Chooses, ends, masks-choose, steps-numbers}
 
 -- ---- one law for all rows
@@ -114,13 +114,15 @@ module _ (r : Relay) (at : ℕ) (octets : List ℕ) (room : ℕ) where
   local-none : firstOf rows ≢ 0 → local ≡ 0
   local-none n = ends longerMask r (masks-choose r) at octets room .ruling .local ∙ ap (λ (v : Verdict). v .local) (refused-is longerMask n)
 
+  pub local-number : noneHolds rows → local ≡ localHalf r at x (h .fields)
+  unfolding judged
+  local-number none =
+      ends longerMask r (masks-choose r) at octets room .ruling .local ∙ ap (λ (v : Verdict). v .local) (judged-is longerMask (passed .1 none))
+
   -- Where no step refuses, 26 and 1 exactly where their rows decide, and 0 exactly where neither does.
   pub local-exactly : noneHolds rows → GivenBy (localRows r at x (h .fields)) local
-  unfolding judged localRows
-  local-exactly none =
-      let is : local ≡ firstOf (localRows r at x (h .fields)) =
-      ends longerMask r (masks-choose r) at octets room .ruling .local ∙ ap (λ (v : Verdict). v .local) (judged-is longerMask (passed .1 none)) in
-      subst (GivenBy (localRows r at x (h .fields))) (sym is) (decided (localRows r at x (h .fields)) refl)
+  unfolding localRows
+  local-exactly none = subst (GivenBy (localRows r at x (h .fields))) (sym (local-number none)) (decided (localRows r at x (h .fields)) refl)
 
   -- So of any call: 26 and 1 exactly where no step refuses and their rows decide.
   pub local-given : (n : ℕ) → n ≢ 0 → (local ≡ n) ↔ (noneHolds rows × firstHolds (localRows r at x (h .fields)) n)
@@ -137,20 +139,22 @@ module _ (r : Relay) (at : ℕ) (octets : List ℕ) (room : ℕ) where
     onward-none : firstOf rows ≢ 0 → onward ≡ 0
     onward-none n = ends more r chooses at octets room .ruling .onward ∙ ap (λ (v : Verdict). v .onward) (refused-is more n)
 
+    pub onward-number : noneHolds rows → onward ≡ lineNumber r at h (onwardLine more r at x (h .fields))
+    unfolding judged
+    onward-number none =
+        ends more r chooses at octets room .ruling .onward ∙ ap (λ (v : Verdict). v .onward) (judged-is more (passed .1 none))
+
     -- a line of the table says n, and so decides
     abbrev pub LineGives : ℕ → Type 0
     LineGives n = Decides (Gives r at h n) (onwardRows r at x (h .fields)) (wanted (bestPort more r x))
 
     -- Where no step refuses, each number, 0 for not asked too, exactly where its line decides.
     pub onward-exactly : noneHolds rows → (n : ℕ) → (onward ≡ n) ↔ LineGives n
-    unfolding judged onwardLine
+    unfolding onwardLine
     onward-exactly none n =
-        let line = onwardLine more r at x (h .fields) in
-        let is : onward ≡ lineNumber r at h line =
-        ends more r chooses at octets room .ruling .onward ∙ ap (λ (v : Verdict). v .onward) (judged-is more (passed .1 none)) in
-        let gives = gives-is r at h n line in
+        let gives = gives-is r at h n (onwardLine more r at x (h .fields)) in
         let decides = row-decides (Gives r at h n) (onwardRows r at x (h .fields)) (wanted (bestPort more r x)) in
-        (λ e. decides .0 (gives .0 (sym is ∙ e)), λ d. is ∙ gives .1 (decides .1 d))
+        (λ e. decides .0 (gives .0 (sym (onward-number none) ∙ e)), λ d. onward-number none ∙ gives .1 (decides .1 d))
 
     -- So of any call: 9, 10, 11, 13, 14, 15 and 1 exactly where no step refuses and their line decides.
     pub onward-given : (n : ℕ) → n ≢ 0 → (onward ≡ n) ↔ (noneHolds rows × LineGives n)

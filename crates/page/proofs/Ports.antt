@@ -6,7 +6,7 @@ use mathlib.Core.Bool.{Bool, true, false, not, _&&_, _||_, and-true, or-false}
 use lib.Dec.{eqb, ltb}
 use borrow.Author.Tests.{lt-ltb}
 use Rattle.checks.specs.Order.{pick}
-use Rattle.sets.specs.Sets.{inSet, onlyPort, portSet}
+use Rattle.sets.specs.Sets.{inSet, onlyPort}
 use Rattle.sets.proofs.Loops.{portSet-below}
 use Rattle.address.specs.Octets.{dotted}
 use Rattle.address.specs.Class.{between, familyOf}

@@ -6,19 +6,18 @@ use native.Mathlib.Decide.{decLe}
 use Prim.Native.Nat.{ℕ, zero, suc, _-_, _*_, _%_, _^_, _<_, _≤_}
 use mathlib.Core.Path.{_≡_, refl, sym, ap, subst, _∙_}
 use mathlib.Core.Logic.{by-cases}
-use mathlib.Core.Bool.{Bool, true, false, not, _||_, or-false}
+use mathlib.Core.Bool.{Bool, true, false, not, _&&_, _||_, or-false}
 use lib.Dec.{eqb, ltb}
 use lib.Bits.{bitAnd}
 use lib.Pow.{pow-pos}
 use borrow.Author.Tests.{eq-eqb, ne-eqb, eqb-true, eqb-false, lt-ltb, ltb-true}
-use Rattle.checks.specs.Order.{pick}
 use Rattle.checks.proofs.Bools.{true-false, refuted}
 use Rattle.sets.specs.Sets.{inSet, onlyPort, anyBelow}
 use Rattle.sets.proofs.Anywhere.{any-is, any-found}
 use Rattle.networks.proofs.Bits.{bit, bit-small, same-bits}
 use Rattle.verdict.specs.Rule.{exceptBy}
-use Rattle.page.specs.Table.{Ports, somePort, nothingBut}
-use Rattle.page.proofs.Bits.{with-power, only-that, only-has}
+use Rattle.page.specs.Table.{Ports, somePort, noPort, without, nothingBut}
+use Rattle.page.proofs.Bits.{with-power, in-except, only-that, only-has}
 
 -- no port is in the empty set
 pub none-in : (p : ℕ) → inSet p 0 ≡ false
@@ -86,3 +85,10 @@ nothing-is at set l =
         ∙ same w under some (eqb set w) refl
         ∙ sym (simp (ne-eqb set 0 (λ z. omega arith)))
     by (suc (suc b)) w h e f = absurd (omega arith)
+
+-- Of ports 0 to 7 that is: none of the eight is left.
+pub nothing-below : (at set : ℕ) → at < 8 → set < 256 → nothingBut at set ≡ noPort (without at (λ (p : ℕ). inSet p set))
+nothing-below at set l small =
+    sym (nothing-is at set l)
+    ∙ empty-is _ (without at (λ (p : ℕ). inSet p set)) (omega (arith)) λ p m.
+    in-except p set (onlyPort at) ∙ ap (λ (t : Bool). inSet p set && not t) (only-is p at m)

@@ -3,19 +3,18 @@ use native.Mathlib.Nat.{mod-lt, zero-lt-suc}
 use Prim.Native.Nat.{ℕ, _/_, _<_}
 use mathlib.Core.Path.{_≡_, refl, sym, ap, subst, _∙_}
 use mathlib.Core.Logic.{_↔_}
-use mathlib.Core.Bool.{Bool, true, false, not, _&&_, _||_}
+use mathlib.Core.Bool.{Bool, true, false, _||_}
 use mathlib.Core.List.{List, [], _∷_, _++_}
 use lib.Dec.{eqb, ltb}
-use borrow.Author.Tests.{eqb-true, eqb-false, ltb-true, ltb-false, lt-ltb, le-ltb}
+use borrow.Author.Tests.{eqb-true, eqb-false, ltb-true, lt-ltb}
 use Rattle.checks.specs.Order.{pick, Checks, firstOf}
 use Rattle.checks.proofs.Bools.{true-false, not-false, and-true, refuted}
 use Rattle.checks.proofs.Laws.{zero-none}
 use Rattle.checks.proofs.Steps.{joined}
 use Rattle.refusals.proofs.Chains.{areNumbers, numbered, others-decide, first-decides}
-use Rattle.address.specs.Mask.{maskOf, onesOf}
 use Rattle.address.proofs.Masks.{form-ones, form-count, mask-order}
 use Rattle.address.specs.declared.Address.{Address}
-use Rattle.header.specs.Form.{controlOf, isIntermediate}
+use Rattle.header.specs.Form.{controlOf}
 use Rattle.header.specs.Read.{fieldsOf, headerOf, readChecks, readOf}
 use Rattle.header.specs.declared.Header.{Header}
 use Rattle.header.specs.declared.Read.the-variants as read
@@ -25,12 +24,10 @@ use Rattle.routes.specs.Routes.{routeAt}
 use Rattle.routes.specs.Search.{longerMask}
 use Rattle.routes.specs.declared.Route.{Route}
 use Rattle.routes.proofs.Candidates.{candidate-is}
-use Rattle.routes.proofs.Longest.{CandidateAt, maskAt, Contiguous}
-use Rattle.sets.specs.Sets.{onlyPort}
+use Rattle.routes.proofs.Longest.{Contiguous}
 use Rattle.state.specs.Relay.{Relay, portIn, portSetUp}
 use Rattle.judge.specs.Ruling.{ruleOf}
 use Rattle.judge.specs.Ending.{refusedBy, orElse, callChecks, ruledEnding, headerEnding, octetsEnding, arrivalAt, endingOf}
-use Rattle.judge.specs.declared.ruling.Arrival.{Arrival}
 use Rattle.judge.specs.declared.Ending.{Ending}
 use Rattle.page.specs.Table.{stepRows, moreOnes, Verdict, judged, refusedWith, verdictBy, verdictOf}
 use Rattle.page.proofs.Sets.{none-in}

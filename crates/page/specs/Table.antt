@@ -68,6 +68,10 @@ nobody p = false
 unfoldable pub somePort : Ports → Bool
 somePort ports = anyBelow ports portCount
 
+-- "none left"
+abbrev pub noPort : Ports → Bool
+noPort ports = not (somePort ports)
+
 -- "without the arrival port"
 abbrev pub without : ℕ → Ports → Ports
 without at ports p = ports p && not (eqb p at)
@@ -119,7 +123,7 @@ pathIs Uncarried test = false
 unfoldable pub equalsPort : Relay → Aim → Bool
 equalsPort r x = somePort (λ (p : ℕ). portSetUp r p && destinationIs x (λ a. eqb (portIn r p .address .0) (a .0)))
 
--- "or is limited broadcast"
+-- "or is limited broadcast": by the page's table of classes, here 6
 abbrev pub isLimited : Address → Bool
 isLimited a = eqb (classNumber (classOf (a .0))) 6
 
@@ -141,6 +145,7 @@ broadcastOf own d =
 unfoldable pub broadcastOfOurs : Relay → Aim → Bool
 broadcastOfOurs r x = somePort (λ (p : ℕ). portSetUp r p && destinationIs x (broadcastOf (portIn r p)))
 
+-- multicast by the same table, here 2
 abbrev pub isMulticast : Address → Bool
 isMulticast a = eqb (classNumber (classOf (a .0))) 2
 
@@ -180,6 +185,9 @@ isOurs r at x f =
 -- "If it would be delivered and its TP-ID is not assigned in table 3-2, the local half is 26": else 1 is delivered, and 0 is no
 unfoldable pub localRows : Relay → ℕ → Aim → Fields → Checks
 localRows r at x f = (isOurs r at x f && not (isAssigned (f .tpid)), 26) ∷ (isOurs r at x f, 1) ∷ []
+
+abbrev pub localHalf : Relay → ℕ → Aim → Fields → ℕ
+localHalf r at x f = firstOf (localRows r at x f)
 
 -- ---- the routes
 
@@ -239,14 +247,14 @@ onwardRows r at x f =
     -- "destination equals a port's address, or limited broadcast: not asked;"
     (equalsPort r x || destinationIs x isLimited, notAsked)
     -- "host: not asked where the local half is delivered or 26, else 9;"
-    ∷ (isHost r && not (eqb (firstOf (localRows r at x f)) 0), notAsked)
+    ∷ (isHost r && not (eqb (localHalf r at x f) 0), notAsked)
     ∷ (isHost r, refused 9)
     -- "broadcast of ours: all other set-up ports; not asked if there are none;"
-    ∷ (broadcastOfOurs r x && not (somePort (otherPorts r at)), notAsked)
+    ∷ (broadcastOfOurs r x && noPort (otherPorts r at), notAsked)
     ∷ (broadcastOfOurs r x, wanted (otherPorts r at))
     -- "multicast: the group's set without the arrival port; not asked if subscribed on the arrival port and no other port is set up; else 11 if
     -- there is no group or that set is empty;"
-    ∷ (destinationIs x (λ a. isMulticast a && isSubscribed r at a && not (somePort (otherPorts r at))), notAsked)
+    ∷ (destinationIs x (λ a. isMulticast a && isSubscribed r at a && noPort (otherPorts r at)), notAsked)
     ∷ (destinationIs x (λ a. isMulticast a && (not (hasGroup r a) || nothingBut at (groupSet r a))), refused 11)
     ∷ (destinationIs x isMulticast, wanted (without at (groupPorts r x)))
     -- "path: the place's set without the arrival port; 11 if there is no place, or the set is empty and the place is not delivered here; not
@@ -298,17 +306,18 @@ module _ (r : Relay) (at : ℕ) (h : Header) (ports : Ports) where
   abbrev pub grantedPorts : Ports
   grantedPorts p = not (hopsUsedUp (h .fields .hops)) && ofSize p
 
-  -- "With ports wanted, in this order": else 1, where some port took an entry
+  -- "With ports wanted, in this order"
   unfoldable pub copyRows : Checks
   copyRows =
       -- "hop count present and 0 or 1: 10."
       (hopsUsedUp (h .fields .hops), 10)
       -- "none left: 13."
-      ∷ (oneOctet (h .fields .addresses) && not (somePort ofDomain), 13)
+      ∷ (oneOctet (h .fields .addresses) && noPort ofDomain, 13)
       -- "none left: 14."
-      ∷ (not (somePort ofSize), 14)
+      ∷ (noPort ofSize, 14)
       -- "all dropped: 15"
-      ∷ (not (somePort (takenBy r grantedPorts)), 15)
+      ∷ (noPort (takenBy r grantedPorts), 15)
+      -- else "the ports that took an entry"
       ∷ (true, 1)
       ∷ []
 
@@ -354,7 +363,7 @@ halves r at h local line =
 
 -- the two halves, by what the destination names
 unfoldable pub judged : (Route → Route → Bool) → Relay → ℕ → Aim → Header → Verdict
-judged more r at x h = halves r at h (firstOf (localRows r at x (h .fields))) (onwardLine more r at x (h .fields))
+judged more r at x h = halves r at h (localHalf r at x (h .fields)) (onwardLine more r at x (h .fields))
 
 -- "A refusal at any check ends the call"
 abbrev pub refusedWith : ℕ → Verdict
