@@ -16,7 +16,7 @@ use Rattle.sets.specs.Sets.{anyBelow}
 use Rattle.sets.proofs.Anywhere.{any-is, any-found}
 use Rattle.address.specs.declared.Address.{Address}
 use Rattle.routes.specs.Routes.{routeAt, candidate}
-use Rattle.routes.specs.Search.{longerMask, searchOf}
+use Rattle.routes.specs.Search.{searchOf}
 use Rattle.routes.specs.declared.Route.{Route}
 use Rattle.routes.specs.declared.Found.{Found}
 use Rattle.routes.specs.declared.Found.the-variants.{At, No}
@@ -26,15 +26,11 @@ use Rattle.lookup.specs.ForTarget.{wayOf}
 use Rattle.state.specs.Relay.{Relay}
 use Rattle.verdict.specs.Rule.{routeLine}
 use Rattle.page.specs.Table.{refused, wanted, matches, someMatches, outdoes, isBest, bestPort}
+use Rattle.page.specs.Ends.{Chooses}
 use Rattle.page.proofs.Sets.{only-is}
 use Rattle.page.proofs.Copies.{Same}
 
--- it compares the routes that match as their masks do, taken as numbers
-abbrev pub Compares : (Route → Route → Bool) → Address → List Route → Type 0
-Compares more a rs =
-    (p q : ℕ) → CandidateAt a rs p → CandidateAt a rs q → more (routeAt rs p) (routeAt rs q) ≡ longerMask (routeAt rs p) (routeAt rs q)
-
-module _ (more : Route → Route → Bool) (r : Relay) (a : Address) (compares : Compares more a (r .routes)) where
+module _ (more : Route → Route → Bool) (r : Relay) (chooses : Chooses more r) (a : Address) where
   abbrev rs : List Route
   rs = r .routes
 
@@ -64,12 +60,12 @@ module _ (more : Route → Route → Bool) (r : Relay) (a : Address) (compares :
         let most = search-greatest a rs found k (both .0) in
         ⊎-elim
         (λ (m : wins k place ≡ true).
-        let over : maskAt rs place < maskAt rs k = ltb-true _ _ (sym (compares k place (both .0) fits) ∙ m) in
+        let over : maskAt rs place < maskAt rs k = ltb-true _ _ (sym (chooses a k place (both .0) fits) ∙ m) in
         let bad : ⊥ = omega (arith, mask-is, most, over) in
         bad)
         (λ (m : (not (wins place k) && ltb k place) ≡ true).
         let lower = and-true (not (wins place k)) (ltb k place) m in
-        let over : maskAt rs place ≤ maskAt rs k = ltb-false _ _ (sym (compares place k fits (both .0)) ∙ not-true _ (lower .0)) in
+        let over : maskAt rs place ≤ maskAt rs k = ltb-false _ _ (sym (chooses a place k fits (both .0)) ∙ not-true _ (lower .0)) in
         let bad : ⊥ = omega (arith, mask-is, over, search-first a rs found k (ltb-true k place (lower .1)) (both .0)) in
         bad)
         (or-true (wins k place) (not (wins place k) && ltb k place) (both .1))
@@ -95,11 +91,11 @@ module _ (more : Route → Route → Bool) (r : Relay) (a : Address) (compares :
         by-cases (decLe (maskAt rs place) (maskAt rs q))
         (λ l.
         let later : ltb place q ≡ true = lt-ltb place q (lt-of-not-le (not-before q is other l)) in
-        let no = compares place q fits is ∙ le-ltb _ _ l in
-        let nor = compares q place is fits ∙ le-ltb _ _ most in
+        let no = chooses a place q fits is ∙ le-ltb _ _ l in
+        let nor = chooses a q place is fits ∙ le-ltb _ _ most in
         rw (fits, no, nor, later))
         (λ g.
-        let yes = compares place q fits is ∙ lt-ltb _ _ (lt-of-not-le g) in
+        let yes = chooses a place q fits is ∙ lt-ltb _ _ (lt-of-not-le g) in
         rw (fits, yes))
 
     inside : place < length rs

@@ -27,24 +27,17 @@ use Rattle.verdict.specs.declared.Case.{Case}
 use Rattle.verdict.specs.declared.Local.{Local}
 use Rattle.verdict.specs.declared.Obstacle.{Obstacle}
 use Rattle.verdict.specs.declared.Obstacle.the-variants.{HopsUsedUp, LeavesDomain, TooBig, QueuesFull}
+use Rattle.verdict.specs.declared.Onward.{Onward}
 use Rattle.verdict.specs.declared.Onward.the-variants as onward
 use Rattle.verdict.specs.declared.Wish.{Wish}
 use Rattle.verdict.specs.declared.Wish.the-variants.{NotAsked, Refused, Wanted}
 use Rattle.verdict.specs.declared.Survey.{Survey}
-use Rattle.verdict.specs.declared.Ruling.{Ruling}
 use Rattle.judge.specs.Ruling.{caseOf, soughtOf}
 use Rattle.page.specs.Table.{Ports, somePort, Line, notAsked, refused, wanted, hopsUsedUp, oneOctet, hasRoom, takenBy, droppedBy, ofDomain, ofSize, grantedPorts, copyRows, Verdict, lineNumber, lineGrants, halves}
+use Rattle.page.specs.Ends.{Agrees}
 use Rattle.page.proofs.Bits.{in-and, in-except}
 use Rattle.page.proofs.Sets.{none-in, empty-is}
 use Rattle.page.proofs.Ports.{domain-in, fitting-in, domain-small, fitting-small, full-in}
-
--- a ruling says what the table's verdict says
-pub record Agrees (x : Ruling) (v : Verdict) : Type 0 where
-  pub local : localNumber (x .local) ≡ v .local
-  pub onward : onwardNumber (x .onward) ≡ v .onward
-  pub granted : (p : ℕ) → p < 8 → inSet p (x .granted) ≡ v .granted p
-  pub took : (p : ℕ) → p < 8 → inSet p (x .took) ≡ v .took p
-  pub dropped : (p : ℕ) → p < 8 → inSet p (x .dropped) ≡ v .dropped p
 
 -- a line says what the table's line says
 abbrev pub Same : Wish → Line → Type 0
@@ -57,6 +50,18 @@ Same (Refused o) (wanted ports) = ⊥
 Same (Wanted set) notAsked = ⊥
 Same (Wanted set) (refused n) = ⊥
 Same (Wanted set) (wanted ports) = (p : ℕ) → p < 8 → inSet p set ≡ ports p
+
+-- where no port is granted a copy, the numbers are left
+pub empty-agrees : (local : Local) (onward : Onward) (v : Verdict) → localNumber local ≡ v .local → onwardNumber onward ≡ v .onward
+    → ((p : ℕ) → p < 8 → v .granted p ≡ false) → ((p : ℕ) → p < 8 → v .took p ≡ false) → ((p : ℕ) → p < 8 → v .dropped p ≡ false)
+    → Agrees (record { local = local; onward = onward; granted = 0; took = 0; dropped = 0 }) v
+empty-agrees local onward v here on granted took dropped = record {
+  local = here;
+  onward = on;
+  granted = λ p l. none-in p ∙ sym (granted p l);
+  took = λ p l. none-in p ∙ sym (took p l);
+  dropped = λ p l. none-in p ∙ sym (dropped p l);
+}
 
 -- ---- the tests
 spent-is : (n : Octet) → eqb (spentOf n) 0 ≡ not (hopsUsedUp n)
@@ -101,16 +106,12 @@ module _ (r : Relay) (at : ℕ) (x : Aim) (h : Header) (local : Local) where
   abbrev verdict : Line → Verdict
   verdict line = halves r at h (localNumber local) line
 
+  -- no copy on either side
   refused-agrees : (o : Obstacle) (line : Line) → obstacleNumber o ≡ lineNumber r at h line
       → ((p : ℕ) → p < 8 → lineGrants r at h line p ≡ false) → Agrees (rulingOf local (Refused o) (found .full)) (verdict line)
   unfolding rulingOf
-  refused-agrees o line number nobody = record {
-    local = refl;
-    onward = number;
-    granted = λ p l. none-in p ∙ sym (nobody p l);
-    took = λ p l. none-in p ∙ sym (rw (nobody p l));
-    dropped = λ p l. none-in p ∙ sym (rw (nobody p l));
-  }
+  refused-agrees o line number nobody =
+      empty-agrees local (onward.Refused o) (verdict line) refl number nobody (λ p l. rw (nobody p l)) (λ p l. rw (nobody p l))
 
   -- ---- ports wanted
   module _ (set : ℕ) (ports : Ports) (same : (p : ℕ) → p < 8 → inSet p set ≡ ports p) where
@@ -264,13 +265,8 @@ module _ (r : Relay) (at : ℕ) (x : Aim) (h : Header) (local : Local) where
   pub line-agrees : (w : Wish) (line : Line) → Same w line
       → Agrees (rulingOf local (grantedOf w asked found) (found .full)) (verdict line)
   unfolding grantedOf rulingOf
-  line-agrees NotAsked notAsked e = record {
-    local = refl;
-    onward = refl;
-    granted = λ p l. none-in p;
-    took = λ p l. none-in p;
-    dropped = λ p l. none-in p;
-  }
+  line-agrees NotAsked notAsked e =
+      empty-agrees local onward.NotAsked (verdict notAsked) refl refl (λ p l. refl) (λ p l. refl) (λ p l. refl)
   line-agrees NotAsked (refused n) e = absurd e
   line-agrees NotAsked (wanted ports) e = absurd e
   line-agrees (Refused o) notAsked e = absurd e

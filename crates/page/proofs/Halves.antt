@@ -38,10 +38,11 @@ use Rattle.verdict.specs.declared.Wish.{Wish}
 use Rattle.verdict.specs.declared.Wish.the-variants.{Refused}
 use Rattle.judge.specs.Ruling.{caseOf, soughtOf, ruledBy, ruleTarget, ruleAim}
 use Rattle.page.specs.Table.{somePort, without, nothingBut, destinationIs, equalsPort, isLimited, broadcastOf, broadcastOfOurs, isMulticast, hasGroup, hasPath, isSubscribed, isHere, localRows, matches, someMatches, bestPort, Line, notAsked, refused, wanted, isHost, otherPorts, groupSet, groupPorts, onwardLine, halves, judged}
+use Rattle.page.specs.Ends.{Agrees, Chooses}
 use Rattle.page.proofs.Bits.{only-in}
 use Rattle.page.proofs.Ports.{addressed-none, broadcast-none}
-use Rattle.page.proofs.Copies.{Agrees, Same, line-agrees}
-use Rattle.page.proofs.Best.{Compares, route-same}
+use Rattle.page.proofs.Copies.{Same, line-agrees}
+use Rattle.page.proofs.Best.{route-same}
 use Rattle.page.proofs.Local.{oursByName, local-is}
 use Rattle.page.proofs.Lines.{host-same, broadcast-same, group-same, path-same}
 
@@ -81,7 +82,7 @@ module _ (r : Relay) (x : Aim) (none : (test : Address → Bool) → destination
   unfolding broadcastOfOurs
   ours-none = unnamed (λ (p : ℕ). broadcastOf (portIn r p))
 
-module _ (more : Route → Route → Bool) (r : Relay) (at : ℕ) (inside : at < 8) (h : Header) (flag : h .fields .intermediate < 2) where
+module _ (more : Route → Route → Bool) (r : Relay) (chooses : Chooses more r) (at : ℕ) (inside : at < 8) (h : Header) (flag : h .fields .intermediate < 2) where
   abbrev c : Case
   c = caseOf (r .router) (onlyPort at) (h .fields)
 
@@ -115,7 +116,7 @@ module _ (more : Route → Route → Bool) (r : Relay) (at : ℕ) (inside : at <
       (line-agrees r at x h local wish (onwardLine more r at x (h .fields)) (line local is))
 
   -- ---- an address
-  module _ (a : Address) (compares : Compares more a (r .routes)) where
+  module _ (a : Address) where
     abbrev arrival : ℕ
     arrival = onlyPort at
 
@@ -179,7 +180,7 @@ module _ (more : Route → Route → Bool) (r : Relay) (at : ℕ) (inside : at <
       node-line false true false true false = broadcast-same r at inside (Node a) domain (h .length)
       node-line false true false false false = broadcast-same r at inside (Node a) domain (h .length)
       node-line false false false true false = group-same r at inside (Node a) domain (h .length) a
-      node-line false false false false false = route-same more r a compares
+      node-line false false false false false = route-same more r chooses a
 
     node-agrees : Agrees (ruleAim r (Node a) c (survey (Node a))) (judged more r at (Node a) h)
     unfolding ruleTarget lineOf onwardLine
@@ -242,7 +243,7 @@ module _ (more : Route → Route → Bool) (r : Relay) (at : ℕ) (inside : at <
       (λ local is. no-address Uncarried (λ test. refl) local is (Refused NoRoute) (pick (not (someMatches r Uncarried)) (refused 11) (wanted (bestPort more r Uncarried))) (rw match-none))
 
   -- Whatever the destination names, receiving rules as the table says.
-  pub aim-agrees : ((a : Address) → Compares more a (r .routes)) → (x : Aim) → Agrees (ruleAim r x c (survey x)) (judged more r at x h)
-  aim-agrees compares (Node a) = node-agrees a (compares a)
-  aim-agrees compares (Path y) = path-agrees y
-  aim-agrees compares Uncarried = uncarried-agrees
+  pub aim-agrees : (x : Aim) → Agrees (ruleAim r x c (survey x)) (judged more r at x h)
+  aim-agrees (Node a) = node-agrees a
+  aim-agrees (Path y) = path-agrees y
+  aim-agrees Uncarried = uncarried-agrees

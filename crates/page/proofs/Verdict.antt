@@ -26,13 +26,14 @@ use Rattle.routes.specs.declared.Route.{Route}
 use Rattle.routes.proofs.Candidates.{candidate-is}
 use Rattle.routes.proofs.Longest.{Contiguous}
 use Rattle.state.specs.Relay.{Relay, portIn, portSetUp}
+use Rattle.verdict.specs.declared.Local.the-variants.{No}
+use Rattle.verdict.specs.declared.Onward.the-variants.{NotAsked}
 use Rattle.judge.specs.Ruling.{ruleOf}
 use Rattle.judge.specs.Ending.{refusedBy, orElse, callChecks, ruledEnding, headerEnding, octetsEnding, arrivalAt, endingOf}
 use Rattle.judge.specs.declared.Ending.{Ending}
 use Rattle.page.specs.Table.{stepRows, moreOnes, Verdict, judged, refusedWith, verdictBy, verdictOf}
-use Rattle.page.proofs.Sets.{none-in}
-use Rattle.page.proofs.Copies.{Agrees}
-use Rattle.page.proofs.Best.{Compares}
+use Rattle.page.specs.Ends.{Ends, Chooses}
+use Rattle.page.proofs.Copies.{empty-agrees}
 use Rattle.page.proofs.Halves.{aim-agrees}
 
 -- ---- steps 1 to 6 are one list
@@ -133,17 +134,7 @@ module _ (r : Relay) (at : ℕ) (octets : List ℕ) (room : ℕ) where
   unfolding headerOf fieldsOf
   flag-small = mod-lt (controlOf octets .third / 16) (zero-lt-suc 1)
 
--- an ending says what the table's verdict says: the refusal, the numbers of both halves, and for each port whether it is granted a copy, takes
--- it or drops it
-pub record Ends (e : Ending) (v : Verdict) : Type 0 where
-  pub refusal : e .refusal ≡ v .refusal
-  pub ruling : Agrees (e .ruling) v
-
--- of the routes that match, the comparison chooses as that of masks does
-abbrev pub Chooses : (Route → Route → Bool) → Relay → Type 0
-Chooses more r = (a : Address) → Compares more a (r .routes)
-
-module _ (more : Route → Route → Bool) (r : Relay) (compares : Chooses more r) (at : ℕ) (octets : List ℕ) (room : ℕ) where
+module _ (more : Route → Route → Bool) (r : Relay) (chooses : Chooses more r) (at : ℕ) (octets : List ℕ) (room : ℕ) where
   abbrev h : Header
   h = headerOf octets
 
@@ -153,17 +144,11 @@ module _ (more : Route → Route → Bool) (r : Relay) (compares : Chooses more 
   unfolding ruleOf judged
   by-steps n true e inside = record {
     refusal = refl;
-    ruling = aim-agrees more r at (inside (eqb-true n 0 e)) h (flag-small r at octets room) compares (aimOf (portIn r at .address .0) (h .fields .addresses));
+    ruling = aim-agrees more r chooses at (inside (eqb-true n 0 e)) h (flag-small r at octets room) (aimOf (portIn r at .address .0) (h .fields .addresses));
   }
   by-steps n false e inside = record {
     refusal = refl;
-    ruling = record {
-      local = refl;
-      onward = refl;
-      granted = λ p l. none-in p;
-      took = λ p l. none-in p;
-      dropped = λ p l. none-in p;
-    };
+    ruling = empty-agrees No NotAsked (refusedWith n) refl refl (λ p l. refl) (λ p l. refl) (λ p l. refl);
   }
 
   -- Receiving ends as page 01 says, by any comparison that so chooses.
