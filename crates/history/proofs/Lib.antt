@@ -8,7 +8,6 @@
 -- ledger of a port, the order of a queue and of taking);
 -- Marked (page 01's marked cases, one table), WrongRelays and Wrong (its wrong relays and its slips, each shown wrong).
 -- The others serve these: Boards, that no rule reads a counter; Small, that a set of ports is one of the eight; Bits, Fair and Queues.
-pub mod Bits
 pub mod Settled
 pub mod Fair
 pub mod Queues
@@ -32,5 +31,3 @@ pub mod Search
 pub mod SearchBack
 pub mod Onward
 pub mod Wanted
-pub mod Copies
-pub mod Routed
