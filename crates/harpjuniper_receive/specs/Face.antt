@@ -2,7 +2,6 @@
 use Prim.Native.Nat.{ℕ}
 use mathlib.Core.List.{List}
 use lib.ListN.{length}
-use Rattle.address.specs.declared.Slot.{Slot}
 use Rattle.state.specs.Relay.{Relay, State}
 use Rattle.judge.specs.Ending.{endingOf}
 use Rattle.relay.specs.Outgoing.{sentOutput}

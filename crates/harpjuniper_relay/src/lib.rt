@@ -4,7 +4,6 @@
 // the one that the definitions state, and where the words are not as many as the state has, no port stands in them: taking answers 16,
 // reading answers 21, and nothing is written.
 ghost use mathlib.Core.Path.{_≡_};
-ghost use lib.ListN.{length};
 ghost use Rattle.state.specs.Relay.{Relay, State};
 ghost use Rattle.state.specs.Layout.{stateWords};
 ghost use Rattle.taking.specs.Taking.{takenRelay};

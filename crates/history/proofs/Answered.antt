@@ -1,9 +1,9 @@
 -- Demand 1, all calls under one statement: whatever is asked, the answer stands in the table (specs/Answers.antt and specs/Looks.antt). Assumes nothing.
 use native.Mathlib.Omega.{arith}
-use Prim.Native.Nat.{ℕ, _%_, _^_, _<_}
+use Prim.Native.Nat.{ℕ, _-_, _%_, _^_, _<_}
 use mathlib.Core.Path.{_≡_, refl}
 use mathlib.Core.Bool.{Bool, true, false}
-use mathlib.Core.List.{[], _∷_}
+use mathlib.Core.List.{List, [], _∷_}
 use lib.ListN.{length}
 use lib.Dec.{eqb, ltb}
 use borrow.Author.Tests.{lt-ltb}
@@ -16,6 +16,7 @@ use Rattle.address.specs.declared.PathForm.{PathForm}
 use Rattle.address.specs.declared.PathForm.the-variants as shape
 use Rattle.address.specs.Class as named
 use Rattle.address.specs.Path as pathed
+use Rattle.checksum.specs.Sum.{onesSum, checksumOf}
 use Rattle.header.specs.Read.{readChecks, headerOf, readOf}
 use Rattle.header.specs.declared.Header.{Header}
 use Rattle.header.specs.declared.Read.the-variants as reader
@@ -88,6 +89,9 @@ search-row found.No = refl
 below-row : (n k : ℕ) → n < k → stands (below k ∷ []) (number n) ≡ true
 below-row n k h = simp (lt-ltb n k h)
 
+checksum-row : (octets : List ℕ) → stands (below 65536 ∷ []) (number (checksumOf octets)) ≡ true
+checksum-row octets = below-row (65535 - onesSum octets) 65536 (omega arith)
+
 part-listed : (r : Relay) (part : Part) → stands (numbers (partNumbers part) ∷ []) (number (partNumber r part)) ≡ true
 unfolding portBack routeBack groupBack pathBack
 part-listed r theRouter = refl
@@ -108,7 +112,7 @@ look-listed r (read octets) =
 look-listed r (build fields size output) = number-row (0 ∷ 17 ∷ 19 ∷ 20 ∷ []) (numbersChecks fields size (length output)) refl refl
 look-listed r (class a) = class-row (classOf (a .0))
 look-listed r (form p) = form-row (pathForm (p .0))
-look-listed r (checksum octets) = below-row (checksumOf octets) 65536 (checksum-below octets)
+look-listed r (checksum octets) = checksum-row octets
 look-listed r stateWords = refl
 
 -- Whatever is called, and on whatever relay, the answer stands in the table's rows for that call.

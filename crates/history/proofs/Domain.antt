@@ -10,7 +10,8 @@ use lib.ListN.{length, getD, drop}
 use lib.Dec.{eqb}
 use borrow.Author.Tests.{eqb-true, eqb-false}
 use Rattle.checks.specs.Order.{pick, firstOf}
-use Rattle.checks.proofs.Bools.{true-false, either}
+use Rattle.checks.proofs.Bools.{true-false}
+use Rattle.checks.proofs.Laws.{either}
 use Rattle.checks.proofs.Laws.{zero-none}
 use Rattle.sets.specs.Sets.{inSet}
 use Rattle.address.specs.declared.Slot.{Slot}

@@ -57,7 +57,7 @@ module _ (r : Relay) (p : ℕ) (inside : p < 8) where
     pub full : inSet p (x .dropped) ≡ true → ltb (queueIn r p .count) 32 ≡ false
 
   fair-none : (local : Local) (x : Onward) → Fair (record { local = local; onward = x; granted = 0; took = 0; dropped = 0 })
-  fair-none local x = 
+  fair-none local x =
       let none = in-none p in
       record { split = simp none; room = λ h. true-false (sym h ∙ none); full = λ h. true-false (sym h ∙ none) }
 

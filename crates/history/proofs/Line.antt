@@ -26,7 +26,7 @@ use Rattle.taking.specs.declared.Taking.the-variants.{Handed, Refused}
 use Rattle.judge.specs.Ending.{endingOf}
 use Rattle.judge.specs.declared.Ending.{Ending}
 use Rattle.relay.specs.Received.{receivedRelay}
-use Rattle.history.specs.Calls.{Call, sets, hears, takes, looks}
+use Rattle.history.specs.Calls.{Call, sets, hears, takes, looks, settle}
 use Rattle.history.specs.Outcome.{Out, nothing, from, ofTaking, outcome, next, runFrom, relayAfter}
 use Rattle.history.specs.Line.{Copy, entryOf, copyOf, takenBy, handedBy, leftBy, lineBy, lineFrom, takenFrom, handedFrom, lineAt, takenAt, handedAt, times}
 use Rattle.history.proofs.Fair.{Fair, fair}
@@ -93,7 +93,7 @@ module _ (p : ℕ) (inside : p < 8) where
 
   -- ---- each call, and then all
   pub next-waits : (r : Relay) (n : ℕ) (c : Call) (line : List Copy) → Eight r → Held r line → Held (next r c) (lineBy p n r c line)
-  next-waits r n (sets s) line l w = stays r _ line (ap (λ (x : List Queue). getD x p freshQueue) (settle-queues r s)) w
+  next-waits r n (sets s) line l w = stays r (settle r s) line (ap (λ (x : List Queue). getD x p freshQueue) (settle-queues r s)) w
   next-waits r n (hears port slot octets output) line l w = heard-waits r n port slot octets output line l w
   next-waits r n (takes port) line l w =
       rw (append-nil (leftBy p (outcome r (takes port) .out) line (chosen (rankBy entryOf) line))) (taken-waits r n port line l w)
@@ -116,7 +116,7 @@ module _ (p : ℕ) (inside : p < 8) where
 
 -- ---- what waits is what was taken and not yet handed out
 times-both : (n : ℕ) (k l : List Copy) → times n (k ++ l) ≡ times n k + times n l
-times-both n [] l = refl
+times-both n [] l = omega arith
 times-both n (c ∷ k) l = omega (arith, times-both n k l)
 
 module _ (p n : ℕ) where
@@ -129,13 +129,13 @@ module _ (p n : ℕ) where
 
   out-case : (line : List Copy) (o : Out) (c : Chosen Copy) → chosen (rankBy entryOf) line ≡ c
       → times n line ≡ times n (handedBy p o c) + times n (leftBy p o line c)
-  out-case line nothing c is = refl
-  out-case line (from q e) nobody is = refl
+  out-case line nothing c is = omega arith
+  out-case line (from q e) nobody is = omega arith
   out-case line (from q e) (one x others) is = split (eqb q p)
     where
       split : (t : Bool) → times n line ≡ times n (pick t (x ∷ []) []) + times n (pick t others line)
       split true = chosen-times line x others (rw is at (chosen-asked (rankBy entryOf) line))
-      split false = refl
+      split false = omega arith
 
   all-times : (cs : List Call) (k : ℕ) (r : Relay) (line : List Copy)
       → times n line + times n (takenFrom p k r cs) ≡ times n (handedFrom p k r line cs) + times n (lineFrom p k r line cs)
@@ -154,4 +154,4 @@ module _ (p n : ℕ) where
 
   -- The copy that a call placed was taken as often as it was handed out and waits now.
   pub taken-out-or-waiting : (cs : List Call) → times n (takenAt p cs) ≡ times n (handedAt p cs) + times n (lineAt p cs)
-  taken-out-or-waiting cs = all-times cs 0 freshRelay []
+  taken-out-or-waiting cs = omega (arith, all-times cs 0 freshRelay [])

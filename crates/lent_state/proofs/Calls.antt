@@ -1,12 +1,12 @@
 -- A call on a lent state, where there is a relay and where there is none. Assumes nothing.
 use Prim.Native.Nat.{ℕ}
-use mathlib.Core.Path.{_≡_, ap, _∙_}
+use mathlib.Core.Path.{_≡_, ap}
 use mathlib.Core.List.{List}
 use lib.ListN.{length}
 use borrow.Author.Tests.{eq-eqb, ne-eqb}
 use Rattle.state.specs.Relay.{State}
 use Rattle.state.specs.Layout.{stateWords, decode}
-use Rattle.lent_state.specs.View.{Lent, Held, lent, byLent, told, onLent, changed}
+use Rattle.lent_state.specs.View.{Held, lent, told, changed}
 
 module _ (w : List ℕ) (right : length w ≡ stateWords) where
   is-held : lent w ≡ Held (decode w)

@@ -12,7 +12,7 @@ use Rattle.records.specs.declared.Group.{Group}
 use Rattle.records.specs.declared.PathPlace.{PathPlace}
 use Rattle.words.specs.Cut.{cut}
 use Rattle.words.proofs.Pieces.{rows-length}
-use Rattle.state.specs.Relay.{Relay, withRouter, withPort, withGroup, withPath, withQueue, withRoute}
+use Rattle.state.specs.Relay.{Relay, withRouter, withPort, withGroup, withPath, withQueue, withCounter, withRoute}
 use Rattle.state.specs.Layout.{sections, stateWords, stateOf, decode, portOf, groupOf, pathOf, queueOf, routeOf}
 use Rattle.state.proofs.Words.{section-length}
 
@@ -76,3 +76,6 @@ module _ (r : Relay) where
 
   pub route-sizes : (i : ℕ) (x : Route) → sizes (withRoute r i x) ≡ sizes r
   route-sizes i x = rw length-set
+
+pub counter-sizes : (cs : List ℕ) (i x : ℕ) → length (withCounter cs i x) ≡ length cs
+counter-sizes cs i x = rw length-set

@@ -12,7 +12,7 @@ use Rattle.records.specs.declared.Group.{Group}
 use Rattle.records.specs.declared.PathPlace.{PathPlace}
 use Rattle.words.specs.Cut.{cut}
 use Rattle.words.proofs.Sections.{record-written, word-written}
-use Rattle.state.specs.Relay.{State, Relay, Mission, counterIn, allPorts, allRoutes, withMission, allGroups, allPaths, allQueues}
+use Rattle.state.specs.Relay.{State, Mission, counterIn, allPorts, allRoutes, withMission, allGroups, allPaths, allQueues}
 use Rattle.state.specs.Relay.{withRouter, withPort, withGroup, withPath, withQueue, withCounter, withRoute, added, onRelay, onCounters}
 use Rattle.state.specs.Layout.{sections, stateWords, stateOf, decode, portOf, portWords, groupOf, groupWords}
 use Rattle.state.specs.Layout.{pathOf, pathWords, queueOf, queueWords, routeOf, routeWords}
@@ -33,11 +33,12 @@ module _ (w : List ℕ) (l : length w ≡ stateWords) where
       ap stateOf (word-written sections w 0 (omega arith) (omega arith) 0 x (omega arith))
       ∙ ap (λ (v : ℕ). onRelay (λ r. withRouter r v) (decode w)) (getD-set-same (cut sections w 0) 0 x 0 one)
 
-  pub port-written : (p : ℕ) (x : Port) (vs : List ℕ) → p < 8 → vs ≡ portWords x → decode (left 1 4 p w vs) ≡ onRelay (λ r. withPort r p x) (decode w)
+  pub port-written : (p : ℕ) (x : Port) (vs : List ℕ) → p < 8 → vs ≡ portWords x
+      → decode (left 1 4 p w vs) ≡ onRelay (λ r. withPort r p x) (decode w)
   unfolding decode stateOf
   port-written p x vs h e =
-      record-written sections w 1 (omega arith) portOf 4 8 refl stateOf (λ x. onRelay (λ r. allPorts r x) (decode w)) (λ s. refl) (omega arith) p x vs h
-      (ap length e ∙ port-length x) (ap portOf e ∙ port-record x)
+      record-written sections w 1 (omega arith) portOf 4 8 refl stateOf (λ ps. onRelay (λ r. allPorts r ps) (decode w)) (λ s. refl) (omega arith)
+      p x vs h (ap length e ∙ port-length x) (ap portOf e ∙ port-record x)
 
   -- what is one mission's
   mine : {A : Type 0} → (Mission → A → Mission) → A → State
@@ -69,12 +70,13 @@ module _ (w : List ℕ) (l : length w ≡ stateWords) where
   unfolding decode stateOf
   counter-written i x h = ap stateOf (word-written sections w 5 (omega arith) (omega arith) i x h)
 
-  pub counter-added : (i n : ℕ) → i < 15 → decode (set w (425 + i) ((getD w (425 + i) 0 + n) % 2 ^ 32)) ≡ onCounters (λ l. added l i n) (decode w)
+  pub counter-added : (i n : ℕ) → i < 15
+      → decode (set w (425 + i) ((getD w (425 + i) 0 + n) % 2 ^ 32)) ≡ onCounters (λ l. added l i n) (decode w)
   counter-added i n h = rw (counter-read w i h) (counter-written i ((counterIn (decode w .counters) i + n) % 2 ^ 32) h)
 
   pub route-written : (i : ℕ) (x : Route) (vs : List ℕ) → i < 64 → vs ≡ routeWords x
       → decode (left 440 6 i w vs) ≡ onRelay (λ r. withRoute r i x) (decode w)
   unfolding decode stateOf
   route-written i x vs h e =
-      record-written sections w 6 (omega arith) routeOf 6 64 refl stateOf (λ x. onRelay (λ r. allRoutes r x) (decode w)) (λ s. refl) (omega arith) i x vs h
-      (ap length e ∙ route-length x) (ap routeOf e ∙ route-record x)
+      record-written sections w 6 (omega arith) routeOf 6 64 refl stateOf (λ rs. onRelay (λ r. allRoutes r rs) (decode w)) (λ s. refl) (omega arith)
+      i x vs h (ap length e ∙ route-length x) (ap routeOf e ∙ route-record x)

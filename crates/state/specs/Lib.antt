@@ -1,3 +1,3 @@
--- What the contracts cite: the relay's state, settings and queues apart from the counters, its words, and what is read of it and changed in it.
+-- What the contracts cite: the relay's state, its words, and what is read of it and changed in it.
 pub mod Relay
 pub mod Layout

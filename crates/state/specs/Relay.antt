@@ -1,5 +1,6 @@
 -- The state of the relay: page 01, "Numbers that hold everywhere" and "Settings". The settings and the queues are one record, which the
--- rules read, and the counters stand beside it. Each view reads one part, each update changes one. The counters are fifteen, modulo 2^32, in this order: npInReceives, npInBadLength, npInBadVersion, npInBadAddress, npInBadChecksum,
+-- rules read, and the counters stand beside it. Each view reads one part, each update changes one.
+-- The counters are fifteen, modulo 2^32, in this order: npInReceives, npInBadLength, npInBadVersion, npInBadAddress, npInBadChecksum,
 -- unsupported, npInAddrErrors, npInUnknownProtos, npInDelivers, npForwHopDiscard, npForwDatagrams, npOutNoRoutes, npOutDiscards,
 -- left domain, too big (page 01, "Refusal numbers"). Assumes nothing.
 use Prim.Native.Nat.{ℕ, _+_, _%_, _^_}
@@ -18,7 +19,7 @@ use Rattle.records.specs.declared.PathPlace.{PathPlace}
 use Rattle.records.specs.Fresh.{freshPort, freshGroup, freshPath}
 use Rattle.records.specs.SetUp.{isSetUp}
 
--- what will be one mission's
+-- what will be one mission's, its counters aside
 pub record Mission : Type 0 where
   pub groups : List Group
   pub paths : List PathPlace

@@ -13,7 +13,7 @@ use Rattle.queue.specs.declared.Queue.{Queue}
 use Rattle.queue.specs.declared.Taken.{Taken}
 use Rattle.state.specs.Relay.{State, portSetUp, queueIn, withQueue, onRelay}
 use Rattle.taking.specs.declared.Taking.the-variants.{Handed, Refused}
-use Rattle.taking.specs.Taking.{handsOut, without, takeOutcome, takenRelay}
+use Rattle.taking.specs.Taking.{takeOutcome, takenRelay}
 
 module _ (s : State) (port : ℕ) {c : Check} (told : c ≡ checkOf (not (portSetUp (s .relay) port))) where
   pub no-port : c ≡ Failed → (Refused 16 ≡ takeOutcome (s .relay) port) × (s ≡ onRelay (λ r. takenRelay r port) s)
