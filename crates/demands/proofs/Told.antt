@@ -33,6 +33,7 @@ use Rattle.history.specs.Calls.{
   form,
   checksum,
   stateWords,
+  Call,
   sets,
   hears,
   takes,
@@ -71,7 +72,9 @@ module _ (w : List ℕ) (s : State) (is : lent w ≡ Held s) (x : Result) where
     k .0 ∙ ap number (told-held w s is _ _),
     (k .1 .0 ∙ changed-held w s is _, k .1 .1 ∙ told-held w s is _ _),
   )
-  row-held (calls (takes q)) k = changes _ _ _ k
+  row-held (calls (takes q)) k =
+      let held = changes _ _ _ k in
+      (held .0, (held .1 .0 ∙ ap Held (taken-state s q), held .1 .1))
   row-held (calls (looks (setting theRouter))) k = looked number _ _ k
   row-held (calls (looks (setting (thePort q)))) k = looked port _ _ k
   row-held (calls (looks (setting (theRoute i)))) k = looked route _ _ k
