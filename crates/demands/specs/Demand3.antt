@@ -1,0 +1,53 @@
+-- Demand 3: "From a fresh relay, after any calls, settings changed between them included, every counter equals, modulo 2^32, what the rules give over the
+-- history. For each port, copies granted = handed out + waiting + dropped because 32 already waited. Of the copies waiting on a port, the highest
+-- precedence is handed out first, the oldest within one." Each sentence is a field, said of what C calls. Proved in proofs/Demand3.antt. Assumes nothing.
+use Prim.Native.Nat.{ℕ, _+_, _%_, _^_, _<_, _≤_}
+use mathlib.Core.Path.{_≡_}
+use mathlib.Core.Bool.{true}
+use mathlib.Core.List.{List}
+use lib.ListN.{length}
+use Rattle.sets.specs.Sets.{inSet}
+use Rattle.address.specs.declared.Slot.{Slot}
+use Rattle.queue.specs.Waits.{chosen, rankBy, AsAsked}
+use Rattle.state.specs.Relay.{portSetUp}
+use Rattle.answers.specs.Answers.{takingNumber}
+use Rattle.contracts.specs.Promised.{number, Result}
+use Rattle.history.specs.Calls.{counter, waiting, Call, hears, takes, looks}
+use Rattle.history.specs.Outcome.{relayAfter, sumOver}
+use Rattle.history.specs.Tally.{tally}
+use Rattle.history.specs.Sums.{receipts, deliveries, forwardings, drops}
+use Rattle.history.specs.Ledger.{granted, dropped, handedOut}
+use Rattle.history.specs.Line.{Copy, entryOf, takingOf, lineAt, takenAt, handedAt, times}
+use Rattle.demands.specs.Trace.{Step, calls, historyOf, Gives}
+use Rattle.demands.specs.ReadOut.{droppedIn}
+
+pub record Demand3 : Type 0 where
+  -- "From a fresh relay, after any calls, settings changed between them included, every counter equals, modulo 2^32, what the rules give over the
+  -- history.": hj_counter answers that number,
+  pub counters : (steps : List Step) (i : ℕ) (x : Result) → i < 15 → Gives steps (calls (looks (counter i))) x
+      → x .answer ≡ number (tally (historyOf steps) i % 2 ^ 32)
+  -- which for four of them is, in page 01's words: receipts that did not end in 16 or 17, deliveries, datagrams with at least one entry taken, copies
+  -- dropped.
+  pub named : (steps : List Step) (x : Result)
+      → (Gives steps (calls (looks (counter 0))) x → x .answer ≡ number (sumOver receipts (historyOf steps) % 2 ^ 32))
+      × ((Gives steps (calls (looks (counter 8))) x → x .answer ≡ number (sumOver deliveries (historyOf steps) % 2 ^ 32))
+      × ((Gives steps (calls (looks (counter 10))) x → x .answer ≡ number (sumOver forwardings (historyOf steps) % 2 ^ 32))
+      × (Gives steps (calls (looks (counter 12))) x → x .answer ≡ number (sumOver drops (historyOf steps) % 2 ^ 32))))
+  -- "For each port, copies granted = handed out + waiting + dropped ..": hj_waiting answers n
+  pub ledger : (steps : List Step) (p : ℕ) (x : Result) → p < 8 → Gives steps (calls (looks (waiting p))) x
+      → (n : ℕ) × ((x .answer ≡ number n)
+      × (sumOver (granted p) (historyOf steps) ≡ sumOver (handedOut p) (historyOf steps) + (n + sumOver (dropped p) (historyOf steps))))
+  -- ".. because 32 already waited.": where hj_receive says that a port dropped its copy, hj_waiting answered 32 before
+  pub dropped-by-32 : (steps : List Step) (p at : ℕ) (slot : Slot) (octets output : List ℕ) (x y : Result) → p < 8
+      → Gives steps (calls (hears at slot octets output)) x → inSet p (droppedIn x) ≡ true
+      → Gives steps (calls (looks (waiting p))) y → y .answer ≡ number 32
+  -- "Of the copies waiting on a port, ..": those taken and not yet handed out, each one time; hj_waiting answers how many,
+  pub waiting-are : (steps : List Step) (p turn : ℕ) → (times turn (takenAt p (historyOf steps)) ≤ 1)
+      × (times turn (takenAt p (historyOf steps)) ≡ times turn (handedAt p (historyOf steps)) + times turn (lineAt p (historyOf steps)))
+  pub waiting-many : (steps : List Step) (p : ℕ) (x : Result) → p < 8 → Gives steps (calls (looks (waiting p))) x
+      → x .answer ≡ number (length (lineAt p (historyOf steps)))
+  -- ".. the highest precedence is handed out first, the oldest within one.": hj_take answers the entry that is asked for, or 16 or 18
+  pub order : (steps : List Step) (p : ℕ) (x : Result) → Gives steps (calls (takes p)) x
+      → (x .answer
+      ≡ number (takingNumber (takingOf (portSetUp (relayAfter (historyOf steps)) p) (chosen (rankBy entryOf) (lineAt p (historyOf steps))))))
+      × AsAsked (rankBy entryOf) (lineAt p (historyOf steps)) (chosen (rankBy entryOf) (lineAt p (historyOf steps)))

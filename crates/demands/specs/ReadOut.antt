@@ -1,0 +1,143 @@
+-- What C reads out of a result, by the functions of include/harpjuniper.h, and what the words that it lent hold. Assumes nothing.
+use Prim.Native.Nat.{ℕ, _/_, _%_, _^_, _<_}
+use mathlib.Core.Path.{_≡_}
+use mathlib.Core.Bool.{Bool, true, false, not, _||_}
+use mathlib.Core.List.{List, []}
+use lib.ListN.{getD}
+use lib.Dec.{eqb, ltb}
+use Rattle.checks.specs.Order.{pick}
+use Rattle.answers.specs.Answers.{partAt}
+use Rattle.numbers.specs.declared.Numbers.{Numbers}
+use Rattle.state.specs.Relay.{Relay, State, counterIn}
+use Rattle.state.specs.Layout.{decode}
+use Rattle.harpjuniper.specs.declared.Reading.{Reading}
+use Rattle.contracts.specs.Promised.{Told, number, reading, port, route, group, path, Result, hj-read, hj-build}
+use Rattle.contracts.specs.Contracts.{Says}
+use Rattle.history.specs.Calls.{
+  Part,
+  theRouter,
+  thePort,
+  theRoute,
+  theGroup,
+  thePath,
+  Look,
+  setting,
+  search,
+  counter,
+  waiting,
+  read,
+  build,
+  class,
+  form,
+  checksum,
+  stateWords,
+  Call,
+  sets,
+  hears,
+  takes,
+  looks,
+}
+use Rattle.history.specs.Outcome as outcome
+
+-- ---- the answer
+-- the number that an answer is, or begins with
+abbrev pub numberIn : Told → ℕ
+numberIn (number n) = n
+numberIn (reading x) = x .refusal
+numberIn (port x) = x .refusal
+numberIn (route x) = x .refusal
+numberIn (group x) = x .refusal
+numberIn (path x) = x .refusal
+
+-- where a value has 32 bits, the refusal stands above it
+abbrev pub above : ℕ → ℕ
+above n = n / 2 ^ 32
+
+abbrev pub takenOut : ℕ → outcome.Answer
+takenOut n =
+    pick (eqb (above n) 0) (outcome.entry (record { slot = record { 0 = n % 2 ^ 16 }; precedence = n / 2 ^ 16 })) (outcome.number (above n))
+
+abbrev pub partOut : Part → ℕ → ℕ
+partOut theRouter n = above n
+partOut (thePort p) n = n
+partOut (theRoute i) n = n
+partOut (theGroup i) n = n
+partOut (thePath i) n = n
+
+abbrev pub lookOut : Look → ℕ → ℕ
+lookOut (setting part) n = partOut part n
+lookOut (search a) n = n % 2 ^ 16
+lookOut (counter i) n = above n
+lookOut (waiting p) n = above n
+lookOut (read octets) n = n
+lookOut (build fields size output) n = above n
+lookOut (class a) n = n
+lookOut (form p) n = n
+lookOut (checksum octets) n = n
+lookOut stateWords n = n
+
+abbrev pub readOut : Call → Told → outcome.Answer
+readOut (sets s) t = outcome.number (numberIn t)
+readOut (hears p slot octets output) t =
+    let n = numberIn t in
+    outcome.ended (partAt 0 n) (partAt 8 n) (partAt 16 n) (partAt 24 n)
+readOut (takes p) t = takenOut (numberIn t)
+readOut (looks l) t = outcome.number (lookOut l (numberIn t))
+
+-- of a received datagram: the halves, and the ports that took and that dropped their copy
+abbrev pub refusalIn : Result → ℕ
+refusalIn x = partAt 0 (numberIn (x .answer))
+
+abbrev pub localIn : Result → ℕ
+localIn x = partAt 8 (numberIn (x .answer))
+
+abbrev pub onwardIn : Result → ℕ
+onwardIn x = partAt 16 (numberIn (x .answer))
+
+abbrev pub tookIn : Result → ℕ
+tookIn x = partAt 24 (numberIn (x .answer))
+
+abbrev pub droppedIn : Result → ℕ
+droppedIn x = partAt 32 (numberIn (x .answer))
+
+-- a refusal: a number, of a datagram as a whole or of its onward half
+abbrev pub isRefusal : outcome.Answer → Bool
+isRefusal (outcome.number n) = not (eqb n 0)
+isRefusal (outcome.ended refusal local onward took) = not (eqb refusal 0) || ltb 1 onward
+isRefusal (outcome.entry e) = false
+
+-- ---- what was lent
+-- the output of a call that is lent one
+abbrev pub outputOf : Call → List ℕ
+outputOf (sets s) = []
+outputOf (hears p slot octets output) = output
+outputOf (takes p) = []
+outputOf (looks (setting part)) = []
+outputOf (looks (search a)) = []
+outputOf (looks (counter i)) = []
+outputOf (looks (waiting p)) = []
+outputOf (looks (read octets)) = []
+outputOf (looks (build fields size output)) = output
+outputOf (looks (class a)) = []
+outputOf (looks (form p)) = []
+outputOf (looks (checksum octets)) = []
+outputOf (looks stateWords) = []
+
+-- the settings and queues in words, and one of their counters
+abbrev pub relayIn : List ℕ → Relay
+relayIn w = decode w .relay
+
+abbrev pub counterAt : List ℕ → ℕ → ℕ
+counterAt w i = counterIn (decode w .counters) i
+
+-- each number is an octet
+abbrev pub Octets : List ℕ → Type 0
+Octets s = (i : ℕ) → getD s i 0 < 256
+
+-- ---- headers: what hj_read answers, and what hj_build answers and leaves of the output
+abbrev pub Reads : List ℕ → Reading → Type 0
+Reads s r = (x : Result) × (Says (hj-read s) x × (x .answer ≡ reading r))
+
+abbrev pub Builds : Numbers → ℕ → List ℕ → ℕ → List ℕ → Type 0
+Builds fields size lent answer left =
+    (x : Result) × (Says (hj-build fields size lent) x × ((x .answer ≡ number answer) × (x .output ≡ left)))
