@@ -7,11 +7,11 @@ use mathlib.Core.List.{List, []}
 use lib.ListN.{length}
 use lib.Dec.{eqb}
 use borrow.Author.Tests.{eqb-true, eqb-false}
-use Rattle.state.specs.Relay.{Relay}
+use Rattle.state.specs.Relay.{Relay, State}
 use Rattle.state.specs.Layout.{stateWords, decode, encode}
 use Rattle.adjust.specs.Settled.{newRoute}
 use Rattle.judge.specs.Ending.{endingOf}
-use Rattle.lent_state.specs.View.{Lent, lent, changed}
+use Rattle.lent_state.specs.View.{Lent, lent, changed, changedRelay}
 use Rattle.lent_state.proofs.Calls.{held-changed, other-changed}
 use Rattle.contracts.specs.Promised.{
   Result,
@@ -44,28 +44,32 @@ use Rattle.contracts.specs.Promised.{
   promised,
 }
 use Rattle.contracts.specs.Contracts.{Spot, Lying, Contract, Says, Passable}
-use Rattle.contracts.proofs.Formed.{Formed, decode-formed, words-length, words-hold}
+use Rattle.contracts.proofs.Formed.{FormedRelay, Formed, decode-formed, words-length, words-hold}
 use Rattle.contracts.proofs.Kept.{set-router-kept, set-port-kept, set-route-kept, set-group-kept, set-path-kept}
-use Rattle.contracts.proofs.Kept.{clear-route-kept, clear-group-kept, clear-path-kept, taken-kept, received-kept, fresh-kept}
+use Rattle.contracts.proofs.Kept.{clear-route-kept, clear-group-kept, clear-path-kept, taken-kept, received-kept, relay-kept, fresh-kept}
 use Rattle.contracts.proofs.Rows.{row-contract}
 
 -- words that have this view
 abbrev Words : Lent → Type 0
 Words view = (v : List ℕ) × (lent v ≡ view)
 
--- the words of the relay changed, or the words as they were
-left-by : (w : List ℕ) {f : Relay → Relay} → ((r : Relay) → Formed r → Formed (f r)) → Words (changed f w)
+-- the words of the state changed, or the words as they were
+left-by : (w : List ℕ) {f : State → State} → ((s : State) → Formed s → Formed (f s)) → Words (changed f w)
 left-by w {f} keeps = by-length (eqb (length w) stateWords) refl
   where
     held : length w ≡ stateWords → Words (changed f w)
     held right =
         let formed = keeps (decode w) (decode-formed w right) in
-        let r = f (decode w) in
-        (encode r, held-changed w right f (encode r) (words-length r formed) (words-hold r formed))
+        let s = f (decode w) in
+        (encode s, held-changed w right f (encode s) (words-length s formed) (words-hold s formed))
 
     by-length : (t : Bool) → eqb (length w) stateWords ≡ t → Words (changed f w)
     by-length true e = held (eqb-true (length w) stateWords e)
     by-length false e = (w, other-changed w (eqb-false (length w) stateWords e) f)
+
+-- the same of a call that leaves the counters
+relay-left-by : (w : List ℕ) {f : Relay → Relay} → ((r : Relay) → FormedRelay r → FormedRelay (f r)) → Words (changedRelay f w)
+relay-left-by w keeps = left-by w (relay-kept keeps)
 
 words-left : (c : Exported) → Passable c → Words (promised c .words)
 words-left (hj-read l) fits = ([], refl)
@@ -75,22 +79,22 @@ words-left (hj-path p) fits = ([], refl)
 words-left (hj-checksum l) fits = ([], refl)
 words-left hj-state-words fits = ([], refl)
 words-left (hj-fresh w) fits = left-by w (λ x h. fresh-kept)
-words-left (hj-set-router w router) fits = left-by w (λ x h. set-router-kept x h router)
-words-left (hj-set-port w p address mask mtu) fits = left-by w (λ x h. set-port-kept x h p (record { 0 = address }) (record { 0 = mask }) mtu)
-words-left (hj-set-route w i prefix mask p availability capabilities) fits = left-by w (λ x h. set-route-kept x h i (newRoute (record { 0 = prefix }) (record { 0 = mask }) p availability capabilities))
-words-left (hj-set-group w i address send subscribed) fits = left-by w (λ x h. set-group-kept x h i (record { 0 = address }) send subscribed)
-words-left (hj-set-path w i to send here) fits = left-by w (λ x h. set-path-kept x h i (record { 0 = to }) send here)
-words-left (hj-clear-route w i) fits = left-by w (λ x h. clear-route-kept x h i)
-words-left (hj-clear-group w i) fits = left-by w (λ x h. clear-group-kept x h i)
-words-left (hj-clear-path w i) fits = left-by w (λ x h. clear-path-kept x h i)
+words-left (hj-set-router w router) fits = relay-left-by w (λ x h. set-router-kept x h router)
+words-left (hj-set-port w p address mask mtu) fits = relay-left-by w (λ x h. set-port-kept x h p (record { 0 = address }) (record { 0 = mask }) mtu)
+words-left (hj-set-route w i prefix mask p availability capabilities) fits = relay-left-by w (λ x h. set-route-kept x h i (newRoute (record { 0 = prefix }) (record { 0 = mask }) p availability capabilities))
+words-left (hj-set-group w i address send subscribed) fits = relay-left-by w (λ x h. set-group-kept x h i (record { 0 = address }) send subscribed)
+words-left (hj-set-path w i to send here) fits = relay-left-by w (λ x h. set-path-kept x h i (record { 0 = to }) send here)
+words-left (hj-clear-route w i) fits = relay-left-by w (λ x h. clear-route-kept x h i)
+words-left (hj-clear-group w i) fits = relay-left-by w (λ x h. clear-group-kept x h i)
+words-left (hj-clear-path w i) fits = relay-left-by w (λ x h. clear-path-kept x h i)
 words-left (hj-get-router w) fits = (w, refl)
 words-left (hj-get-port w p) fits = (w, refl)
 words-left (hj-get-route w i) fits = (w, refl)
 words-left (hj-get-group w i) fits = (w, refl)
 words-left (hj-get-path w i) fits = (w, refl)
 words-left (hj-search w a) fits = (w, refl)
-words-left (hj-receive w p slot l o) fits = left-by w (λ x h. received-kept x h (record { 0 = slot }) (fits w p slot l o refl) (endingOf x p l (length o)))
-words-left (hj-take w p) fits = left-by w (λ x h. taken-kept x h p)
+words-left (hj-receive w p slot l o) fits = left-by w (λ x h. received-kept x h (record { 0 = slot }) (fits w p slot l o refl) (endingOf (x .relay) p l (length o)))
+words-left (hj-take w p) fits = relay-left-by w (λ x h. taken-kept x h p)
 words-left (hj-counter w i) fits = (w, refl)
 words-left (hj-waiting w p) fits = (w, refl)
 

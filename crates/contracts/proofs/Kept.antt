@@ -1,11 +1,11 @@
--- What each call from C leaves of a relay that words hold is a relay that words hold. Assumes nothing.
+-- What each call from C leaves of a state that words hold is a state that words hold. Assumes nothing.
 use native.Mathlib.Omega.{arith}
 use native.Mathlib.Nat.{le-of-lt}
-use Prim.Native.Nat.{ℕ, zero, suc, _+_, _<_, _%_, _^_}
+use Prim.Native.Nat.{ℕ, zero, suc, _+_, _<_}
 use mathlib.Core.Path.{_≡_, refl, _∙_}
 use mathlib.Core.Bool.{Bool, true, false, not}
 use mathlib.Core.List.{List, [], _∷_, _++_}
-use lib.ListN.{take, drop, getD, set, replicate, length-append, length-drop}
+use lib.ListN.{take, drop, getD, set, replicate, length-append, length-drop, length-set}
 use lib.Bits.{bitAnd}
 use lib.Dec.{eqb, ltb}
 use borrow.Author.Tests.{ltb-true, ltb-false}
@@ -16,6 +16,7 @@ use Rattle.address.specs.declared.Mask.{Mask}
 use Rattle.address.specs.declared.PathAddress.{PathAddress}
 use Rattle.address.specs.declared.Slot.{Slot}
 use Rattle.sets.specs.Sets.{onlyPort}
+use Rattle.sets.specs.Limits.{portCount, routePlaces, groupPlaces, pathPlaces}
 use Rattle.queue.specs.Order.{Each}
 use Rattle.queue.specs.Queue.{free, fresh as freshQueue, waiting, precedenceOf, insert, putOf, takenFrom, takeOf}
 use Rattle.queue.specs.declared.Entry.{Entry}
@@ -32,21 +33,21 @@ use Rattle.records.specs.Fresh.{freshGroup, freshPath}
 use Rattle.records.specs.declared.Port.{Port}
 use Rattle.records.specs.declared.Group.{Group}
 use Rattle.records.specs.declared.PathPlace.{PathPlace}
-use Rattle.state.specs.Relay.{Relay, freshRelay, portSetUp, queueIn, counterIn, withRouter, withPort, withGroup, withPath, withQueue, withCounter, withRoute}
+use Rattle.state.specs.Relay.{Relay, State, freshState, portSetUp, queueIn, withRouter, withPort, withGroup, withPath, withQueue, withRoute, onRelay}
 use Rattle.state.specs.Layout.{freshWords}
 use Rattle.state.proofs.Fresh.{fresh, fresh-length}
-use Rattle.state.proofs.Sizes.{port-sizes, group-sizes, path-sizes, queue-sizes, counter-sizes, route-sizes}
+use Rattle.state.proofs.Sizes.{port-sizes, group-sizes, path-sizes, queue-sizes, route-sizes}
 use Rattle.refusals.specs.Lists.{portChecks, routeChecks, groupChecks, pathChecks, routerChecks, clearChecks}
 use Rattle.adjust.specs.Settled.{newPort, newGroup, newPath}
 use Rattle.adjust.specs.Settled.{settledRouter, settledPort, settledRoute, settledGroup, settledPath, clearedRoute, clearedGroup, clearedPath}
-use Rattle.taking.specs.Taking.{without, takenState}
+use Rattle.taking.specs.Taking.{without, takenRelay}
 use Rattle.judge.specs.declared.Ending.{Ending}
 use Rattle.tally.specs.Tally.{Move, movesOf, countedAt, countedAll}
 use Rattle.tally.specs.declared.Counter.{Counter}
 use Rattle.tally.specs.declared.Counter.the-variants as counter
 use Rattle.relay.specs.Outgoing.{enteredIf, enteredAll}
-use Rattle.relay.specs.Received.{newEntry, receivedState}
-use Rattle.contracts.proofs.Formed.{SlotFits, FormedQueue, Formed, decode-formed}
+use Rattle.relay.specs.Received.{newEntry, receivedRelay, receivedState}
+use Rattle.contracts.proofs.Formed.{SlotFits, FormedQueue, FormedRelay, FormedCounters, Formed, decode-formed}
 
 -- ---- what holds of each element
 module _ {A : Type 0} (P : A → Type 0) where
@@ -116,26 +117,23 @@ module _ (q : Queue) (formed : FormedQueue q) where
       either (λ (t : Taken). FormedQueue (t .queue)) (ltb 32 (q .count)) formed (taken-formed (waiting q))
 
 -- ---- one update
-module _ (r : Relay) (formed : Formed r) where
-  router-kept : (x : ℕ) → Formed (withRouter r x)
+module _ (r : Relay) (formed : FormedRelay r) where
+  router-kept : (x : ℕ) → FormedRelay (withRouter r x)
   router-kept x = record { sized = formed .sized; queues = formed .queues }
 
-  port-kept : (p : ℕ) (x : Port) → Formed (withPort r p x)
+  port-kept : (p : ℕ) (x : Port) → FormedRelay (withPort r p x)
   port-kept p x = record { sized = port-sizes r p x ∙ formed .sized; queues = formed .queues }
 
-  group-kept : (i : ℕ) (x : Group) → Formed (withGroup r i x)
+  group-kept : (i : ℕ) (x : Group) → FormedRelay (withGroup r i x)
   group-kept i x = record { sized = group-sizes r i x ∙ formed .sized; queues = formed .queues }
 
-  path-kept : (i : ℕ) (x : PathPlace) → Formed (withPath r i x)
+  path-kept : (i : ℕ) (x : PathPlace) → FormedRelay (withPath r i x)
   path-kept i x = record { sized = path-sizes r i x ∙ formed .sized; queues = formed .queues }
 
-  route-kept : (i : ℕ) (x : Route) → Formed (withRoute r i x)
+  route-kept : (i : ℕ) (x : Route) → FormedRelay (withRoute r i x)
   route-kept i x = record { sized = route-sizes r i x ∙ formed .sized; queues = formed .queues }
 
-  counter-kept : (i x : ℕ) → Formed (withCounter r i x)
-  counter-kept i x = record { sized = counter-sizes r i x ∙ formed .sized; queues = formed .queues }
-
-  queue-kept : (p : ℕ) (x : Queue) → FormedQueue x → Formed (withQueue r p x)
+  queue-kept : (p : ℕ) (x : Queue) → FormedQueue x → FormedRelay (withQueue r p x)
   queue-kept p x h =
       record { sized = queue-sizes r p x ∙ formed .sized; queues = set-each FormedQueue (r .mission .queues) p x h (formed .queues) }
 
@@ -143,71 +141,78 @@ module _ (r : Relay) (formed : Formed r) where
   queue-in p = getD-each FormedQueue (r .mission .queues) p freshQueue fresh-formed (formed .queues)
 
   -- ---- settings, each refused or taken
-  pub set-router-kept : (router : ℕ) → Formed (settledRouter r router)
-  set-router-kept router = either Formed (eqb (firstOf (routerChecks router)) 0) (router-kept router) formed
+  pub set-router-kept : (router : ℕ) → FormedRelay (settledRouter r router)
+  set-router-kept router = either FormedRelay (eqb (firstOf (routerChecks router)) 0) (router-kept router) formed
 
-  pub set-port-kept : (p : ℕ) (address : Address) (mask : Mask) (mtu : ℕ) → Formed (settledPort r p address mask mtu)
+  pub set-port-kept : (p : ℕ) (address : Address) (mask : Mask) (mtu : ℕ) → FormedRelay (settledPort r p address mask mtu)
   set-port-kept p address mask mtu =
-      either Formed (eqb (firstOf (portChecks r p address mask mtu)) 0) (port-kept p (newPort address mask mtu)) formed
+      either FormedRelay (eqb (firstOf (portChecks r p address mask mtu)) 0) (port-kept p (newPort address mask mtu)) formed
 
-  pub set-route-kept : (i : ℕ) (x : Route) → Formed (settledRoute r i x)
-  set-route-kept i x = either Formed (eqb (firstOf (routeChecks r i x)) 0) (route-kept i x) formed
+  pub set-route-kept : (i : ℕ) (x : Route) → FormedRelay (settledRoute r i x)
+  set-route-kept i x = either FormedRelay (eqb (firstOf (routeChecks r i x)) 0) (route-kept i x) formed
 
-  pub set-group-kept : (i : ℕ) (address : Address) (send subscribed : ℕ) → Formed (settledGroup r i address send subscribed)
+  pub set-group-kept : (i : ℕ) (address : Address) (send subscribed : ℕ) → FormedRelay (settledGroup r i address send subscribed)
   set-group-kept i address send subscribed =
-      either Formed (eqb (firstOf (groupChecks r i address send subscribed)) 0) (group-kept i (newGroup address send subscribed)) formed
+      either FormedRelay (eqb (firstOf (groupChecks r i address send subscribed)) 0) (group-kept i (newGroup address send subscribed)) formed
 
-  pub set-path-kept : (i : ℕ) (path : PathAddress) (send here : ℕ) → Formed (settledPath r i path send here)
-  set-path-kept i path send here = either Formed (eqb (firstOf (pathChecks r i path send here)) 0) (path-kept i (newPath path send here)) formed
+  pub set-path-kept : (i : ℕ) (path : PathAddress) (send here : ℕ) → FormedRelay (settledPath r i path send here)
+  set-path-kept i path send here = either FormedRelay (eqb (firstOf (pathChecks r i path send here)) 0) (path-kept i (newPath path send here)) formed
 
-  pub clear-route-kept : (i : ℕ) → Formed (clearedRoute r i)
-  clear-route-kept i = either Formed (eqb (firstOf (clearChecks i 64)) 0) (route-kept i emptyRoute) formed
+  pub clear-route-kept : (i : ℕ) → FormedRelay (clearedRoute r i)
+  clear-route-kept i = either FormedRelay (eqb (firstOf (clearChecks i routePlaces)) 0) (route-kept i emptyRoute) formed
 
-  pub clear-group-kept : (i : ℕ) → Formed (clearedGroup r i)
-  clear-group-kept i = either Formed (eqb (firstOf (clearChecks i 16)) 0) (group-kept i freshGroup) formed
+  pub clear-group-kept : (i : ℕ) → FormedRelay (clearedGroup r i)
+  clear-group-kept i = either FormedRelay (eqb (firstOf (clearChecks i groupPlaces)) 0) (group-kept i freshGroup) formed
 
-  pub clear-path-kept : (i : ℕ) → Formed (clearedPath r i)
-  clear-path-kept i = either Formed (eqb (firstOf (clearChecks i 16)) 0) (path-kept i freshPath) formed
+  pub clear-path-kept : (i : ℕ) → FormedRelay (clearedPath r i)
+  clear-path-kept i = either FormedRelay (eqb (firstOf (clearChecks i pathPlaces)) 0) (path-kept i freshPath) formed
 
   -- ---- taking
-  without-kept : (p : ℕ) (rest : Queue) → FormedQueue rest → (h : Head) → Formed (without r p rest h)
+  without-kept : (p : ℕ) (rest : Queue) → FormedQueue rest → (h : Head) → FormedRelay (without r p rest h)
   without-kept p rest h (First e) = queue-kept p rest h
   without-kept p rest h Nothing = formed
 
-  pub taken-kept : (p : ℕ) → Formed (takenState r p)
-  unfolding takenState
+  pub taken-kept : (p : ℕ) → FormedRelay (takenRelay r p)
+  unfolding takenRelay
   taken-kept p =
       let q = queueIn r p in
-      either Formed (not (portSetUp r p)) formed
+      either FormedRelay (not (portSetUp r p)) formed
       (without-kept p (takeOf q .queue) (take-formed q (queue-in p)) (takeOf q .head))
 
 -- ---- receiving
-counted-kept : (r : Relay) → Formed r → (at : Counter) (n : ℕ) → Formed (countedAt r at n)
+counted-kept : (l : List ℕ) → FormedCounters l → (at : Counter) (n : ℕ) → FormedCounters (countedAt l at n)
 unfolding countedAt
-counted-kept r h (counter.At place) n = counter-kept r h place ((counterIn r place + n) % 2 ^ 32)
-counted-kept r h counter.Nothing n = h
+counted-kept l h (counter.At place) n = length-set l place _ ∙ h
+counted-kept l h counter.Nothing n = h
 
-all-counted-kept : (moves : List Move) (r : Relay) → Formed r → Formed (countedAll r moves)
-all-counted-kept [] r h = h
-all-counted-kept (move ∷ moves) r h = all-counted-kept moves (countedAt r (move .0) (move .1)) (counted-kept r h (move .0) (move .1))
+all-counted-kept : (moves : List Move) (l : List ℕ) → FormedCounters l → FormedCounters (countedAll l moves)
+all-counted-kept [] l h = h
+all-counted-kept (move ∷ moves) l h = all-counted-kept moves (countedAt l (move .0) (move .1)) (counted-kept l h (move .0) (move .1))
 
 module _ (e : Entry) (fits : SlotFits e) (took : ℕ) where
-  entered-kept : (r : Relay) → Formed r → (p : ℕ) → Formed (enteredIf r took e p)
+  entered-kept : (r : Relay) → FormedRelay r → (p : ℕ) → FormedRelay (enteredIf r took e p)
   unfolding enteredIf
   entered-kept r h p =
-      either Formed (eqb (bitAnd took (onlyPort p)) 0) h
+      either FormedRelay (eqb (bitAnd took (onlyPort p)) 0) h
       (queue-kept r h p (putOf (queueIn r p) e .queue) (put-formed (queueIn r p) (queue-in r h p) e fits))
 
-  all-entered-kept : (r : Relay) → Formed r → (n : ℕ) → Formed (enteredAll r took e n)
+  all-entered-kept : (r : Relay) → FormedRelay r → (n : ℕ) → FormedRelay (enteredAll r took e n)
   unfolding enteredAll
   all-entered-kept r h zero = h
   all-entered-kept r h (suc p) = entered-kept (enteredAll r took e p) (all-entered-kept r h p) p
 
-pub received-kept : (r : Relay) → Formed r → (slot : Slot) → slot .0 < 65536 → (e : Ending) → Formed (receivedState r slot e)
-unfolding receivedState
-received-kept r h slot fits e =
-    all-entered-kept (newEntry slot e) fits (e .ruling .took) (countedAll r (movesOf e)) (all-counted-kept (movesOf e) r h) 8
+pub received-kept : (s : State) → Formed s → (slot : Slot) → slot .0 < 65536 → (e : Ending) → Formed (receivedState s slot e)
+unfolding receivedRelay
+received-kept s h slot fits e =
+    record {
+      relay = all-entered-kept (newEntry slot e) fits (e .ruling .took) (s .relay) (h .relay) portCount;
+      counters = all-counted-kept (movesOf e) (s .counters) (h .counters);
+    }
+
+-- ---- the relay alone changes, and the counters stay
+pub relay-kept : {f : Relay → Relay} → ((r : Relay) → FormedRelay r → FormedRelay (f r)) → (s : State) → Formed s → Formed (onRelay f s)
+relay-kept keeps s h = record { relay = keeps (s .relay) (h .relay); counters = h .counters }
 
 -- ---- a fresh relay
-pub fresh-kept : Formed freshRelay
+pub fresh-kept : Formed freshState
 fresh-kept = rw (← fresh) (decode-formed freshWords fresh-length)

@@ -12,7 +12,8 @@ same-parts x y a w o =
     ∙ ap (λ (z : List ℕ). record { answer = y .answer; words = z; output = x .output }) w
     ∙ ap (λ (z : List ℕ). record { answer = y .answer; words = y .words; output = z }) o
 
-allowed-once : (p : Promise) (x y : Result) → Allows p x → Allows p y → x ≡ y
+-- Two results that a promise allows are equal.
+pub allowed-once : (p : Promise) (x y : Result) → Allows p x → Allows p y → x ≡ y
 allowed-once p x y h k =
     let s = one-result (p .answer) (p .words) (x .words) (y .words) (h .0) (k .0) (h .1 .0) (k .1 .0) in
     same-parts x y (s .0) (s .1) (h .1 .1 ∙ sym (k .1 .1))

@@ -12,13 +12,14 @@ use Rattle.address.specs.Path.{pathForm, pathNumber}
 use Rattle.checksum.specs.Sum.{checksumOf}
 use Rattle.header.specs.Read.{readOf}
 use Rattle.numbers.specs.declared.Numbers.{Numbers}
-use Rattle.state.specs.Relay.{Relay, freshRelay}
+use Rattle.sets.specs.Limits.{routePlaces, groupPlaces, pathPlaces}
+use Rattle.state.specs.Relay.{Relay, State, freshState}
 use Rattle.state.specs.Layout.{stateWords}
 use Rattle.refusals.specs.Lists.{portChecks, routeChecks, groupChecks, pathChecks, routerChecks, clearChecks}
 use Rattle.adjust.specs.Settled.{newRoute, settledRouter, settledPort, settledRoute, settledGroup, settledPath, clearedRoute, clearedGroup, clearedPath}
-use Rattle.taking.specs.Taking.{takenState}
+use Rattle.taking.specs.Taking.{takenRelay}
 use Rattle.checks.specs.Answer.{refusalNumber}
-use Rattle.lent_state.specs.View.{Lent, lent, told, changed}
+use Rattle.lent_state.specs.View.{Lent, lent, told, changed, toldRelay, changedRelay}
 use Rattle.harpjuniper.specs.Face.{readingOf, buildAnswer, buildOutput}
 use Rattle.harpjuniper.specs.declared.Reading.{Reading}
 use Rattle.harpjuniper_reads.specs.Back.{portBack, routeBack, groupBack, pathBack, noPortBack, noRouteBack, noGroupBack, noPathBack}
@@ -86,9 +87,9 @@ pub data Exported : Type 0 where
 abbrev looking : List ℕ → Told → Promise
 looking w answer = record { answer = answer; words = lent w; output = [] }
 
--- a setting: a number, 21 where the words hold no relay, and the relay changed
+-- a setting: a number, 21 where the words hold no relay, and the relay changed; the counters stay
 abbrev setting : List ℕ → (Relay → ℕ) → (Relay → Relay) → Promise
-setting w answer change = record { answer = number (told answer 21 w); words = changed change w; output = [] }
+setting w answer change = record { answer = number (toldRelay answer 21 w); words = changedRelay change w; output = [] }
 
 abbrev pub promised : Exported → Promise
 promised (hj-read octets) = looking [] (reading (readingOf (readOf octets)))
@@ -98,7 +99,8 @@ promised (hj-class a) = looking [] (number (classNumber (classOf a)))
 promised (hj-path p) = looking [] (number (pathNumber (pathForm p)))
 promised (hj-checksum octets) = looking [] (number (checksumOf octets))
 promised hj-state-words = looking [] (number stateWords)
-promised (hj-fresh w) = setting w (λ (x : Relay). 0) (λ (x : Relay). freshRelay)
+promised (hj-fresh w) =
+    record { answer = number (told (λ (x : State). 0) 21 w); words = changed (λ (x : State). freshState) w; output = [] }
 promised (hj-set-router w router) = setting w (λ (x : Relay). firstOf (routerChecks router)) (λ (x : Relay). settledRouter x router)
 promised (hj-set-port w p address mask mtu) =
     setting w
@@ -116,26 +118,26 @@ promised (hj-set-path w i to send here) =
     setting w
     (λ (x : Relay). firstOf (pathChecks x i (record { 0 = to }) send here))
     (λ (x : Relay). settledPath x i (record { 0 = to }) send here)
-promised (hj-clear-route w i) = setting w (λ (x : Relay). firstOf (clearChecks i 64)) (λ (x : Relay). clearedRoute x i)
-promised (hj-clear-group w i) = setting w (λ (x : Relay). firstOf (clearChecks i 16)) (λ (x : Relay). clearedGroup x i)
-promised (hj-clear-path w i) = setting w (λ (x : Relay). firstOf (clearChecks i 16)) (λ (x : Relay). clearedPath x i)
-promised (hj-get-router w) = looking w (number (told (λ (x : Relay). x .router) (refusalNumber 21) w))
-promised (hj-get-port w p) = looking w (port (told (λ (x : Relay). portBack x p) noPortBack w))
-promised (hj-get-route w i) = looking w (route (told (λ (x : Relay). routeBack x i) noRouteBack w))
-promised (hj-get-group w i) = looking w (group (told (λ (x : Relay). groupBack x i) noGroupBack w))
-promised (hj-get-path w i) = looking w (path (told (λ (x : Relay). pathBack x i) noPathBack w))
-promised (hj-search w a) = looking w (number (told (λ (x : Relay). searchAnswer x (record { 0 = a })) 21 w))
+promised (hj-clear-route w i) = setting w (λ (x : Relay). firstOf (clearChecks i routePlaces)) (λ (x : Relay). clearedRoute x i)
+promised (hj-clear-group w i) = setting w (λ (x : Relay). firstOf (clearChecks i groupPlaces)) (λ (x : Relay). clearedGroup x i)
+promised (hj-clear-path w i) = setting w (λ (x : Relay). firstOf (clearChecks i pathPlaces)) (λ (x : Relay). clearedPath x i)
+promised (hj-get-router w) = looking w (number (toldRelay (λ (x : Relay). x .router) (refusalNumber 21) w))
+promised (hj-get-port w p) = looking w (port (toldRelay (λ (x : Relay). portBack x p) noPortBack w))
+promised (hj-get-route w i) = looking w (route (toldRelay (λ (x : Relay). routeBack x i) noRouteBack w))
+promised (hj-get-group w i) = looking w (group (toldRelay (λ (x : Relay). groupBack x i) noGroupBack w))
+promised (hj-get-path w i) = looking w (path (toldRelay (λ (x : Relay). pathBack x i) noPathBack w))
+promised (hj-search w a) = looking w (number (toldRelay (λ (x : Relay). searchAnswer x (record { 0 = a })) 21 w))
 promised (hj-receive w p slot octets o) =
     record {
-      answer = number (told (λ (x : Relay). receiveAnswer x p octets (length o)) 16 w);
-      words = changed (λ (x : Relay). receiveState x p slot octets (length o)) w;
-      output = told (λ (x : Relay). receiveOutput x p octets o) o w;
+      answer = number (toldRelay (λ (x : Relay). receiveAnswer x p octets (length o)) 16 w);
+      words = changed (λ (x : State). receiveState x p slot octets (length o)) w;
+      output = toldRelay (λ (x : Relay). receiveOutput x p octets o) o w;
     }
 promised (hj-take w p) =
     record {
-      answer = number (told (λ (x : Relay). takeAnswer x p) (refusalNumber 16) w);
-      words = changed (λ (x : Relay). takenState x p) w;
+      answer = number (toldRelay (λ (x : Relay). takeAnswer x p) (refusalNumber 16) w);
+      words = changedRelay (λ (x : Relay). takenRelay x p) w;
       output = [];
     }
-promised (hj-counter w i) = looking w (number (told (λ (x : Relay). counterAnswer x i) (refusalNumber 21) w))
-promised (hj-waiting w p) = looking w (number (told (λ (x : Relay). waitingAnswer x p) (refusalNumber 21) w))
+promised (hj-counter w i) = looking w (number (told (λ (x : State). counterAnswer (x .counters) i) (refusalNumber 21) w))
+promised (hj-waiting w p) = looking w (number (toldRelay (λ (x : Relay). waitingAnswer x p) (refusalNumber 21) w))

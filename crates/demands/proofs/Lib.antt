@@ -1,0 +1,5 @@
+-- What is proved of traces. To be read: Traced (the words hold what the history leaves), Lasts (there is a trace for any steps), Told (what C is told at
+-- the end of any trace).
+pub mod Traced
+pub mod Lasts
+pub mod Told

@@ -1,0 +1,9 @@
+// Traces: any calls from C on one state, and what C is told after them.
+//
+// There is no code here. The crate `history` speaks of calls on a relay, and the crate `contracts` of what each function from C may give
+// back, whatever words it is lent. Here the two meet. A trace is what a program in C does: it lends words of any content to `hj_fresh`, is
+// told 0, and then calls what it likes, each call on the words that the one before left. Each call may give back anything that its
+// contract allows. It is proved that the words then hold what the history leaves, which is the calls since the last `hj_fresh`, and so
+// that what is proved of histories is what C is told. There is such a trace for any calls, so nothing is proved of nothing.
+//
+// The awkward case is the call that is lent no words, like reading a header: it stands in the history, and the words stay.
