@@ -57,8 +57,8 @@ use Rattle.history.specs.Reach.{Reached, KeysUnique}
 use Rattle.history.specs.Ranges.{InRange}
 use Rattle.history.specs.Line.{Copy, entryOf, sentOf, lineAt}
 use Rattle.history.specs.Marked.{Marked, markedCases}
-use Rattle.demands.specs.Trace.{Step, calls, historyOf, Gives}
-use Rattle.demands.specs.ReadOut.{readOut, numberIn, refusalIn, localIn, onwardIn, tookIn, droppedIn, relayIn, Octets, Reads, Builds}
+use Rattle.demands.specs.Trace.{Step, calls, Octets, historyOf, Gives}
+use Rattle.demands.specs.ReadOut.{readOut, numberIn, refusalIn, localIn, onwardIn, tookIn, droppedIn, relayIn, Reads, Builds}
 
 -- C is told this verdict of page 01
 pub record ToldAs (x : Result) (v : Verdict) : Type 0 where
