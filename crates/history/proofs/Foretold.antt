@@ -7,26 +7,33 @@ use Prim.Native.Nat.{ℕ, suc, _+_, _≤_, _<_}
 use mathlib.Core.Path.{_≡_, refl, sym, ap, _∙_}
 use mathlib.Core.Logic.{_↔_}
 use mathlib.Core.Bool.{Bool, true, false}
-use mathlib.Core.List.{List, [], _∷_, _++_, map, append-assoc}
-use lib.ListN.{length, length-append}
+use mathlib.Core.List.{List, [], _∷_, _++_, map, append-nil, append-assoc, map-append}
+use lib.ListN.{length, length-append, length-map}
 use lib.Dec.{eqb, ltb}
-use borrow.Author.Tests.{eqb-true}
+use borrow.Author.Tests.{eqb-true, ne-eqb}
 use Rattle.checks.specs.Order.{pick}
 use Rattle.sets.specs.Sets.{inSet}
-use Rattle.queue.specs.Order.{Each}
-use Rattle.queue.specs.Waits.{Chosen, nobody, one, chosen, rankBy}
+use Rattle.queue.specs.Order.{Each, insertBy, Placed}
+use Rattle.queue.specs.Queue.{waiting, precedenceOf}
+use Rattle.queue.specs.Waits.{Chosen, nobody, one, chosen, ordered, rankBy}
 use Rattle.queue.specs.Foretold.{Deed, enters, handsOut, entered, takesIn, howMany, out, left, AtTake, handed, standingBefore, Other, isOut, whileWaits as whileLine}
 use Rattle.queue.proofs.Each.{each-so, each-append}
-use Rattle.queue.proofs.Waits.{chosen-asked, chosen-each, EachOf}
-use Rattle.queue.proofs.Foretold.{foretold}
-use Rattle.state.specs.Relay.{Relay, freshRelay}
+use Rattle.queue.specs.declared.Entry.{Entry}
+use Rattle.queue.proofs.Order.{insert-placed, insert-map}
+use Rattle.queue.proofs.Waits.{chosen-asked, chosen-each, EachOf, ordered-enters}
+use Rattle.queue.proofs.Foretold.{foretold, stand-before}
+use Rattle.state.specs.Relay.{Relay, freshRelay, queueIn, portSetUp}
 use Rattle.judge.specs.Ending.{endingOf}
+use Rattle.taking.specs.Taking.{takeOutcome}
+use Rattle.taking.specs.declared.Taking.{Taking}
+use Rattle.taking.specs.declared.Taking.the-variants.{Handed, Refused}
 use Rattle.history.specs.Calls.{Call, sets, hears, takes, looks}
-use Rattle.history.specs.Outcome.{Out, nothing, from, outcome, next, runFrom, relayAfter, sumFrom}
+use Rattle.history.specs.Outcome.{Answer, number, ended, entry, Out, nothing, from, ofTaking, outcome, next, runFrom, relayAfter, sumFrom}
 use Rattle.history.specs.Ledger.{outBy, handedOut}
-use Rattle.history.specs.Line.{Copy, entryOf, copyOf, takenBy, handedBy, leftBy, lineBy, lineFrom, takenFrom, handedFrom, lineAt}
-use Rattle.history.specs.Foretold.{andThen, handedSince, takesSince, before, isHanded, waitsFrom, higherEnter}
-use Rattle.history.proofs.Line.{append-nil}
+use Rattle.history.specs.Line.{Copy, entryOf, copyOf, takenBy, handedBy, leftBy, lineBy, lineFrom, takenFrom, handedFrom, lineAt, takenAt, handedAt, takingOf, times}
+use Rattle.history.specs.Foretold.{andThen, handedSince, takesSince, answeredBy, answeredFrom, answeredSince, before, isHanded, waitsFrom, higherEnter}
+use Rattle.history.proofs.Line.{queue-waits, taken-out-or-waiting}
+use Rattle.history.proofs.Takes.{take-is}
 
 abbrev rank : Copy → ℕ
 rank = rankBy entryOf
@@ -268,6 +275,81 @@ relay-then (d ∷ cs) r c = relay-then cs (next r d) c
 length-then : (cs : List Call) (c : Call) → length (andThen cs c) ≡ suc (length cs)
 length-then cs c = omega (arith, length-append cs (c ∷ []))
 
+-- ---- what is handed out is what the takes answer
+module _ (p : ℕ) where
+  handed-by-line : (cs : List Call) (q : ℕ) (t : Bool) (u : Bool) → eqb q p ≡ u → (a : Chosen Copy) → chosen rank (lineAt q cs) ≡ a
+      → map entryOf (handedBy p (ofTaking q (takingOf t a) .out) (chosen rank (lineAt p cs))) ≡ answeredBy p (takes q) (ofTaking q (takingOf t a) .answer)
+  handed-by-line cs q false u same a is = refl
+  handed-by-line cs q true u same nobody is = refl
+  handed-by-line cs q true true same (one y others) is =
+      let here : chosen rank (lineAt p cs) ≡ one y others = ap (λ (k : ℕ). chosen rank (lineAt k cs)) (sym (eqb-true q p same)) ∙ is in
+      rw (here, same) refl
+  handed-by-line cs q true false same (one y others) is = rw same (other (chosen rank (lineAt p cs)))
+    where
+      other : (a : Chosen Copy) → map entryOf (handedBy p (from q (y .entry)) a) ≡ []
+      other nobody = refl
+      other (one z rest) = rw same refl
+
+  handed-answered : (cs : List Call) (c : Call)
+      → map entryOf (handedBy p (outcome (relayAfter cs) c .out) (chosen rank (lineAt p cs))) ≡ answeredBy p c (outcome (relayAfter cs) c .answer)
+  handed-answered cs (sets s) = refl
+  handed-answered cs (hears port slot octets output) = refl
+  handed-answered cs (takes q) = rw (take-is cs q) (handed-by-line cs q (portSetUp (relayAfter cs) q) (eqb q p) refl (chosen rank (lineAt q cs)) refl)
+  handed-answered cs (looks l) = refl
+
+  answer-of-take : (c : Call) (a : Answer) (e : Entry) → answeredBy p c a ≡ e ∷ [] → (c ≡ takes p) × (a ≡ entry e)
+  answer-of-take (sets s) a e is = absurd (omega (arith, ap length is))
+  answer-of-take (hears port slot octets output) a e is = absurd (omega (arith, ap length is))
+  answer-of-take (takes q) (number n) e is = absurd (omega (arith, ap length is))
+  answer-of-take (takes q) (ended refusal local onward took) e is = absurd (omega (arith, ap length is))
+  answer-of-take (takes q) (entry f) e is = by (eqb q p) refl is
+    where
+      by : (t : Bool) → eqb q p ≡ t → pick t (f ∷ []) [] ≡ e ∷ [] → (takes q ≡ takes p) × (entry f ≡ entry e)
+      by true same h = (ap takes (eqb-true q p same), let one : f ≡ e = cc in ap entry one)
+      by false same h = absurd (omega (arith, ap length h))
+  answer-of-take (looks l) a e is = absurd (omega (arith, ap length is))
+
+  -- After any history, the call that hands a copy out by port p is a take of p, and answers the copy's entry.
+  pub handed-is-answered : (cs : List Call) (c : Call) (y : Copy)
+      → handedBy p (outcome (relayAfter cs) c .out) (chosen rank (lineAt p cs)) ≡ y ∷ []
+      → (c ≡ takes p) × (outcome (relayAfter cs) c .answer ≡ entry (y .entry))
+  handed-is-answered cs c y is = answer-of-take c _ (y .entry) (sym (handed-answered cs c) ∙ ap (map entryOf) is)
+
+  -- The copies that are handed out after any history are, entry by entry, what the takes of the port answer.
+  pub answers-are-handed : (ds cs : List Call) → map entryOf (handedSince p cs ds) ≡ answeredSince p cs ds
+  answers-are-handed [] cs = refl
+  answers-are-handed (d ∷ ds) cs =
+      let further : map entryOf (handedFrom p (suc (length cs)) (next (relayAfter cs) d) (lineBy p (length cs) (relayAfter cs) d (lineAt p cs)) ds)
+      ≡ answeredFrom p (next (relayAfter cs) d) ds =
+      rw (length-then cs d, relay-then cs freshRelay d, line-at-then p cs d) at (answers-are-handed ds (andThen cs d)) in
+      map-append entryOf (handedBy p (outcome (relayAfter cs) d .out) (chosen rank (lineAt p cs))) _
+      ∙ cc (handed-answered cs d, further)
+
+  -- Each take that hands out answers one entry.
+  answers-by-takes : (ds : List Call) (r : Relay) → length (answeredFrom p r ds) ≡ sumFrom (handedOut p) r ds
+  answers-by-takes [] r = refl
+  answers-by-takes (d ∷ ds) r =
+      omega (arith, length-append (answeredBy p d (outcome r d .answer)) (answeredFrom p (next r d) ds), one-answer d, answers-by-takes ds (next r d))
+    where
+      taking : (q : ℕ) (t : Taking) → length (answeredBy p (takes q) (ofTaking q t .answer)) ≡ outBy p (ofTaking q t .out)
+      taking q (Handed e) = by (eqb q p)
+        where
+          by : (t : Bool) → length (pick t (e ∷ []) []) ≡ pick t 1 0
+          by true = refl
+          by false = refl
+      taking q (Refused n) = refl
+
+      one-answer : (c : Call) → length (answeredBy p c (outcome r c .answer)) ≡ outBy p (outcome r c .out)
+      one-answer (sets s) = refl
+      one-answer (hears port slot octets output) = refl
+      one-answer (takes q) = taking q (takeOutcome r q)
+      one-answer (looks l) = refl
+
+  pub takes-are-answers : (cs ds : List Call) → length (answeredSince p cs ds) ≡ takesSince p cs ds
+  takes-are-answers cs ds = answers-by-takes ds (relayAfter cs)
+
+-- ---- W-213
+
 module _ (p : ℕ) (cs : List Call) (c : Call) (x : Copy) (placed : takenBy p (length cs) (relayAfter cs) c ≡ x ∷ []) where
   -- W-213: a copy x that call c places on port p after any history is handed out by take number k of that port, of those that hand out after
   -- the placing, exactly where k is r + h + 1 and that many are made
@@ -277,3 +359,71 @@ module _ (p : ℕ) (cs : List Call) (c : Call) (x : Copy) (placed : takenBy p (l
   foretold-over-histories ds k =
       rw (length-then cs c, relay-then cs freshRelay c, line-at-then p cs c)
       (foretold-from p (length cs) (relayAfter cs) (lineAt p cs) (each-so (lineAt p cs) (λ y h. omega arith) (line-earlier p cs 0 freshRelay [] tt)) c x placed ds k)
+
+  -- If that many takes are made, the answer numbered r + h + 1 of the port's takes after the placing is the entry of x.
+  pub foretold-answer : (ds : List Call) → before p x cs + higherEnter p x (andThen cs c) ds + 1 ≤ takesSince p (andThen cs c) ds
+      → AtTake (before p x cs + higherEnter p x (andThen cs c) ds + 1) (entryOf x) (answeredSince p (andThen cs c) ds)
+  foretold-answer ds made =
+      let at = foretold-over-histories ds _ .1 (refl, made) in
+      record {
+        earlier = map entryOf (at .earlier);
+        later = map entryOf (at .later);
+        are = sym (answers-are-handed p ds (andThen cs c)) ∙ ap (map entryOf) (at .are) ∙ map-append entryOf (at .earlier) (x ∷ at .later);
+        number = at .number ∙ ap (λ (n : ℕ). n + 1) (sym (length-map (at .earlier) entryOf));
+      }
+
+  -- r is how many stand before x in the queue when it is placed, just ahead of the first of lower precedence.
+  pub stands-behind : p < 8
+      → (at : Placed precedenceOf (entryOf x) (waiting (queueIn (relayAfter cs) p)) (waiting (queueIn (relayAfter (andThen cs c)) p)))
+      × (length (at .before) ≡ before p x cs)
+  stands-behind inside = (at, stand-before entryOf (queue-waits p inside cs) x at)
+    where
+      now : waiting (queueIn (relayAfter (andThen cs c)) p) ≡ insertBy precedenceOf (entryOf x) (waiting (queueIn (relayAfter cs) p))
+      now =
+          queue-waits p inside (andThen cs c) .same
+          ∙ ap (λ (l : List Copy). map entryOf (ordered rank l)) (line-at-then p cs c ∙ placed-last p (length cs) (relayAfter cs) c x (lineAt p cs) placed)
+          ∙ ap (map entryOf) (ordered-enters rank x (lineAt p cs))
+          ∙ insert-map precedenceOf entryOf x (ordered rank (lineAt p cs))
+          ∙ ap (insertBy precedenceOf (entryOf x)) (sym (queue-waits p inside cs .same))
+
+      at : Placed precedenceOf (entryOf x) (waiting (queueIn (relayAfter cs) p)) (waiting (queueIn (relayAfter (andThen cs c)) p))
+      at = rw now (insert-placed precedenceOf (entryOf x) (waiting (queueIn (relayAfter cs) p)))
+
+-- ---- a call places at most one copy on a port
+module _ (p n : ℕ) where
+  none-of-turn : (l : List Copy) → Each (λ (y : Copy). n < y .turn) l → times n l ≡ 0
+  none-of-turn [] all = refl
+  none-of-turn (y ∷ l) all = rw (ne-eqb (y .turn) n (λ same. omega (arith, all .0))) (omega (arith, none-of-turn l (all .1)))
+
+  taken-few : (m : ℕ) (r : Relay) (c : Call) → length (takenBy p m r c) ≤ 1
+  taken-few m r (sets s) = omega arith
+  taken-few m r (hears port slot octets output) = by (inSet p (endingOf r port octets (length output) .ruling .took))
+    where
+      by : (t : Bool) → length (pick t (copyOf m r port slot octets (endingOf r port octets (length output)) ∷ []) []) ≤ 1
+      by true = omega arith
+      by false = omega arith
+  taken-few m r (takes port) = omega arith
+  taken-few m r (looks l) = omega arith
+
+  one-more : (m : ℕ) (l rest : List Copy) → length l ≤ 1 → Each (λ (y : Copy). y .turn ≡ m) l → Each (λ (y : Copy). suc m ≤ y .turn) rest
+      → times n rest ≤ 1 → times n (l ++ rest) ≤ 1
+  one-more m [] rest few here later few-later = few-later
+  one-more m (y ∷ z ∷ l) rest few here later few-later = absurd (omega arith)
+  one-more m (y ∷ []) rest few here later few-later = by (eqb (y .turn) n) refl
+    where
+      by : (t : Bool) → eqb (y .turn) n ≡ t → pick t 1 0 + times n rest ≤ 1
+      by true same = omega (arith, none-of-turn rest (each-so rest (λ z h. omega (arith, here .0, eqb-true (y .turn) n same)) later))
+      by false same = omega (arith, few-later)
+
+  taken-once-from : (cs : List Call) (m : ℕ) (r : Relay) → times n (takenFrom p m r cs) ≤ 1
+  taken-once-from [] m r = omega arith
+  taken-once-from (c ∷ cs) m r =
+      one-more m (takenBy p m r c) _ (taken-few m r c) (taken-turn p m r c) (taken-later p cs (suc m) (suc m) (next r c) (omega arith))
+      (taken-once-from cs (suc m) (next r c))
+
+  pub taken-once : (cs : List Call) → times n (takenAt p cs) ≤ 1
+  taken-once cs = taken-once-from cs 0 freshRelay
+
+  -- So a copy that was taken has been handed out or waits, and not both; one that was not taken does neither.
+  pub out-or-waiting-once : (cs : List Call) → times n (handedAt p cs) + times n (lineAt p cs) ≤ 1
+  out-or-waiting-once cs = omega (arith, taken-once cs, taken-out-or-waiting p n cs)
