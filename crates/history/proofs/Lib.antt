@@ -25,6 +25,7 @@ pub mod Named
 pub mod Sums
 pub mod Line
 pub mod Takes
+pub mod Foretold
 pub mod Meaning
 pub mod Domain
 pub mod Search

@@ -7,5 +7,6 @@ pub mod Tally
 pub mod Sums
 pub mod Ledger
 pub mod Line
+pub mod Foretold
 pub mod Parts
 pub mod Reach
