@@ -34,3 +34,4 @@ pub mod Onward
 pub mod Wanted
 pub mod Copies
 pub mod Routed
+pub mod Marked

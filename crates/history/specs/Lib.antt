@@ -9,3 +9,4 @@ pub mod Ledger
 pub mod Line
 pub mod Parts
 pub mod Reach
+pub mod Marked
