@@ -1,7 +1,7 @@
 -- Page 01, "Marked cases (prove these together)": a to l as one table, each row a history, the call that is asked then, and its answer. `marked-cases`,
 -- in proofs/Marked.antt, is the one statement over it. Assumes nothing.
 use Prim.Native.Nat.{ℕ, _+_, _*_, _^_}
-use mathlib.Core.List.{List, [], _∷_, _++_}
+use mathlib.Core.List.{List, [], _∷_, _++_, map}
 use lib.ListN.{replicate}
 use Rattle.address.specs.Class.{classNumber}
 use Rattle.address.specs.Mask.{maskOf}
@@ -10,39 +10,39 @@ use Rattle.address.specs.declared.Class.{Class}
 use Rattle.address.specs.declared.Class.the-variants.{Invalid, Unicast, Multicast, NetBroadcast, DomainBroadcast}
 use Rattle.header.specs.Form.{bitWeight}
 use Rattle.header.specs.Limits.{longestHeader}
-use Rattle.history.specs.Calls.{setRouter, setPort, setRoute, class, Call, sets, hears, takes, looks}
+use Rattle.history.specs.Calls.{Setting, setRouter, setPort, setRoute, class, Call, sets, hears, takes, looks}
 use Rattle.history.specs.Outcome.{Answer, number, ended, entry}
 
 -- ---- the settings: a router, and ports that no destination of the table is an address or a broadcast of
 -- port p is 172.16.p.1
-abbrev pub port : ℕ → Call
-port p = sets (setPort p (record { 0 = dotted 172 16 p 1 }) (record { 0 = maskOf 24 }) 1500)
+abbrev pub port : ℕ → Setting
+port p = setPort p (record { 0 = dotted 172 16 p 1 }) (record { 0 = maskOf 24 }) 1500
 
-abbrev pub routerWithPorts : List Call
-routerWithPorts = sets (setRouter 1) ∷ port 0 ∷ port 1 ∷ port 2 ∷ port 3 ∷ port 4 ∷ []
+abbrev pub routerWithPorts : List Setting
+routerWithPorts = setRouter 1 ∷ port 0 ∷ port 1 ∷ port 2 ∷ port 3 ∷ port 4 ∷ []
 
--- the route of place p, to port p, of this availability
-abbrev pub route : ℕ → ℕ → ℕ → ℕ → Call
-route p prefix ones availability = sets (setRoute p (record { 0 = prefix }) (record { 0 = maskOf ones }) p availability 0)
+-- the route of place p, to port p: its prefix, the ones of its mask, its availability
+abbrev pub route : ℕ → ℕ → ℕ → ℕ → Setting
+route p prefix ones availability = setRoute p (record { 0 = prefix }) (record { 0 = maskOf ones }) p availability 0
 
 -- "Routes to ports 0, 1, 2, 3 in turn, all up: A 0.0.0.0 mask 0 ones; B 10.0.0.0, 8; C 10.4.9.0, 24; D 10.4.9.14, 32"
-abbrev pub A : Call
+abbrev pub A : Setting
 A = route 0 (dotted 0 0 0 0) 0 1
 
-abbrev pub B : Call
+abbrev pub B : Setting
 B = route 1 (dotted 10 0 0 0) 8 1
 
-abbrev pub C : Call
+abbrev pub C : Setting
 C = route 2 (dotted 10 4 9 0) 24 1
 
-abbrev pub D : Call
+abbrev pub D : Setting
 D = route 3 (dotted 10 4 9 14) 32 1
 
-abbrev pub withoutA : List Call
-withoutA = routerWithPorts ++ B ∷ C ∷ D ∷ []
-
-abbrev pub allRoutes : List Call
+abbrev pub allRoutes : List Setting
 allRoutes = routerWithPorts ++ A ∷ B ∷ C ∷ D ∷ []
+
+abbrev pub withoutA : List Setting
+withoutA = routerWithPorts ++ B ∷ C ∷ D ∷ []
 
 -- ---- a datagram to a.b.c.d from 172.16.4.2, of thirteen octets that are all header (003, 3.2.2.1 and table 3-4)
 abbrev pub datagram : ℕ → ℕ → ℕ → ℕ → ℕ → List ℕ
@@ -80,18 +80,21 @@ pub record Marked : Type 0 where
   pub asked : Call
   pub answer : Answer
 
--- what becomes of a datagram to a.b.c.d after these calls
-abbrev pub goes : List Call → ℕ → ℕ → ℕ → ℕ → Answer → Marked
-goes calls a b c d answer = record { calls = calls; asked = heard 1 (datagram a b c d 0); answer = answer }
+-- what becomes of a datagram to a.b.c.d with these settings
+abbrev pub goes : List Setting → ℕ → ℕ → ℕ → ℕ → Answer → Marked
+goes settings a b c d answer = record { calls = map sets settings; asked = heard 1 (datagram a b c d 0); answer = answer }
 
 abbrev pub isOfClass : ℕ → ℕ → ℕ → ℕ → Class → Marked
 isOfClass a b c d x = record { calls = []; asked = looks (class (record { 0 = dotted a b c d })); answer = number (classNumber x) }
 
--- what D's port hands out after the entries of case l were put there and so many calls more were made
-abbrev pub fourPut : List Call
-fourPut =
-    allRoutes ++ heard 1 (datagram 10 4 9 14 3) ∷ heard 2 (datagram 10 4 9 14 5) ∷ heard 3 (datagram 10 4 9 14 3) ∷ heard 4 (datagram 10 4 9 14 5) ∷ []
+-- the entries of case l, put on D's port
+abbrev pub put : ℕ → ℕ → Call
+put slot precedence = heard slot (datagram 10 4 9 14 precedence)
 
+abbrev pub fourPut : List Call
+fourPut = map sets allRoutes ++ put 1 3 ∷ put 2 5 ∷ put 3 3 ∷ put 4 5 ∷ []
+
+-- what is handed out there next, after so many takes
 abbrev pub comesOut : ℕ → ℕ → ℕ → Marked
 comesOut before slot precedence = record { calls = fourPut ++ replicate before (takes 3); asked = takes 3; answer = handedOut slot precedence }
 
