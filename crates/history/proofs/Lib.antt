@@ -28,3 +28,4 @@ pub mod Search
 pub mod SearchBack
 pub mod Onward
 pub mod Wanted
+pub mod Marked

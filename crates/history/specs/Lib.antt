@@ -11,3 +11,4 @@ pub mod Foretold
 pub mod Parts
 pub mod Reach
 pub mod Ranges
+pub mod Marked
