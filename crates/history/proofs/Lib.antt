@@ -35,3 +35,4 @@ pub mod Wanted
 pub mod Copies
 pub mod Routed
 pub mod Ranges
+pub mod Transport

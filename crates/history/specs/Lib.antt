@@ -10,3 +10,4 @@ pub mod Line
 pub mod Parts
 pub mod Reach
 pub mod Ranges
+pub mod Transport
