@@ -1,9 +1,9 @@
 -- The demands over histories. To be read, each by itself with the definitions it cites:
--- Refusals, Answered, Listed, ReadBack and Onward (demand 1: what a refused call leaves; the numbers an answer can be; that C reads back the parts of an ending;
--- the TP-ID refuses local delivery alone);
--- Meaning, Search, SearchBack, Routed, Copies, Wanted, Reach, Keys and Holds (demand 2: what addresses name on every copy granted, no one-octet address leaves its domain;
+-- Refusals, Answered, Listed, ReadBack, Onward and Transport (demand 1: what a refused call leaves; the numbers an answer can be; that C reads back the parts of an
+-- ending; the TP-ID refuses local delivery alone, of a ruling and of two datagrams);
+-- Meaning, Search, SearchBack, Routed, Copies, Wanted, Reach, Keys, Holds and Ranges (demand 2: what addresses name on every copy granted, no one-octet address leaves its domain;
 -- the route taken, by the search, as C reads it and by the verdict; which ports are wanted and granted; what holds of the settings in every state that a history reaches; that a setting holds until it
--- is changed);
+-- is changed; that settings, and what waits, are in the ranges that the C header promises);
 -- Counters, Named, Sums, Ledger, Oldest and Takes (demand 3: every counter, the four that the customer names, by datagram and over a history, the
 -- ledger of a port, the order of a queue and of taking);
 -- Marked (page 01's marked cases, one table), WrongRelays and Wrong (its wrong relays and its slips, each shown wrong).

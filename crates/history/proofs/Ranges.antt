@@ -1,18 +1,23 @@
 -- After any history what a relay holds is in the ranges that include/harpjuniper.h promises: `in-range` of the relay, `idle-line` and
 -- `waiting-precedence` of the copies that wait, `taken-precedence` of what a take hands out. Assumes nothing.
 use native.Mathlib.Omega.{arith}
-use Prim.Native.Nat.{ℕ, zero, suc, _<_}
+use native.Mathlib.Nat.{div-eq-of-lt, lt-of-lt-of-le, lt-of-not-le}
+use native.Mathlib.Decide.{decLe}
+use Prim.Native.Nat.{ℕ, zero, suc, _%_, _<_}
 use mathlib.Core.Path.{_≡_, refl, sym, ap, _∙_}
 use mathlib.Core.Bool.{Bool, true, false, not, _&&_}
-use mathlib.Core.List.{List, [], _∷_, _++_}
+use mathlib.Core.List.{List, [], _∷_}
+use mathlib.Core.Logic.{by-cases}
 use lib.Bits.{bitAnd}
 use lib.Dec.{eqb, ltb}
 use lib.ListN.{length, getD, set, replicate}
-use borrow.Author.Tests.{lt-ltb, ltb-true}
+use lib.Pow.{pow-mono}
+use borrow.Author.Tests.{lt-ltb}
 use Rattle.checks.specs.Order.{pick, firstOf}
 use Rattle.checks.proofs.Bools.{true-false, refuted, and-true}
 use Rattle.checks.proofs.Laws.{either, zero-none}
-use Rattle.sets.specs.Sets.{inSet}
+use Rattle.sets.specs.Sets.{inSet, portSet}
+use Rattle.sets.proofs.Loops.{portSet-below}
 use Rattle.address.specs.Class.{classOf}
 use Rattle.header.specs.Range.{qosFits}
 use Rattle.header.specs.Read.{readOf}
@@ -41,7 +46,7 @@ use Rattle.records.specs.declared.Group.{Group}
 use Rattle.records.specs.declared.PathPlace.{PathPlace}
 use Rattle.routes.specs.Routes.{emptyRoute}
 use Rattle.routes.specs.declared.Route.{Route}
-use Rattle.state.specs.Relay.{Relay, freshRelay, portIn, routeIn, groupIn, pathIn, queueIn, withPort, withRoute, withGroup, withPath, portSetUp}
+use Rattle.state.specs.Relay.{Relay, freshRelay, portIn, withRoute, withGroup, withPath, portSetUp}
 use Rattle.survey.specs.Survey.{isFitting, surveyBelow, surveyOf}
 use Rattle.survey.specs.declared.Sought.{Sought}
 use Rattle.lookup.specs.Lookup.{pathPlace}
@@ -83,7 +88,6 @@ use Rattle.history.specs.Calls.{
   looks,
   checksOf,
   written,
-  settle,
 }
 use Rattle.history.specs.Outcome.{Out, nothing, from, outcome, next, runFrom, relayAfter}
 use Rattle.history.specs.Line.{Copy, entryOf, copyOf, takenBy, leftBy, lineBy, lineFrom, lineAt, takingOf}
@@ -91,7 +95,7 @@ use Rattle.history.specs.Ranges.{Flag, Flags, InRange, OfOctets, Precede
 use Rattle.history.proofs.Bits.{in-and, in-except, in-gathered}
 use Rattle.history.proofs.Settled.{settle-keeps}
 use Rattle.history.proofs.Reach.{madeOf, received-made, taken-made, numbered-five}
-use Rattle.history.proofs.Line.{append-nil, queue-waits}
+use Rattle.history.proofs.Line.{queue-waits}
 use Rattle.history.proofs.Takes.{take-is}
 use Rattle.history.proofs.Meaning.{none-in}
 use Rattle.history.proofs.Copies.{If}
@@ -215,16 +219,24 @@ module _ (P : Ending → Type 0) (none : (n : ℕ) → P (refusedBy n)) (r : Rel
       either P (eqb n 0) (octets-so (readOf octets) refl) (none n)
 
 -- ---- a port that takes an entry is set up
-module _ (r : Relay) (p : ℕ) (inside : p < 8) where
+-- what is gathered of the first n ports has none over them
+gathered-below : (test : ℕ → Bool) (n p : ℕ) → inSet p (portSet test n) ≡ true → p < n
+gathered-below test n p h =
+    by-cases (decLe n p)
+    (λ over.
+    true-false (sym h ∙ ap (λ (x : ℕ). eqb (x % 2) 1) (div-eq-of-lt (lt-of-lt-of-le (portSet-below test n) (pow-mono over)))))
+    (λ under. lt-of-not-le under)
+
+module _ (r : Relay) (p : ℕ) where
   abbrev Up : Type 0
   Up = portSetUp r p ≡ true
 
   fitting-up : (q : Sought) → inSet p (surveyOf r q .fitting) ≡ true → Up
   unfolding surveyBelow portSetUp
   fitting-up q h =
-      let up = isSetUp (portIn r p) in
-      simp (lt-ltb p 8 inside)
-      (and-true up (isFitting (portIn r p) q) (sym (in-gathered (λ (i : ℕ). isSetUp (portIn r i) && isFitting (portIn r i) q) p 8 inside) ∙ h) .0)
+      let test : ℕ → Bool = λ i. isSetUp (portIn r i) && isFitting (portIn r i) q in
+      let inside = gathered-below test 8 p h in
+      simp (lt-ltb p 8 inside) (and-true (isSetUp (portIn r p)) (isFitting (portIn r p) q) (sym (in-gathered test p 8 inside) ∙ h) .0)
 
   size-up : (l : Wish) (fitting : ℕ) → (inSet p fitting ≡ true → Up) → If p Up (afterSize l fitting)
   size-up NotAsked fitting f = tt
@@ -267,7 +279,7 @@ module _ (r : Relay) (p : ℕ) (inside : p < 8) where
       (λ h is. rule-up (arrivalAt r port) (aimOf (portIn r port .address .0) (h .fields .addresses)) h) room
 
 -- ---- nothing waits on a port that is not set up
-module _ (p : ℕ) (inside : p < 8) where
+module _ (p : ℕ) where
   abbrev Idle : Relay → List Copy → Type 0
   Idle r line = portSetUp r p ≡ false → line ≡ []
 
@@ -276,7 +288,7 @@ module _ (p : ℕ) (inside : p < 8) where
   enters-none r n (hears port slot octets output) h =
       let e = endingOf r port octets (length output) in
       ap (λ (t : Bool). pick t (copyOf n r port slot octets e ∷ []) [])
-      (refuted (inSet p (e .ruling .took)) (λ t. true-false (sym (ending-up r p inside port octets (length output) t) ∙ h)))
+      (refuted (inSet p (e .ruling .took)) (λ t. true-false (sym (ending-up r p port octets (length output) t) ∙ h)))
   enters-none r n (takes port) h = refl
   enters-none r n (looks l) h = refl
 
@@ -327,7 +339,7 @@ module _ (p : ℕ) (inside : p < 8) where
   all-idle (c ∷ cs) n r line idle =
       all-idle cs (suc n) (next r c) (lineBy p n r c line) (λ h. line-idle r n c line idle (next-before r c h))
 
-  -- After any history nothing waits on a port that is not set up.
+  -- After any history nothing waits on a port that is over 7 or not set up.
   pub idle-line : (cs : List Call) → portSetUp (relayAfter cs) p ≡ false → lineAt p cs ≡ []
   idle-line cs = all-idle cs 0 freshRelay [] (λ h. refl)
 
@@ -337,7 +349,7 @@ in-range cs =
     record {
       flags = all-flags cs freshRelay fresh-flags;
       queues = λ p inside. queue-waits p inside cs .sound .bounded .fits;
-      idle = λ p inside h. waits-count entryOf (queue-waits p inside cs) ∙ ap length (idle-line p inside cs h);
+      idle = λ p inside h. waits-count entryOf (queue-waits p inside cs) ∙ ap length (idle-line p cs h);
     }
 
 -- ---- the precedence of what waits

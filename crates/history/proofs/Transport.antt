@@ -1,8 +1,8 @@
 -- Demand 1, the last sentence, of two datagrams: an unknown transport number refuses local delivery alone. The theorem is `transport-alone`, and with it
 -- `leaves-the-same`. Assumes nothing.
 use Prim.Native.Nat.{ℕ}
-use mathlib.Core.Path.{_≡_, refl, sym, ap, ap₂, _∙_}
-use mathlib.Core.Bool.{Bool, true, false, _&&_}
+use mathlib.Core.Path.{_≡_, refl, ap, ap₂, _∙_}
+use mathlib.Core.Bool.{Bool, true, false}
 use mathlib.Core.List.{List}
 use mathlib.Core.Logic.{_⊎_, inl, inr}
 use lib.Dec.{eqb}
@@ -12,7 +12,6 @@ use Rattle.address.specs.Class.{classOf}
 use Rattle.address.specs.declared.Slot.{Slot}
 use Rattle.header.specs.Read.{readOf}
 use Rattle.header.specs.declared.Header.{Header}
-use Rattle.header.specs.declared.Read.{Read}
 use Rattle.header.specs.declared.Read.the-variants.{Good}
 use Rattle.networks.specs.Networks.{domainOf}
 use Rattle.meaning.specs.Arrival.{arrivalChecks}
@@ -20,8 +19,7 @@ use Rattle.meaning.specs.Asked.{isAssigned, assignedOf}
 use Rattle.meaning.specs.Names.{aimOf}
 use Rattle.meaning.specs.declared.Aim.{Aim}
 use Rattle.meaning.specs.declared.Aim.the-variants.{Node, Path, Uncarried}
-use Rattle.queue.specs.declared.Entry.{Entry}
-use Rattle.state.specs.Relay.{Relay, portIn}
+use Rattle.state.specs.Relay.{Relay}
 use Rattle.survey.specs.Survey.{surveyOf}
 use Rattle.lookup.specs.Lookup.{pathPlace}
 use Rattle.lookup.specs.ForTarget.{placeFor, wayFor}
@@ -41,10 +39,10 @@ use Rattle.verdict.specs.declared.Wish.{Wish}
 use Rattle.verdict.specs.declared.Wish.the-variants.{NotAsked, Refused, Wanted}
 use Rattle.judge.specs.Ruling.{caseOf, soughtOf, ruledBy, ruleTarget, ruleAim, ruleOf}
 use Rattle.judge.specs.declared.ruling.Arrival.{Arrival}
-use Rattle.judge.specs.Ending.{noRuling, refusedBy, callChecks, ruledEnding, headerEnding, octetsEnding, arrivalAt, endingOf}
+use Rattle.judge.specs.Ending.{refusedBy, callChecks, ruledEnding, headerEnding, arrivalAt, endingOf}
 use Rattle.judge.specs.declared.Ending.{Ending}
 use Rattle.relay.specs.Outgoing.{enteredAll}
-use Rattle.relay.specs.Received.{newEntry, receivedRelay}
+use Rattle.relay.specs.Received.{receivedRelay}
 use Rattle.history.specs.Transport.{withTpid, SameButTpid, localBy, SameButLocal}
 use Rattle.history.proofs.Onward.{onwardHalf, withAssigned, onward-free-of-tpid}
 
@@ -93,9 +91,6 @@ module _ (a b : ℕ) where
   aim-alike r Uncarried c s = ruled-alike target.Route Missing Lost c s
 
   -- ---- the endings
-  abbrev AlikeEndings : Ending → Ending → Type 0
-  AlikeEndings = SameButLocal a b
-
   refused-alike : (n : ℕ) → SameButLocal a b (refusedBy n) (refusedBy n)
   refused-alike n =
       record {
