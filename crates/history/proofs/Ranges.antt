@@ -1,12 +1,18 @@
 -- After any history what a relay holds is in the ranges that include/harpjuniper.h promises: `in-range` of the relay, `idle-line` and
 -- `waiting-precedence` of the copies that wait, `taken-precedence` of what a take hands out. Assumes nothing.
 use native.Mathlib.Omega.{arith}
-use Prim.Native.Nat.{ℕ, zero, suc, _<_}
+use Prim.Native.Nat.{ℕ, zero, suc, _<_, _≤_, _%_}
 use mathlib.Core.Path.{_≡_, refl, sym, ap, _∙_}
 use mathlib.Core.Bool.{Bool, true, false, not, _&&_}
 use mathlib.Core.List.{List, [], _∷_}
 use lib.Dec.{eqb, ltb}
 use lib.ListN.{length, getD, set, replicate}
+use native.Mathlib.Nat.{div-eq-of-lt, lt-of-lt-of-le, lt-of-not-le}
+use native.Mathlib.Decide.{decLe}
+use mathlib.Core.Logic.{by-cases}
+use lib.Pow.{pow-mono}
+use Rattle.verdict.specs.declared.Ruling.{Ruling}
+use Rattle.history.proofs.Small.{sets-small}
 use Rattle.checks.specs.Order.{pick, firstOf}
 use Rattle.checks.proofs.Bools.{true-false, refuted, and-true}
 use Rattle.checks.proofs.Laws.{either, zero-none}
@@ -189,12 +195,23 @@ module _ (P : Ending → Type 0) (none : (n : ℕ) → P (refusedBy n)) (r : Rel
       let n = firstOf (callChecks r port room) in
       either P (eqb n 0) (octets-so (readOf octets) refl) (none n)
 
--- ---- a port that takes an entry is set up
-ending-up : (r : Relay) (p : ℕ) (inside : p < 8) (port : ℕ) (octets : List ℕ) (room : ℕ) → inSet p (endingOf r port octets room .ruling .took) ≡ true
-    → portSetUp r p ≡ true
-ending-up r p inside port octets room took =
-    granted-set-up r port octets room p inside
-    (and-true (inSet p (endingOf r port octets room .ruling .granted)) (hasRoom r p) (sym (took-exactly r port octets room p inside) ∙ took) .0)
+-- ---- a port that takes an entry is one of the eight, and set up
+module _ (r : Relay) (p port : ℕ) (octets : List ℕ) (room : ℕ) where
+  abbrev x : Ruling
+  x = endingOf r port octets room .ruling
+
+  none-beyond : 8 ≤ p → inSet p (x .took) ≡ false
+  none-beyond h =
+      ap (λ (n : ℕ). eqb (n % 2) 1) (div-eq-of-lt (lt-of-lt-of-le (sets-small r port octets room .took) (pow-mono {i = 8} {j = p} h)))
+
+  ending-up : inSet p (x .took) ≡ true → portSetUp r p ≡ true
+  ending-up took =
+      by-cases (decLe 8 p)
+      (λ h. true-false (sym took ∙ none-beyond h))
+      (λ h.
+      let inside = lt-of-not-le h in
+      granted-set-up r port octets room p inside
+      (and-true (inSet p (x .granted)) (hasRoom r p) (sym (took-exactly r port octets room p inside) ∙ took) .0))
 
 -- ---- nothing waits on a port that is not set up
 module _ (p : ℕ) where
