@@ -35,3 +35,5 @@ pub mod Wanted
 pub mod Copies
 pub mod Routed
 pub mod Marked
+pub mod WrongRelays
+pub mod Wrong
