@@ -6,7 +6,8 @@ use Prim.Native.Nat.{ℕ, _+_, _*_, _%_, _^_, _<_}
 use mathlib.Core.Path.{_≡_, refl, sym, ap, _∙_}
 use mathlib.Core.Bool.{true, false}
 use mathlib.Core.List.{List, [], _∷_, _++_, map}
-use lib.ListN.{replicate}
+use lib.ListN.{length, replicate}
+use borrow.Author.Tests.{lt-ltb}
 use Rattle.checks.proofs.Bools.{true-false}
 use Rattle.sets.specs.Sets.{inSet}
 use Rattle.address.specs.Mask.{maskOf}
@@ -19,13 +20,22 @@ use Rattle.routes.specs.declared.Found.the-variants.{At}
 use Rattle.routes.specs.declared.Route.{Route}
 use Rattle.routes.proofs.Longest.{CandidateAt}
 use Rattle.routes.proofs.Marked as marked
-use Rattle.state.specs.Relay.{State, freshState, routeIn, queueIn, counterIn}
-use Rattle.tally.specs.Tally.{counterFor, countedAt}
-use Rattle.history.specs.Calls.{Setting, setRouter, setPort, clearRoute, Call, sets, hears}
-use Rattle.history.specs.Outcome.{Answer, number, ended, entry, Outcome, outcome, relayAfter}
+use Rattle.state.specs.Relay.{Relay, State, freshState, routeIn, queueIn, counterIn}
+use Rattle.verdict.specs.declared.Ruling.{Ruling}
+use Rattle.judge.specs.Ending.{noRuling, endingOf}
+use Rattle.judge.specs.declared.Ending.{Ending}
+use Rattle.taking.specs.Taking.{takeOutcome}
+use Rattle.taking.specs.declared.Taking.{Taking}
+use Rattle.taking.specs.declared.Taking.the-variants.{Handed, Refused}
+use Rattle.tally.specs.Tally.{receiptCounter, rulingMoves, movesOf, counterFor, countedAt}
+use Rattle.history.specs.Calls.{Setting, setRouter, setPort, clearRoute, Call, sets, hears, takes, looks}
+use Rattle.history.specs.Outcome.{Answer, number, ended, entry, Outcome, ofTaking, outcome, relayAfter}
 use Rattle.history.specs.Tally.{sumAt, tally, stateAfter}
 use Rattle.history.specs.Marked.{port, route, allRoutes, datagram, heard, sentBy, notSent}
 use Rattle.history.proofs.Counters.{counters}
+use Rattle.history.proofs.Bits.{in-none}
+use Rattle.history.proofs.Fair.{fair}
+use Rattle.history.proofs.Refusals.{refused-grants-nothing, counts-nothing}
 use Rattle.history.proofs.Marked.{opened, marked-cases}
 
 -- ---- the histories
@@ -60,10 +70,6 @@ twoDomains =
 abbrev pub basic : Call
 basic = hears 0 (record { 0 = 1 }) (32 ∷ 6 ∷ (4 * 16 + bitWeight 20 + bitWeight 22) ∷ bitWeight 25 ∷ 14 ∷ 16 ∷ []) (replicate 50 0)
 
--- an output of 49 octets
-abbrev pub narrow : Call
-narrow = hears 4 (record { 0 = 1 }) (datagram 10 4 9 14 0) (replicate 49 0)
-
 -- a route as if it were up, whatever its availability
 abbrev pub asIfUp : Route → Route
 asIfUp r =
@@ -96,9 +102,6 @@ pub record Cases : Type 0 where
   pub kept : inSet 3 (outcome (relayAfter (waitingForD 31)) forD .dropped) ≡ false
   -- one-octet addresses do not leave their domain
   pub domain : outcome (relayAfter (map sets twoDomains)) basic .answer ≡ notSent 13
-  -- an output that is too small counts nothing
-  pub small : outcome (relayAfter (map sets allRoutes)) narrow .answer ≡ ended 17 0 0 0
-  pub unmoved : (i : ℕ) → sumAt (outcome (relayAfter (map sets allRoutes)) narrow .moves) i ≡ 0
 
 pub cases : Cases
 unfolding opened freshState countedAt counterFor
@@ -115,8 +118,6 @@ cases =
       granted = refl;
       kept = refl;
       domain = refl;
-      small = refl;
-      unmoved = λ i. refl;
     }
 
 -- the ports that took an entry
@@ -124,6 +125,45 @@ abbrev portsOf : Answer → ℕ
 portsOf (number n) = 0
 portsOf (ended refusal local onward took) = took
 portsOf (entry e) = 0
+
+-- 17 is a datagram's, has no ruling, and no counter
+ended-by : {refusal local onward took refusal' local' onward' took' : ℕ} → ended refusal local onward took ≡ ended refusal' local' onward' took' → refusal ≡ refusal'
+ended-by e = cc
+
+unmoved-by-17 : (e : Ending) (i : ℕ) → e .refusal ≡ 17 → e .ruling ≡ noRuling → sumAt (movesOf e) i ≡ 0
+unmoved-by-17 e i is bare =
+    ap (λ (n : ℕ). sumAt ((receiptCounter n, 1) ∷ (counterFor n, 1) ∷ rulingMoves (e .ruling)) i) is
+    ∙ ap (λ (x : Ruling). sumAt ((receiptCounter 17, 1) ∷ (counterFor 17, 1) ∷ rulingMoves x) i) bare
+    ∙ counts-nothing i .1
+
+unmoved-taking : (p : ℕ) (t : Taking) (i : ℕ) → sumAt (ofTaking p t .moves) i ≡ 0
+unmoved-taking p (Handed e) i = refl
+unmoved-taking p (Refused n) i = refl
+
+unmoved-at-17 : (r : Relay) (c : Call) (i local onward took : ℕ) → outcome r c .answer ≡ ended 17 local onward took → sumAt (outcome r c .moves) i ≡ 0
+unmoved-at-17 r (sets s) i local onward took e = refl
+unmoved-at-17 r (hears p slot octets output) i local onward took e =
+    let is = ended-by e in
+    let bare = refused-grants-nothing r p octets (length output) (λ z. let no : _≡_ {A = ℕ} 17 0 = sym is ∙ z in omega arith) in
+    unmoved-by-17 (endingOf r p octets (length output)) i is bare
+unmoved-at-17 r (takes p) i local onward took e = unmoved-taking p (takeOutcome r p) i
+unmoved-at-17 r (looks l) i local onward took e = refl
+
+-- a port that drops a copy is full
+module _ (r : Relay) (p : ℕ) (inside : p < 8) (room : queueIn r p .count < 32) where
+  none-dropped : {A : Type 0} → inSet p 0 ≡ true → A
+  none-dropped drops = true-false (sym drops ∙ in-none p)
+
+  no-taking-drops : (q : ℕ) (t : Taking) → inSet p (ofTaking q t .dropped) ≡ true → ⊥
+  no-taking-drops q (Handed e) drops = none-dropped drops
+  no-taking-drops q (Refused n) drops = none-dropped drops
+
+  not-dropped : (c : Call) → inSet p (outcome r c .dropped) ≡ true → ⊥
+  not-dropped (sets s) drops = none-dropped drops
+  not-dropped (hears q slot octets output) drops =
+      true-false (sym (lt-ltb (queueIn r p .count) 32 room) ∙ fair r p inside q octets (length output) .full drops)
+  not-dropped (takes q) drops = no-taking-drops q (takeOutcome r q) drops
+  not-dropped (looks l) drops = none-dropped drops
 
 -- ---- what calls do
 module _ (does : List Call → Call → Outcome) (kept : (cs : List Call) (c : Call) → does cs c ≡ outcome (relayAfter cs) c) where
@@ -194,16 +234,19 @@ module _ (does : List Call → Call → Outcome) (kept : (cs : List Call) (c : C
       let drops = wrong (waitingForD 31) forD 3 (ap (λ o. inSet 3 (o .granted)) same ∙ cases .granted) (cases .thirtyOne) in
       true-false (sym drops ∙ ap (λ o. inSet 3 (o .dropped)) same ∙ cases .kept)
 
+  -- Nor does it ever drop a copy where fewer than 32 wait.
+  pub dropping-below-32 : (cs : List Call) (c : Call) (p : ℕ) → p < 8 → queueIn (relayAfter cs) p .count < 32 → inSet p (does cs c .dropped) ≡ true → ⊥
+  dropping-below-32 cs c p inside room wrong = not-dropped (relayAfter cs) p inside room c (ap (λ o. inSet p (o .dropped)) (sym (kept cs c)) ∙ wrong)
+
   -- It is not without the domain test, never to answer 13.
   pub leaving-the-domain : ((cs : List Call) (c : Call) (local : ℕ) → does cs c .answer ≡ ended 0 local 13 0 → ⊥) → ⊥
   leaving-the-domain wrong = wrong (map sets twoDomains) basic 0 (answers (map sets twoDomains) basic ∙ cases .domain)
 
-  -- No counter of it moves whenever it answers 17.
-  pub counting-at-17 :
-      (i : ℕ) → ((cs : List Call) (c : Call) → does cs c .answer ≡ ended 17 0 0 0 → sumAt (does cs c .moves) i ≡ 0 → ⊥) → ⊥
-  counting-at-17 i wrong =
-      let same = kept (map sets allRoutes) narrow in
-      wrong (map sets allRoutes) narrow (answers (map sets allRoutes) narrow ∙ cases .small) (ap (λ o. sumAt (o .moves) i) same ∙ cases .unmoved i)
+  -- No counter of it moves at 17.
+  pub counting-at-17 : (cs : List Call) (c : Call) (i local onward took : ℕ)
+      → does cs c .answer ≡ ended 17 local onward took → (sumAt (does cs c .moves) i ≡ 0 → ⊥) → ⊥
+  counting-at-17 cs c i local onward took e wrong =
+      wrong (ap (λ o. sumAt (o .moves) i) (kept cs c) ∙ unmoved-at-17 (relayAfter cs) c i local onward took (sym (answers cs c) ∙ e))
 
 -- ---- what histories leave
 module _ (leaves : List Call → State) (kept : (cs : List Call) → leaves cs ≡ stateAfter cs) where
