@@ -1,5 +1,5 @@
--- Page 01's tempting slips, each shown to be wrong at the definition that the code is proved against: what it would have to answer is not what the
--- definition gives. (Where one changed expression can make the slip, a must-fail edit tries that such code is refused.) Assumes nothing.
+-- Page 01's tempting slips and a few wrong rules more, each shown to be wrong at the definition that the code is proved against: what it would have to
+-- answer is not what the definition gives. (Where one changed expression can make the slip, a must-fail edit tries that such code is refused.) Assumes nothing.
 use native.Mathlib.Omega.{arith}
 use Prim.Native.Nat.{ℕ}
 use mathlib.Core.Path.{_≡_, refl, sym}

@@ -126,7 +126,7 @@ portsOf (number n) = 0
 portsOf (ended refusal local onward took) = took
 portsOf (entry e) = 0
 
--- 17 is a datagram's, has no ruling, and no counter
+-- 17 ends a datagram with no ruling, and no counter is its own
 ended-by : {refusal local onward took refusal' local' onward' took' : ℕ} → ended refusal local onward took ≡ ended refusal' local' onward' took' → refusal ≡ refusal'
 ended-by e = cc
 
@@ -198,7 +198,8 @@ module _ (does : List Call → Call → Outcome) (kept : (cs : List Call) (c : C
       → ⊥
   copying-answers wrong =
       let same = wrong allRoutes 4 (record { 0 = 1 }) (datagram 10 4 9 14 0) (datagram 10 4 9 16 0) (replicate 50 0) in
-      let ports : _≡_ {A = ℕ} 4 8 = ap portsOf (sym (cases .octets) ∙ sym (answers (map sets allRoutes ++ forD ∷ []) forC) ∙ same ∙ in-case-a) in omega arith
+      let later = answers (map sets allRoutes ++ forD ∷ []) forC ∙ cases .octets in
+      let ports : _≡_ {A = ℕ} 4 8 = ap portsOf (sym later ∙ same ∙ in-case-a) in omega arith
 
   -- Nor for the same octets, once a setting is changed.
   pub copying-over-settings :
@@ -208,9 +209,8 @@ module _ (does : List Call → Call → Outcome) (kept : (cs : List Call) (c : C
       → ⊥
   copying-over-settings wrong =
       let same = wrong allRoutes (clearRoute 0) 4 (record { 0 = 1 }) (datagram 192 0 2 1 0) (replicate 50 0) in
-      let ports : _≡_ {A = ℕ} 0 1 =
-      ap portsOf (sym (cases .cleared) ∙ sym (answers (map sets allRoutes ++ forA ∷ sets (clearRoute 0) ∷ []) forA) ∙ same ∙ in-case-d) in
-      omega arith
+      let later = answers (map sets allRoutes ++ forA ∷ sets (clearRoute 0) ∷ []) forA ∙ cases .cleared in
+      let ports : _≡_ {A = ℕ} 0 1 = ap portsOf (sym later ∙ same ∙ in-case-d) in omega arith
 
   -- It does not keep back a datagram for which a route is there that is up, where the longest of all that match is not up.
   pub hiding-a-live-route :
@@ -238,7 +238,7 @@ module _ (does : List Call → Call → Outcome) (kept : (cs : List Call) (c : C
   pub dropping-below-32 : (cs : List Call) (c : Call) (p : ℕ) → p < 8 → queueIn (relayAfter cs) p .count < 32 → inSet p (does cs c .dropped) ≡ true → ⊥
   dropping-below-32 cs c p inside room wrong = not-dropped (relayAfter cs) p inside room c (ap (λ o. inSet p (o .dropped)) (sym (kept cs c)) ∙ wrong)
 
-  -- It is not without the domain test, never to answer 13.
+  -- It does not do without the domain test, and so never answer 13.
   pub leaving-the-domain : ((cs : List Call) (c : Call) (local : ℕ) → does cs c .answer ≡ ended 0 local 13 0 → ⊥) → ⊥
   leaving-the-domain wrong = wrong (map sets twoDomains) basic 0 (answers (map sets twoDomains) basic ∙ cases .domain)
 
