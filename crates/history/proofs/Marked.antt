@@ -1,6 +1,5 @@
 -- Page 01's marked cases a to l, together: the one statement over the table of specs/Marked.antt. Assumes nothing.
 use mathlib.Core.Path.{_≡_, refl}
-use mathlib.Core.List.{List}
 use Rattle.checks.specs.Order.{firstOf}
 use Rattle.octets.specs.Octets.{number}
 use Rattle.address.specs.Class.{familyOf, scpsClass, netClass, classIn, classOf}
