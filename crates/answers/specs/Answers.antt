@@ -40,3 +40,16 @@ entryNumber e = e .precedence * 2 ^ 16 + e .slot .0
 abbrev pub takingNumber : Taking → ℕ
 takingNumber (Handed e) = entryNumber e
 takingNumber (Refused n) = refusalNumber n
+
+-- ---- what hj_refusal, hj_slot, hj_precedence and hj_value read of such a number
+abbrev pub refusalIn : ℕ → ℕ
+refusalIn n = n / 2 ^ 32 % 2 ^ 32
+
+abbrev pub slotIn : ℕ → ℕ
+slotIn n = n % 65536
+
+abbrev pub precedenceIn : ℕ → ℕ
+precedenceIn n = n / 65536 % 65536
+
+abbrev pub valueIn : ℕ → ℕ
+valueIn n = n % 2 ^ 32

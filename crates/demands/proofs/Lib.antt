@@ -3,4 +3,5 @@
 pub mod Traced
 pub mod Lasts
 pub mod Told
+pub mod ReadOut
 pub mod Demand3

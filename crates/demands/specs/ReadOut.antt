@@ -1,11 +1,11 @@
 -- What C reads out of a result, by the functions of include/harpjuniper.h, and what the words that it lent hold. Assumes nothing.
-use Prim.Native.Nat.{ℕ, _/_, _%_, _^_}
+use Prim.Native.Nat.{ℕ, _%_, _^_}
 use mathlib.Core.Path.{_≡_}
 use mathlib.Core.Bool.{Bool, true, false, not, _||_}
 use mathlib.Core.List.{List, []}
 use lib.Dec.{eqb, ltb}
 use Rattle.checks.specs.Order.{pick}
-use Rattle.answers.specs.Answers.{partAt}
+use Rattle.answers.specs.Answers.{partAt, refusalIn, slotIn, precedenceIn}
 use Rattle.numbers.specs.declared.Numbers.{Numbers}
 use Rattle.state.specs.Relay.{Relay, State, counterIn}
 use Rattle.state.specs.Layout.{decode}
@@ -48,16 +48,12 @@ numberIn (route x) = x .refusal
 numberIn (group x) = x .refusal
 numberIn (path x) = x .refusal
 
--- where a value has 32 bits, the refusal stands above it
-abbrev pub above : ℕ → ℕ
-above n = n / 2 ^ 32
-
 abbrev pub takenOut : ℕ → outcome.Answer
 takenOut n =
-    pick (eqb (above n) 0) (outcome.entry (record { slot = record { 0 = n % 2 ^ 16 }; precedence = n / 2 ^ 16 })) (outcome.number (above n))
+    pick (eqb (refusalIn n) 0) (outcome.entry (record { slot = record { 0 = slotIn n }; precedence = precedenceIn n })) (outcome.number (refusalIn n))
 
 abbrev pub partOut : Part → ℕ → ℕ
-partOut theRouter n = above n
+partOut theRouter n = refusalIn n
 partOut (thePort p) n = n
 partOut (theRoute i) n = n
 partOut (theGroup i) n = n
@@ -66,10 +62,10 @@ partOut (thePath i) n = n
 abbrev pub lookOut : Look → ℕ → ℕ
 lookOut (setting part) n = partOut part n
 lookOut (search a) n = n % 2 ^ 16
-lookOut (counter i) n = above n
-lookOut (waiting p) n = above n
+lookOut (counter i) n = refusalIn n
+lookOut (waiting p) n = refusalIn n
 lookOut (read octets) n = n
-lookOut (build fields size output) n = above n
+lookOut (build fields size output) n = refusalIn n
 lookOut (class a) n = n
 lookOut (form p) n = n
 lookOut (checksum octets) n = n
@@ -83,9 +79,9 @@ readOut (hears p slot octets output) t =
 readOut (takes p) t = takenOut (numberIn t)
 readOut (looks l) t = outcome.number (lookOut l (numberIn t))
 
--- of a received datagram: the halves, and the ports that took and that dropped their copy
-abbrev pub refusalIn : Result → ℕ
-refusalIn x = partAt 0 (numberIn (x .answer))
+-- of a received datagram: the refusal, the halves, and the ports that took and that dropped their copy
+abbrev pub endedBy : Result → ℕ
+endedBy x = partAt 0 (numberIn (x .answer))
 
 abbrev pub localIn : Result → ℕ
 localIn x = partAt 8 (numberIn (x .answer))

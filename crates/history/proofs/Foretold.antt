@@ -250,11 +250,13 @@ module _ (p : ℕ) where
       each-append (Other turnOf x) line (entered deeds)
       (each-so line (λ y h same. omega (arith, here)) earlier)
       (rw (entered-deeds ds (suc n) (next r c)) (each-so (takenFrom p (suc n) (next r c) ds) (λ y h same. omega (arith, here)) (taken-later ds (suc n) (suc n) (next r c) (omega arith)))) in
-      rw (placed-last n r c x line is,
-      ← handed-deeds ds (suc n) (next r c) (line ++ (x ∷ [])),
-      ← takes-deeds ds (suc n) (next r c),
-      ← entered-deeds (waitsFrom p x (suc n) (next r c) (line ++ (x ∷ [])) ds) (suc n) (next r c),
-      ← while-deeds x ds (suc n) (next r c) (line ++ (x ∷ [])))
+      rw (
+        placed-last n r c x line is,
+        ← handed-deeds ds (suc n) (next r c) (line ++ (x ∷ [])),
+        ← takes-deeds ds (suc n) (next r c),
+        ← entered-deeds (waitsFrom p x (suc n) (next r c) (line ++ (x ∷ [])) ds) (suc n) (next r c),
+        ← while-deeds x ds (suc n) (next r c) (line ++ (x ∷ [])),
+      )
       (foretold rank turnOf x line deeds others k)
 
   -- ---- a history and one call more
