@@ -1,13 +1,14 @@
 -- What C is told at the end of any trace: of each call the answer, the output and what the words hold after it, by the state that the history leaves.
 -- The law is `gives-row`; the others follow from it. Assumes nothing.
-use Prim.Native.Nat.{ℕ}
+use Prim.Native.Nat.{ℕ, _+_, _%_, _^_, _<_}
 use mathlib.Core.Path.{_≡_, sym, ap, _∙_}
 use mathlib.Core.List.{List, []}
 use lib.ListN.{length}
 use Rattle.checks.specs.Order.{firstOf}
 use Rattle.address.specs.declared.Address.{Address}
 use Rattle.address.specs.declared.Slot.{Slot}
-use Rattle.state.specs.Relay.{Relay, State}
+use Rattle.sets.specs.Limits.{counterCount}
+use Rattle.state.specs.Relay.{Relay, State, counterIn}
 use Rattle.state.specs.Layout.{decode}
 use Rattle.lent_state.specs.View.{Held, lent, told, changed}
 use Rattle.harpjuniper_reads.specs.Search.{searchAnswer}
@@ -42,14 +43,16 @@ use Rattle.history.specs.Calls.{
   form,
   checksum,
   stateWords,
+  Call,
   sets,
   hears,
   takes,
   looks,
   checksOf,
 }
-use Rattle.history.specs.Outcome.{relayAfter}
-use Rattle.history.specs.Tally.{stateAfter}
+use Rattle.history.specs.Outcome.{outcome, relayAfter}
+use Rattle.history.specs.Tally.{sumAt, stateAfter}
+use Rattle.history.proofs.Counters.{moves-sum, counters-fit}
 use Rattle.demands.specs.Trace.{Step, starts, calls, made, leftBy, heard, historyOf, Gives}
 use Rattle.demands.specs.Promised.{stepped, partTold, promisedOf}
 use Rattle.demands.proofs.Traced.{told-held, changed-held, held-words, stepped-heard, taken-state, step-holds, words-hold}
@@ -121,6 +124,15 @@ module _ (cs : List Step) (c : Step) (x : Result) where
 
   pub gives-after : (g : Gives cs c x) → decode (leftBy (g .before) c x) ≡ stateAfter (heard (historyOf cs) c)
   gives-after g = gives-next g ∙ ap (λ (s : State). stepped s c) (gives-before g) ∙ stepped-heard (historyOf cs) c
+
+-- Any call moves each counter by what page 01's table gives this call, which is nothing for all but a datagram.
+pub counters-move : (cs : List Step) (c : Call) (x : Result) (g : Gives cs (calls c) x) (i : ℕ) → i < counterCount
+    → counterIn (decode (leftBy (g .before) (calls c) x) .counters) i
+    ≡ (counterIn (decode (g .before) .counters) i + sumAt (outcome (decode (g .before) .relay) c .moves) i) % 2 ^ 32
+counters-move cs c x g i inside =
+    ap (λ (s : State). counterIn (s .counters) i) (gives-next cs (calls c) x g)
+    ∙ moves-sum i inside (outcome (decode (g .before) .relay) c .moves) (decode (g .before) .counters)
+    (rw (gives-before cs (calls c) x g) (counters-fit i inside (historyOf cs)))
 
 -- Two traces with the same history are told the same: it does not matter which words were lent, nor what was called before the last hj_fresh.
 pub same-history-same-result : (cs ds : List Step) → historyOf cs ≡ historyOf ds → (c : Step) (x y : Result) → Gives cs c x → Gives ds c y → x ≡ y
