@@ -67,7 +67,7 @@ passable w (calls (looks (class a))) fits v p slot l o e = true-false cc
 passable w (calls (looks (form a))) fits v p slot l o e = true-false cc
 passable w (calls (looks (checksum octets))) fits v p slot l o e = true-false cc
 passable w (calls (looks stateWords)) fits v p slot l o e = true-false cc
-passable w (calls (hears q s octets output)) fits v p slot l o e = let same : s .0 ≡ slot = cc in rw (← same) fits
+passable w (calls (hears q s octets output)) fits v p slot l o e = let same : s .0 ≡ slot = cc in rw (← same) (fits .0)
 
 -- from any words
 trace-lasts : (cs : List Step) → AllPass cs → (w : List ℕ) → (v : List ℕ) × Trace w cs v
@@ -82,11 +82,11 @@ pub begun-lasts : (w : List ℕ) → length w ≡ layout.stateWords → (cs : Li
 begun-lasts w right cs fit =
     let a = each-call-answers (hj-fresh w) (passable w starts tt) in
     let rest = trace-lasts cs fit (a .0 .words) in
-    (rest .0, record { first = a .0; fresh = a .1; done = fresh-answers w (a .0) right (a .1); then = rest .1 })
+    (rest .0, record { first = a .0; fresh = a .1; done = fresh-answers w (a .0) right (a .1); then = rest .1; passed = fit })
 
 -- So after any steps each step has a result.
 pub gives-lasts : (w : List ℕ) → length w ≡ layout.stateWords → (cs : List Step) → AllPass cs → (c : Step) → Passes c → (x : Result) × Gives cs c x
 gives-lasts w right cs fit c fits =
     let b = begun-lasts w right cs fit in
     let a = each-call-answers (made (b .0) c) (passable (b .0) c fits) in
-    (a .0, record { first = w; before = b .0; begun = b .1; says = a .1 })
+    (a .0, record { first = w; before = b .0; begun = b .1; says = a .1; passes = fits })

@@ -2,3 +2,4 @@
 -- that the words hold.
 pub mod Trace
 pub mod Promised
+pub mod ReadOut

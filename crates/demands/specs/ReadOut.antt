@@ -1,9 +1,8 @@
 -- What C reads out of a result, by the functions of include/harpjuniper.h, and what the words that it lent hold. Assumes nothing.
-use Prim.Native.Nat.{ℕ, _/_, _%_, _^_, _<_}
+use Prim.Native.Nat.{ℕ, _/_, _%_, _^_}
 use mathlib.Core.Path.{_≡_}
 use mathlib.Core.Bool.{Bool, true, false, not, _||_}
 use mathlib.Core.List.{List, []}
-use lib.ListN.{getD}
 use lib.Dec.{eqb, ltb}
 use Rattle.checks.specs.Order.{pick}
 use Rattle.answers.specs.Answers.{partAt}
@@ -129,10 +128,6 @@ relayIn w = decode w .relay
 
 abbrev pub counterAt : List ℕ → ℕ → ℕ
 counterAt w i = counterIn (decode w .counters) i
-
--- each number is an octet
-abbrev pub Octets : List ℕ → Type 0
-Octets s = (i : ℕ) → getD s i 0 < 256
 
 -- ---- headers: what hj_read answers, and what hj_build answers and leaves of the output
 abbrev pub Reads : List ℕ → Reading → Type 0

@@ -2,6 +2,7 @@
 -- "Settings": "a history is made of such calls"; "What a promise has to shut out"). Assumes nothing.
 use Prim.Native.Nat.{ℕ, _<_}
 use mathlib.Core.Path.{_≡_}
+use lib.ListN.{getD}
 use mathlib.Core.List.{List, [], _∷_, _++_}
 use Rattle.contracts.specs.Promised.{
   number,
@@ -142,12 +143,31 @@ abbrev pub Trace : List ℕ → List Step → List ℕ → Type 0
 Trace w [] v = v ≡ w
 Trace w (c ∷ cs) v = (x : Result) × (Says (made w c) x × Trace (leftBy w c x) cs v)
 
+-- ---- what C can pass: a slot has 16 bits, and an octet 8
+abbrev pub Octets : List ℕ → Type 0
+Octets s = (i : ℕ) → getD s i 0 < 256
+
+abbrev pub CallPasses : Call → Type 0
+CallPasses (sets s) = Unit
+CallPasses (hears p slot octets output) = (slot .0 < 65536) × Octets octets
+CallPasses (takes p) = Unit
+CallPasses (looks l) = Unit
+
+abbrev pub Passes : Step → Type 0
+Passes starts = Unit
+Passes (calls c) = CallPasses c
+
+abbrev pub AllPass : List Step → Type 0
+AllPass [] = Unit
+AllPass (c ∷ cs) = Passes c × AllPass cs
+
 -- words of any content, a fresh relay that C was told is there, and then any steps, hj_fresh among them
 pub record Begun (w : List ℕ) (cs : List Step) (v : List ℕ) : Type 0 where
   pub first : Result
   pub fresh : Says (hj-fresh w) first
   pub done : first .answer ≡ number 0
   pub then : Trace (first .words) cs v
+  pub passed : AllPass cs
 
 -- ---- the history: the calls since the last fresh relay
 abbrev pub heard : List Call → Step → List Call
@@ -168,18 +188,4 @@ pub record Gives (cs : List Step) (c : Step) (x : Result) : Type 0 where
   pub before : List ℕ
   pub begun : Begun first cs before
   pub says : Says (made before c) x
-
--- ---- what C can pass: a slot has 16 bits
-abbrev pub CallPasses : Call → Type 0
-CallPasses (sets s) = Unit
-CallPasses (hears p slot octets output) = slot .0 < 65536
-CallPasses (takes p) = Unit
-CallPasses (looks l) = Unit
-
-abbrev pub Passes : Step → Type 0
-Passes starts = Unit
-Passes (calls c) = CallPasses c
-
-abbrev pub AllPass : List Step → Type 0
-AllPass [] = Unit
-AllPass (c ∷ cs) = Passes c × AllPass cs
+  pub passes : Passes c

@@ -22,7 +22,7 @@ use Rattle.header.specs.declared.Read.{Read}
 use Rattle.header.specs.declared.Read.the-variants.{Good, Refused}
 use Rattle.header.proofs.Promises.{read-what-was-sent-on}
 use Rattle.networks.specs.Networks.{domainOf}
-use Rattle.meaning.specs.Names.{aimOf, originOf, isBasic}
+use Rattle.meaning.specs.Names.{aimOf, originOf}
 use Rattle.queue.specs.Order.{Each}
 use Rattle.queue.specs.Waits.{Chosen, nobody, chosen, rankBy, Waits}
 use Rattle.queue.specs.Waits as choice
@@ -62,7 +62,8 @@ use Rattle.history.specs.Outcome.{Out, nothing, from, outcome, next, run
 use Rattle.history.specs.Ledger.{one}
 use Rattle.history.specs.Line.{Copy, entryOf, copyOf, sentOf, takenBy, leftBy, lineBy, lineFrom, lineAt}
 use Rattle.history.proofs.Settled.{settle-keeps}
-use Rattle.history.proofs.Bits.{in-none}
+use Rattle.page.specs.Table.{oneOctet}
+use Rattle.page.proofs.Bits.{in-none}
 use Rattle.history.proofs.Fair.{Fair, fair}
 use Rattle.history.proofs.Meaning.{stays-in-its-domain, names-the-same}
 use Rattle.history.proofs.Reach.{madeOf, received-made, taken-made, numbered-five, not-false-true}
@@ -103,7 +104,7 @@ pub record NamesTheSame (x : Port) (c : Copy) : Type 0 where
   pub size : c .size ≡ header .size
   pub aim : aimOf (x .address .0) (header .fields .addresses) ≡ aimOf (c .arrival .0) (header .fields .addresses)
   pub origin : originOf (x .address .0) (header .fields .addresses) ≡ originOf (c .arrival .0) (header .fields .addresses)
-  pub domain : (isBasic (header .fields .addresses) ≡ 0 → ⊥) → domainOf (x .address) ≡ domainOf (c .arrival)
+  pub domain : oneOctet (header .fields .addresses) ≡ true → domainOf (x .address) ≡ domainOf (c .arrival)
 
 took-granted : (g t d : Bool) → one g ≡ one t + one d → t ≡ true → g ≡ true
 took-granted true t d e h = refl

@@ -27,7 +27,7 @@ use Rattle.relay.specs.Received.{newEntry, receivedRelay}
 use Rattle.history.specs.Calls.{Call, sets, hears, takes, looks, settle}
 use Rattle.history.specs.Outcome.{ofTaking, outcome, next, runFrom, relayAfter, sumFrom, sumOver}
 use Rattle.history.specs.Ledger.{one, granted, dropped, handedOut}
-use Rattle.history.proofs.Bits.{in-none}
+use Rattle.page.proofs.Bits.{in-none}
 use Rattle.history.proofs.Fair.{Fair, fair}
 use Rattle.history.proofs.Queues.{Eight, eight-entered, putIf, entered-queue, put-count, take-count}
 use Rattle.history.proofs.Settled.{queues-of, settle-queues}

@@ -1,14 +1,8 @@
--- The demands over histories. To be read, each by itself with the definitions it cites:
--- Refusals, Answered, Listed, ReadBack and Onward (demand 1: what a refused call leaves; the numbers an answer can be; that C reads back the parts of an ending;
--- the TP-ID refuses local delivery alone);
--- Meaning, Search, SearchBack, Routed, Copies, Wanted, Reach, Keys and Holds (demand 2: what addresses name on every copy granted, no one-octet address leaves its domain;
--- the route taken, by the search, as C reads it and by the verdict; which ports are wanted and granted; what holds of the settings in every state that a history reaches; that a setting holds until it
--- is changed);
--- Counters, Named, Sums, Ledger, Oldest and Takes (demand 3: every counter, the four that the customer names, by datagram and over a history, the
--- ledger of a port, the order of a queue and of taking);
--- Marked (page 01's marked cases, one table), WrongRelays and Wrong (its wrong relays and its slips, each shown wrong).
--- The others serve these: Boards, that no rule reads a counter; Small, that a set of ports is one of the eight; Bits, Fair and Queues.
-pub mod Bits
+-- Laws over histories. To be read, each by itself with the definitions it cites: Counters and Sums (every counter; four in the customer's words), Ledger,
+-- Line, Takes and Foretold (the copies of a port: their ledger, which wait, which is handed out, and at which take), Domain and Meaning (what a copy
+-- names where it goes out), Reach, Keys, Ranges and Holds (the settings), Search and SearchBack (the route that an address takes, and as C reads it),
+-- Answered and Listed (each answer is one that the page lists), Refusals and Transport (what a refusal leaves; the TP-ID alone).
+-- The others serve these.
 pub mod Settled
 pub mod Fair
 pub mod Queues
@@ -26,11 +20,12 @@ pub mod Named
 pub mod Sums
 pub mod Line
 pub mod Takes
+pub mod Foretold
 pub mod Meaning
 pub mod Domain
+pub mod Ranges
 pub mod Search
 pub mod SearchBack
 pub mod Onward
 pub mod Wanted
-pub mod Copies
-pub mod Routed
+pub mod Marked

@@ -21,7 +21,7 @@ use Rattle.queue.specs.declared.Queue.{Queue}
 use Rattle.queue.specs.declared.Taken.{Taken}
 use Rattle.state.specs.Relay.{Relay, queueIn}
 use Rattle.relay.specs.Outgoing.{entered, enteredIf, enteredAll}
-use Rattle.history.proofs.Bits.{only-in}
+use Rattle.page.proofs.Bits.{only-in}
 
 -- the eight queues
 abbrev pub Eight : Relay → Type 0

@@ -64,7 +64,7 @@ use Rattle.history.specs.Calls.{
 }
 use Rattle.history.specs.Outcome.{next, runFrom, relayAfter}
 use Rattle.history.specs.Reach.{Reached}
-use Rattle.history.proofs.Bits.{in-gathered}
+use Rattle.page.proofs.Bits.{in-gathered}
 use Rattle.history.proofs.Settled.{settle-keeps}
 
 -- ---- which ports are set up only grows

@@ -23,8 +23,8 @@ use Rattle.judge.specs.declared.ruling.Arrival.{Arrival}
 use Rattle.meaning.specs.Arrival.{arrivalChecks}
 use Rattle.judge.specs.Ending.{callChecks, headerEnding, octetsEnding, arrivalAt, endingOf}
 use Rattle.judge.specs.declared.Ending.{Ending}
-use Rattle.answers.specs.Answers.{partsOf, receiveNumber}
-use Rattle.answers.proofs.Digits.{partAt, six}
+use Rattle.answers.specs.Answers.{partAt, partsOf, receiveNumber}
+use Rattle.answers.proofs.Digits.{six}
 use Rattle.history.specs.Answers.{Row, numbers, below, endings, entries, endingRows, listed, suits, stands}
 use Rattle.history.specs.Outcome.{ended}
 use Rattle.history.proofs.Refusals.{refused-grants-nothing}

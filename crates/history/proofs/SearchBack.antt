@@ -25,7 +25,8 @@ use Rattle.routes.proofs.Prefixes.{prefix-form}
 use Rattle.routes.proofs.Longest.{CandidateAt, maskAt, search-found, search-is}
 use Rattle.state.specs.Relay.{Relay}
 use Rattle.settings.specs.Sets.{isReady}
-use Rattle.answers.proofs.Digits.{digit, partAt}
+use Rattle.answers.specs.Answers.{partAt}
+use Rattle.answers.proofs.Digits.{digit}
 use Rattle.harpjuniper_reads.specs.Search.{searchParts, foundNumber, searchAnswer}
 use Rattle.history.specs.Calls.{Call}
 use Rattle.history.specs.Outcome.{relayAfter}

@@ -48,7 +48,7 @@ use Rattle.verdict.specs.declared.Way.the-variants.{By, Lost}
 use Rattle.history.specs.Calls.{Call}
 use Rattle.history.specs.Outcome.{relayAfter}
 use Rattle.history.proofs.Reach.{Kept, ready-is, not-false-true, kept-after}
-use Rattle.history.proofs.Bits.{in-except, in-gathered, only-that}
+use Rattle.page.proofs.Bits.{in-except, in-gathered, only-that}
 
 -- ---- the first place that a test holds at
 first-case : (test : ℕ → Bool) (i : ℕ) (f : ℕ) (t u : Bool) → eqb f i ≡ t → test i ≡ u → f ≤ i → (f < i → test f ≡ true)

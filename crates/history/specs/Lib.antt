@@ -7,5 +7,8 @@ pub mod Tally
 pub mod Sums
 pub mod Ledger
 pub mod Line
+pub mod Foretold
 pub mod Parts
 pub mod Reach
+pub mod Ranges
+pub mod Marked

@@ -138,3 +138,7 @@ pub only-has : (p : ℕ) → p < 8 → inSet p (onlyPort p) ≡ true
 only-has p h =
     ap (inSet p) (simp (lt-ltb p 8 h))
     ∙ ap (λ (b : ℕ). eqb b 1) (ap (λ (n : ℕ). bit p n) (let e : 2 ^ p ≡ 0 + 2 ^ p = omega arith in e) ∙ top-bit p 0 (pow-pos p))
+
+-- no port is in the empty set
+pub in-none : (p : ℕ) → inSet p 0 ≡ false
+in-none p = ap (λ (n : ℕ). eqb (n % 2) 1) (div-eq-of-lt (pow-pos p))

@@ -13,3 +13,4 @@ pub mod Halves
 pub mod Verdict
 pub mod Rows
 pub mod Exactly
+pub mod Sought

@@ -1,0 +1,39 @@
+-- Page 01's marked cases a to l, together: the one statement over the table of specs/Marked.antt. Assumes nothing.
+use mathlib.Core.Path.{_≡_, refl}
+use mathlib.Core.List.{List}
+use Rattle.checks.specs.Order.{firstOf}
+use Rattle.octets.specs.Octets.{number}
+use Rattle.address.specs.Class.{familyOf, scpsClass, netClass, classIn, classOf}
+use Rattle.address.specs.Mask.{maskForm, onesBelow, onesOf}
+use Rattle.header.specs.Form.{controlOf, forbidden, addressSize, stampSize, layoutOf}
+use Rattle.header.specs.Read.{addressesOf, qosOf, octetOf, stampOf, lengthOf, fieldsOf, headerOf, readChecks, readOf}
+use Rattle.meaning.specs.Names.{aimOf, originOf}
+use Rattle.networks.specs.Networks.{subnetBroadcast, broadcastIn, classBroadcast}
+use Rattle.survey.specs.Survey.{ownBroadcast, surveyBelow}
+use Rattle.verdict.specs.Rule.{targetOf, localOf, routeLine, lineOf, grantedOf, copiesOf, rulingOf}
+use Rattle.judge.specs.Ruling.{ruledBy, ruleTarget, ruleOf}
+use Rattle.judge.specs.Ending.{callChecks, headerEnding, endingOf}
+use Rattle.settings.specs.Refusals.{otherClass, portMaskRefused, formRefused, onesRefused}
+use Rattle.refusals.specs.Ready.{readySet}
+use Rattle.refusals.specs.Elsewhere.{routeElsewhere}
+use Rattle.routes.specs.Refusals.{prefixRefused, codesRefused}
+use Rattle.routes.specs.Routes.{matched, candidate, sameEntry}
+use Rattle.routes.specs.Search.{beaten, betterOf, searchFrom, searchOf}
+use Rattle.queue.specs.Order.{Each, insertBy}
+use Rattle.queue.specs.Queue.{fresh, putOf, takeOf}
+use Rattle.state.specs.Relay.{freshRelay, portSetUp}
+use Rattle.relay.specs.Outgoing.{enteredIf, enteredAll}
+use Rattle.relay.specs.Received.{receivedRelay}
+use Rattle.taking.specs.Taking.{takeOutcome, takenRelay}
+use Rattle.history.specs.Outcome.{outcome, relayAfter}
+use Rattle.history.specs.Marked.{Marked, markedCases}
+
+-- the rules, opened all at once: where this is unfolded, the calls of a closed history compute
+unfoldable pub opened : Unit { 0 }
+unfolding firstOf classOf classIn familyOf scpsClass netClass otherClass portMaskRefused formRefused onesRefused maskForm onesOf onesBelow fresh freshRelay readySet routeElsewhere prefixRefused codesRefused sameEntry number controlOf forbidden addressSize stampSize layoutOf addressesOf qosOf octetOf stampOf lengthOf fieldsOf headerOf readChecks readOf aimOf originOf subnetBroadcast broadcastIn classBroadcast ownBroadcast surveyBelow targetOf localOf routeLine lineOf grantedOf copiesOf rulingOf ruledBy ruleTarget ruleOf portSetUp callChecks headerEnding endingOf receivedRelay enteredAll enteredIf putOf takeOf insertBy takeOutcome takenRelay matched candidate beaten betterOf searchFrom searchOf
+opened = tt
+
+-- Each call of the table has the answer beside it, after the history before it.
+pub marked-cases : Each (λ (m : Marked). outcome (relayAfter (m .calls)) (m .asked) .answer ≡ m .answer) markedCases
+unfolding opened
+marked-cases = (refl, (refl, (refl, (refl, (refl, (refl, (refl, (refl, (refl, (refl, (refl, (refl, (refl, (refl, (refl, tt)))))))))))))))

@@ -1,0 +1,39 @@
+-- The ranges that include/harpjuniper.h promises, of a relay and of what waits in it: page 01, "Numbers that hold everywhere" and "Settings". Assumes
+-- nothing.
+use Prim.Native.Nat.{ℕ, _<_, _≤_}
+use mathlib.Core.Path.{_≡_}
+use mathlib.Core.Bool.{false}
+use lib.ListN.{getD}
+use Rattle.queue.specs.Queue.{entryPlaces}
+use Rattle.state.specs.Relay.{Relay, portIn, routeIn, groupIn, pathIn, queueIn, portSetUp}
+use Rattle.history.specs.Calls.{Call, sets, hears, takes, looks}
+
+-- no by 0 or yes by 1
+abbrev pub Flag : ℕ → Type 0
+Flag n = n < 2
+
+pub record Flags (r : Relay) : Type 0 where
+  -- "The node is a router or a host"
+  pub router : Flag (r .router)
+  -- a port is set up or not, a place filled or empty, a path "delivered here" or not
+  pub ports : (p : ℕ) → Flag (portIn r p .ready)
+  pub routes : (i : ℕ) → Flag (routeIn r i .filled)
+  pub groups : (i : ℕ) → Flag (groupIn r i .filled)
+  pub paths : (i : ℕ) → Flag (pathIn r i .filled) × Flag (pathIn r i .here)
+
+pub record InRange (r : Relay) : Type 0 where
+  pub flags : Flags r
+  -- "32 entries per port queue", and none on a port that is not set up
+  pub queues : (p : ℕ) → p < 8 → queueIn r p .count ≤ entryPlaces
+  pub idle : (p : ℕ) → p < 8 → portSetUp r p ≡ false → queueIn r p .count ≡ 0
+
+-- what the precedence is read from are octets, as they are in C; a call that hears nothing reads none
+abbrev pub OfOctets : Call → Type 0
+OfOctets (sets s) = Unit
+OfOctets (hears port slot octets output) = (i : ℕ) → getD octets i 0 < 256
+OfOctets (takes port) = Unit
+OfOctets (looks l) = Unit
+
+-- "Precedence 0 to 15"
+abbrev pub Precedence : ℕ → Type 0
+Precedence n = n < 16
