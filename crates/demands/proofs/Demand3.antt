@@ -1,17 +1,18 @@
 -- Demand 3 is kept. Assumes nothing.
+use native.Mathlib.Omega.{arith}
 use Prim.Native.Nat.{ℕ, _+_, _%_, _^_, _<_}
 use mathlib.Core.Path.{_≡_, refl, sym, ap, _∙_}
 use mathlib.Core.Bool.{true, false}
 use mathlib.Core.List.{List}
 use lib.ListN.{length}
 use lib.Dec.{ltb}
-use borrow.Author.Tests.{lt-ltb}
+use borrow.Author.Tests.{lt-ltb, ltb-false}
 use Rattle.sets.specs.Sets.{inSet}
 use Rattle.address.specs.declared.Slot.{Slot}
 use Rattle.queue.specs.Waits.{chosen, rankBy, AsAsked}
 use Rattle.queue.proofs.Waits.{chosen-asked, waits-count, waits-fits}
 use Rattle.state.specs.Relay.{Relay, counterIn, queueIn, portSetUp}
-use Rattle.answers.specs.Answers.{takingNumber}
+use Rattle.answers.specs.Answers.{partAt, takingNumber}
 use Rattle.judge.specs.Ending.{endingOf}
 use Rattle.harpjuniper_relay.specs.Face.{counterAnswer, waitingAnswer}
 use Rattle.contracts.specs.Promised.{number, Result}
@@ -23,7 +24,8 @@ use Rattle.history.specs.Line.{entryOf, lineAt, takenAt, handedAt, times}
 use Rattle.history.proofs.Counters as tallied
 use Rattle.history.proofs.Sums.{receives-sum, delivers-sum, forwards-sum, discards-sum}
 use Rattle.history.proofs.Ledger as ledgers
-use Rattle.history.proofs.Line.{queue-waits, taken-out-or-waiting, taken-once}
+use Rattle.history.proofs.Line.{queue-waits, taken-out-or-waiting}
+use Rattle.history.proofs.Foretold.{taken-once}
 use Rattle.history.proofs.Takes.{take-is}
 use Rattle.history.proofs.Fair.{fair}
 use Rattle.history.proofs.ReadBack.{read-back}

@@ -3,3 +3,4 @@
 pub mod Traced
 pub mod Lasts
 pub mod Told
+pub mod Demand3

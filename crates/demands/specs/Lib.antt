@@ -3,3 +3,4 @@
 pub mod Trace
 pub mod Promised
 pub mod ReadOut
+pub mod Demand3

@@ -29,3 +29,4 @@ pub mod SearchBack
 pub mod Onward
 pub mod Wanted
 pub mod Marked
+pub mod Transport

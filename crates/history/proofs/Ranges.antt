@@ -4,16 +4,13 @@ use native.Mathlib.Omega.{arith}
 use Prim.Native.Nat.{ℕ, zero, suc, _<_}
 use mathlib.Core.Path.{_≡_, refl, sym, ap, _∙_}
 use mathlib.Core.Bool.{Bool, true, false, not, _&&_}
-use mathlib.Core.List.{List, [], _∷_, _++_}
-use lib.Bits.{bitAnd}
+use mathlib.Core.List.{List, [], _∷_}
 use lib.Dec.{eqb, ltb}
 use lib.ListN.{length, getD, set, replicate}
-use borrow.Author.Tests.{lt-ltb, ltb-true}
 use Rattle.checks.specs.Order.{pick, firstOf}
 use Rattle.checks.proofs.Bools.{true-false, refuted, and-true}
 use Rattle.checks.proofs.Laws.{either, zero-none}
 use Rattle.sets.specs.Sets.{inSet}
-use Rattle.address.specs.Class.{classOf}
 use Rattle.header.specs.Range.{qosFits}
 use Rattle.header.specs.Read.{readOf}
 use Rattle.header.specs.declared.Header.{Header}
@@ -22,12 +19,8 @@ use Rattle.header.specs.declared.Qos.the-variants as qos
 use Rattle.header.specs.declared.Read.{Read}
 use Rattle.header.specs.declared.Read.the-variants as read
 use Rattle.header.proofs.Answers.{read-in-range}
-use Rattle.networks.specs.Networks.{domainOf}
 use Rattle.meaning.specs.Arrival.{arrivalChecks}
 use Rattle.meaning.specs.Asked.{precedenceAsked}
-use Rattle.meaning.specs.Names.{aimOf}
-use Rattle.meaning.specs.declared.Aim.{Aim}
-use Rattle.meaning.specs.declared.Aim.the-variants.{Node, Path, Uncarried}
 use Rattle.settings.proofs.Values.{flag-taken}
 use Rattle.queue.specs.Order.{Each}
 use Rattle.queue.specs.Waits.{Chosen, nobody, one, chosen, rankBy}
@@ -41,28 +34,11 @@ use Rattle.records.specs.declared.Group.{Group}
 use Rattle.records.specs.declared.PathPlace.{PathPlace}
 use Rattle.routes.specs.Routes.{emptyRoute}
 use Rattle.routes.specs.declared.Route.{Route}
-use Rattle.state.specs.Relay.{Relay, freshRelay, portIn, routeIn, groupIn, pathIn, queueIn, withPort, withRoute, withGroup, withPath, portSetUp}
-use Rattle.survey.specs.Survey.{isFitting, surveyBelow, surveyOf}
-use Rattle.survey.specs.declared.Sought.{Sought}
-use Rattle.lookup.specs.Lookup.{pathPlace}
-use Rattle.lookup.specs.ForTarget.{placeFor, wayFor}
-use Rattle.verdict.specs.Rule.{targetOf, localOf, lineOf, afterHops, afterDomain, afterSize, grantedOf, copiesOf, rulingOf}
-use Rattle.verdict.specs.declared.Target.{Target}
-use Rattle.verdict.specs.declared.Target.the-variants as target
-use Rattle.verdict.specs.declared.Place.{Place}
-use Rattle.verdict.specs.declared.Place.the-variants.{Missing}
-use Rattle.verdict.specs.declared.Way.{Way}
-use Rattle.verdict.specs.declared.Way.the-variants.{Lost}
-use Rattle.verdict.specs.declared.Case.{Case}
-use Rattle.verdict.specs.declared.Local.{Local}
-use Rattle.verdict.specs.declared.Ruling.{Ruling}
-use Rattle.verdict.specs.declared.Wish.{Wish}
-use Rattle.verdict.specs.declared.Wish.the-variants.{NotAsked, Refused, Wanted}
+use Rattle.state.specs.Relay.{Relay, freshRelay, portIn, withRoute, withGroup, withPath, portSetUp}
+use Rattle.verdict.specs.declared.Wish.the-variants.{Refused}
 use Rattle.adjust.specs.Settled.{newPort}
 use Rattle.taking.specs.Taking.{takeOutcome, takenRelay}
 use Rattle.taking.specs.declared.Taking.the-variants.{Handed}
-use Rattle.judge.specs.Ruling.{caseOf, soughtOf, ruledBy, ruleTarget, ruleAim, ruleOf}
-use Rattle.judge.specs.declared.ruling.Arrival.{Arrival}
 use Rattle.judge.specs.Ending.{refusedBy, callChecks, ruledEnding, headerEnding, octetsEnding, arrivalAt, endingOf}
 use Rattle.judge.specs.declared.Ending.{Ending}
 use Rattle.relay.specs.Received.{receivedRelay}
@@ -83,18 +59,17 @@ use Rattle.history.specs.Calls.{
   looks,
   checksOf,
   written,
-  settle,
 }
 use Rattle.history.specs.Outcome.{Out, nothing, from, outcome, next, runFrom, relayAfter}
 use Rattle.history.specs.Line.{Copy, entryOf, copyOf, takenBy, leftBy, lineBy, lineFrom, lineAt, takingOf}
 use Rattle.history.specs.Ranges.{Flag, Flags, InRange, OfOctets, Precedence}
-use Rattle.history.proofs.Bits.{in-and, in-except, in-gathered}
 use Rattle.history.proofs.Settled.{settle-keeps}
 use Rattle.history.proofs.Reach.{madeOf, received-made, taken-made, numbered-five}
-use Rattle.history.proofs.Line.{append-nil, queue-waits}
+use Rattle.history.proofs.Line.{queue-waits}
 use Rattle.history.proofs.Takes.{take-is}
-use Rattle.history.proofs.Meaning.{none-in}
-use Rattle.history.proofs.Copies.{If}
+use Rattle.page.specs.Table.{hasRoom}
+use Rattle.page.proofs.Exactly.{took-exactly}
+use Rattle.page.proofs.Sought.{granted-set-up}
 
 -- ---- what holds of every place of a list, and of what is written there, holds of every place then
 module _ {A : Type 0} (d : A) where
@@ -215,59 +190,14 @@ module _ (P : Ending → Type 0) (none : (n : ℕ) → P (refusedBy n)) (r : Rel
       either P (eqb n 0) (octets-so (readOf octets) refl) (none n)
 
 -- ---- a port that takes an entry is set up
-module _ (r : Relay) (p : ℕ) (inside : p < 8) where
-  abbrev Up : Type 0
-  Up = portSetUp r p ≡ true
-
-  fitting-up : (q : Sought) → inSet p (surveyOf r q .fitting) ≡ true → Up
-  unfolding surveyBelow portSetUp
-  fitting-up q h =
-      let up = isSetUp (portIn r p) in
-      simp (lt-ltb p 8 inside)
-      (and-true up (isFitting (portIn r p) q) (sym (in-gathered (λ (i : ℕ). isSetUp (portIn r i) && isFitting (portIn r i) q) p 8 inside) ∙ h) .0)
-
-  size-up : (l : Wish) (fitting : ℕ) → (inSet p fitting ≡ true → Up) → If p Up (afterSize l fitting)
-  size-up NotAsked fitting f = tt
-  size-up (Refused n) fitting f = tt
-  size-up (Wanted set) fitting f =
-      either (If p Up) (eqb (bitAnd set fitting) 0) tt (λ h. f (and-true (inSet p set) (inSet p fitting) (sym (in-and p set fitting) ∙ h) .1))
-
-  took-up : (local : Local) (l : Wish) (full : ℕ) → If p Up l → inSet p (rulingOf local l full .took) ≡ true → Up
-  unfolding rulingOf copiesOf
-  took-up local NotAsked full f h = none-in p h
-  took-up local (Refused n) full f h = none-in p h
-  took-up local (Wanted g) full f h = f (and-true (inSet p g) (not (inSet p full)) (sym (in-except p g full) ∙ h) .0)
-
-  abbrev TookUp : Ruling → Type 0
-  TookUp x = inSet p (x .took) ≡ true → Up
-
-  ruled-up : (q : Sought) (t : Target) (x : Place) (w : Way) (c : Case) → TookUp (ruledBy t x w c (surveyOf r q))
-  unfolding ruledBy grantedOf
-  ruled-up q t x w c =
-      let s = surveyOf r q in
-      let line = lineOf t x w c (s .ready) (localOf t x c) in
-      took-up (localOf t x c) (grantedOf line c s) (s .full)
-      (size-up (afterDomain (afterHops line (c .spent)) (c .basic) (s .domain)) (s .fitting) (fitting-up q))
-
-  aim-up : (q : Sought) (x : Aim) (c : Case) → TookUp (ruleAim r x c (surveyOf r q))
-  unfolding ruleTarget
-  aim-up q (Node a) c =
-      let t = targetOf (classOf (a .0)) (surveyOf r q) in
-      ruled-up q t (placeFor r t a (c .arrival)) (wayFor r t a) c
-  aim-up q (Path x) c = ruled-up q target.Path (pathPlace r x) Lost c
-  aim-up q Uncarried c = ruled-up q target.Route Missing Lost c
-
-  rule-up : (at : Arrival) (x : Aim) (h : Header) → TookUp (ruleOf r at x h)
-  unfolding ruleOf
-  rule-up at x h = aim-up (soughtOf x (domainOf (at .address)) (h .length)) x (caseOf (r .router) (at .set) (h .fields))
-
-  ending-up : (port : ℕ) (octets : List ℕ) (room : ℕ) → TookUp (endingOf r port octets room .ruling)
-  ending-up port octets room =
-      ending-so (λ (e : Ending). TookUp (e .ruling)) (λ n h. none-in p h) r port octets
-      (λ h is. rule-up (arrivalAt r port) (aimOf (portIn r port .address .0) (h .fields .addresses)) h) room
+ending-up : (r : Relay) (p : ℕ) (inside : p < 8) (port : ℕ) (octets : List ℕ) (room : ℕ) → inSet p (endingOf r port octets room .ruling .took) ≡ true
+    → portSetUp r p ≡ true
+ending-up r p inside port octets room took =
+    granted-set-up r port octets room p inside
+    (and-true (inSet p (endingOf r port octets room .ruling .granted)) (hasRoom r p) (sym (took-exactly r port octets room p inside) ∙ took) .0)
 
 -- ---- nothing waits on a port that is not set up
-module _ (p : ℕ) (inside : p < 8) where
+module _ (p : ℕ) where
   abbrev Idle : Relay → List Copy → Type 0
   Idle r line = portSetUp r p ≡ false → line ≡ []
 
@@ -276,7 +206,7 @@ module _ (p : ℕ) (inside : p < 8) where
   enters-none r n (hears port slot octets output) h =
       let e = endingOf r port octets (length output) in
       ap (λ (t : Bool). pick t (copyOf n r port slot octets e ∷ []) [])
-      (refuted (inSet p (e .ruling .took)) (λ t. true-false (sym (ending-up r p inside port octets (length output) t) ∙ h)))
+      (refuted (inSet p (e .ruling .took)) (λ t. true-false (sym (ending-up r p port octets (length output) t) ∙ h)))
   enters-none r n (takes port) h = refl
   enters-none r n (looks l) h = refl
 
@@ -327,7 +257,7 @@ module _ (p : ℕ) (inside : p < 8) where
   all-idle (c ∷ cs) n r line idle =
       all-idle cs (suc n) (next r c) (lineBy p n r c line) (λ h. line-idle r n c line idle (next-before r c h))
 
-  -- After any history nothing waits on a port that is not set up.
+  -- After any history nothing waits on a port that is over 7 or not set up.
   pub idle-line : (cs : List Call) → portSetUp (relayAfter cs) p ≡ false → lineAt p cs ≡ []
   idle-line cs = all-idle cs 0 freshRelay [] (λ h. refl)
 
@@ -337,7 +267,7 @@ in-range cs =
     record {
       flags = all-flags cs freshRelay fresh-flags;
       queues = λ p inside. queue-waits p inside cs .sound .bounded .fits;
-      idle = λ p inside h. waits-count entryOf (queue-waits p inside cs) ∙ ap length (idle-line p inside cs h);
+      idle = λ p inside h. waits-count entryOf (queue-waits p inside cs) ∙ ap length (idle-line p cs h);
     }
 
 -- ---- the precedence of what waits

@@ -11,4 +11,5 @@ pub mod Foretold
 pub mod Parts
 pub mod Reach
 pub mod Ranges
+pub mod Transport
 pub mod Marked

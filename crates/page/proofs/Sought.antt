@@ -42,10 +42,12 @@ module _ (r : Relay) (at : ℕ) (h : Header) (ports : Ports) (p : ℕ) where
   abbrev isFitting : Bool
   isFitting = portSetUp r p && not (ltb (portIn r p .mtu) (h .length))
 
-  granted-passed : grantedPorts r at h ports p ≡ true → (ports p ≡ true) × (inItsDomain ≡ true)
+  granted-passed : grantedPorts r at h ports p ≡ true → (ports p ≡ true) × ((inItsDomain ≡ true) × (isFitting ≡ true))
   granted-passed e =
       let size = and-true (not (hopsUsedUp (h .fields .hops))) ((ports p && inItsDomain) && isFitting) e .1 in
-      and-true (ports p) inItsDomain (and-true (ports p && inItsDomain) isFitting size .0)
+      let both = and-true (ports p && inItsDomain) isFitting size in
+      let domain = and-true (ports p) inItsDomain (both .0) in
+      (domain .0, (domain .1, both .1))
 
 -- ---- the route
 module _ (r : Relay) (a : Address) where
@@ -99,7 +101,7 @@ module _ (r : Relay) (at : ℕ) (octets : List ℕ) (room : ℕ) (a : Address) (
       let is = ap (λ (y : Aim). lineGrants r at h (onwardLine moreOnes r at y (h .fields)) p) (sought .named) ∙ ap (λ (l : Line). lineGrants r at h l p) sought-line in
       best-taken r a p (wanted-case (someMatches r (Node a)) (bestPort moreOnes r (Node a)) p (sym is ∙ line))
 
--- ---- the domain
+-- ---- the domain, and that the port is set up
 module _ (r : Relay) (at : ℕ) (octets : List ℕ) (room : ℕ) (p : ℕ) (inside : p < 8) where
   abbrev header : Header
   header = headerOf octets
@@ -114,7 +116,7 @@ module _ (r : Relay) (at : ℕ) (octets : List ℕ) (room : ℕ) (p : ℕ) (insi
   line-domain (refused n) e one = true-false (sym e)
   line-domain (wanted ports) e one =
       eqb-true (domainOf (portIn r p .address)) (domainOf (portIn r at .address))
-      (same-domain (oneOctet (header .fields .addresses)) _ one (granted-passed r at header ports p e .1))
+      (same-domain (oneOctet (header .fields .addresses)) _ one (granted-passed r at header ports p e .1 .0))
 
   -- A one-octet address goes only to a port of the domain that it came from.
   pub granted-in-domain : inSet p (endingOf r at octets room .ruling .granted) ≡ true → oneOctet (header .fields .addresses) ≡ true
@@ -122,3 +124,15 @@ module _ (r : Relay) (at : ℕ) (octets : List ℕ) (room : ℕ) (p : ℕ) (insi
   granted-in-domain granted one =
       line-domain (onwardLine longerMask r at (aimOf (portIn r at .address .0) (header .fields .addresses)) (header .fields))
       (exactly.granted-exactly r at octets room longerMask (masks-choose r) p inside .0 granted .1) one
+
+  line-set-up : (l : Line) → lineGrants r at header l p ≡ true → portSetUp r p ≡ true
+  line-set-up notAsked e = true-false (sym e)
+  line-set-up (refused n) e = true-false (sym e)
+  line-set-up (wanted ports) e =
+      and-true (portSetUp r p) (not (ltb (portIn r p .mtu) (header .length))) (granted-passed r at header ports p e .1 .1) .0
+
+  -- A port that is granted a copy is set up.
+  pub granted-set-up : inSet p (endingOf r at octets room .ruling .granted) ≡ true → portSetUp r p ≡ true
+  granted-set-up granted =
+      line-set-up (onwardLine longerMask r at (aimOf (portIn r at .address .0) (header .fields .addresses)) (header .fields))
+      (exactly.granted-exactly r at octets room longerMask (masks-choose r) p inside .0 granted .1)
