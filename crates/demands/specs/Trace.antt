@@ -1,8 +1,7 @@
 -- Traces: calls from C on one state, each with any result that its contract lets it give back, and each on the words that the one before left (page 01,
 -- "Settings": "a history is made of such calls"; "What a promise has to shut out"). Assumes nothing.
-use Prim.Native.Nat.{ℕ, _<_}
+use Prim.Native.Nat.{ℕ}
 use mathlib.Core.Path.{_≡_}
-use lib.ListN.{getD}
 use mathlib.Core.List.{List, [], _∷_, _++_}
 use Rattle.contracts.specs.Promised.{
   number,
@@ -35,6 +34,7 @@ use Rattle.contracts.specs.Promised.{
   hj-waiting,
 }
 use Rattle.contracts.specs.Contracts.{Says}
+use Rattle.history.specs.Ranges.{Passed}
 use Rattle.history.specs.Calls.{
   Setting,
   setRouter,
@@ -143,19 +143,10 @@ abbrev pub Trace : List ℕ → List Step → List ℕ → Type 0
 Trace w [] v = v ≡ w
 Trace w (c ∷ cs) v = (x : Result) × (Says (made w c) x × Trace (leftBy w c x) cs v)
 
--- ---- what C can pass: a slot has 16 bits, and an octet 8
-abbrev pub Octets : List ℕ → Type 0
-Octets s = (i : ℕ) → getD s i 0 < 256
-
-abbrev pub CallPasses : Call → Type 0
-CallPasses (sets s) = Unit
-CallPasses (hears p slot octets output) = (slot .0 < 65536) × Octets octets
-CallPasses (takes p) = Unit
-CallPasses (looks l) = Unit
-
+-- ---- what C can pass
 abbrev pub Passes : Step → Type 0
 Passes starts = Unit
-Passes (calls c) = CallPasses c
+Passes (calls c) = Passed c
 
 abbrev pub AllPass : List Step → Type 0
 AllPass [] = Unit

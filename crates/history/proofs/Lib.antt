@@ -28,5 +28,7 @@ pub mod Search
 pub mod SearchBack
 pub mod Onward
 pub mod Wanted
-pub mod Marked
 pub mod Transport
+pub mod Marked
+pub mod WrongRelays
+pub mod Wrong

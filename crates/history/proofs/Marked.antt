@@ -1,6 +1,5 @@
 -- Page 01's marked cases a to l, together: the one statement over the table of specs/Marked.antt. Assumes nothing.
 use mathlib.Core.Path.{_≡_, refl}
-use mathlib.Core.List.{List}
 use Rattle.checks.specs.Order.{firstOf}
 use Rattle.octets.specs.Octets.{number}
 use Rattle.address.specs.Class.{familyOf, scpsClass, netClass, classIn, classOf}
@@ -29,7 +28,7 @@ use Rattle.history.specs.Outcome.{outcome, relayAfter}
 use Rattle.history.specs.Marked.{Marked, markedCases}
 
 -- the rules, opened all at once: where this is unfolded, the calls of a closed history compute
-unfoldable pub opened : Unit { 0 }
+unfoldable pub opened : Unit {0}
 unfolding firstOf classOf classIn familyOf scpsClass netClass otherClass portMaskRefused formRefused onesRefused maskForm onesOf onesBelow fresh freshRelay readySet routeElsewhere prefixRefused codesRefused sameEntry number controlOf forbidden addressSize stampSize layoutOf addressesOf qosOf octetOf stampOf lengthOf fieldsOf headerOf readChecks readOf aimOf originOf subnetBroadcast broadcastIn classBroadcast ownBroadcast surveyBelow targetOf localOf routeLine lineOf grantedOf copiesOf rulingOf ruledBy ruleTarget ruleOf portSetUp callChecks headerEnding endingOf receivedRelay enteredAll enteredIf putOf takeOf insertBy takeOutcome takenRelay matched candidate beaten betterOf searchFrom searchOf
 opened = tt
 

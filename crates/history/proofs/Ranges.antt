@@ -1,12 +1,19 @@
 -- After any history what a relay holds is in the ranges that include/harpjuniper.h promises: `in-range` of the relay, `idle-line` and
--- `waiting-precedence` of the copies that wait, `taken-precedence` of what a take hands out. Assumes nothing.
+-- `waiting-fits` of the copies that wait, `taken-fits` of what a take hands out. The last two ask that the history is one that C can make: precedence is
+-- read from an octet. Assumes nothing.
 use native.Mathlib.Omega.{arith}
-use Prim.Native.Nat.{ℕ, zero, suc, _<_}
+use Prim.Native.Nat.{ℕ, zero, suc, _<_, _≤_, _%_}
 use mathlib.Core.Path.{_≡_, refl, sym, ap, _∙_}
 use mathlib.Core.Bool.{Bool, true, false, not, _&&_}
 use mathlib.Core.List.{List, [], _∷_}
 use lib.Dec.{eqb, ltb}
 use lib.ListN.{length, getD, set, replicate}
+use native.Mathlib.Nat.{div-eq-of-lt, lt-of-lt-of-le, lt-of-not-le}
+use native.Mathlib.Decide.{decLe}
+use mathlib.Core.Logic.{by-cases}
+use lib.Pow.{pow-mono}
+use Rattle.verdict.specs.declared.Ruling.{Ruling}
+use Rattle.history.proofs.Small.{sets-small}
 use Rattle.checks.specs.Order.{pick, firstOf}
 use Rattle.checks.proofs.Bools.{true-false, refuted, and-true}
 use Rattle.checks.proofs.Laws.{either, zero-none}
@@ -62,7 +69,7 @@ use Rattle.history.specs.Calls.{
 }
 use Rattle.history.specs.Outcome.{Out, nothing, from, outcome, next, runFrom, relayAfter}
 use Rattle.history.specs.Line.{Copy, entryOf, copyOf, takenBy, leftBy, lineBy, lineFrom, lineAt, takingOf}
-use Rattle.history.specs.Ranges.{Flag, Flags, InRange, OfOctets, Precedence}
+use Rattle.history.specs.Ranges.{Flag, Flags, InRange, Octets, Passed, EntryFits}
 use Rattle.history.proofs.Settled.{settle-keeps}
 use Rattle.history.proofs.Reach.{madeOf, received-made, taken-made, numbered-five}
 use Rattle.history.proofs.Line.{queue-waits}
@@ -189,12 +196,23 @@ module _ (P : Ending → Type 0) (none : (n : ℕ) → P (refusedBy n)) (r : Rel
       let n = firstOf (callChecks r port room) in
       either P (eqb n 0) (octets-so (readOf octets) refl) (none n)
 
--- ---- a port that takes an entry is set up
-ending-up : (r : Relay) (p : ℕ) (inside : p < 8) (port : ℕ) (octets : List ℕ) (room : ℕ) → inSet p (endingOf r port octets room .ruling .took) ≡ true
-    → portSetUp r p ≡ true
-ending-up r p inside port octets room took =
-    granted-set-up r port octets room p inside
-    (and-true (inSet p (endingOf r port octets room .ruling .granted)) (hasRoom r p) (sym (took-exactly r port octets room p inside) ∙ took) .0)
+-- ---- a port that takes an entry is one of the eight, and set up
+module _ (r : Relay) (p port : ℕ) (octets : List ℕ) (room : ℕ) where
+  abbrev x : Ruling
+  x = endingOf r port octets room .ruling
+
+  none-beyond : 8 ≤ p → inSet p (x .took) ≡ false
+  none-beyond h =
+      ap (λ (n : ℕ). eqb (n % 2) 1) (div-eq-of-lt (lt-of-lt-of-le (sets-small r port octets room .took) (pow-mono {i = 8} {j = p} h)))
+
+  ending-up : inSet p (x .took) ≡ true → portSetUp r p ≡ true
+  ending-up took =
+      by-cases (decLe 8 p)
+      (λ h. true-false (sym took ∙ none-beyond h))
+      (λ h.
+      let inside = lt-of-not-le h in
+      granted-set-up r port octets room p inside
+      (and-true (inSet p (x .granted)) (hasRoom r p) (sym (took-exactly r port octets room p inside) ∙ took) .0))
 
 -- ---- nothing waits on a port that is not set up
 module _ (p : ℕ) where
@@ -270,52 +288,52 @@ in-range cs =
       idle = λ p inside h. waits-count entryOf (queue-waits p inside cs) ∙ ap length (idle-line p cs h);
     }
 
--- ---- the precedence of what waits
-asked-fits : (q : Qos) → qosFits q → Precedence (precedenceAsked q)
+-- ---- what waits fits
+asked-fits : (q : Qos) → qosFits q → precedenceAsked q < 16
 asked-fits qos.Absent h = omega arith
 asked-fits (qos.Present precedence routing program) h = h .0
 
-ending-fits : (r : Relay) (port : ℕ) (octets : List ℕ) (room : ℕ) → ((i : ℕ) → getD octets i 0 < 256) → Precedence (endingOf r port octets room .precedence)
+ending-fits : (r : Relay) (port : ℕ) (octets : List ℕ) (room : ℕ) → Octets octets → endingOf r port octets room .precedence < 16
 ending-fits r port octets room small =
-    ending-so (λ (e : Ending). Precedence (e .precedence)) (λ n. omega arith) r port octets
+    ending-so (λ (e : Ending). e .precedence < 16) (λ n. omega arith) r port octets
     (λ h is. asked-fits (h .fields .qos) (read-in-range octets h small is .qos)) room
 
 module _ (p : ℕ) where
   abbrev Fits : Copy → Type 0
-  Fits c = Precedence (c .entry .precedence)
+  Fits c = EntryFits (c .entry)
 
-  enters-fits : (r : Relay) (n : ℕ) (c : Call) → OfOctets c → Each Fits (takenBy p n r c)
-  enters-fits r n (sets s) small = tt
-  enters-fits r n (hears port slot octets output) small =
+  enters-fits : (r : Relay) (n : ℕ) (c : Call) → Passed c → Each Fits (takenBy p n r c)
+  enters-fits r n (sets s) passed = tt
+  enters-fits r n (hears port slot octets output) passed =
       let e = endingOf r port octets (length output) in
-      either (Each Fits) (inSet p (e .ruling .took)) (ending-fits r port octets (length output) small, tt) tt
-  enters-fits r n (takes port) small = tt
-  enters-fits r n (looks l) small = tt
+      either (Each Fits) (inSet p (e .ruling .took)) ((ending-fits r port octets (length output) (passed .1), passed .0), tt) tt
+  enters-fits r n (takes port) passed = tt
+  enters-fits r n (looks l) passed = tt
 
   left-fits : (line : List Copy) (o : Out) (c : Chosen Copy) → Each Fits line → EachOf (rankBy entryOf) Fits c → Each Fits (leftBy p o line c)
   left-fits line nothing c all some = all
   left-fits line (from q e) nobody all some = all
   left-fits line (from q e) (one x others) all some = either (Each Fits) (eqb q p) (some .1) all
 
-  all-fit : (cs : List Call) (n : ℕ) (r : Relay) (line : List Copy) → Each OfOctets cs → Each Fits line → Each Fits (lineFrom p n r line cs)
-  all-fit [] n r line small all = all
-  all-fit (c ∷ cs) n r line small all =
+  all-fit : (cs : List Call) (n : ℕ) (r : Relay) (line : List Copy) → Each Passed cs → Each Fits line → Each Fits (lineFrom p n r line cs)
+  all-fit [] n r line passed all = all
+  all-fit (c ∷ cs) n r line passed all =
       let o = outcome r c .out in
       let x = chosen (rankBy entryOf) line in
-      all-fit cs (suc n) (next r c) (lineBy p n r c line) (small .1)
-      (each-append Fits (leftBy p o line x) (takenBy p n r c) (left-fits line o x all (chosen-each (rankBy entryOf) Fits line all)) (enters-fits r n c (small .0)))
+      all-fit cs (suc n) (next r c) (lineBy p n r c line) (passed .1)
+      (each-append Fits (leftBy p o line x) (takenBy p n r c) (left-fits line o x all (chosen-each (rankBy entryOf) Fits line all)) (enters-fits r n c (passed .0)))
 
-  -- After any history of octets each copy that waits has a precedence of 0 to 15, ..
-  pub waiting-precedence : (cs : List Call) → Each OfOctets cs → Each (λ (c : Copy). Precedence (c .entry .precedence)) (lineAt p cs)
-  waiting-precedence cs small = all-fit cs 0 freshRelay [] small tt
+  -- After any history that C can make each copy that waits has a precedence of 0 to 15 and a slot of 16 bits, ..
+  pub waiting-fits : (cs : List Call) → Each Passed cs → Each (λ (c : Copy). EntryFits (c .entry)) (lineAt p cs)
+  waiting-fits cs passed = all-fit cs 0 freshRelay [] passed tt
 
-  handed-case : (t : Bool) (c : Chosen Copy) (e : Entry) → EachOf (rankBy entryOf) Fits c → takingOf t c ≡ Handed e → Precedence (e .precedence)
+  handed-case : (t : Bool) (c : Chosen Copy) (e : Entry) → EachOf (rankBy entryOf) Fits c → takingOf t c ≡ Handed e → EntryFits e
   handed-case false c e some h = true-false cc
   handed-case true nobody e some h = true-false cc
   handed-case true (one x others) e some h = rw (let same : e ≡ x .entry = cc in same) (some .0)
 
   -- .. and so has what a take hands out.
-  pub taken-precedence : (cs : List Call) → Each OfOctets cs → (e : Entry) → takeOutcome (relayAfter cs) p ≡ Handed e → Precedence (e .precedence)
-  taken-precedence cs small e h =
+  pub taken-fits : (cs : List Call) → Each Passed cs → (e : Entry) → takeOutcome (relayAfter cs) p ≡ Handed e → EntryFits e
+  taken-fits cs passed e h =
       handed-case (portSetUp (relayAfter cs) p) (chosen (rankBy entryOf) (lineAt p cs)) e
-      (chosen-each (rankBy entryOf) Fits (lineAt p cs) (waiting-precedence cs small)) (sym (take-is cs p) ∙ h)
+      (chosen-each (rankBy entryOf) Fits (lineAt p cs) (waiting-fits cs passed)) (sym (take-is cs p) ∙ h)

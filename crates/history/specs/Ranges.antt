@@ -3,8 +3,10 @@
 use Prim.Native.Nat.{ℕ, _<_, _≤_}
 use mathlib.Core.Path.{_≡_}
 use mathlib.Core.Bool.{false}
+use mathlib.Core.List.{List}
 use lib.ListN.{getD}
 use Rattle.queue.specs.Queue.{entryPlaces}
+use Rattle.queue.specs.declared.Entry.{Entry}
 use Rattle.state.specs.Relay.{Relay, portIn, routeIn, groupIn, pathIn, queueIn, portSetUp}
 use Rattle.history.specs.Calls.{Call, sets, hears, takes, looks}
 
@@ -27,13 +29,16 @@ pub record InRange (r : Relay) : Type 0 where
   pub queues : (p : ℕ) → p < 8 → queueIn r p .count ≤ entryPlaces
   pub idle : (p : ℕ) → p < 8 → portSetUp r p ≡ false → queueIn r p .count ≡ 0
 
--- what the precedence is read from are octets, as they are in C; a call that hears nothing reads none
-abbrev pub OfOctets : Call → Type 0
-OfOctets (sets s) = Unit
-OfOctets (hears port slot octets output) = (i : ℕ) → getD octets i 0 < 256
-OfOctets (takes port) = Unit
-OfOctets (looks l) = Unit
+-- ---- what C can pass: an octet has 8 bits, and a slot 16
+abbrev pub Octets : List ℕ → Type 0
+Octets s = (i : ℕ) → getD s i 0 < 256
 
--- "Precedence 0 to 15"
-abbrev pub Precedence : ℕ → Type 0
-Precedence n = n < 16
+abbrev pub Passed : Call → Type 0
+Passed (sets s) = Unit
+Passed (hears port slot octets output) = (slot .0 < 65536) × Octets octets
+Passed (takes port) = Unit
+Passed (looks l) = Unit
+
+-- "Precedence 0 to 15", and a slot of 16 bits
+abbrev pub EntryFits : Entry → Type 0
+EntryFits e = (e .precedence < 16) × (e .slot .0 < 65536)
