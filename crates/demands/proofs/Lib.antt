@@ -1,5 +1,5 @@
--- What is proved of traces. To be read: Traced (the words hold what the history leaves), Lasts (there is a trace for any steps), Told (what C is told at
--- the end of any trace).
+-- What is proved of traces. To be read: Traced (after any trace the words hold what the history leaves), Lasts (there is a trace for any steps), Told (what
+-- C is told at the end of any trace, of the state that the history leaves).
 pub mod Traced
 pub mod Lasts
 pub mod Told

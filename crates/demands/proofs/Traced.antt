@@ -1,9 +1,12 @@
 -- After any trace the words lent hold the state that its history leaves. The theorem is `words-hold`, at the end. Assumes nothing.
 use Prim.Native.Nat.{ℕ}
 use mathlib.Core.Path.{_≡_, refl, ap, sym, _∙_}
+use mathlib.Core.Bool.{Bool, true, false}
 use mathlib.Core.List.{List, [], _∷_, _++_}
 use lib.ListN.{length}
-use borrow.Author.Tests.{eq-eqb}
+use lib.Dec.{eqb}
+use borrow.Author.Tests.{eq-eqb, eqb-true}
+use Rattle.checks.specs.Order.{pick}
 use Rattle.checks.proofs.Bools.{true-false}
 use Rattle.state.specs.Relay.{Relay, State, freshRelay, freshState, onRelay}
 use Rattle.state.specs.Layout as layout
@@ -64,6 +67,17 @@ module _ (w : List ℕ) (s : State) (is : lent w ≡ Held s) where
   pub changed-held : (f : State → State) → changed f w ≡ Held (f s)
   unfolding changed
   changed-held f = ap (onLent f) is
+
+held-case : (t : Bool) (w : List ℕ) (s : State) → pick t (Held (layout.decode w)) (Other w) ≡ Held s → (t ≡ true) × (layout.decode w ≡ s)
+held-case true w s e = (refl, cc)
+held-case false w s e = true-false cc
+
+-- they are as many as it has, and they spell it
+pub held-words : (w : List ℕ) (s : State) → lent w ≡ Held s → (length w ≡ layout.stateWords) × (layout.decode w ≡ s)
+unfolding lent
+held-words w s is =
+    let k = held-case (eqb (length w) layout.stateWords) w s is in
+    (eqb-true (length w) layout.stateWords (k .0), k .1)
 
 -- ---- one call more
 more-relay : (h : List Call) (r : Relay) (c : Call) → runFrom r (h ++ (c ∷ [])) ≡ next (runFrom r h) c
@@ -163,11 +177,11 @@ module _ (w : List ℕ) (x : Result) where
   step-holds s is c says = step-leaves c (says-row (made w c) x says) ∙ changed-held w s is (λ (z : State). stepped z c)
 
   -- of words that hold what a history leaves
-  pub step-heard : (h : List Call) → lent w ≡ Held (stateAfter h) → (c : Step) → Says (made w c) x → lent (leftBy w c x) ≡ Held (stateAfter (heard h c))
+  step-heard : (h : List Call) → lent w ≡ Held (stateAfter h) → (c : Step) → Says (made w c) x → lent (leftBy w c x) ≡ Held (stateAfter (heard h c))
   step-heard h is c says = step-holds (stateAfter h) is c says ∙ ap Held (stepped-heard h c)
 
   -- of words that are not as many as the state has
-  step-stays : (length w ≡ layout.stateWords → ⊥) → (c : Step) → Says (made w c) x → leftBy w c x ≡ w
+  pub step-stays : (length w ≡ layout.stateWords → ⊥) → (c : Step) → Says (made w c) x → leftBy w c x ≡ w
   step-stays wrong c says =
       lent-injective (leftBy w c x) w
       (step-leaves c (says-row (made w c) x says) ∙ sym (other-changed w wrong (λ (s : State). stepped s c)))

@@ -1,7 +1,6 @@
 -- What each step is promised to answer, to leave and to send on where the words hold a state: the rows of the crate `contracts`, without the words. That
 -- C is told this after any trace is proved: `gives-row`, in proofs/Told.antt. Assumes nothing.
-use Prim.Native.Nat.{ℕ}
-use mathlib.Core.List.{List, []}
+use mathlib.Core.List.{[]}
 use lib.ListN.{length}
 use Rattle.checks.specs.Order.{firstOf}
 use Rattle.address.specs.Class.{classOf, classNumber}
@@ -62,7 +61,7 @@ looking s answer = record { answer = answer; words = Held s; output = [] }
 abbrev asking : Told → Promise
 asking answer = record { answer = answer; words = lent []; output = [] }
 
-abbrev partTold : Relay → Part → Told
+abbrev pub partTold : Relay → Part → Told
 partTold r theRouter = number (r .router)
 partTold r (thePort p) = port (portBack r p)
 partTold r (theRoute i) = route (routeBack r i)
