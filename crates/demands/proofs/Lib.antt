@@ -4,4 +4,5 @@ pub mod Traced
 pub mod Lasts
 pub mod Told
 pub mod ReadOut
+pub mod Demand1
 pub mod Demand3

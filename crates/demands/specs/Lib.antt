@@ -3,4 +3,5 @@
 pub mod Trace
 pub mod Promised
 pub mod ReadOut
+pub mod Demand1
 pub mod Demand3

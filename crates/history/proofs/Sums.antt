@@ -83,13 +83,16 @@ sent-case refusal local onward took true false h k s = refl
 sent-case refusal local onward took false true h k s = refl
 sent-case refusal local onward took false false h k s = true-false (sym (simp (k, h, and-false) at s))
 
-forwards : (r : Relay) (port : ℕ) (octets : List ℕ) (room : ℕ) → given (endingOf r port octets room) 10 ≡ forwardings (ofEnding (endingOf r port octets room))
-forwards r port octets room =
+pub sent-where-taken : (r : Relay) (port : ℕ) (octets : List ℕ) (room : ℕ)
+    → eqb (onwardNumber (endingOf r port octets room .ruling .onward)) 1 ≡ not (eqb (endingOf r port octets room .ruling .took) 0)
+sent-where-taken r port octets room =
     let e = endingOf r port octets room in
     let x = e .ruling in
-    forwards-counted e
-    ∙ ap one (sent-case (e .refusal) (localNumber (x .local)) (onwardNumber (x .onward)) (x .took) (eqb (x .took) 0) (eqb (onwardNumber (x .onward)) 1) refl refl
-    (every-ending-is-listed r port octets room))
+    sent-case (e .refusal) (localNumber (x .local)) (onwardNumber (x .onward)) (x .took) (eqb (x .took) 0) (eqb (onwardNumber (x .onward)) 1) refl refl
+    (every-ending-is-listed r port octets room)
+
+forwards : (r : Relay) (port : ℕ) (octets : List ℕ) (room : ℕ) → given (endingOf r port octets room) 10 ≡ forwardings (ofEnding (endingOf r port octets room))
+forwards r port octets room = forwards-counted (endingOf r port octets room) ∙ ap one (sent-where-taken r port octets room)
 
 -- npForwDatagrams is the number of datagrams that some port took, not of their copies.
 pub forwards-sum : (cs : List Call) → counterIn (stateAfter cs .counters) 10 ≡ sumOver forwardings cs % 2 ^ 32

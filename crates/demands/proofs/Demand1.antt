@@ -1,0 +1,197 @@
+-- Demand 1 is kept. Assumes nothing.
+use native.Mathlib.Omega.{arith}
+use Prim.Native.Nat.{ℕ, _+_, _%_, _^_, _<_}
+use mathlib.Core.Path.{_≡_, refl, sym, ap, _∙_}
+use mathlib.Core.Bool.{Bool, true, false, not, _||_}
+use mathlib.Core.Logic.{_⊎_, inl, inr, ⊎-elim}
+use mathlib.Core.List.{List, []}
+use lib.ListN.{length}
+use lib.Dec.{eqb, ltb}
+use borrow.Author.Tests.{eqb-true, eqb-false, ltb-true, ne-eqb}
+use Rattle.checks.specs.Order.{pick, firstOf}
+use Rattle.checks.proofs.Bools.{true-false, or-true}
+use Rattle.header.specs.Read.{readOf}
+use Rattle.header.specs.declared.Header.{Header}
+use Rattle.header.specs.declared.Read.the-variants.{Good}
+use Rattle.address.specs.declared.Slot.{Slot}
+use Rattle.state.specs.Relay.{Relay, State}
+use Rattle.verdict.specs.Numbers.{localNumber, onwardNumber}
+use Rattle.taking.specs.Taking.{takeOutcome, takenRelay}
+use Rattle.taking.specs.declared.Taking.{Taking}
+use Rattle.taking.specs.declared.Taking.the-variants.{Handed, Refused}
+use Rattle.judge.specs.Ending.{endingOf}
+use Rattle.judge.specs.declared.Ending.{Ending}
+use Rattle.relay.specs.Received.{receivedRelay}
+use Rattle.relay.specs.Outgoing.{sentOutput}
+use Rattle.harpjuniper.specs.Face.{numbersChecks, buildOutput}
+use Rattle.contracts.specs.Promised.{Result, Exported}
+use Rattle.contracts.specs.Contracts.{Says, Passable}
+use Rattle.contracts.proofs.Answers.{each-call-answers}
+use Rattle.contracts.proofs.Rows.{one-result-by-contract}
+use Rattle.contracts.proofs.Given as given
+use Rattle.history.specs.Calls.{
+  Part,
+  setting,
+  search,
+  counter,
+  waiting,
+  read,
+  build,
+  class,
+  form,
+  checksum,
+  stateWords,
+  Call,
+  sets,
+  hears,
+  takes,
+  looks,
+  checksOf,
+  settle,
+}
+use Rattle.history.specs.Outcome.{number, ended, entry, Answer, ofEnding, ofTaking, outcome, next, relayAfter}
+use Rattle.history.specs.Tally.{stateAfter}
+use Rattle.history.specs.Answers.{answersOf, stands}
+use Rattle.history.specs.Transport.{SameButTpid, SameButLocal, localBy}
+use Rattle.history.proofs.Answered.{every-answer-is-listed}
+use Rattle.history.proofs.Listed.{every-ending-is-listed}
+use Rattle.history.proofs.ReadBack.{ReadBack, read-back}
+use Rattle.history.proofs.Reach.{not-false-true}
+use Rattle.history.proofs.Refusals.{refused-grants-nothing, nobody-took, output-as-lent, refused-take-leaves}
+use Rattle.history.proofs.Sums.{sent-where-taken}
+use Rattle.history.proofs.Transport as transport
+use Rattle.demands.specs.Trace.{Step, calls, leftBy, historyOf, Gives}
+use Rattle.demands.specs.Promised.{promisedOf}
+use Rattle.demands.specs.ReadOut.{numberIn, readOut, isRefusal, outputOf, relayIn}
+use Rattle.demands.specs.Demand1.{LocalAlone, Demand1}
+use Rattle.demands.proofs.Traced.{step-stays}
+use Rattle.demands.proofs.Told.{gives-row, gives-before, gives-next, counters-move}
+use Rattle.demands.proofs.ReadOut.{read-out}
+
+-- ---- a refusal leaves the relay
+module _ (r : Relay) where
+  settle-case : (n : ℕ) (s : Relay) (t : Bool) → eqb n 0 ≡ t → not (eqb n 0) ≡ true → pick t s r ≡ r
+  settle-case n s true e h = true-false (sym (sym (ap not e) ∙ h))
+  settle-case n s false e h = refl
+
+  -- no port took an entry where the datagram is refused, as a whole or onward
+  took-none : (port : ℕ) (octets : List ℕ) (room : ℕ) → isRefusal (ofEnding (endingOf r port octets room) .answer) ≡ true
+      → endingOf r port octets room .ruling .took ≡ 0
+  took-none port octets room h =
+      let e = endingOf r port octets room in
+      let n = onwardNumber (e .ruling .onward) in
+      ⊎-elim
+      (λ refused. ap (λ x. x .took) (refused-grants-nothing r port octets room (λ z. true-false (sym (sym (ap (λ (k : ℕ). not (eqb k 0)) z) ∙ refused)))))
+      (λ onward.
+      let over = ltb-true 1 n onward in
+      eqb-true (e .ruling .took) 0
+      (not-false-true (eqb (e .ruling .took) 0) (sym (sent-where-taken r port octets room) ∙ ne-eqb n 1 (λ z. omega (arith, over, z)))))
+      (or-true (not (eqb (e .refusal) 0)) (ltb 1 n) h)
+
+  taken-case : (p : ℕ) (x : Taking) → takeOutcome r p ≡ x → isRefusal (ofTaking p x .answer) ≡ true → takenRelay r p ≡ r
+  taken-case p (Handed e) is h = true-false (sym h)
+  taken-case p (Refused n) is h = refused-take-leaves r p n is
+
+  refused-next : (c : Call) → isRefusal (outcome r c .answer) ≡ true → next r c ≡ r
+  refused-next (sets s) h = settle-case (firstOf (checksOf r s)) _ (eqb (firstOf (checksOf r s)) 0) refl h
+  refused-next (hears p slot octets output) h =
+      nobody-took r slot (endingOf r p octets (length output)) (took-none p octets (length output) h)
+  refused-next (takes p) h = taken-case p (takeOutcome r p) refl h
+  refused-next (looks l) h = refl
+
+build-case : (n : ℕ) (left lent : List ℕ) (t : Bool) → eqb n 0 ≡ t → not (eqb n 0) ≡ true → pick t left lent ≡ lent
+build-case n left lent true e h = true-false (sym (sym (ap not e) ∙ h))
+build-case n left lent false e h = refl
+
+-- ---- and the output
+module _ (s : State) where
+  refused-output : (c : Call) → isRefusal (outcome (s .relay) c .answer) ≡ true → promisedOf s (calls c) .output ≡ outputOf c
+  unfolding buildOutput
+  refused-output (sets x) h = refl
+  refused-output (hears p slot octets output) h =
+      output-as-lent (endingOf (s .relay) p octets (length output)) octets output (took-none (s .relay) p octets (length output) h)
+  refused-output (takes p) h = refl
+  refused-output (looks (setting part)) h = refl
+  refused-output (looks (search a)) h = refl
+  refused-output (looks (counter i)) h = refl
+  refused-output (looks (waiting p)) h = refl
+  refused-output (looks (read octets)) h = refl
+  refused-output (looks (build fields size output)) h =
+      let n = firstOf (numbersChecks fields size (length output)) in
+      build-case n _ output (eqb n 0) refl h
+  refused-output (looks (class a)) h = refl
+  refused-output (looks (form p)) h = refl
+  refused-output (looks (checksum octets)) h = refl
+  refused-output (looks stateWords) h = refl
+
+-- ---- two datagrams
+local-numbers : (a b : ℕ) (e f : Ending) → SameButLocal a b e f
+    → ((localNumber (e .ruling .local) ≡ 0) × (localNumber (f .ruling .local) ≡ 0))
+    ⊎ ((localNumber (e .ruling .local) ≡ localNumber (localBy a)) × (localNumber (f .ruling .local) ≡ localNumber (localBy b)))
+local-numbers a b e f same =
+    ⊎-elim
+    (λ none. inl (ap localNumber (none .0), ap localNumber (none .1)))
+    (λ each. inr (ap localNumber (each .0), ap localNumber (each .1)))
+    (same .local)
+
+module _ (steps : List Step) (p : ℕ) (slot : Slot) (output : List ℕ) where
+  abbrev r : Relay
+  r = relayAfter (historyOf steps)
+
+  -- the parts of an answer are those of the ending, and the words hold what it leaves
+  module _ (octets : List ℕ) (x : Result) (g : Gives steps (calls (hears p slot octets output)) x) where
+    told : ReadBack (numberIn (x .answer)) (endingOf r p octets (length output))
+    told = rw (gives-row steps (calls (hears p slot octets output)) x g .0) (read-back r p octets (length output))
+
+    left : relayIn (x .words) ≡ receivedRelay r slot (endingOf r p octets (length output))
+    left =
+        ap (λ (s : State). s .relay) (gives-next steps (calls (hears p slot octets output)) x g)
+        ∙ ap (λ (s : State). receivedRelay (s .relay) slot (endingOf (s .relay) p octets (length output))) (gives-before steps (calls (hears p slot octets output)) x g)
+
+  alone : (s t : List ℕ) (h k : Header) (x y : Result) → readOf s ≡ Good h → readOf t ≡ Good k → SameButTpid h k
+      → Gives steps (calls (hears p slot s output)) x → Gives steps (calls (hears p slot t output)) y → LocalAlone (h .fields .tpid) (k .fields .tpid) x y
+  alone s t h k x y good other same g i =
+      let e = endingOf r p s (length output) in
+      let f = endingOf r p t (length output) in
+      let but = transport.transport-alone r p s t (length output) h k good other same in
+      let one = told s x g in
+      let two = told t y i in
+      record {
+        refusal = two .refusal ∙ sym (but .refusal) ∙ sym (one .refusal);
+        onward = two .onward ∙ ap onwardNumber (sym (but .onward)) ∙ sym (one .onward);
+        took = two .took ∙ sym (but .took) ∙ sym (one .took);
+        dropped = two .dropped ∙ sym (but .dropped) ∙ sym (one .dropped);
+        relay = left t y i ∙ sym (transport.leaves-the-same r p s t (length output) h k good other same slot) ∙ sym (left s x g);
+        local = rw (one .local, two .local) (local-numbers (h .fields .tpid) (k .fields .tpid) e f but);
+      }
+
+-- ---- the demand
+module _ (steps : List Step) (c : Call) (x : Result) (g : Gives steps (calls c) x) where
+  refused-rules : isRefusal (readOut c (x .answer)) ≡ true → isRefusal (outcome (stateAfter (historyOf steps) .relay) c .answer) ≡ true
+  refused-rules h = ap isRefusal (sym (read-out steps c x g)) ∙ h
+
+  refusal-leaves : isRefusal (readOut c (x .answer)) ≡ true
+      → (relayIn (leftBy (g .before) (calls c) x) ≡ relayIn (g .before)) × (x .output ≡ outputOf c)
+  refusal-leaves h =
+      let s = stateAfter (historyOf steps) in
+      let before = ap (λ (s : State). s .relay) (gives-before steps (calls c) x g) in (
+        ap (λ (s : State). s .relay) (gives-next steps (calls c) x g)
+            ∙ ap (λ (r : Relay). next r c) before
+            ∙ refused-next (s .relay) c (refused-rules h)
+            ∙ sym before,
+        gives-row steps (calls c) x g .1 .1 ∙ refused-output s c (refused-rules h),
+      )
+
+pub demand-1 : Demand1
+demand-1 =
+    record {
+      ends = λ c passable. let a = each-call-answers c passable in (a .0, (a .1, λ y says. one-result-by-contract c y (a .0) says (a .1)));
+      stated = λ steps c x g.
+          let is = read-out steps c x g in
+          (is, ap (stands (answersOf c)) is ∙ every-answer-is-listed (relayAfter (historyOf steps)) c);
+      other-words = λ w wrong c x says. step-stays w x wrong c says;
+      nobody-checks-first = given.nobody-checks-first;
+      refusal-leaves = refusal-leaves;
+      counters-move = counters-move;
+      transport-alone = λ steps p slot s t output h k x y. alone steps p slot output s t h k x y;
+    }
