@@ -22,6 +22,8 @@ use Rattle.queue.specs.declared.Entry.{Entry}
 use Rattle.queue.proofs.Order.{insert-placed, insert-map}
 use Rattle.queue.proofs.Waits.{chosen-asked, chosen-each, EachOf, ordered-enters}
 use Rattle.queue.proofs.Foretold.{foretold, stand-before}
+use Rattle.address.specs.declared.Slot.{Slot}
+use Rattle.verdict.specs.declared.Ruling.{Ruling}
 use Rattle.state.specs.Relay.{Relay, freshRelay, queueIn, portSetUp}
 use Rattle.judge.specs.Ending.{endingOf}
 use Rattle.taking.specs.Taking.{takeOutcome}
@@ -29,10 +31,12 @@ use Rattle.taking.specs.declared.Taking.{Taking}
 use Rattle.taking.specs.declared.Taking.the-variants.{Handed, Refused}
 use Rattle.history.specs.Calls.{Call, sets, hears, takes, looks}
 use Rattle.history.specs.Outcome.{Answer, number, ended, entry, Out, nothing, from, ofTaking, outcome, next, runFrom, relayAfter, sumFrom}
-use Rattle.history.specs.Ledger.{outBy, handedOut}
+use Rattle.history.specs.Ledger.{one as oneIf, outBy, handedOut}
 use Rattle.history.specs.Line.{Copy, entryOf, copyOf, takenBy, handedBy, leftBy, lineBy, lineFrom, takenFrom, handedFrom, lineAt, takenAt, handedAt, takingOf, times}
-use Rattle.history.specs.Foretold.{andThen, handedSince, takesSince, answeredBy, answeredFrom, answeredSince, before, isHanded, waitsFrom, higherEnter}
+use Rattle.history.specs.Foretold.{andThen, handedSince, takesSince, answeredBy, answeredFrom, answeredSince, before, Idle, isHanded, waitsFrom, higherEnter, CountsNothing, Refusal}
 use Rattle.history.proofs.Line.{queue-waits, taken-out-or-waiting}
+use Rattle.history.proofs.Bits.{in-none}
+use Rattle.history.proofs.Refusals.{refused-grants-nothing}
 use Rattle.history.proofs.Takes.{take-is}
 
 abbrev rank : Copy → ℕ
@@ -250,11 +254,13 @@ module _ (p : ℕ) where
       each-append (Other turnOf x) line (entered deeds)
       (each-so line (λ y h same. omega (arith, here)) earlier)
       (rw (entered-deeds ds (suc n) (next r c)) (each-so (takenFrom p (suc n) (next r c) ds) (λ y h same. omega (arith, here)) (taken-later ds (suc n) (suc n) (next r c) (omega arith)))) in
-      rw (placed-last n r c x line is,
-      ← handed-deeds ds (suc n) (next r c) (line ++ (x ∷ [])),
-      ← takes-deeds ds (suc n) (next r c),
-      ← entered-deeds (waitsFrom p x (suc n) (next r c) (line ++ (x ∷ [])) ds) (suc n) (next r c),
-      ← while-deeds x ds (suc n) (next r c) (line ++ (x ∷ [])))
+      rw (
+        placed-last n r c x line is,
+        ← handed-deeds ds (suc n) (next r c) (line ++ (x ∷ [])),
+        ← takes-deeds ds (suc n) (next r c),
+        ← entered-deeds (waitsFrom p x (suc n) (next r c) (line ++ (x ∷ [])) ds) (suc n) (next r c),
+        ← while-deeds x ds (suc n) (next r c) (line ++ (x ∷ [])),
+      )
       (foretold rank turnOf x line deeds others k)
 
   -- ---- a history and one call more
@@ -388,6 +394,54 @@ module _ (p : ℕ) (cs : List Call) (c : Call) (x : Copy) (placed : takenBy p (l
 
       at : Placed precedenceOf (entryOf x) (waiting (queueIn (relayAfter cs) p)) (waiting (queueIn (relayAfter (andThen cs c)) p))
       at = rw now (insert-placed precedenceOf (entryOf x) (waiting (queueIn (relayAfter cs) p)))
+
+-- ---- refused calls and other ports' traffic count nothing
+module _ (p : ℕ) where
+  nothing-out : (o : Out) (line : List Copy) (a : Chosen Copy) → outBy p o ≡ 0 → (handedBy p o a ≡ []) × (leftBy p o line a ≡ line)
+  nothing-out nothing line a idle = (refl, refl)
+  nothing-out (from q e) line nobody idle = (refl, refl)
+  nothing-out (from q e) line (one y others) idle = by (eqb q p) idle
+    where
+      by : (t : Bool) → oneIf t ≡ 0 → (pick t (y ∷ []) [] ≡ []) × (pick t others line ≡ line)
+      by true h = absurd (omega arith)
+      by false h = (refl, refl)
+
+  -- A call that is idle on the port counts nothing, at any point of any history.
+  pub idle-counts-nothing : (x : Copy) (cs : List Call) (c : Call) (ds : List Call) → Idle p cs c → CountsNothing p x cs c ds
+  idle-counts-nothing x cs c ds idle =
+      let none = nothing-out (outcome (relayAfter cs) c .out) (lineAt p cs) (chosen rank (lineAt p cs)) (idle .1) in
+      record {
+        line = line-at-then p cs c ∙ rw (none .1, idle .0) (append-nil (lineAt p cs));
+        handed = rw (length-then cs c, relay-then cs freshRelay c, line-at-then p cs c, none .0) refl;
+        takes = rw (relay-then cs freshRelay c) (omega (arith, idle .1));
+        higher = rw (length-then cs c, relay-then cs freshRelay c, line-at-then p cs c, none .0, idle .0) refl;
+      }
+
+  -- What is idle: a datagram of which the port took no entry,
+  pub not-taken-idle : (cs : List Call) (port : ℕ) (slot : Slot) (octets output : List ℕ)
+      → inSet p (outcome (relayAfter cs) (hears port slot octets output) .took) ≡ false → Idle p cs (hears port slot octets output)
+  not-taken-idle cs port slot octets output not-in = (rw not-in refl, refl)
+
+  -- a take of another port,
+  pub other-take-idle : (cs : List Call) (q : ℕ) → (q ≡ p → ⊥) → Idle p cs (takes q)
+  other-take-idle cs q other = (refl, by (takeOutcome (relayAfter cs) q))
+    where
+      by : (t : Taking) → outBy p (ofTaking q t .out) ≡ 0
+      by (Handed e) = rw (ne-eqb q p other) refl
+      by (Refused n) = refl
+
+  -- and whatever is refused.
+  pub refused-idle : (cs : List Call) (c : Call) → Refusal (outcome (relayAfter cs) c .answer) → Idle p cs c
+  refused-idle cs (sets s) refused = (refl, refl)
+  refused-idle cs (hears port slot octets output) refused =
+      not-taken-idle cs port slot octets output
+      (ap (λ (g : Ruling). inSet p (g .took)) (refused-grants-nothing (relayAfter cs) port octets (length output) refused) ∙ in-none p)
+  refused-idle cs (takes q) refused = (refl, by (takeOutcome (relayAfter cs) q) refused)
+    where
+      by : (t : Taking) → Refusal (ofTaking q t .answer) → outBy p (ofTaking q t .out) ≡ 0
+      by (Handed e) h = absurd h
+      by (Refused n) h = refl
+  refused-idle cs (looks l) refused = (refl, refl)
 
 -- ---- a call places at most one copy on a port
 module _ (p n : ℕ) where
