@@ -6,6 +6,7 @@
 -- is changed);
 -- Counters, Named, Sums, Ledger, Oldest and Takes (demand 3: every counter, the four that the customer names, by datagram and over a history, the
 -- ledger of a port, the order of a queue and of taking);
+-- Foretold (page 02, W-213: how long a copy waits);
 -- Marked (page 01's marked cases, one table), WrongRelays and Wrong (its wrong relays and its slips, each shown wrong).
 -- The others serve these: Boards, that no rule reads a counter; Small, that a set of ports is one of the eight; Bits, Fair and Queues.
 pub mod Bits
