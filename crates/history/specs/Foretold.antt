@@ -80,7 +80,7 @@ module _ (p : ℕ) where
     abbrev pub higherEnter : List Call → List Call → ℕ
     higherEnter cs ds = howMany (λ (y : Copy). ltb (rankBy entryOf x) (rankBy entryOf y)) (takenSince cs (whileWaits cs ds))
 
-  -- "Refused calls and other ports' traffic count nothing": whether c comes before ds or not, the copies and takes that are counted are the same
+  -- "Refused calls and other ports' traffic count nothing": what is counted of c and the calls ds after it is what is counted of ds alone
   pub record CountsNothing (x : Copy) (cs : List Call) (c : Call) (ds : List Call) : Type 0 where
     pub line : lineAt p (andThen cs c) ≡ lineAt p cs
     pub handed : handedSince cs (c ∷ ds) ≡ handedSince (andThen cs c) ds
