@@ -1,38 +1,56 @@
 -- How long a copy waits, over histories (page 02, W-213). The theorem is `foretold-over-histories`: take number k after the placing hands the copy
 -- out exactly where k is r + h + 1 and that many takes are made. It is the law of lines (crate queue), since calls do to a port's line what deeds do.
--- `answers-are-handed` says that what is handed out is what the takes of the port answer, and `taken-once` that a call places at most one copy on a
--- port. Assumes nothing.
+-- Beside it: what is handed out is what the takes of the port answer (`handed-is-answered`, `answers-are-handed`, `foretold-answer`); r is what
+-- stands before the copy in the queue (`stands-behind`); refused calls and other ports' traffic count nothing (`idle-counts-nothing`); a call places
+-- at most one copy on a port (`taken-once`); and laws near to it are false (`all-mistaken`). Assumes nothing.
 use native.Mathlib.Omega.{arith}
-use Prim.Native.Nat.{ℕ, suc, _+_, _≤_, _<_}
+use Prim.Native.Nat.{ℕ, suc, _+_, _≤_, _<_, _*_}
 use mathlib.Core.Path.{_≡_, refl, sym, ap, _∙_}
 use mathlib.Core.Logic.{_↔_}
 use mathlib.Core.Bool.{Bool, true, false}
 use mathlib.Core.List.{List, [], _∷_, _++_, map, append-nil, append-assoc, map-append}
-use lib.ListN.{length, length-append, length-map}
-use lib.Dec.{eqb, ltb}
-use borrow.Author.Tests.{eqb-true, ne-eqb}
-use Rattle.checks.specs.Order.{pick}
+use lib.ListN.{length, length-append, length-map, replicate}
+use lib.Dec.{eqb, ltb, leb}
+use borrow.Author.Tests.{eqb-true, ne-eqb, eqb-false}
+use Rattle.checks.specs.Order.{pick, firstOf}
 use Rattle.sets.specs.Sets.{inSet}
+use Rattle.address.specs.Octets.{dotted}
+use Rattle.address.specs.Class.{familyOf, scpsClass, classIn, classOf}
+use Rattle.address.specs.Mask.{onesBelow, onesOf, maskForm}
+use Rattle.address.specs.declared.Slot.{Slot}
+use Rattle.header.specs.Form.{controlOf, forbidden, addressSize, stampSize, layoutOf}
+use Rattle.header.specs.Read.{addressesOf, qosOf, octetOf, lengthOf, fieldsOf, headerOf, readChecks, readOf}
 use Rattle.queue.specs.Order.{Each, insertBy, Placed}
-use Rattle.queue.specs.Queue.{waiting, precedenceOf}
+use Rattle.queue.specs.Queue.{waiting, precedenceOf, fresh as freshQueue, putOf, takeOf}
 use Rattle.queue.specs.Waits.{Chosen, nobody, one, chosen, ordered, rankBy}
 use Rattle.queue.specs.Foretold.{Deed, enters, handsOut, entered, takesIn, howMany, out, left, AtTake, handed, standingBefore, Other, isOut, whileWaits as whileLine}
-use Rattle.queue.proofs.Each.{each-so, each-append}
 use Rattle.queue.specs.declared.Entry.{Entry}
+use Rattle.queue.proofs.Each.{each-so, each-append}
 use Rattle.queue.proofs.Order.{insert-placed, insert-map}
 use Rattle.queue.proofs.Waits.{chosen-asked, chosen-each, EachOf, ordered-enters}
 use Rattle.queue.proofs.Foretold.{foretold, stand-before}
+use Rattle.networks.specs.Networks.{subnetBroadcast}
+use Rattle.settings.specs.Refusals.{otherClass, onesRefused, formRefused, portMaskRefused}
+use Rattle.meaning.specs.Names.{aimOf, originOf}
+use Rattle.verdict.specs.Rule.{targetOf, lineOf, grantedOf, copiesOf, rulingOf}
+use Rattle.verdict.specs.declared.Ruling.{Ruling}
 use Rattle.state.specs.Relay.{Relay, freshRelay, queueIn, portSetUp}
-use Rattle.judge.specs.Ending.{endingOf}
-use Rattle.taking.specs.Taking.{takeOutcome}
+use Rattle.survey.specs.Survey.{ownBroadcast, surveyBelow}
+use Rattle.taking.specs.Taking.{takeOutcome, takenRelay}
 use Rattle.taking.specs.declared.Taking.{Taking}
 use Rattle.taking.specs.declared.Taking.the-variants.{Handed, Refused}
-use Rattle.history.specs.Calls.{Call, sets, hears, takes, looks}
+use Rattle.judge.specs.Ruling.{ruledBy, ruleTarget, ruleOf}
+use Rattle.judge.specs.Ending.{endingOf, callChecks, headerEnding}
+use Rattle.relay.specs.Outgoing.{enteredIf, enteredAll}
+use Rattle.relay.specs.Received.{receivedRelay}
+use Rattle.history.specs.Calls.{Setting, setRouter, setPort, Look, Call, sets, hears, takes, looks}
 use Rattle.history.specs.Outcome.{Answer, number, ended, entry, Out, nothing, from, ofTaking, outcome, next, runFrom, relayAfter, sumFrom}
-use Rattle.history.specs.Ledger.{outBy, handedOut}
+use Rattle.history.specs.Ledger.{one as oneIf, outBy, handedOut}
 use Rattle.history.specs.Line.{Copy, entryOf, copyOf, takenBy, handedBy, leftBy, lineBy, lineFrom, takenFrom, handedFrom, lineAt, takenAt, handedAt, takingOf, times}
-use Rattle.history.specs.Foretold.{andThen, handedSince, takesSince, answeredBy, answeredFrom, answeredSince, before, isHanded, waitsFrom, higherEnter}
+use Rattle.history.specs.Foretold.{andThen, handedSince, takesSince, answeredBy, answeredFrom, answeredSince, before, Idle, isHanded, waitsFrom, higherEnter, CountsNothing, Refusal, takenSince, whileWaits}
 use Rattle.history.proofs.Line.{queue-waits, taken-out-or-waiting}
+use Rattle.history.proofs.Bits.{in-none}
+use Rattle.history.proofs.Refusals.{refused-grants-nothing}
 use Rattle.history.proofs.Takes.{take-is}
 
 abbrev rank : Copy → ℕ
@@ -391,6 +409,61 @@ module _ (p : ℕ) (cs : List Call) (c : Call) (x : Copy) (placed : takenBy p (l
       at : Placed precedenceOf (entryOf x) (waiting (queueIn (relayAfter cs) p)) (waiting (queueIn (relayAfter (andThen cs c)) p))
       at = rw now (insert-placed precedenceOf (entryOf x) (waiting (queueIn (relayAfter cs) p)))
 
+-- ---- refused calls and other ports' traffic count nothing
+module _ (p : ℕ) where
+  nothing-out : (o : Out) (line : List Copy) (a : Chosen Copy) → outBy p o ≡ 0 → (handedBy p o a ≡ []) × (leftBy p o line a ≡ line)
+  nothing-out nothing line a idle = (refl, refl)
+  nothing-out (from q e) line nobody idle = (refl, refl)
+  nothing-out (from q e) line (one y others) idle = by (eqb q p) idle
+    where
+      by : (t : Bool) → oneIf t ≡ 0 → (pick t (y ∷ []) [] ≡ []) × (pick t others line ≡ line)
+      by true h = absurd (omega arith)
+      by false h = (refl, refl)
+
+  -- A call that is idle on the port counts nothing, at any point of any history.
+  pub idle-counts-nothing : (x : Copy) (cs : List Call) (c : Call) (ds : List Call) → Idle p cs c → CountsNothing p x cs c ds
+  idle-counts-nothing x cs c ds idle =
+      let none = nothing-out (outcome (relayAfter cs) c .out) (lineAt p cs) (chosen rank (lineAt p cs)) (idle .1) in
+      record {
+        line = line-at-then p cs c ∙ rw (none .1, idle .0) (append-nil (lineAt p cs));
+        handed = rw (length-then cs c, relay-then cs freshRelay c, line-at-then p cs c, none .0) refl;
+        takes = rw (relay-then cs freshRelay c) (omega (arith, idle .1));
+        higher = rw (length-then cs c, relay-then cs freshRelay c, line-at-then p cs c, none .0, idle .0) refl;
+      }
+
+  -- What is idle: a setting and a look,
+  pub setting-idle : (cs : List Call) (s : Setting) → Idle p cs (sets s)
+  setting-idle cs s = (refl, refl)
+
+  pub look-idle : (cs : List Call) (l : Look) → Idle p cs (looks l)
+  look-idle cs l = (refl, refl)
+
+  -- a datagram of which the port took no entry,
+  pub not-taken-idle : (cs : List Call) (port : ℕ) (slot : Slot) (octets output : List ℕ)
+      → inSet p (outcome (relayAfter cs) (hears port slot octets output) .took) ≡ false → Idle p cs (hears port slot octets output)
+  not-taken-idle cs port slot octets output not-in = (rw not-in refl, refl)
+
+  -- a take of another port,
+  pub other-take-idle : (cs : List Call) (q : ℕ) → (q ≡ p → ⊥) → Idle p cs (takes q)
+  other-take-idle cs q other = (refl, by (takeOutcome (relayAfter cs) q))
+    where
+      by : (t : Taking) → outBy p (ofTaking q t .out) ≡ 0
+      by (Handed e) = rw (ne-eqb q p other) refl
+      by (Refused n) = refl
+
+  -- and whatever is refused.
+  pub refused-idle : (cs : List Call) (c : Call) → Refusal (outcome (relayAfter cs) c .answer) → Idle p cs c
+  refused-idle cs (sets s) refused = setting-idle cs s
+  refused-idle cs (hears port slot octets output) refused =
+      not-taken-idle cs port slot octets output
+      (ap (λ (g : Ruling). inSet p (g .took)) (refused-grants-nothing (relayAfter cs) port octets (length output) refused) ∙ in-none p)
+  refused-idle cs (takes q) refused = (refl, by (takeOutcome (relayAfter cs) q) refused)
+    where
+      by : (t : Taking) → Refusal (ofTaking q t .answer) → outBy p (ofTaking q t .out) ≡ 0
+      by (Handed e) h = absurd h
+      by (Refused n) h = refl
+  refused-idle cs (looks l) refused = look-idle cs l
+
 -- ---- a call places at most one copy on a port
 module _ (p n : ℕ) where
   none-of-turn : (l : List Copy) → Each (λ (y : Copy). n < y .turn) l → times n l ≡ 0
@@ -429,3 +502,134 @@ module _ (p n : ℕ) where
   -- So a copy that was taken has been handed out or waits, and not both; one that was not taken does neither.
   pub out-or-waiting-once : (cs : List Call) → times n (handedAt p cs) + times n (lineAt p cs) ≤ 1
   out-or-waiting-once cs = omega (arith, taken-once cs, taken-out-or-waiting p n cs)
+
+-- ---- laws near to it that are false, each with a history that breaks it
+
+-- the number of a take: by the port, the copy, the calls before its placing, these and the placing, and the calls since
+abbrev pub Rule : Type 0
+Rule = ℕ → Copy → List Call → List Call → List Call → ℕ
+
+-- whatever take hands x out has that number
+abbrev pub Holds : Rule → Type 0
+Holds rule =
+    (p : ℕ) (cs : List Call) (c : Call) (x : Copy) → takenBy p (length cs) (relayAfter cs) c ≡ x ∷ [] → (ds : List Call) (k : ℕ)
+    → AtTake k x (handedSince p (andThen cs c) ds) → k ≡ rule p x cs (andThen cs c) ds
+
+pub true-rule : Holds (λ p x cs placed ds. before p x cs + higherEnter p x placed ds + 1)
+true-rule p cs c x placed ds k h = foretold-over-histories p cs c x placed ds k .0 h .0
+
+-- ---- a router with two ports in one domain: what comes in by one, to all of the domain, goes out by the other
+abbrev setup : List Call
+setup =
+    sets (setRouter 1)
+    ∷ sets (setPort 0 (record { 0 = dotted 10 4 9 14 }) (record { 0 = dotted 255 255 255 0 }) 100)
+    ∷ sets (setPort 1 (record { 0 = dotted 10 4 9 16 }) (record { 0 = dotted 255 255 255 0 }) 100)
+    ∷ []
+
+-- seven octets and no data: to 10.4.9.255, from 10.4.9.20, basic QOS with the precedence
+abbrev datagram : ℕ → List ℕ
+datagram precedence = 32 ∷ 7 ∷ 26 ∷ 66 ∷ 255 ∷ 20 ∷ 16 * precedence ∷ []
+
+abbrev heardBy : ℕ → ℕ → Call
+heardBy port precedence = hears port (record { 0 = 7 }) (datagram precedence) (replicate 50 0)
+
+-- the copy on port 1 of what call n brought by port 0
+abbrev copy : ℕ → ℕ → Copy
+copy n precedence =
+    record {
+      turn = n;
+      arrival = record { 0 = dotted 10 4 9 14 };
+      octets = datagram precedence;
+      size = 7;
+      entry = record { slot = record { 0 = 7 }; precedence = precedence };
+    }
+
+-- a rule, and the history that breaks it: one of precedence 5 is placed on port 1 after some calls, others follow, and so many go out before it
+pub record Mistake : Type 0 where
+  pub rule : Rule
+  pub calls : List Call
+  pub since : List Call
+  pub earlier : List Copy
+  pub later : List Copy
+  pub says : ℕ
+
+abbrev five : Mistake → Copy
+five m = copy (length (m .calls)) 5
+
+abbrev until : Mistake → List Call
+until m = andThen (m .calls) (heardBy 0 5)
+
+abbrev Breaks : Mistake → Type 0
+Breaks m =
+    (takenBy 1 (length (m .calls)) (relayAfter (m .calls)) (heardBy 0 5) ≡ five m ∷ [])
+    × (handedSince 1 (until m) (m .since) ≡ m .earlier ++ five m ∷ m .later)
+    × (m .rule 1 (five m) (m .calls) (until m) (m .since) ≡ m .says)
+    × (eqb (length (m .earlier) + 1) (m .says) ≡ false)
+
+refuted : (m : Mistake) → Breaks m → Holds (m .rule) → ⊥
+refuted m b law =
+    let at : AtTake (length (m .earlier) + 1) (five m) (handedSince 1 (until m) (m .since)) =
+    record { earlier = m .earlier; later = m .later; are = b .1; number = refl } in
+    eqb-false _ _ (b .3) (law 1 (m .calls) (heardBy 0 5) (five m) (b .0) (m .since) _ at ∙ b .2)
+
+abbrev notLower : Copy → Copy → Bool
+notLower x y = leb (rank x) (rank y)
+
+abbrev higher : Copy → Copy → Bool
+higher x y = ltb (rank x) (rank y)
+
+abbrev pub mistakes : List Mistake
+mistakes =
+    -- a higher one that enters counts
+    record {
+      rule = λ p x cs placed ds. before p x cs + 1;
+      calls = setup;
+      since = heardBy 0 6 ∷ takes 1 ∷ takes 1 ∷ [];
+      earlier = copy 4 6 ∷ [];
+      later = [];
+      says = 1;
+    }
+    -- one of the same precedence that enters does not
+    ∷ record {
+      rule = λ p x cs placed ds. before p x cs + howMany (notLower x) (takenSince p placed (whileWaits p x placed ds)) + 1;
+      calls = setup;
+      since = heardBy 0 5 ∷ takes 1 ∷ takes 1 ∷ [];
+      earlier = [];
+      later = copy 4 5 ∷ [];
+      says = 2;
+    }
+    -- nor does a higher one that enters when it is out
+    ∷ record {
+      rule = λ p x cs placed ds. before p x cs + howMany (higher x) (takenSince p placed ds) + 1;
+      calls = setup;
+      since = takes 1 ∷ heardBy 0 6 ∷ [];
+      earlier = [];
+      later = [];
+      says = 2;
+    }
+    -- nor one that enters another port
+    ∷ record {
+      rule = λ p x cs placed ds. before p x cs + higherEnter p x placed ds + howMany (higher x) (takenSince 0 placed (whileWaits p x placed ds)) + 1;
+      calls = setup;
+      since = heardBy 1 6 ∷ takes 0 ∷ takes 1 ∷ [];
+      earlier = [];
+      later = [];
+      says = 2;
+    }
+    -- of those that waited already, a lower one does not count
+    ∷ record {
+      rule = λ p x cs placed ds. length (lineAt p cs) + higherEnter p x placed ds + 1;
+      calls = andThen setup (heardBy 0 4);
+      since = takes 1 ∷ takes 1 ∷ [];
+      earlier = [];
+      later = copy 3 4 ∷ [];
+      says = 2;
+    }
+    ∷ []
+
+breaks : Each Breaks mistakes
+unfolding firstOf endingOf callChecks portSetUp otherClass classOf classIn familyOf scpsClass portMaskRefused formRefused maskForm onesOf onesBelow onesRefused freshRelay freshQueue readOf readChecks controlOf forbidden lengthOf layoutOf addressSize stampSize headerEnding headerOf fieldsOf qosOf addressesOf aimOf originOf ruleOf ruleTarget ruledBy rulingOf grantedOf lineOf targetOf surveyBelow ownBroadcast subnetBroadcast octetOf copiesOf takeOutcome receivedRelay enteredAll enteredIf putOf takeOf insertBy chosen takenRelay
+breaks = ((refl, refl, refl, refl), ((refl, refl, refl, refl), ((refl, refl, refl, refl), ((refl, refl, refl, refl), ((refl, refl, refl, refl), tt)))))
+
+pub all-mistaken : Each (λ (m : Mistake). Holds (m .rule) → ⊥) mistakes
+all-mistaken = each-so mistakes refuted breaks

@@ -4,6 +4,7 @@
 -- higher, and a dropped copy does not enter. All are folds over what the calls do, and both numbers are those of the port's line. Assumes nothing.
 use Prim.Native.Nat.{ℕ, suc}
 use mathlib.Core.Bool.{Bool, false}
+use mathlib.Core.Path.{_≡_}
 use mathlib.Core.List.{List, [], _∷_, _++_}
 use lib.ListN.{length}
 use lib.Dec.{eqb, ltb}
@@ -15,7 +16,7 @@ use Rattle.state.specs.Relay.{Relay}
 use Rattle.history.specs.Calls.{Call, sets, hears, takes, looks}
 use Rattle.history.specs.Outcome.{Answer, number, ended, entry, outcome, next, relayAfter, sumFrom}
 use Rattle.history.specs.Ledger.{handedOut}
-use Rattle.history.specs.Line.{Copy, entryOf, handedBy, lineBy, takenFrom, handedFrom, lineAt}
+use Rattle.history.specs.Line.{Copy, entryOf, takenBy, handedBy, lineBy, takenFrom, handedFrom, lineAt}
 
 -- a history and one call more
 abbrev pub andThen : List Call → Call → List Call
@@ -51,6 +52,11 @@ module _ (p : ℕ) where
   abbrev pub answeredSince : List Call → List Call → List Entry
   answeredSince cs ds = answeredFrom (relayAfter cs) ds
 
+  -- the call that follows cs places no copy on the port and is no take of it that hands out: a setting or a look, a refused call, a datagram of
+  -- which this port took no entry, a take of another port
+  abbrev pub Idle : List Call → Call → Type 0
+  Idle cs c = (takenBy p (length cs) (relayAfter cs) c ≡ []) × (handedOut p (outcome (relayAfter cs) c) ≡ 0)
+
   -- ---- one copy
   module _ (x : Copy) where
     -- r: of those that wait after cs, how many go out before x if it enters now
@@ -73,3 +79,16 @@ module _ (p : ℕ) where
     -- h: of those that enter while x waits, how many are of higher precedence
     abbrev pub higherEnter : List Call → List Call → ℕ
     higherEnter cs ds = howMany (λ (y : Copy). ltb (rankBy entryOf x) (rankBy entryOf y)) (takenSince cs (whileWaits cs ds))
+
+  -- "Refused calls and other ports' traffic count nothing": what is counted of c and the calls ds after it is what is counted of ds alone
+  pub record CountsNothing (x : Copy) (cs : List Call) (c : Call) (ds : List Call) : Type 0 where
+    pub line : lineAt p (andThen cs c) ≡ lineAt p cs
+    pub handed : handedSince cs (c ∷ ds) ≡ handedSince (andThen cs c) ds
+    pub takes : takesSince cs (c ∷ ds) ≡ takesSince (andThen cs c) ds
+    pub higher : higherEnter x cs (c ∷ ds) ≡ higherEnter x (andThen cs c) ds
+
+-- a refusal, by its number
+abbrev pub Refusal : Answer → Type 0
+Refusal (number n) = n ≡ 0 → ⊥
+Refusal (ended refusal local onward took) = refusal ≡ 0 → ⊥
+Refusal (entry e) = ⊥
