@@ -61,7 +61,7 @@ use Rattle.history.proofs.Refusals.{refused-grants-nothing, nobody-took, output
 use Rattle.history.proofs.Sums.{sent-where-taken}
 use Rattle.history.proofs.Transport as transport
 use Rattle.demands.specs.Trace.{Step, calls, leftBy, historyOf, Gives}
-use Rattle.demands.specs.Promised.{promisedOf}
+use Rattle.demands.proofs.Promised.{promisedOf}
 use Rattle.demands.specs.ReadOut.{numberIn, readOut, isRefusal, outputOf, relayIn}
 use Rattle.demands.specs.Demand1.{LocalAlone, Demand1}
 use Rattle.demands.proofs.Traced.{step-stays}

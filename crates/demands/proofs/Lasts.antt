@@ -42,7 +42,7 @@ use Rattle.demands.specs.Trace.{Step, starts, calls, made, leftBy, Trace
 use Rattle.demands.proofs.Traced.{fresh-answers}
 
 -- only hj_receive is passed a slot
-passable : (w : List ℕ) (c : Step) → Passes c → Passable (made w c)
+pub passable : (w : List ℕ) (c : Step) → Passes c → Passable (made w c)
 passable w starts fits v p slot l o e = true-false cc
 passable w (calls (sets (setRouter y))) fits v p slot l o e = true-false cc
 passable w (calls (sets (setPort q address mask mtu))) fits v p slot l o e = true-false cc

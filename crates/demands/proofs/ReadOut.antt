@@ -55,7 +55,7 @@ use Rattle.history.specs.Line.{Copy, entryOf, takingOf, lineAt}
 use Rattle.history.specs.Outcome.{relayAfter}
 use Rattle.history.specs.Outcome as outcome
 use Rattle.history.specs.Tally.{stateAfter}
-use Rattle.history.specs.Ranges.{EntryFits, Passed}
+use Rattle.history.specs.Ranges.{Passed, CopyFits}
 use Rattle.history.proofs.Counters.{counters-fit}
 use Rattle.history.proofs.Ranges.{in-range, waiting-fits}
 use Rattle.history.proofs.Takes.{take-is}
@@ -81,12 +81,12 @@ module _ (p : ℕ) where
   refused-out : (n : ℕ) → n < 2 ^ 32 → (n ≡ 0 → ⊥) → takenOut (refusalNumber n) ≡ outcome.number n
   refused-out n small some = let is = refusal-out n small in rw (is, ne-eqb n 0 some)
 
-  taken-out : (t : Bool) (c : Chosen Copy) → EachOf (rankBy entryOf) (λ (x : Copy). EntryFits (x .entry)) c
+  taken-out : (t : Bool) (c : Chosen Copy) → EachOf (rankBy entryOf) CopyFits c
       → takenOut (takingNumber (takingOf t c)) ≡ outcome.ofTaking p (takingOf t c) .answer
   taken-out false c fits = refused-out 16 (omega arith) (λ z. omega arith)
   taken-out true nobody fits = refused-out 18 (omega arith) (λ z. omega arith)
   taken-out true (one x others) fits =
-      let parts = entry-parts (x .entry .slot .0) (x .entry .precedence) (fits .0 .1) (omega (arith, fits .0 .0)) in
+      let parts = entry-parts (x .entry .slot .0) (x .entry .precedence) (fits .0 .0 .1) (omega (arith, fits .0 .0 .0)) in
       rw (parts .refusal, parts .slot, parts .precedence)
 
 -- ---- looks
@@ -172,6 +172,6 @@ module _ (steps : List Step) where
       ap (λ t. takenOut (numberIn t)) (gives-row steps (calls (takes p)) x g .0)
       ∙ ap (λ t. takenOut (takingNumber t)) is
       ∙ taken-out p (portSetUp r p) (chosen (rankBy entryOf) line)
-      (chosen-each (rankBy entryOf) (λ (y : Copy). EntryFits (y .entry)) line (waiting-fits p h (history-passed steps (g .begun .passed))))
+      (chosen-each (rankBy entryOf) CopyFits line (waiting-fits p h (history-passed steps (g .begun .passed))))
       ∙ ap (λ t. outcome.ofTaking p t .answer) (sym is)
   read-out (looks l) x g = ap outcome.number (look-out l x g)

@@ -54,7 +54,8 @@ use Rattle.history.specs.Outcome.{outcome, relayAfter}
 use Rattle.history.specs.Tally.{sumAt, stateAfter}
 use Rattle.history.proofs.Counters.{moves-sum, counters-fit}
 use Rattle.demands.specs.Trace.{Step, starts, calls, made, leftBy, heard, historyOf, Gives}
-use Rattle.demands.specs.Promised.{stepped, partTold, promisedOf}
+use Rattle.demands.specs.ReadOut.{partTold}
+use Rattle.demands.proofs.Promised.{stepped, promisedOf}
 use Rattle.demands.proofs.Traced.{told-held, changed-held, held-words, stepped-heard, taken-state, step-holds, words-hold}
 
 -- ---- a row, where the words hold a state

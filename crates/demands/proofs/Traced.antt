@@ -56,7 +56,7 @@ use Rattle.history.specs.Calls.{
 use Rattle.history.specs.Outcome.{ofTaking, outcome, next, runFrom}
 use Rattle.history.specs.Tally.{countersFrom, stateAfter}
 use Rattle.demands.specs.Trace.{Step, starts, calls, made, leftBy, Trace, Begun, heard, heardAll, historyOf}
-use Rattle.demands.specs.Promised.{nextState, stepped}
+use Rattle.demands.proofs.Promised.{nextState, stepped}
 
 -- ---- words that hold a state
 module _ (w : List ℕ) (s : State) (is : lent w ≡ Held s) where

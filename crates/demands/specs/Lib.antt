@@ -1,7 +1,7 @@
--- Trace: calls from C on one state, one after the other, as their contracts allow. Promised: what each is promised to answer and to leave, of the state
--- that the words hold.
+-- The customer's three demands, each a record with a field for every sentence: Demand1, Demand2, Demand3. They are said of traces of C calls (Trace), and
+-- of what C reads out of the results (ReadOut).
 pub mod Trace
-pub mod Promised
 pub mod ReadOut
 pub mod Demand1
+pub mod Demand2
 pub mod Demand3

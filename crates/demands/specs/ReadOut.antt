@@ -10,6 +10,7 @@ use Rattle.numbers.specs.declared.Numbers.{Numbers}
 use Rattle.state.specs.Relay.{Relay, State, counterIn}
 use Rattle.state.specs.Layout.{decode}
 use Rattle.harpjuniper.specs.declared.Reading.{Reading}
+use Rattle.harpjuniper_reads.specs.Back.{portBack, routeBack, groupBack, pathBack}
 use Rattle.contracts.specs.Promised.{Told, number, reading, port, route, group, path, Result, hj-read, hj-build}
 use Rattle.contracts.specs.Contracts.{Says}
 use Rattle.history.specs.Calls.{
@@ -124,6 +125,14 @@ relayIn w = decode w .relay
 
 abbrev pub counterAt : List ℕ → ℕ → ℕ
 counterAt w i = counterIn (decode w .counters) i
+
+-- a setting, as it is read back
+abbrev pub partTold : Relay → Part → Told
+partTold r theRouter = number (r .router)
+partTold r (thePort p) = port (portBack r p)
+partTold r (theRoute i) = route (routeBack r i)
+partTold r (theGroup i) = group (groupBack r i)
+partTold r (thePath i) = path (pathBack r i)
 
 -- ---- headers: what hj_read answers, and what hj_build answers and leaves of the output
 abbrev pub Reads : List ℕ → Reading → Type 0

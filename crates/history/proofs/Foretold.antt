@@ -49,7 +49,7 @@ use Rattle.history.specs.Ledger.{one as oneIf, outBy, handedOut}
 use Rattle.history.specs.Line.{Copy, entryOf, copyOf, takenBy, handedBy, leftBy, lineBy, lineFrom, takenFrom, handedFrom, lineAt, takenAt, handedAt, takingOf, times}
 use Rattle.history.specs.Foretold.{andThen, handedSince, takesSince, answeredBy, answeredFrom, answeredSince, before, Idle, isHanded, waitsFrom, higherEnter, CountsNothing, Refusal, takenSince, whileWaits}
 use Rattle.history.proofs.Line.{queue-waits, taken-out-or-waiting}
-use Rattle.history.proofs.Bits.{in-none}
+use Rattle.page.proofs.Bits.{in-none}
 use Rattle.history.proofs.Refusals.{refused-grants-nothing}
 use Rattle.history.proofs.Takes.{take-is}
 

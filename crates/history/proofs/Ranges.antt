@@ -69,7 +69,7 @@ use Rattle.history.specs.Calls.{
 }
 use Rattle.history.specs.Outcome.{Out, nothing, from, outcome, next, runFrom, relayAfter}
 use Rattle.history.specs.Line.{Copy, entryOf, copyOf, takenBy, leftBy, lineBy, lineFrom, lineAt, takingOf}
-use Rattle.history.specs.Ranges.{Flag, Flags, InRange, Octets, Passed, EntryFits}
+use Rattle.history.specs.Ranges.{Flag, Flags, InRange, Octets, Passed, EntryFits, CopyFits}
 use Rattle.history.proofs.Settled.{settle-keeps}
 use Rattle.history.proofs.Reach.{madeOf, received-made, taken-made, numbered-five}
 use Rattle.history.proofs.Line.{queue-waits}
@@ -299,41 +299,38 @@ ending-fits r port octets room small =
     (λ h is. asked-fits (h .fields .qos) (read-in-range octets h small is .qos)) room
 
 module _ (p : ℕ) where
-  abbrev Fits : Copy → Type 0
-  Fits c = EntryFits (c .entry)
-
-  enters-fits : (r : Relay) (n : ℕ) (c : Call) → Passed c → Each Fits (takenBy p n r c)
+  enters-fits : (r : Relay) (n : ℕ) (c : Call) → Passed c → Each CopyFits (takenBy p n r c)
   enters-fits r n (sets s) passed = tt
   enters-fits r n (hears port slot octets output) passed =
       let e = endingOf r port octets (length output) in
-      either (Each Fits) (inSet p (e .ruling .took)) ((ending-fits r port octets (length output) (passed .1), passed .0), tt) tt
+      either (Each CopyFits) (inSet p (e .ruling .took)) (((ending-fits r port octets (length output) (passed .1), passed .0), passed .1), tt) tt
   enters-fits r n (takes port) passed = tt
   enters-fits r n (looks l) passed = tt
 
-  left-fits : (line : List Copy) (o : Out) (c : Chosen Copy) → Each Fits line → EachOf (rankBy entryOf) Fits c → Each Fits (leftBy p o line c)
+  left-fits : (line : List Copy) (o : Out) (c : Chosen Copy) → Each CopyFits line → EachOf (rankBy entryOf) CopyFits c → Each CopyFits (leftBy p o line c)
   left-fits line nothing c all some = all
   left-fits line (from q e) nobody all some = all
-  left-fits line (from q e) (one x others) all some = either (Each Fits) (eqb q p) (some .1) all
+  left-fits line (from q e) (one x others) all some = either (Each CopyFits) (eqb q p) (some .1) all
 
-  all-fit : (cs : List Call) (n : ℕ) (r : Relay) (line : List Copy) → Each Passed cs → Each Fits line → Each Fits (lineFrom p n r line cs)
+  all-fit : (cs : List Call) (n : ℕ) (r : Relay) (line : List Copy) → Each Passed cs → Each CopyFits line → Each CopyFits (lineFrom p n r line cs)
   all-fit [] n r line passed all = all
   all-fit (c ∷ cs) n r line passed all =
       let o = outcome r c .out in
       let x = chosen (rankBy entryOf) line in
       all-fit cs (suc n) (next r c) (lineBy p n r c line) (passed .1)
-      (each-append Fits (leftBy p o line x) (takenBy p n r c) (left-fits line o x all (chosen-each (rankBy entryOf) Fits line all)) (enters-fits r n c (passed .0)))
+      (each-append CopyFits (leftBy p o line x) (takenBy p n r c) (left-fits line o x all (chosen-each (rankBy entryOf) CopyFits line all)) (enters-fits r n c (passed .0)))
 
-  -- After any history that C can make each copy that waits has a precedence of 0 to 15 and a slot of 16 bits, ..
-  pub waiting-fits : (cs : List Call) → Each Passed cs → Each (λ (c : Copy). EntryFits (c .entry)) (lineAt p cs)
+  -- After any history that C can make each copy that waits has a precedence of 0 to 15 and a slot of 16 bits, and came as octets, ..
+  pub waiting-fits : (cs : List Call) → Each Passed cs → Each CopyFits (lineAt p cs)
   waiting-fits cs passed = all-fit cs 0 freshRelay [] passed tt
 
-  handed-case : (t : Bool) (c : Chosen Copy) (e : Entry) → EachOf (rankBy entryOf) Fits c → takingOf t c ≡ Handed e → EntryFits e
+  handed-case : (t : Bool) (c : Chosen Copy) (e : Entry) → EachOf (rankBy entryOf) CopyFits c → takingOf t c ≡ Handed e → EntryFits e
   handed-case false c e some h = true-false cc
   handed-case true nobody e some h = true-false cc
-  handed-case true (one x others) e some h = rw (let same : e ≡ x .entry = cc in same) (some .0)
+  handed-case true (one x others) e some h = rw (let same : e ≡ x .entry = cc in same) (some .0 .0)
 
   -- .. and so has what a take hands out.
   pub taken-fits : (cs : List Call) → Each Passed cs → (e : Entry) → takeOutcome (relayAfter cs) p ≡ Handed e → EntryFits e
   taken-fits cs passed e h =
       handed-case (portSetUp (relayAfter cs) p) (chosen (rankBy entryOf) (lineAt p cs)) e
-      (chosen-each (rankBy entryOf) Fits (lineAt p cs) (waiting-fits cs passed)) (sym (take-is cs p) ∙ h)
+      (chosen-each (rankBy entryOf) CopyFits (lineAt p cs) (waiting-fits cs passed)) (sym (take-is cs p) ∙ h)

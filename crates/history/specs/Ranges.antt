@@ -9,6 +9,7 @@ use Rattle.numbers.specs.Words.{Words}
 use Rattle.queue.specs.Queue.{entryPlaces}
 use Rattle.queue.specs.declared.Entry.{Entry}
 use Rattle.state.specs.Relay.{Relay, portIn, routeIn, groupIn, pathIn, queueIn, portSetUp}
+use Rattle.history.specs.Line.{Copy}
 use Rattle.history.specs.Calls.{
   Look,
   setting,
@@ -72,3 +73,7 @@ Passed (looks l) = LookPassed l
 -- "Precedence 0 to 15", and a slot of 16 bits
 abbrev pub EntryFits : Entry → Type 0
 EntryFits e = (e .precedence < 16) × (e .slot .0 < 65536)
+
+-- and what a copy came as are octets
+abbrev pub CopyFits : Copy → Type 0
+CopyFits c = EntryFits (c .entry) × Octets (c .octets)

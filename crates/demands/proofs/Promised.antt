@@ -43,6 +43,7 @@ use Rattle.history.specs.Calls.{
   checksOf,
 }
 use Rattle.history.specs.Outcome.{outcome, next}
+use Rattle.demands.specs.ReadOut.{partTold}
 use Rattle.demands.specs.Trace.{Step, starts, calls}
 
 -- ---- what a step leaves of a state
@@ -60,13 +61,6 @@ looking s answer = record { answer = answer; words = Held s; output = [] }
 
 abbrev asking : Told → Promise
 asking answer = record { answer = answer; words = lent []; output = [] }
-
-abbrev pub partTold : Relay → Part → Told
-partTold r theRouter = number (r .router)
-partTold r (thePort p) = port (portBack r p)
-partTold r (theRoute i) = route (routeBack r i)
-partTold r (theGroup i) = group (groupBack r i)
-partTold r (thePath i) = path (pathBack r i)
 
 abbrev lookPromised : State → Look → Promise
 lookPromised s (setting part) = looking s (partTold (s .relay) part)
