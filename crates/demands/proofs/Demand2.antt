@@ -32,11 +32,15 @@ use Rattle.numbers.specs.Words.{Words}
 use Rattle.numbers.specs.declared.Numbers.{Numbers}
 use Rattle.queue.specs.Order.{Each}
 use Rattle.queue.specs.Waits.{Chosen, nobody, one, chosen, rankBy}
+use Rattle.queue.specs.declared.Entry.{Entry}
 use Rattle.queue.proofs.Each.{each-so}
 use Rattle.queue.proofs.Waits.{EachOf, chosen-each, chosen-nobody}
 use Rattle.networks.specs.Networks.{domainOf}
 use Rattle.meaning.specs.Names.{aimOf, originOf}
 use Rattle.state.specs.Relay.{Relay, State, freshRelay, portIn, portSetUp}
+use Rattle.taking.specs.Taking.{takeOutcome}
+use Rattle.taking.specs.declared.Taking.{Taking}
+use Rattle.taking.specs.declared.Taking.the-variants as taking
 use Rattle.judge.specs.Ending.{endingOf}
 use Rattle.relay.specs.Outgoing.{sentOutput}
 use Rattle.answers.specs.Answers.{takingNumber}
@@ -73,17 +77,17 @@ use Rattle.history.specs.Calls.{
   checksOf,
   settle,
 }
-use Rattle.history.specs.Outcome.{outcome, next, runFrom, relayAfter}
+use Rattle.history.specs.Outcome.{entry, ofTaking, outcome, next, runFrom, relayAfter}
 use Rattle.history.specs.Parts.{About, settingIn}
 use Rattle.history.specs.Line.{Copy, entryOf, sentOf, takingOf, lineAt}
 use Rattle.history.specs.Marked.{Marked, markedCases}
-use Rattle.history.specs.Ranges.{Octets, CopyFits}
+use Rattle.history.specs.Ranges.{Octets, EntryFits, CopyFits}
 use Rattle.history.proofs.Domain.{NamesTheSame, waiting-copies-name-the-same}
 use Rattle.history.proofs.Line.{append-nil}
 use Rattle.history.proofs.Holds.{holds-until-changed}
 use Rattle.history.proofs.Keys.{keys-unique}
 use Rattle.history.proofs.Marked.{marked-cases}
-use Rattle.history.proofs.Ranges.{in-range, waiting-fits}
+use Rattle.history.proofs.Ranges.{in-range, waiting-fits, taken-fits}
 use Rattle.history.proofs.Reach.{reached}
 use Rattle.history.proofs.ReadBack.{ReadBack, read-back}
 use Rattle.history.proofs.Search.{masks-contiguous}
@@ -320,6 +324,14 @@ module _ (steps : List Step) where
       by-taking (refusalNumber 18) (told-18 (lineAt p h) (portSetUp r p) (chosen (rankBy entryOf) (lineAt p h)) refl fits),
     )
 
+    taken-entry : (t : Taking) (e : Entry) → ofTaking p t .answer ≡ entry e → t ≡ taking.Handed e
+    taken-entry (taking.Handed y) e is = let same : y ≡ e = cc in ap taking.Handed same
+    taken-entry (taking.Refused n) e is = true-false cc
+
+    takings-fit : (e : Entry) → readOut (takes p) (x .answer) ≡ entry e → EntryFits e
+    takings-fit e is =
+        taken-fits p h (history-passed steps (g .begun .passed)) e (taken-entry (takeOutcome r p) e (sym (read-out steps (takes p) x g) ∙ is))
+
     -- the copy that goes out
     module _ (inside : p < 8) (c : Copy) (others : List Copy) (out : chosen (rankBy entryOf) (lineAt p h) ≡ one c others) where
       names : NamesTheSame (portIn r p) c
@@ -379,6 +391,7 @@ demand-2 =
       settings-back = λ steps part x g. part-told steps x part g;
       settings-good = λ steps. (reached (historyOf steps), (keys-unique (historyOf steps), in-range (historyOf steps)));
       takings = takings;
+      takings-fit = λ steps p x e g. takings-fit steps p x g e;
       route-taken = λ steps at slot octets output a p x g sought inside some.
           sought-taken (relayAfter (historyOf steps)) at octets (length output) a sought (masks-contiguous (historyOf steps)) p inside
           (granted steps at slot octets output x g p inside some);

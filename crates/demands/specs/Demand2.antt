@@ -25,6 +25,7 @@ use Rattle.networks.specs.Networks.{domainOf}
 use Rattle.meaning.specs.Names.{aimOf, originOf}
 use Rattle.queue.specs.Order.{Each}
 use Rattle.queue.specs.Waits.{one, chosen, rankBy}
+use Rattle.queue.specs.declared.Entry.{Entry}
 use Rattle.routes.specs.Routes.{candidate}
 use Rattle.state.specs.Relay.{portIn, routeIn, portSetUp}
 use Rattle.harpjuniper.specs.Face.{readingOf, dataRead, numbersChecks, buildAnswer, buildOutput}
@@ -45,10 +46,10 @@ use Rattle.history.specs.Calls.{
   checksOf,
   settle,
 }
-use Rattle.history.specs.Outcome.{relayAfter}
+use Rattle.history.specs.Outcome.{entry, relayAfter}
 use Rattle.history.specs.Parts.{About, settingIn}
 use Rattle.history.specs.Reach.{Reached, KeysUnique}
-use Rattle.history.specs.Ranges.{Octets, InRange}
+use Rattle.history.specs.Ranges.{Octets, InRange, EntryFits}
 use Rattle.history.specs.Line.{Copy, entryOf, sentOf, lineAt}
 use Rattle.history.specs.Marked.{Marked, markedCases}
 use Rattle.demands.specs.Trace.{Step, calls, historyOf, Gives}
@@ -110,6 +111,9 @@ pub record Demand2 : Type 0 where
   pub takings : (steps : List Step) (p : ℕ) (x : Result) → Gives steps (calls (takes p)) x
       → ((x .answer ≡ number (refusalNumber 16)) ↔ (portSetUp (relayAfter (historyOf steps)) p ≡ false))
       × ((x .answer ≡ number (refusalNumber 18)) ↔ ((portSetUp (relayAfter (historyOf steps)) p ≡ true) × (lineAt p (historyOf steps) ≡ [])))
+  -- what is handed out has a precedence of 0 to 15 and a slot of 16 bits
+  pub takings-fit : (steps : List Step) (p : ℕ) (x : Result) (e : Entry) → Gives steps (calls (takes p)) x → readOut (takes p) (x .answer) ≡ entry e
+      → EntryFits e
   -- "where a route is sought, the one taken matches the destination under its mask, no matching entry has more mask bits,"
   pub route-taken : (steps : List Step) (at : ℕ) (slot : Slot) (octets output : List ℕ) (a : Address) (p : ℕ) (x : Result)
       → Gives steps (calls (hears at slot octets output)) x → RouteSought (relayAfter (historyOf steps)) at octets (length output) a → p < 8
