@@ -15,6 +15,9 @@ use Rattle.header.specs.declared.Header.{Header}
 use Rattle.header.specs.declared.Read.the-variants.{Good}
 use Rattle.address.specs.declared.Slot.{Slot}
 use Rattle.state.specs.Relay.{Relay, State}
+use Rattle.state.specs.Layout as layout
+use Rattle.lent_state.specs.View.{told}
+use Rattle.lent_state.proofs.Calls.{other-told}
 use Rattle.verdict.specs.Numbers.{localNumber, onwardNumber}
 use Rattle.taking.specs.Taking.{takeOutcome, takenRelay}
 use Rattle.taking.specs.declared.Taking.{Taking}
@@ -24,13 +27,27 @@ use Rattle.judge.specs.declared.Ending.{Ending}
 use Rattle.relay.specs.Received.{receivedRelay}
 use Rattle.relay.specs.Outgoing.{sentOutput}
 use Rattle.harpjuniper.specs.Face.{numbersChecks, buildOutput}
-use Rattle.contracts.specs.Promised.{Result, Exported}
+use Rattle.contracts.specs.Promised.{Told, number, port, route, group, path, Result, Exported, hj-fresh}
 use Rattle.contracts.specs.Contracts.{Says, Passable}
 use Rattle.contracts.proofs.Answers.{each-call-answers}
-use Rattle.contracts.proofs.Rows.{one-result-by-contract}
+use Rattle.contracts.proofs.Rows.{says-row, one-result-by-contract}
 use Rattle.contracts.proofs.Given as given
 use Rattle.history.specs.Calls.{
-  Part,
+  Setting,
+  setRouter,
+  setPort,
+  setRoute,
+  setGroup,
+  setPath,
+  clearRoute,
+  clearGroup,
+  clearPath,
+  theRouter,
+  thePort,
+  theRoute,
+  theGroup,
+  thePath,
+  Look,
   setting,
   search,
   counter,
@@ -49,7 +66,8 @@ use Rattle.history.specs.Calls.{
   checksOf,
   settle,
 }
-use Rattle.history.specs.Outcome.{number, ended, entry, Answer, ofEnding, ofTaking, outcome, next, relayAfter}
+use Rattle.history.specs.Outcome.{ofEnding, ofTaking, next, relayAfter}
+use Rattle.history.specs.Outcome as outcome
 use Rattle.history.specs.Tally.{stateAfter}
 use Rattle.history.specs.Answers.{answersOf, stands}
 use Rattle.history.specs.Transport.{SameButTpid, SameButLocal, localBy}
@@ -60,10 +78,10 @@ use Rattle.history.proofs.Reach.{not-false-true}
 use Rattle.history.proofs.Refusals.{refused-grants-nothing, nobody-took, output-as-lent, refused-take-leaves}
 use Rattle.history.proofs.Sums.{sent-where-taken}
 use Rattle.history.proofs.Transport as transport
-use Rattle.demands.specs.Trace.{Step, calls, leftBy, historyOf, Gives}
+use Rattle.demands.specs.Trace.{Step, starts, calls, made, leftBy, historyOf, Gives}
 use Rattle.demands.proofs.Promised.{promisedOf}
-use Rattle.demands.specs.ReadOut.{numberIn, readOut, isRefusal, outputOf, relayIn}
-use Rattle.demands.specs.Demand1.{LocalAlone, Demand1}
+use Rattle.demands.specs.ReadOut.{numberIn, looksAtState, readOut, isRefusal, outputOf, relayIn}
+use Rattle.demands.specs.Demand1.{LocalAlone, WithoutState, Demand1}
 use Rattle.demands.proofs.Traced.{step-stays}
 use Rattle.demands.proofs.Told.{gives-row, gives-before, gives-next, counters-move}
 use Rattle.demands.proofs.ReadOut.{read-out}
@@ -75,24 +93,24 @@ module _ (r : Relay) where
   settle-case n s false e h = refl
 
   -- no port took an entry where the datagram is refused, as a whole or onward
-  took-none : (port : ℕ) (octets : List ℕ) (room : ℕ) → isRefusal (ofEnding (endingOf r port octets room) .answer) ≡ true
-      → endingOf r port octets room .ruling .took ≡ 0
-  took-none port octets room h =
-      let e = endingOf r port octets room in
+  took-none : (at : ℕ) (octets : List ℕ) (room : ℕ) → isRefusal (ofEnding (endingOf r at octets room) .answer) ≡ true
+      → endingOf r at octets room .ruling .took ≡ 0
+  took-none at octets room h =
+      let e = endingOf r at octets room in
       let n = onwardNumber (e .ruling .onward) in
       ⊎-elim
-      (λ refused. ap (λ x. x .took) (refused-grants-nothing r port octets room (λ z. true-false (sym (sym (ap (λ (k : ℕ). not (eqb k 0)) z) ∙ refused)))))
+      (λ refused. ap (λ x. x .took) (refused-grants-nothing r at octets room (λ z. true-false (sym (sym (ap (λ (k : ℕ). not (eqb k 0)) z) ∙ refused)))))
       (λ onward.
       let over = ltb-true 1 n onward in
       eqb-true (e .ruling .took) 0
-      (not-false-true (eqb (e .ruling .took) 0) (sym (sent-where-taken r port octets room) ∙ ne-eqb n 1 (λ z. omega (arith, over, z)))))
+      (not-false-true (eqb (e .ruling .took) 0) (sym (sent-where-taken r at octets room) ∙ ne-eqb n 1 (λ z. omega (arith, over, z)))))
       (or-true (not (eqb (e .refusal) 0)) (ltb 1 n) h)
 
   taken-case : (p : ℕ) (x : Taking) → takeOutcome r p ≡ x → isRefusal (ofTaking p x .answer) ≡ true → takenRelay r p ≡ r
   taken-case p (Handed e) is h = true-false (sym h)
   taken-case p (Refused n) is h = refused-take-leaves r p n is
 
-  refused-next : (c : Call) → isRefusal (outcome r c .answer) ≡ true → next r c ≡ r
+  refused-next : (c : Call) → isRefusal (outcome.outcome r c .answer) ≡ true → next r c ≡ r
   refused-next (sets s) h = settle-case (firstOf (checksOf r s)) _ (eqb (firstOf (checksOf r s)) 0) refl h
   refused-next (hears p slot octets output) h =
       nobody-took r slot (endingOf r p octets (length output)) (took-none p octets (length output) h)
@@ -105,7 +123,7 @@ build-case n left lent false e h = refl
 
 -- ---- and the output
 module _ (s : State) where
-  refused-output : (c : Call) → isRefusal (outcome (s .relay) c .answer) ≡ true → promisedOf s (calls c) .output ≡ outputOf c
+  refused-output : (c : Call) → isRefusal (outcome.outcome (s .relay) c .answer) ≡ true → promisedOf s (calls c) .output ≡ outputOf c
   unfolding buildOutput
   refused-output (sets x) h = refl
   refused-output (hears p slot octets output) h =
@@ -140,8 +158,8 @@ module _ (steps : List Step) (p : ℕ) (slot : Slot) (output : List ℕ) where
 
   -- the parts of an answer are those of the ending, and the words hold what it leaves
   module _ (octets : List ℕ) (x : Result) (g : Gives steps (calls (hears p slot octets output)) x) where
-    told : ReadBack (numberIn (x .answer)) (endingOf r p octets (length output))
-    told = rw (gives-row steps (calls (hears p slot octets output)) x g .0) (read-back r p octets (length output))
+    answered : ReadBack (numberIn (x .answer)) (endingOf r p octets (length output))
+    answered = rw (gives-row steps (calls (hears p slot octets output)) x g .0) (read-back r p octets (length output))
 
     left : relayIn (x .words) ≡ receivedRelay r slot (endingOf r p octets (length output))
     left =
@@ -154,8 +172,8 @@ module _ (steps : List Step) (p : ℕ) (slot : Slot) (output : List ℕ) where
       let e = endingOf r p s (length output) in
       let f = endingOf r p t (length output) in
       let but = transport.transport-alone r p s t (length output) h k good other same in
-      let one = told s x g in
-      let two = told t y i in
+      let one = answered s x g in
+      let two = answered t y i in
       record {
         refusal = two .refusal ∙ sym (but .refusal) ∙ sym (one .refusal);
         onward = two .onward ∙ ap onwardNumber (sym (but .onward)) ∙ sym (one .onward);
@@ -165,9 +183,53 @@ module _ (steps : List Step) (p : ℕ) (slot : Slot) (output : List ℕ) where
         local = rw (one .local, two .local) (local-numbers (h .fields .tpid) (k .fields .tpid) e f but);
       }
 
+-- ---- words that hold no state
+module _ (w : List ℕ) (wrong : length w ≡ layout.stateWords → ⊥) (x : Result) where
+  none : {A : Type 0} (f : State → A) (d : A) → told f d w ≡ d
+  none f d = sym (other-told w wrong f d)
+
+  told-none : {A : Type 0} (of : A → Told) (f : State → A) (d : A) → x .answer ≡ of (told f d w) → x .answer ≡ of d
+  told-none of f d is = is ∙ ap of (none f d)
+
+  setting-none : (s : Setting) → Says (made w (calls (sets s))) x → x .answer ≡ number 21
+  setting-none (setRouter y) says = told-none number _ 21 (says-row (made w (calls (sets (setRouter y)))) x says .0)
+  setting-none (setPort p address mask mtu) says = told-none number _ 21 (says-row (made w (calls (sets (setPort p address mask mtu)))) x says .0)
+  setting-none (setRoute i prefix mask p availability capabilities) says = told-none number _ 21 (says-row (made w (calls (sets (setRoute i prefix mask p availability capabilities)))) x says .0)
+  setting-none (setGroup i address send subscribed) says = told-none number _ 21 (says-row (made w (calls (sets (setGroup i address send subscribed)))) x says .0)
+  setting-none (setPath i to send here) says = told-none number _ 21 (says-row (made w (calls (sets (setPath i to send here)))) x says .0)
+  setting-none (clearRoute i) says = told-none number _ 21 (says-row (made w (calls (sets (clearRoute i)))) x says .0)
+  setting-none (clearGroup i) says = told-none number _ 21 (says-row (made w (calls (sets (clearGroup i)))) x says .0)
+  setting-none (clearPath i) says = told-none number _ 21 (says-row (made w (calls (sets (clearPath i)))) x says .0)
+
+  -- what is told of words that hold no state, read out
+  look-none : (l : Look) → Says (made w (calls (looks l))) x → looksAtState l ≡ true → readOut (looks l) (x .answer) ≡ outcome.number 21
+  look-none (setting theRouter) says h = ap (readOut (looks (setting theRouter))) (told-none number _ _ (says-row (made w (calls (looks (setting theRouter)))) x says .0))
+  look-none (setting (thePort p)) says h = ap (readOut (looks (setting (thePort p)))) (told-none port _ _ (says-row (made w (calls (looks (setting (thePort p))))) x says .0))
+  look-none (setting (theRoute i)) says h = ap (readOut (looks (setting (theRoute i)))) (told-none route _ _ (says-row (made w (calls (looks (setting (theRoute i))))) x says .0))
+  look-none (setting (theGroup i)) says h = ap (readOut (looks (setting (theGroup i)))) (told-none group _ _ (says-row (made w (calls (looks (setting (theGroup i))))) x says .0))
+  look-none (setting (thePath i)) says h = ap (readOut (looks (setting (thePath i)))) (told-none path _ _ (says-row (made w (calls (looks (setting (thePath i))))) x says .0))
+  look-none (search a) says h = ap (readOut (looks (search a))) (told-none number _ _ (says-row (made w (calls (looks (search a)))) x says .0))
+  look-none (counter i) says h = ap (readOut (looks (counter i))) (told-none number _ _ (says-row (made w (calls (looks (counter i)))) x says .0))
+  look-none (waiting p) says h = ap (readOut (looks (waiting p))) (told-none number _ _ (says-row (made w (calls (looks (waiting p)))) x says .0))
+  look-none (read octets) says h = true-false (sym h)
+  look-none (build fields size output) says h = true-false (sym h)
+  look-none (class a) says h = true-false (sym h)
+  look-none (form p) says h = true-false (sym h)
+  look-none (checksum octets) says h = true-false (sym h)
+  look-none stateWords says h = true-false (sym h)
+
+  without : (c : Step) → Says (made w c) x → WithoutState c x
+  without starts says = told-none number _ 21 (says-row (hj-fresh w) x says .0)
+  without (calls (sets s)) says = setting-none s says
+  without (calls (hears p slot octets output)) says =
+      let row = says-row (made w (calls (hears p slot octets output))) x says in
+      (told-none number _ 16 (row .0), row .1 .1 ∙ none _ output)
+  without (calls (takes p)) says = ap (readOut (takes p)) (told-none number _ _ (says-row (made w (calls (takes p))) x says .0))
+  without (calls (looks l)) says = look-none l says
+
 -- ---- the demand
 module _ (steps : List Step) (c : Call) (x : Result) (g : Gives steps (calls c) x) where
-  refused-rules : isRefusal (readOut c (x .answer)) ≡ true → isRefusal (outcome (stateAfter (historyOf steps) .relay) c .answer) ≡ true
+  refused-rules : isRefusal (readOut c (x .answer)) ≡ true → isRefusal (outcome.outcome (stateAfter (historyOf steps) .relay) c .answer) ≡ true
   refused-rules h = ap isRefusal (sym (read-out steps c x g)) ∙ h
 
   refusal-leaves : isRefusal (readOut c (x .answer)) ≡ true
@@ -189,7 +251,7 @@ demand-1 =
       stated = λ steps c x g.
           let is = read-out steps c x g in
           (is, ap (stands (answersOf c)) is ∙ every-answer-is-listed (relayAfter (historyOf steps)) c);
-      other-words = λ w wrong c x says. step-stays w x wrong c says;
+      other-words = λ w wrong c x says. (step-stays w x wrong c says, without w wrong x c says);
       nobody-checks-first = given.nobody-checks-first;
       refusal-leaves = refusal-leaves;
       counters-move = counters-move;

@@ -13,16 +13,17 @@ use Rattle.header.specs.declared.Read.the-variants.{Good}
 use Rattle.address.specs.declared.Slot.{Slot}
 use Rattle.state.specs.Layout.{stateWords}
 use Rattle.verdict.specs.Numbers.{localNumber}
-use Rattle.contracts.specs.Promised.{Result, Exported}
+use Rattle.contracts.specs.Promised.{number, Result, Exported}
 use Rattle.contracts.specs.Contracts.{Says, Passable}
 use Rattle.contracts.specs.Functions.{functionOf, Unchecked}
-use Rattle.history.specs.Calls.{Call, hears}
-use Rattle.history.specs.Outcome.{outcome, relayAfter}
+use Rattle.history.specs.Calls.{Call, sets, hears, takes, looks}
+use Rattle.history.specs.Outcome.{relayAfter}
+use Rattle.history.specs.Outcome as outcome
 use Rattle.history.specs.Answers.{answersOf, stands}
 use Rattle.history.specs.Tally.{sumAt}
 use Rattle.history.specs.Transport.{SameButTpid, localBy}
-use Rattle.demands.specs.Trace.{Step, calls, made, leftBy, historyOf, Gives}
-use Rattle.demands.specs.ReadOut.{readOut, endedBy, localIn, onwardIn, tookIn, droppedIn, isRefusal, outputOf, relayIn, counterAt}
+use Rattle.demands.specs.Trace.{Step, starts, calls, made, leftBy, historyOf, Gives}
+use Rattle.demands.specs.ReadOut.{looksAtState, readOut, endedBy, localIn, onwardIn, tookIn, droppedIn, isRefusal, outputOf, relayIn, counterAt}
 
 -- what two datagrams come to that have these TP-IDs and differ in nothing else
 pub record LocalAlone (a b : ℕ) (x y : Result) : Type 0 where
@@ -35,15 +36,25 @@ pub record LocalAlone (a b : ℕ) (x y : Result) : Type 0 where
   -- no for both; or for each what its TP-ID makes it, delivered or 26
   pub local : ((localIn x ≡ 0) × (localIn y ≡ 0)) ⊎ ((localIn x ≡ localNumber (localBy a)) × (localIn y ≡ localNumber (localBy b)))
 
+-- what a step answers that is lent no state: 16 of a datagram, which leaves the output, and of a take; 21 of hj_fresh, of a setting, and of a look at the
+-- state. A look at something else answers as ever.
+abbrev pub WithoutState : Step → Result → Type 0
+WithoutState starts x = x .answer ≡ number 21
+WithoutState (calls (sets s)) x = x .answer ≡ number 21
+WithoutState (calls (hears p slot octets output)) x = (x .answer ≡ number 16) × (x .output ≡ output)
+WithoutState (calls (takes p)) x = readOut (takes p) (x .answer) ≡ outcome.number 16
+WithoutState (calls (looks l)) x = looksAtState l ≡ true → readOut (looks l) (x .answer) ≡ outcome.number 21
+
 pub record Demand1 : Type 2 where
   -- "Every call ends with a stated answer, whatever octets, port or setting it gets.": of each of the 25 calls, whatever is lent to it, there is a
   -- result that its contract allows (a slot has 16 bits), and one only;
   pub ends : (c : Exported) → Passable c → (x : Result) × (Says c x × ((y : Result) → Says c y → y ≡ x))
   -- after any steps, what C reads out of it is what the rules give of the history, and stands in page 01's list for that call;
   pub stated : (steps : List Step) (c : Call) (x : Result) → Gives steps (calls c) x
-      → (readOut c (x .answer) ≡ outcome (relayAfter (historyOf steps)) c .answer) × (stands (answersOf c) (readOut c (x .answer)) ≡ true)
-  -- and words that are not as many as a state has are left as they are.
-  pub other-words : (w : List ℕ) → (length w ≡ stateWords → ⊥) → (c : Step) (x : Result) → Says (made w c) x → leftBy w c x ≡ w
+      → (readOut c (x .answer) ≡ outcome.outcome (relayAfter (historyOf steps)) c .answer) × (stands (answersOf c) (readOut c (x .answer)) ≡ true)
+  -- and where the words are not as many as a state has, it is 16 or 21, and they are left as they are.
+  pub other-words : (w : List ℕ) → (length w ≡ stateWords → ⊥) → (c : Step) (x : Result) → Says (made w c) x
+      → (leftBy w c x ≡ w) × WithoutState c x
   -- "Nobody has to check first.": the code of each function, proved to do what its contract says, asks nothing of its caller.
   pub nobody-checks-first : (c : Exported) → Unchecked (functionOf c)
   -- "A refusal carries its number and leaves queues, settings and lent octets unchanged;": 9 to 15 of the onward half too
@@ -51,7 +62,7 @@ pub record Demand1 : Type 2 where
       → (relayIn (leftBy (g .before) (calls c) x) ≡ relayIn (g .before)) × (x .output ≡ outputOf c)
   -- "only the counters of the received datagram move.": each counter by what page 01's table gives this call, which is nothing for all but a datagram
   pub counters-move : (steps : List Step) (c : Call) (x : Result) (g : Gives steps (calls c) x) (i : ℕ) → i < 15
-      → counterAt (leftBy (g .before) (calls c) x) i ≡ (counterAt (g .before) i + sumAt (outcome (relayIn (g .before)) c .moves) i) % 2 ^ 32
+      → counterAt (leftBy (g .before) (calls c) x) i ≡ (counterAt (g .before) i + sumAt (outcome.outcome (relayIn (g .before)) c .moves) i) % 2 ^ 32
   -- "An unknown transport number refuses local delivery alone.": of two datagrams that differ in that number
   pub transport-alone : (steps : List Step) (p : ℕ) (slot : Slot) (s t output : List ℕ) (h k : Header) (x y : Result)
       → readOf s ≡ Good h → readOf t ≡ Good k → SameButTpid h k

@@ -72,6 +72,19 @@ lookOut (form p) n = n
 lookOut (checksum octets) n = n
 lookOut stateWords n = n
 
+-- whether a look is one at the state
+abbrev pub looksAtState : Look → Bool
+looksAtState (setting part) = true
+looksAtState (search a) = true
+looksAtState (counter i) = true
+looksAtState (waiting p) = true
+looksAtState (read octets) = false
+looksAtState (build fields size output) = false
+looksAtState (class a) = false
+looksAtState (form p) = false
+looksAtState (checksum octets) = false
+looksAtState stateWords = false
+
 abbrev pub readOut : Call → Told → outcome.Answer
 readOut (sets s) t = outcome.number (numberIn t)
 readOut (hears p slot octets output) t =
