@@ -23,6 +23,7 @@ use Rattle.header.specs.Read.{readChecks, headerOf, readBy, readOf}
 use Rattle.header.specs.declared.Header.{Header}
 use Rattle.header.specs.declared.Read.{Read}
 use Rattle.header.specs.declared.Read.the-variants.{Good, Refused}
+use Rattle.header.proofs.Beyond.{agree-up-to-the-length}
 use Rattle.header.proofs.BuiltLaws.{built-size}
 use Rattle.header.proofs.Promises.{read-what-was-sent-on}
 use Rattle.header.specs.Shortest.{noneShorter}
@@ -41,9 +42,13 @@ use Rattle.state.specs.Relay.{Relay, State, freshRelay, portIn, portSetUp}
 use Rattle.taking.specs.Taking.{takeOutcome}
 use Rattle.taking.specs.declared.Taking.{Taking}
 use Rattle.taking.specs.declared.Taking.the-variants as taking
-use Rattle.judge.specs.Ending.{endingOf}
+use Rattle.judge.specs.Ending.{orElse, callChecks, octetsEnding, arrivalAt, endingOf}
+use Rattle.judge.specs.declared.Ending.{Ending}
 use Rattle.relay.specs.Outgoing.{sentOutput}
-use Rattle.answers.specs.Answers.{takingNumber}
+use Rattle.relay.specs.Received.{receivedState}
+use Rattle.lent_state.specs.View.{Lent, Held}
+use Rattle.lent_state.proofs.Same.{lent-injective}
+use Rattle.answers.specs.Answers.{receiveNumber, takingNumber}
 use Rattle.harpjuniper.specs.Face.{readingOf, dataRead, fieldsOut, numbersChecks, buildAnswer, buildOutput}
 use Rattle.harpjuniper.specs.declared.Reading.{Reading}
 use Rattle.harpjuniper.proofs.Promises.{fields-in, hj-build-then-hj-read}
@@ -78,6 +83,7 @@ use Rattle.history.specs.Calls.{
   settle,
 }
 use Rattle.history.specs.Outcome.{entry, ofTaking, outcome, next, runFrom, relayAfter}
+use Rattle.history.specs.Tally.{stateAfter}
 use Rattle.history.specs.Parts.{About, settingIn}
 use Rattle.history.specs.Line.{Copy, entryOf, sentOf, takingOf, lineAt}
 use Rattle.history.specs.Marked.{Marked, markedCases}
@@ -289,6 +295,26 @@ module _ (steps : List Step) where
         (sym (dropped-exactly r at octets (length output) p inside) ∙ ap (inSet p) (sym (told .dropped)) ∙ dropped) .0)
         (or-true (inSet p (tookIn x)) (inSet p (droppedIn x)) some)
 
+  -- two datagrams that are read alike
+  module _ (at : ℕ) (slot : Slot) (output : List ℕ) where
+    abbrev ending : List ℕ → Ending
+    ending octets = endingOf r at octets (length output)
+
+    read-alike : (s t : List ℕ) → readOf t ≡ readOf s → ending t ≡ ending s
+    unfolding endingOf
+    read-alike s t same = ap (λ (z : Read). orElse (firstOf (callChecks r at (length output))) (octetsEnding r (arrivalAt r at) z)) same
+
+    hears-alike : (s t : List ℕ) (x y : Result) → readOf t ≡ readOf s → Gives steps (calls (hears at slot s output)) x
+        → Gives steps (calls (hears at slot t output)) y → (y .answer ≡ x .answer) × (y .words ≡ x .words)
+    hears-alike s t x y same g k =
+        let one = gives-row steps (calls (hears at slot s output)) x g in
+        let two = gives-row steps (calls (hears at slot t output)) y k in
+        let is = read-alike s t same in
+        let left : Ending → Lent = λ (e : Ending). Held (receivedState (stateAfter h) slot e) in (
+          two .0 ∙ ap (λ (e : Ending). number (receiveNumber e)) is ∙ sym (one .0),
+          lent-injective (y .words) (x .words) (two .1 .0 ∙ ap left is ∙ sym (one .1 .0)),
+        )
+
   -- a setting
   module _ (s : Setting) (x : Result) (g : Gives steps (calls (sets s)) x) where
     said : x .answer ≡ number (firstOf (checksOf r s))
@@ -382,6 +408,8 @@ demand-2 =
       build-then-read = build-then-read;
       read-then-build = read-then-build;
       verdict = verdict;
+      hears-no-further = λ steps at slot s t output n x y long control agree g k.
+          hears-alike steps at slot output s t x y (agree-up-to-the-length s t n long control agree) g k;
       sent-on = λ s h octets good. read-what-was-sent-on s h octets good;
       marked = marked;
       settings = λ steps s x g.

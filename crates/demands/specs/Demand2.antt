@@ -70,7 +70,7 @@ Answered m =
 
 pub record Demand2 : Type 0 where
   -- "Headers are read .. as CCSDS 713.0-B-1 lays them out": hj_read answers what the layout gives, and refuses by n exactly where the condition of n
-  -- holds and none before it. "Octets beyond the length field are ignored."
+  -- holds and none before it
   pub reads : (s : List ℕ) → Reads s (readingOf (readOf s))
   pub reads-refuses : (s : List ℕ) (r : Reading) → Reads s r → (n : ℕ) → n ≢ 0 → (r .refusal ≡ n) ↔ firstHolds (readChecks s) n
   pub reads-no-further : (s t : List ℕ) (n : ℕ) (r : Reading) → lengthOf s ≤ n → controlOf s .end ≤ n → take n t ≡ take n s → Reads s r → Reads t r
@@ -91,6 +91,10 @@ pub record Demand2 : Type 0 where
   -- "every verdict .. follows the written rules": what C is told of a datagram is what page 01's tables give, and the output is as the page says
   pub verdict : (steps : List Step) (at : ℕ) (slot : Slot) (octets output : List ℕ) (x : Result) → Gives steps (calls (hears at slot octets output)) x
       → ToldAs x (verdictOf (relayAfter (historyOf steps)) at octets (length output)) × (x .output ≡ sentOutput (tookIn x) octets output)
+  -- "Octets beyond the length field are ignored.": what comes after them changes neither the answer nor the words
+  pub hears-no-further : (steps : List Step) (at : ℕ) (slot : Slot) (s t output : List ℕ) (n : ℕ) (x y : Result) → lengthOf s ≤ n → controlOf s .end ≤ n
+      → take n t ≡ take n s → Gives steps (calls (hears at slot s output)) x → Gives steps (calls (hears at slot t output)) y
+      → (y .answer ≡ x .answer) × (y .words ≡ x .words)
   -- the header sent on reads as the one that came, its hop count, if it has one, one less
   pub sent-on : (s : List ℕ) (h : Header) → Octets s → readOf s ≡ Good h
       → readOf (headerSentOn s ++ drop (h .size) s) ≡ Good (withHops (oneLess (h .fields .hops)) h)
