@@ -17,12 +17,11 @@ use Rattle.contracts.specs.Promised.{number, Result, Exported}
 use Rattle.contracts.specs.Contracts.{Says, Passable}
 use Rattle.contracts.specs.Functions.{functionOf, Unchecked}
 use Rattle.history.specs.Calls.{Call, sets, hears, takes, looks}
-use Rattle.history.specs.Outcome.{relayAfter}
 use Rattle.history.specs.Outcome as outcome
 use Rattle.history.specs.Answers.{answersOf, stands}
 use Rattle.history.specs.Tally.{sumAt}
 use Rattle.history.specs.Transport.{SameButTpid, localBy}
-use Rattle.demands.specs.Trace.{Step, starts, calls, made, leftBy, historyOf, Gives}
+use Rattle.demands.specs.Trace.{Step, starts, calls, made, leftBy, historyOf, relayOf, Gives}
 use Rattle.demands.specs.ReadOut.{looksAtState, readOut, endedBy, localIn, onwardIn, tookIn, droppedIn, isRefusal, outputOf, relayIn, counterAt}
 
 -- what two datagrams come to that have these TP-IDs and differ in nothing else
@@ -51,7 +50,7 @@ pub record Demand1 : Type 2 where
   pub ends : (c : Exported) → Passable c → (x : Result) × (Says c x × ((y : Result) → Says c y → y ≡ x))
   -- after any steps, what C reads out of it is what the rules give of the history, and stands in page 01's list for that call;
   pub stated : (steps : List Step) (c : Call) (x : Result) → Gives steps (calls c) x
-      → (readOut c (x .answer) ≡ outcome.outcome (relayAfter (historyOf steps)) c .answer) × (stands (answersOf c) (readOut c (x .answer)) ≡ true)
+      → (readOut c (x .answer) ≡ outcome.outcome (relayOf steps) c .answer) × (stands (answersOf c) (readOut c (x .answer)) ≡ true)
   -- and where the words are not as many as a state has, it is 16 or 21, and they are left as they are.
   pub other-words : (w : List ℕ) → (length w ≡ stateWords → ⊥) → (c : Step) (x : Result) → Says (made w c) x
       → (leftBy w c x ≡ w) × WithoutState c x

@@ -46,13 +46,13 @@ use Rattle.history.specs.Calls.{
   checksOf,
   settle,
 }
-use Rattle.history.specs.Outcome.{entry, relayAfter}
+use Rattle.history.specs.Outcome.{entry}
 use Rattle.history.specs.Parts.{About, settingIn}
 use Rattle.history.specs.Reach.{Reached, KeysUnique}
 use Rattle.history.specs.Ranges.{Octets, InRange, EntryFits}
 use Rattle.history.specs.Line.{Copy, entryOf, sentOf, lineAt}
 use Rattle.history.specs.Marked.{Marked, markedCases}
-use Rattle.demands.specs.Trace.{Step, calls, historyOf, Gives}
+use Rattle.demands.specs.Trace.{Step, calls, historyOf, relayOf, Gives}
 use Rattle.demands.specs.ReadOut.{readOut, endedBy, localIn, onwardIn, tookIn, droppedIn, relayIn, partTold, Reads, Builds}
 
 -- C is told this verdict of page 01
@@ -90,7 +90,7 @@ pub record Demand2 : Type 0 where
       → Builds (r .fields) (dataRead r) lent (r .header) (take (r .header) s ++ drop (r .header) lent)
   -- "every verdict .. follows the written rules": what C is told of a datagram is what page 01's tables give, and the output is as the page says
   pub verdict : (steps : List Step) (at : ℕ) (slot : Slot) (octets output : List ℕ) (x : Result) → Gives steps (calls (hears at slot octets output)) x
-      → ToldAs x (verdictOf (relayAfter (historyOf steps)) at octets (length output)) × (x .output ≡ sentOutput (tookIn x) octets output)
+      → ToldAs x (verdictOf (relayOf steps) at octets (length output)) × (x .output ≡ sentOutput (tookIn x) octets output)
   -- "Octets beyond the length field are ignored.": what comes after them changes neither the answer nor the words
   pub hears-no-further : (steps : List Step) (at : ℕ) (slot : Slot) (s t output : List ℕ) (n : ℕ) (x y : Result) → lengthOf s ≤ n → controlOf s .end ≤ n
       → take n t ≡ take n s → Gives steps (calls (hears at slot s output)) x → Gives steps (calls (hears at slot t output)) y
@@ -102,33 +102,33 @@ pub record Demand2 : Type 0 where
   pub marked : Each Answered markedCases
   -- "every .. setting .. follows the written rules": refused by n exactly where its test holds and none before it, else taken
   pub settings : (steps : List Step) (s : Setting) (x : Result) → Gives steps (calls (sets s)) x
-      → ((n : ℕ) → n ≢ 0 → (x .answer ≡ number n) ↔ firstHolds (checksOf (relayAfter (historyOf steps)) s) n)
-      × (((x .answer ≡ number 0) ↔ noneHolds (checksOf (relayAfter (historyOf steps)) s)) × (relayIn (x .words) ≡ settle (relayAfter (historyOf steps)) s))
+      → ((n : ℕ) → n ≢ 0 → (x .answer ≡ number n) ↔ firstHolds (checksOf (relayOf steps) s) n)
+      × (((x .answer ≡ number 0) ↔ noneHolds (checksOf (relayOf steps) s)) × (relayIn (x .words) ≡ settle (relayOf steps) s))
   -- what is taken "holds until it is changed", and is read back
   pub settings-hold : (steps : List Step) (later : List Call) (part : Part) → Each (λ (c : Call). About c part → ⊥) later
-      → settingIn (relayAfter (historyOf (steps ++ map calls later))) part ≡ settingIn (relayAfter (historyOf steps)) part
+      → settingIn (relayOf (steps ++ map calls later)) part ≡ settingIn (relayOf steps) part
   pub settings-back : (steps : List Step) (part : Part) (x : Result) → Gives steps (calls (looks (setting part))) x
-      → x .answer ≡ partTold (relayAfter (historyOf steps)) part
+      → x .answer ≡ partTold (relayOf steps) part
   -- the settings in force pass the tests that took them, no two places hold the same entry, and all is within the ranges that the C header promises
-  pub settings-good : (steps : List Step) → Reached (relayAfter (historyOf steps)) × (KeysUnique (relayAfter (historyOf steps)) × InRange (relayAfter (historyOf steps)))
+  pub settings-good : (steps : List Step) → Reached (relayOf steps) × (KeysUnique (relayOf steps) × InRange (relayOf steps))
   -- "every .. taking follows the written rules": 16 exactly where the port is not set up, 18 exactly where it is and nothing waits
   pub takings : (steps : List Step) (p : ℕ) (x : Result) → Gives steps (calls (takes p)) x
-      → ((x .answer ≡ number (refusalNumber 16)) ↔ (portSetUp (relayAfter (historyOf steps)) p ≡ false))
-      × ((x .answer ≡ number (refusalNumber 18)) ↔ ((portSetUp (relayAfter (historyOf steps)) p ≡ true) × (lineAt p (historyOf steps) ≡ [])))
+      → ((x .answer ≡ number (refusalNumber 16)) ↔ (portSetUp (relayOf steps) p ≡ false))
+      × ((x .answer ≡ number (refusalNumber 18)) ↔ ((portSetUp (relayOf steps) p ≡ true) × (lineAt p (historyOf steps) ≡ [])))
   -- what is handed out has a precedence of 0 to 15 and a slot of 16 bits
   pub takings-fit : (steps : List Step) (p : ℕ) (x : Result) (e : Entry) → Gives steps (calls (takes p)) x → readOut (takes p) (x .answer) ≡ entry e
       → EntryFits e
   -- "where a route is sought, the one taken matches the destination under its mask, no matching entry has more mask bits,"
   pub route-taken : (steps : List Step) (at : ℕ) (slot : Slot) (octets output : List ℕ) (a : Address) (p : ℕ) (x : Result)
-      → Gives steps (calls (hears at slot octets output)) x → RouteSought (relayAfter (historyOf steps)) at octets (length output) a → p < 8
-      → (inSet p (tookIn x) || inSet p (droppedIn x)) ≡ true → RouteTaken (relayAfter (historyOf steps)) a p
+      → Gives steps (calls (hears at slot octets output)) x → RouteSought (relayOf steps) at octets (length output) a → p < 8
+      → (inSet p (tookIn x) || inSet p (droppedIn x)) ≡ true → RouteTaken (relayOf steps) a p
   -- "and 'no route' is said exactly when none matches."
   pub no-route : (steps : List Step) (at : ℕ) (slot : Slot) (octets output : List ℕ) (a : Address) (x : Result)
-      → Gives steps (calls (hears at slot octets output)) x → RouteSought (relayAfter (historyOf steps)) at octets (length output) a
-      → (onwardIn x ≡ 11) ↔ ((q : ℕ) → candidate (routeIn (relayAfter (historyOf steps)) q) a ≡ false)
+      → Gives steps (calls (hears at slot octets output)) x → RouteSought (relayOf steps) at octets (length output) a
+      → (onwardIn x ≡ 11) ↔ ((q : ℕ) → candidate (routeIn (relayOf steps) q) a ≡ false)
   -- "A one-octet address never goes out into another domain.": of the octets that go out, when hj_take hands the copy out, by the port as it is then
   pub domain : (steps : List Step) (p : ℕ) (x : Result) (c : Copy) (others : List Copy) (h : Header) → Gives steps (calls (takes p)) x → p < 8
       → chosen (rankBy entryOf) (lineAt p (historyOf steps)) ≡ one c others → readOf (sentOf c) ≡ Good h
-      → (oneOctet (h .fields .addresses) ≡ true → domainOf (portIn (relayAfter (historyOf steps)) p .address) ≡ domainOf (c .arrival))
-      × ((aimOf (portIn (relayAfter (historyOf steps)) p .address .0) (h .fields .addresses) ≡ aimOf (c .arrival .0) (h .fields .addresses))
-      × (originOf (portIn (relayAfter (historyOf steps)) p .address .0) (h .fields .addresses) ≡ originOf (c .arrival .0) (h .fields .addresses)))
+      → (oneOctet (h .fields .addresses) ≡ true → domainOf (portIn (relayOf steps) p .address) ≡ domainOf (c .arrival))
+      × ((aimOf (portIn (relayOf steps) p .address .0) (h .fields .addresses) ≡ aimOf (c .arrival .0) (h .fields .addresses))
+      × (originOf (portIn (relayOf steps) p .address .0) (h .fields .addresses) ≡ originOf (c .arrival .0) (h .fields .addresses)))

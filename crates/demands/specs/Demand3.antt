@@ -13,12 +13,12 @@ use Rattle.state.specs.Relay.{portSetUp}
 use Rattle.answers.specs.Answers.{takingNumber}
 use Rattle.contracts.specs.Promised.{number, Result}
 use Rattle.history.specs.Calls.{counter, waiting, Call, hears, takes, looks}
-use Rattle.history.specs.Outcome.{relayAfter, sumOver}
+use Rattle.history.specs.Outcome.{sumOver}
 use Rattle.history.specs.Tally.{tally}
 use Rattle.history.specs.Sums.{receipts, deliveries, forwardings, drops}
 use Rattle.history.specs.Ledger.{granted, dropped, handedOut}
 use Rattle.history.specs.Line.{Copy, entryOf, takingOf, lineAt, takenAt, handedAt, times}
-use Rattle.demands.specs.Trace.{Step, calls, historyOf, Gives}
+use Rattle.demands.specs.Trace.{Step, calls, historyOf, relayOf, Gives}
 use Rattle.demands.specs.ReadOut.{droppedIn}
 
 pub record Demand3 : Type 0 where
@@ -49,5 +49,5 @@ pub record Demand3 : Type 0 where
   -- ".. the highest precedence is handed out first, the oldest within one.": hj_take answers the entry that is asked for, or 16 or 18
   pub order : (steps : List Step) (p : ℕ) (x : Result) → Gives steps (calls (takes p)) x
       → (x .answer
-      ≡ number (takingNumber (takingOf (portSetUp (relayAfter (historyOf steps)) p) (chosen (rankBy entryOf) (lineAt p (historyOf steps))))))
+      ≡ number (takingNumber (takingOf (portSetUp (relayOf steps) p) (chosen (rankBy entryOf) (lineAt p (historyOf steps))))))
       × AsAsked (rankBy entryOf) (lineAt p (historyOf steps)) (chosen (rankBy entryOf) (lineAt p (historyOf steps)))

@@ -35,6 +35,8 @@ use Rattle.contracts.specs.Promised.{
 }
 use Rattle.contracts.specs.Contracts.{Says}
 use Rattle.history.specs.Ranges.{Passed}
+use Rattle.history.specs.Outcome.{relayAfter}
+use Rattle.state.specs.Relay.{Relay}
 use Rattle.history.specs.Calls.{
   Setting,
   setRouter,
@@ -171,6 +173,10 @@ heardAll h (c ∷ cs) = heardAll (heard h c) cs
 
 abbrev pub historyOf : List Step → List Call
 historyOf cs = heardAll [] cs
+
+-- the settings and queues after these steps
+abbrev pub relayOf : List Step → Relay
+relayOf cs = relayAfter (historyOf cs)
 
 -- ---- x is what a step may give back after these
 pub record Gives (cs : List Step) (c : Step) (x : Result) : Type 0 where
