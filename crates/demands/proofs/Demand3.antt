@@ -3,7 +3,7 @@ use native.Mathlib.Omega.{arith}
 use Prim.Native.Nat.{ℕ, _+_, _%_, _^_, _<_}
 use mathlib.Core.Path.{_≡_, refl, sym, ap, _∙_}
 use mathlib.Core.Bool.{true, false}
-use mathlib.Core.List.{List}
+use mathlib.Core.List.{List, [], _∷_, _++_, map}
 use lib.ListN.{length}
 use lib.Dec.{ltb}
 use borrow.Author.Tests.{lt-ltb, ltb-false}
@@ -11,28 +11,32 @@ use Rattle.sets.specs.Sets.{inSet}
 use Rattle.address.specs.declared.Slot.{Slot}
 use Rattle.queue.specs.Waits.{chosen, rankBy, AsAsked}
 use Rattle.queue.proofs.Waits.{chosen-asked, waits-count, waits-fits}
-use Rattle.state.specs.Relay.{Relay, counterIn, queueIn, portSetUp}
+use Rattle.queue.specs.declared.Entry.{Entry}
+use Rattle.state.specs.Relay.{Relay, freshRelay, counterIn, queueIn, portSetUp}
 use Rattle.answers.specs.Answers.{partAt, takingNumber}
 use Rattle.judge.specs.Ending.{endingOf}
 use Rattle.harpjuniper_relay.specs.Face.{counterAnswer, waitingAnswer}
 use Rattle.contracts.specs.Promised.{number, Result}
+use Rattle.contracts.specs.Contracts.{Says}
 use Rattle.history.specs.Calls.{counter, waiting, Call, hears, takes, looks}
-use Rattle.history.specs.Outcome.{relayAfter, sumOver}
+use Rattle.history.specs.Outcome.{Answer, outcome, relayAfter, sumOver}
 use Rattle.history.specs.Tally.{tally, stateAfter}
 use Rattle.history.specs.Ledger.{granted, dropped, handedOut}
 use Rattle.history.specs.Line.{entryOf, lineAt, takenAt, handedAt, times}
+use Rattle.history.specs.Foretold.{andThen, answeredBy, answeredFrom, answeredSince}
 use Rattle.history.proofs.Counters as tallied
 use Rattle.history.proofs.Sums.{receives-sum, delivers-sum, forwards-sum, discards-sum}
 use Rattle.history.proofs.Ledger as ledgers
 use Rattle.history.proofs.Line.{queue-waits, taken-out-or-waiting}
-use Rattle.history.proofs.Foretold.{taken-once}
+use Rattle.history.proofs.Foretold.{relay-then, foretold-over-histories, answers-are-handed, taken-once}
 use Rattle.history.proofs.Takes.{take-is}
 use Rattle.history.proofs.Fair.{fair}
 use Rattle.history.proofs.ReadBack.{read-back}
-use Rattle.demands.specs.Trace.{Step, calls, historyOf, Gives}
-use Rattle.demands.specs.ReadOut.{numberIn, droppedIn}
+use Rattle.demands.specs.Trace.{Step, calls, made, leftBy, Trace, Passes, AllPass, Begun, heard, heardAll, historyOf, Gives}
+use Rattle.demands.specs.ReadOut.{numberIn, droppedIn, entriesIn}
 use Rattle.demands.specs.Demand3.{Demand3}
 use Rattle.demands.proofs.Told.{gives-row}
+use Rattle.demands.proofs.ReadOut.{read-out}
 
 -- ---- what hj_counter and hj_waiting answer
 counter-is : (l : List ℕ) (i : ℕ) → i < 15 → counterAnswer l i ≡ counterIn l i
@@ -66,6 +70,43 @@ module _ (steps : List Step) where
       let over = ltb-false (queueIn r p .count) 32 full in
       omega (arith, fits, over, many-wait p inside)
 
+-- ---- what is handed out is told
+-- one step more
+trace-more : (xs : List Step) (c : Step) (w v : List ℕ) → Trace w xs v → (x : Result) → Says (made v c) x → Trace w (xs ++ (c ∷ [])) (leftBy v c x)
+trace-more [] c w v t x says = rw (← t) (x, (says, refl))
+trace-more (d ∷ xs) c w v t x says = (t .0, (t .1 .0, trace-more xs c (leftBy w d (t .0)) v (t .1 .1) x says))
+
+pass-more : (xs : List Step) (c : Step) → AllPass xs → Passes c → AllPass (xs ++ (c ∷ []))
+pass-more [] c all p = (p, tt)
+pass-more (d ∷ xs) c all p = (all .0, pass-more xs c (all .1) p)
+
+begun-more : (w v : List ℕ) (steps : List Step) (c : Step) (x : Result) → Begun w steps v → Says (made v c) x → Passes c
+    → Begun w (steps ++ (c ∷ [])) (leftBy v c x)
+begun-more w v steps c x b says p =
+    record {
+      first = b .first;
+      fresh = b .fresh;
+      done = b .done;
+      then = trace-more steps c (b .first .words) v (b .then) x says;
+      passed = pass-more steps c (b .passed) p;
+    }
+
+heard-more : (steps : List Step) (c : Call) (h : List Call) → heardAll h (steps ++ (calls c ∷ [])) ≡ andThen (heardAll h steps) c
+heard-more [] c h = refl
+heard-more (d ∷ steps) c h = heard-more steps c (heard h d)
+
+entries-told : (p : ℕ) (ds : List Call) (steps : List Step) (w v u : List ℕ) → Begun w steps v → (t : Trace v (map calls ds) u) → AllPass (map calls ds)
+    → entriesIn p ds v u t ≡ answeredSince p (historyOf steps) ds
+entries-told p [] steps w v u b t all = refl
+entries-told p (c ∷ ds) steps w v u b t all =
+    let x = t .0 in
+    let g : Gives steps (calls c) x = record { first = w; before = v; begun = b; says = t .1 .0; passes = all .0 } in
+    let more = begun-more w v steps (calls c) x b (t .1 .0) (all .0) in
+    let rest = entries-told p ds (steps ++ (calls c ∷ [])) w (leftBy v (calls c) x) u more (t .1 .1) (all .1) in
+    ap (λ (a : Answer). answeredBy p c a ++ entriesIn p ds (leftBy v (calls c) x) u (t .1 .1)) (read-out steps c x g)
+    ∙ ap (λ (l : List Entry). answeredBy p c (outcome (relayAfter (historyOf steps)) c .answer) ++ l)
+    (rest ∙ ap (λ (cs : List Call). answeredFrom p (relayAfter cs) ds) (heard-more steps c []) ∙ ap (λ (r : Relay). answeredFrom p r ds) (relay-then (historyOf steps) freshRelay c))
+
 pub demand-3 : Demand3
 demand-3 =
     record {
@@ -95,4 +136,6 @@ demand-3 =
         gives-row steps (calls (takes p)) x g .0 ∙ ap (λ t. number (takingNumber t)) (take-is (historyOf steps) p),
         chosen-asked (rankBy entryOf) (lineAt p (historyOf steps)),
       );
+      foretold = λ cs ds c p k x placed. foretold-over-histories p cs c x placed ds k;
+      handed-is-told = λ steps ds p w v u b t all. entries-told p ds steps w v u b t all ∙ sym (answers-are-handed p ds (historyOf steps));
     }

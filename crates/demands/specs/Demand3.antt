@@ -4,7 +4,8 @@
 use Prim.Native.Nat.{ℕ, _+_, _%_, _^_, _<_, _≤_}
 use mathlib.Core.Path.{_≡_}
 use mathlib.Core.Bool.{true}
-use mathlib.Core.List.{List}
+use mathlib.Core.Logic.{_↔_}
+use mathlib.Core.List.{List, [], _∷_, map}
 use lib.ListN.{length}
 use Rattle.sets.specs.Sets.{inSet}
 use Rattle.address.specs.declared.Slot.{Slot}
@@ -13,13 +14,15 @@ use Rattle.state.specs.Relay.{portSetUp}
 use Rattle.answers.specs.Answers.{takingNumber}
 use Rattle.contracts.specs.Promised.{number, Result}
 use Rattle.history.specs.Calls.{counter, waiting, Call, hears, takes, looks}
-use Rattle.history.specs.Outcome.{sumOver}
+use Rattle.history.specs.Outcome.{relayAfter, sumOver}
 use Rattle.history.specs.Tally.{tally}
 use Rattle.history.specs.Sums.{receipts, deliveries, forwardings, drops}
 use Rattle.history.specs.Ledger.{granted, dropped, handedOut}
-use Rattle.history.specs.Line.{Copy, entryOf, takingOf, lineAt, takenAt, handedAt, times}
-use Rattle.demands.specs.Trace.{Step, calls, historyOf, relayOf, Gives}
-use Rattle.demands.specs.ReadOut.{droppedIn}
+use Rattle.queue.specs.Foretold.{AtTake}
+use Rattle.history.specs.Line.{Copy, entryOf, takenBy, takingOf, lineAt, takenAt, handedAt, times}
+use Rattle.history.specs.Foretold.{andThen, handedSince, takesSince, before, higherEnter}
+use Rattle.demands.specs.Trace.{Step, calls, Trace, AllPass, Begun, historyOf, relayOf, Gives}
+use Rattle.demands.specs.ReadOut.{droppedIn, entriesIn}
 
 pub record Demand3 : Type 0 where
   -- "From a fresh relay, after any calls, settings changed between them included, every counter equals, modulo 2^32, what the rules give over the
@@ -51,3 +54,12 @@ pub record Demand3 : Type 0 where
       → (x .answer
       ≡ number (takingNumber (takingOf (portSetUp (relayOf steps) p) (chosen (rankBy entryOf) (lineAt p (historyOf steps))))))
       × AsAsked (rankBy entryOf) (lineAt p (historyOf steps)) (chosen (rankBy entryOf) (lineAt p (historyOf steps)))
+  -- Page 02, W-213: "if, after an entry is placed on a port, r entries stand before it, and h entries of higher precedence enter that port while it
+  -- waits, then it is handed out at exactly the take numbered r + h + 1 after its placing, provided that many takes are made": x is the copy that
+  -- call c places on port p after the calls cs, and ds are the calls that follow; takes are those of the port that hand out,
+  pub foretold : (cs ds : List Call) (c : Call) (p k : ℕ) (x : Copy) → takenBy p (length cs) (relayAfter cs) c ≡ x ∷ []
+      → AtTake k x (handedSince p (andThen cs c) ds)
+      ↔ ((k ≡ before p x cs + higherEnter p x (andThen cs c) ds + 1) × (k ≤ takesSince p (andThen cs c) ds))
+  -- and what is handed out is what C reads out of the answers of hj_take, in that order.
+  pub handed-is-told : (steps : List Step) (ds : List Call) (p : ℕ) (w v u : List ℕ) → Begun w steps v → (t : Trace v (map calls ds) u)
+      → AllPass (map calls ds) → entriesIn p ds v u t ≡ map entryOf (handedSince p (historyOf steps) ds)

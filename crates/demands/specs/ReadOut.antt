@@ -2,11 +2,12 @@
 use Prim.Native.Nat.{ℕ, _%_, _^_}
 use mathlib.Core.Path.{_≡_}
 use mathlib.Core.Bool.{Bool, true, false, not, _||_}
-use mathlib.Core.List.{List, []}
+use mathlib.Core.List.{List, [], _∷_, _++_, map}
 use lib.Dec.{eqb, ltb}
 use Rattle.checks.specs.Order.{pick}
 use Rattle.answers.specs.Answers.{partAt, refusalIn, slotIn, precedenceIn}
 use Rattle.numbers.specs.declared.Numbers.{Numbers}
+use Rattle.queue.specs.declared.Entry.{Entry}
 use Rattle.state.specs.Relay.{Relay, State, counterIn}
 use Rattle.state.specs.Layout.{decode}
 use Rattle.harpjuniper.specs.declared.Reading.{Reading}
@@ -37,7 +38,9 @@ use Rattle.history.specs.Calls.{
   takes,
   looks,
 }
+use Rattle.history.specs.Foretold.{answeredBy}
 use Rattle.history.specs.Outcome as outcome
+use Rattle.demands.specs.Trace.{calls, leftBy, Trace}
 
 -- ---- the answer
 -- the number that an answer is, or begins with
@@ -138,6 +141,11 @@ relayIn w = decode w .relay
 
 abbrev pub counterAt : List ℕ → ℕ → ℕ
 counterAt w i = counterIn (decode w .counters) i
+
+-- the entries that C reads out of the takes of port p, one call after the other
+abbrev pub entriesIn : (p : ℕ) (cs : List Call) (w v : List ℕ) → Trace w (map calls cs) v → List Entry
+entriesIn p [] w v t = []
+entriesIn p (c ∷ cs) w v t = answeredBy p c (readOut c (t .0 .answer)) ++ entriesIn p cs (leftBy w (calls c) (t .0)) v (t .1 .1)
 
 -- a setting, as it is read back
 abbrev pub partTold : Relay → Part → Told

@@ -288,7 +288,7 @@ module _ (p : ℕ) where
   line-at-then : (cs : List Call) (c : Call) → lineAt p (andThen cs c) ≡ lineBy p (length cs) (relayAfter cs) c (lineAt p cs)
   line-at-then cs c = line-then cs 0 freshRelay [] c ∙ ap (λ (k : ℕ). lineBy p k (relayAfter cs) c (lineAt p cs)) (omega arith)
 
-relay-then : (cs : List Call) (r : Relay) (c : Call) → runFrom r (andThen cs c) ≡ next (runFrom r cs) c
+pub relay-then : (cs : List Call) (r : Relay) (c : Call) → runFrom r (andThen cs c) ≡ next (runFrom r cs) c
 relay-then [] r c = refl
 relay-then (d ∷ cs) r c = relay-then cs (next r d) c
 
