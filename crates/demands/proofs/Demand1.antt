@@ -1,15 +1,15 @@
 -- Demand 1 is kept. Assumes nothing.
 use native.Mathlib.Omega.{arith}
-use Prim.Native.Nat.{ℕ, _+_, _%_, _^_, _<_}
+use Prim.Native.Nat.{ℕ}
 use mathlib.Core.Path.{_≡_, refl, sym, ap, _∙_}
-use mathlib.Core.Bool.{Bool, true, false, not, _||_}
+use mathlib.Core.Bool.{Bool, true, false, not}
 use mathlib.Core.Logic.{_⊎_, inl, inr, ⊎-elim}
-use mathlib.Core.List.{List, []}
+use mathlib.Core.List.{List}
 use lib.ListN.{length}
 use lib.Dec.{eqb, ltb}
-use borrow.Author.Tests.{eqb-true, eqb-false, ltb-true, ne-eqb}
+use borrow.Author.Tests.{eqb-true, ltb-true, ne-eqb}
 use Rattle.checks.specs.Order.{pick, firstOf}
-use Rattle.checks.proofs.Bools.{true-false, or-true}
+use Rattle.checks.proofs.Bools.{true-false, or-true, not-false}
 use Rattle.header.specs.Read.{readOf}
 use Rattle.header.specs.declared.Header.{Header}
 use Rattle.header.specs.declared.Read.the-variants.{Good}
@@ -22,15 +22,12 @@ use Rattle.taking.specs.declared.Taking.the-variants.{Handed, Refused}
 use Rattle.judge.specs.Ending.{endingOf}
 use Rattle.judge.specs.declared.Ending.{Ending}
 use Rattle.relay.specs.Received.{receivedRelay}
-use Rattle.relay.specs.Outgoing.{sentOutput}
 use Rattle.harpjuniper.specs.Face.{numbersChecks, buildOutput}
-use Rattle.contracts.specs.Promised.{Result, Exported}
-use Rattle.contracts.specs.Contracts.{Says, Passable}
+use Rattle.contracts.specs.Promised.{Result}
 use Rattle.contracts.proofs.Answers.{each-call-answers}
 use Rattle.contracts.proofs.Rows.{one-result-by-contract}
 use Rattle.contracts.proofs.Given as given
 use Rattle.history.specs.Calls.{
-  Part,
   setting,
   search,
   counter,
@@ -47,16 +44,13 @@ use Rattle.history.specs.Calls.{
   takes,
   looks,
   checksOf,
-  settle,
 }
-use Rattle.history.specs.Outcome.{number, ended, entry, Answer, ofEnding, ofTaking, outcome, next, relayAfter}
+use Rattle.history.specs.Outcome.{ofEnding, ofTaking, outcome, next, relayAfter}
 use Rattle.history.specs.Tally.{stateAfter}
 use Rattle.history.specs.Answers.{answersOf, stands}
 use Rattle.history.specs.Transport.{SameButTpid, SameButLocal, localBy}
 use Rattle.history.proofs.Answered.{every-answer-is-listed}
-use Rattle.history.proofs.Listed.{every-ending-is-listed}
 use Rattle.history.proofs.ReadBack.{ReadBack, read-back}
-use Rattle.history.proofs.Reach.{not-false-true}
 use Rattle.history.proofs.Refusals.{refused-grants-nothing, nobody-took, output-as-lent, refused-take-leaves}
 use Rattle.history.proofs.Sums.{sent-where-taken}
 use Rattle.history.proofs.Transport as transport
@@ -65,7 +59,7 @@ use Rattle.demands.proofs.Promised.{promisedOf}
 use Rattle.demands.specs.ReadOut.{numberIn, readOut, isRefusal, outputOf, relayIn}
 use Rattle.demands.specs.Demand1.{LocalAlone, Demand1}
 use Rattle.demands.proofs.Traced.{step-stays}
-use Rattle.demands.proofs.Told.{gives-row, gives-before, gives-next, counters-move}
+use Rattle.demands.proofs.Told.{gives-row, gives-before, gives-next, counters-move, receive-told}
 use Rattle.demands.proofs.ReadOut.{read-out}
 
 -- ---- a refusal leaves the relay
@@ -85,7 +79,7 @@ module _ (r : Relay) where
       (λ onward.
       let over = ltb-true 1 n onward in
       eqb-true (e .ruling .took) 0
-      (not-false-true (eqb (e .ruling .took) 0) (sym (sent-where-taken r port octets room) ∙ ne-eqb n 1 (λ z. omega (arith, over, z)))))
+      (not-false (eqb (e .ruling .took) 0) (sym (sent-where-taken r port octets room) ∙ ne-eqb n 1 (λ z. omega (arith, over, z)))))
       (or-true (not (eqb (e .refusal) 0)) (ltb 1 n) h)
 
   taken-case : (p : ℕ) (x : Taking) → takeOutcome r p ≡ x → isRefusal (ofTaking p x .answer) ≡ true → takenRelay r p ≡ r
@@ -141,7 +135,7 @@ module _ (steps : List Step) (p : ℕ) (slot : Slot) (output : List ℕ) where
   -- the parts of an answer are those of the ending, and the words hold what it leaves
   module _ (octets : List ℕ) (x : Result) (g : Gives steps (calls (hears p slot octets output)) x) where
     told : ReadBack (numberIn (x .answer)) (endingOf r p octets (length output))
-    told = rw (gives-row steps (calls (hears p slot octets output)) x g .0) (read-back r p octets (length output))
+    told = rw (receive-told steps x p slot octets output g .0) (read-back r p octets (length output))
 
     left : relayIn (x .words) ≡ receivedRelay r slot (endingOf r p octets (length output))
     left =

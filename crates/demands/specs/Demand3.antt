@@ -12,12 +12,12 @@ use Rattle.queue.specs.Waits.{chosen, rankBy, AsAsked}
 use Rattle.state.specs.Relay.{portSetUp}
 use Rattle.answers.specs.Answers.{takingNumber}
 use Rattle.contracts.specs.Promised.{number, Result}
-use Rattle.history.specs.Calls.{counter, waiting, Call, hears, takes, looks}
+use Rattle.history.specs.Calls.{counter, waiting, hears, takes, looks}
 use Rattle.history.specs.Outcome.{relayAfter, sumOver}
 use Rattle.history.specs.Tally.{tally}
 use Rattle.history.specs.Sums.{receipts, deliveries, forwardings, drops}
 use Rattle.history.specs.Ledger.{granted, dropped, handedOut}
-use Rattle.history.specs.Line.{Copy, entryOf, takingOf, lineAt, takenAt, handedAt, times}
+use Rattle.history.specs.Line.{entryOf, takingOf, lineAt, takenAt, handedAt, times}
 use Rattle.demands.specs.Trace.{Step, calls, historyOf, Gives}
 use Rattle.demands.specs.ReadOut.{droppedIn}
 

@@ -1,13 +1,13 @@
 -- What C reads out of a result, by the functions of include/harpjuniper.h, and what the words that it lent hold. Assumes nothing.
 use Prim.Native.Nat.{ℕ, _%_, _^_}
 use mathlib.Core.Path.{_≡_}
-use mathlib.Core.Bool.{Bool, true, false, not, _||_}
+use mathlib.Core.Bool.{Bool, false, not, _||_}
 use mathlib.Core.List.{List, []}
 use lib.Dec.{eqb, ltb}
 use Rattle.checks.specs.Order.{pick}
 use Rattle.answers.specs.Answers.{partAt, refusalIn, slotIn, precedenceIn}
 use Rattle.numbers.specs.declared.Numbers.{Numbers}
-use Rattle.state.specs.Relay.{Relay, State, counterIn}
+use Rattle.state.specs.Relay.{Relay, counterIn}
 use Rattle.state.specs.Layout.{decode}
 use Rattle.harpjuniper.specs.declared.Reading.{Reading}
 use Rattle.harpjuniper_reads.specs.Back.{portBack, routeBack, groupBack, pathBack}

@@ -29,7 +29,7 @@ use Rattle.history.specs.Outcome.{ofTaking, outcome, next, runFrom, rela
 use Rattle.history.specs.Ledger.{one, granted, dropped, handedOut}
 use Rattle.page.proofs.Bits.{in-none}
 use Rattle.history.proofs.Fair.{Fair, fair}
-use Rattle.history.proofs.Queues.{Eight, eight-entered, putIf, entered-queue, put-count, take-count}
+use Rattle.history.proofs.Queues.{Eight, eight-entered, entered-queue, put-count, take-count}
 use Rattle.history.proofs.Settled.{queues-of, settle-queues}
 
 -- ---- eight queues stay
