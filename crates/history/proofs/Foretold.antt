@@ -14,6 +14,7 @@ use lib.ListN.{length, length-append, length-map, replicate}
 use lib.Dec.{eqb, ltb, leb}
 use borrow.Author.Tests.{eqb-true, ne-eqb, eqb-false}
 use Rattle.checks.specs.Order.{pick, firstOf}
+use Rattle.checks.proofs.Laws.{either}
 use Rattle.sets.specs.Sets.{inSet}
 use Rattle.address.specs.Octets.{dotted}
 use Rattle.address.specs.Class.{familyOf, scpsClass, classIn, classOf}
@@ -47,7 +48,7 @@ use Rattle.relay.specs.Received.{receivedRelay}
 use Rattle.history.specs.Calls.{Setting, setRouter, setPort, Look, Call, sets, hears, takes, looks}
 use Rattle.history.specs.Outcome.{Answer, number, ended, entry, Out, nothing, from, ofTaking, outcome, next, runFrom, relayAfter, sumFrom}
 use Rattle.history.specs.Ledger.{one as oneIf, outBy, handedOut}
-use Rattle.history.specs.Line.{Copy, entryOf, copyOf, takenBy, handedBy, leftBy, lineBy, lineFrom, takenFrom, handedFrom, lineAt, takenAt, takingOf, times}
+use Rattle.history.specs.Line.{Copy, entryOf, takenBy, handedBy, leftBy, lineBy, lineFrom, takenFrom, handedFrom, lineAt, takenAt, takingOf, times}
 use Rattle.history.specs.Foretold.{andThen, handedSince, takesSince, answeredBy, answeredFrom, answeredSince, before, Idle, isHanded, waitsFrom, higherEnter, CountsNothing, Refusal, takenSince, whileWaits}
 use Rattle.history.proofs.Line.{left-each, queue-waits}
 use Rattle.page.proofs.Bits.{in-none}
@@ -73,11 +74,7 @@ module _ (p : ℕ) where
   -- ---- what enters
   entered-out : (o : Out) (es : List (Deed Copy)) → entered (outDeed o ++ es) ≡ entered es
   entered-out nothing es = refl
-  entered-out (from q e) es = by (eqb q p)
-    where
-      by : (t : Bool) → entered (pick t (handsOut ∷ []) [] ++ es) ≡ entered es
-      by true = refl
-      by false = refl
+  entered-out (from q e) es = either (λ (ds : List (Deed Copy)). entered (ds ++ es) ≡ entered es) (eqb q p) refl refl
 
   entered-in : (ts : List Copy) (es : List (Deed Copy)) → entered (map enters ts ++ es) ≡ ts ++ entered es
   entered-in [] es = refl
@@ -204,11 +201,8 @@ module _ (p : ℕ) where
   -- ---- each copy has the turn of the call that placed it
   taken-turn : (n : ℕ) (r : Relay) (c : Call) → Each (λ (y : Copy). y .turn ≡ n) (takenBy p n r c)
   taken-turn n r (sets s) = tt
-  taken-turn n r (hears port slot octets output) = by (inSet p (endingOf r port octets (length output) .ruling .took))
-    where
-      by : (t : Bool) → Each (λ (y : Copy). y .turn ≡ n) (pick t (copyOf n r port slot octets (endingOf r port octets (length output)) ∷ []) [])
-      by true = (refl, tt)
-      by false = tt
+  taken-turn n r (hears port slot octets output) =
+      either (Each (λ (y : Copy). y .turn ≡ n)) (inSet p (endingOf r port octets (length output) .ruling .took)) (refl, tt) tt
   taken-turn n r (takes port) = tt
   taken-turn n r (looks l) = tt
 
@@ -464,11 +458,8 @@ module _ (p n : ℕ) where
 
   taken-few : (m : ℕ) (r : Relay) (c : Call) → length (takenBy p m r c) ≤ 1
   taken-few m r (sets s) = omega arith
-  taken-few m r (hears port slot octets output) = by (inSet p (endingOf r port octets (length output) .ruling .took))
-    where
-      by : (t : Bool) → length (pick t (copyOf m r port slot octets (endingOf r port octets (length output)) ∷ []) []) ≤ 1
-      by true = omega arith
-      by false = omega arith
+  taken-few m r (hears port slot octets output) =
+      either (λ (l : List Copy). length l ≤ 1) (inSet p (endingOf r port octets (length output) .ruling .took)) (omega arith) (omega arith)
   taken-few m r (takes port) = omega arith
   taken-few m r (looks l) = omega arith
 

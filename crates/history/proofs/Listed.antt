@@ -2,7 +2,7 @@
 -- answer stands in it is one computed test. Assumes nothing.
 use Prim.Native.Nat.{ℕ}
 use mathlib.Core.Path.{_≡_, refl, sym, ap, _∙_}
-use mathlib.Core.Bool.{Bool, true, false, not, _&&_, _||_}
+use mathlib.Core.Bool.{Bool, true, false, not, _&&_, _||_, or-true}
 use mathlib.Core.List.{List, [], _∷_}
 use lib.ListN.{length}
 use lib.Bits.{bitAnd}
@@ -83,10 +83,6 @@ first-listed xs (c ∷ cs) z h =
     let both = and-true (listed xs (c .1)) (allListed xs cs) h in
     either (λ n. listed xs n ≡ true) (c .0) (both .0) (first-listed xs cs z (both .1))
 
-or-right : (t u : Bool) → u ≡ true → (t || u) ≡ true
-or-right true u h = refl
-or-right false u h = h
-
 row-first : (t u : Bool) → t ≡ true → ((t && true) || u) ≡ true
 row-first true u h = refl
 row-first false u h = true-false (sym h)
@@ -146,7 +142,7 @@ module _ (bare : Bool) where
 
   -- any other obstacle
   other : (o : Obstacle) → isOurs o ≡ true → numbered bare (Refused o) ≡ true
-  other o h = or-right bare (isOurs o) h
+  other o h = rw h (or-true bare)
 
   group-numbered : (p : Place) (arrival others : ℕ) → Numbered (groupLine p arrival others)
   unfolding groupLine

@@ -8,9 +8,9 @@ use lib.Dec.{eqb, ltb}
 use lib.ListN.{length, getD, set, length-set, getD-replicate}
 use lib.Seq.{getD-set-same, getD-set-other}
 use borrow.Author.Tests.{eqb-true, eqb-false, lt-ltb, ltb-true}
-use Rattle.checks.specs.Order.{pick, firstOf}
+use Rattle.checks.specs.Order.{firstOf}
 use Rattle.checks.proofs.Bools.{true-false, and-true, or-false, not-false, and-not-false, and-not}
-use Rattle.checks.proofs.Laws.{none-zero}
+use Rattle.checks.proofs.Laws.{either, none-zero}
 use Rattle.sets.specs.Sets.{inSet, onlyPort, portSet}
 use Rattle.settings.specs.Sets.{isReady, namesOther, setRefused}
 use Rattle.settings.proofs.Answers.{both-false}
@@ -40,7 +40,7 @@ use Rattle.queue.specs.declared.Queue.{Queue}
 use Rattle.taking.specs.Taking.{without, takenRelay}
 use Rattle.judge.specs.Ending.{endingOf}
 use Rattle.judge.specs.declared.Ending.{Ending}
-use Rattle.relay.specs.Outgoing.{entered, enteredIf, enteredAll}
+use Rattle.relay.specs.Outgoing.{enteredIf, enteredAll}
 use Rattle.relay.specs.Received.{newEntry, receivedRelay}
 use Rattle.history.specs.Calls.{
   Setting,
@@ -289,28 +289,24 @@ by-settings r s k e = same-kept r s k (ap (λ x. x .0) e) (ap (λ x. x .1 .0) e)
 abbrev pub madeOf : Relay → ℕ × (List Port × (List Group × (List PathPlace × List Route)))
 madeOf r = (r .router, settingsOf r)
 
-entered-case : (t : Bool) (r : Relay) (p : ℕ) (e : Entry) → madeOf (pick t r (entered r p e)) ≡ madeOf r
-entered-case true r p e = refl
-entered-case false r p e = refl
-
 entered-made : (took : ℕ) (e : Entry) (n : ℕ) (r : Relay) → madeOf (enteredAll r took e n) ≡ madeOf r
 unfolding enteredAll enteredIf
 entered-made took e zero r = refl
 entered-made took e (suc p) r =
-    entered-case (eqb (bitAnd took (onlyPort p)) 0) (enteredAll r took e p) p e ∙ entered-made took e p r
+    either (λ (s : Relay). madeOf s ≡ madeOf r) (eqb (bitAnd took (onlyPort p)) 0) (entered-made took e p r) (entered-made took e p r)
 
 pub received-made : (r : Relay) (slot : Slot) (e : Ending) → madeOf (receivedRelay r slot e) ≡ madeOf r
 unfolding receivedRelay
 received-made r slot e = entered-made (e .ruling .took) (newEntry slot e) 8 r
 
-taken-case : (t : Bool) (r : Relay) (port : ℕ) (q : Queue) (h : Head) → madeOf (pick t r (without r port q h)) ≡ madeOf r
-taken-case true r port q h = refl
-taken-case false r port q (First e) = refl
-taken-case false r port q Nothing = refl
+without-made : (r : Relay) (port : ℕ) (q : Queue) (h : Head) → madeOf (without r port q h) ≡ madeOf r
+without-made r port q (First e) = refl
+without-made r port q Nothing = refl
 
 pub taken-made : (r : Relay) (port : ℕ) → madeOf (takenRelay r port) ≡ madeOf r
 unfolding takenRelay
-taken-made r port = taken-case (not (portSetUp r port)) r port (takeOf (queueIn r port) .queue) (takeOf (queueIn r port) .head)
+taken-made r port =
+    either (λ (s : Relay). madeOf s ≡ madeOf r) (not (portSetUp r port)) refl (without-made r port (takeOf (queueIn r port) .queue) (takeOf (queueIn r port) .head))
 
 pub received-settings : (r : Relay) (slot : Slot) (e : Ending) → settingsOf (receivedRelay r slot e) ≡ settingsOf r
 received-settings r slot e = ap (λ x. x .1) (received-made r slot e)
