@@ -20,9 +20,8 @@ use Rattle.header.specs.declared.Read.the-variants.{Good, Refused}
 use Rattle.networks.specs.Networks.{domainOf}
 use Rattle.meaning.specs.Names.{aimOf, originOf}
 use Rattle.queue.specs.Order.{Each}
-use Rattle.queue.specs.Waits.{chosen, rankBy, Waits}
-use Rattle.queue.proofs.Each.{each-append}
-use Rattle.queue.proofs.Waits.{chosen-each, waits-count}
+use Rattle.queue.specs.Waits.{Waits}
+use Rattle.queue.proofs.Waits.{waits-count}
 use Rattle.records.specs.Fresh.{freshPort}
 use Rattle.records.specs.declared.Port.{Port}
 use Rattle.state.specs.Relay.{Relay, freshRelay, portIn, queueIn, withPort}
@@ -53,9 +52,9 @@ use Rattle.history.specs.Calls.{
   checksOf,
   written,
 }
-use Rattle.history.specs.Outcome.{outcome, next, runFrom, relayAfter}
+use Rattle.history.specs.Outcome.{next, runFrom, relayAfter}
 use Rattle.history.specs.Ledger.{one}
-use Rattle.history.specs.Line.{Copy, entryOf, copyOf, takenBy, leftBy, lineBy, lineFrom, lineAt}
+use Rattle.history.specs.Line.{Copy, entryOf, copyOf, takenBy, lineBy, lineFrom, lineAt}
 use Rattle.history.proofs.Settled.{settle-keeps}
 use Rattle.page.specs.Table.{oneOctet}
 use Rattle.page.proofs.Bits.{in-none}
@@ -64,7 +63,7 @@ use Rattle.history.proofs.Meaning.{stays-in-its-domain, names-the-same}
 use Rattle.history.proofs.Reach.{madeOf, received-made, taken-made}
 use Rattle.history.proofs.Queues.{Eight}
 use Rattle.history.proofs.Ledger.{next-eight, fresh-eight}
-use Rattle.history.proofs.Line.{left-each, next-waits, fresh-waits}
+use Rattle.history.proofs.Line.{line-each, next-waits, fresh-waits}
 
 -- ---- a copy was read, and its header is as long as it says
 module _ (p : ℕ) where
@@ -139,13 +138,9 @@ module _ (p : ℕ) (inside : p < 8) where
   entered-named n r (takes port) = tt
   entered-named n r (looks l) = tt
 
-  -- ---- a take leaves some of them
+  -- ---- a call leaves some of them
   line-named : (n : ℕ) (r : Relay) (c : Call) (line : List Copy) → AllNamed r line → AllNamed r (lineBy p n r c line)
-  line-named n r c line all =
-      let x = chosen (rankBy entryOf) line in
-      each-append (NamesTheSame (portIn r p)) (leftBy p (outcome r c .out) line x) (takenBy p n r c)
-      (left-each p (NamesTheSame (portIn r p)) (outcome r c .out) line x all (chosen-each (rankBy entryOf) (NamesTheSame (portIn r p)) line all))
-      (entered-named n r c)
+  line-named n r c line all = line-each p (NamesTheSame (portIn r p)) n r c line all (entered-named n r c)
 
   -- ---- the port stays as it is where anything waits
   nothing-waits : (r : Relay) (line : List Copy) → Waits entryOf (queueIn r p) line → entriesWait r p ≡ false → line ≡ []

@@ -29,7 +29,7 @@ use Rattle.queue.specs.Foretold.{Deed, enters, handsOut, entered, takesIn, howM
 use Rattle.queue.specs.declared.Entry.{Entry}
 use Rattle.queue.proofs.Each.{each-so, each-append}
 use Rattle.queue.proofs.Order.{insert-placed, insert-map}
-use Rattle.queue.proofs.Waits.{chosen-asked, chosen-each, ordered-enters}
+use Rattle.queue.proofs.Waits.{chosen-asked, ordered-enters}
 use Rattle.queue.proofs.Foretold.{foretold, stand-before}
 use Rattle.networks.specs.Networks.{subnetBroadcast}
 use Rattle.settings.specs.Refusals.{otherClass, onesRefused, formRefused, portMaskRefused}
@@ -50,7 +50,7 @@ use Rattle.history.specs.Outcome.{Answer, number, ended, entry, Out, not
 use Rattle.history.specs.Ledger.{one as oneIf, outBy, handedOut}
 use Rattle.history.specs.Line.{Copy, entryOf, takenBy, handedBy, leftBy, lineBy, lineFrom, takenFrom, handedFrom, lineAt, takenAt, takingOf, times}
 use Rattle.history.specs.Foretold.{andThen, handedSince, takesSince, answeredBy, answeredFrom, answeredSince, before, Idle, isHanded, waitsFrom, higherEnter, CountsNothing, Refusal, takenSince, whileWaits}
-use Rattle.history.proofs.Line.{left-each, queue-waits}
+use Rattle.history.proofs.Line.{line-each, queue-waits}
 use Rattle.page.proofs.Bits.{in-none}
 use Rattle.history.proofs.Refusals.{refused-grants-nothing}
 use Rattle.history.proofs.Takes.{take-is}
@@ -218,12 +218,10 @@ module _ (p : ℕ) where
       → Each (λ (y : Copy). y .turn < n + length cs) (lineFrom p n r line cs)
   line-earlier [] n r line all = each-so line (λ y h. omega arith) all
   line-earlier (c ∷ cs) n r line all =
-      let here = leftBy p (outcome r c .out) line (chosen rank line) in
-      let stay : Each (λ (y : Copy). y .turn < n) here = left-each p _ (outcome r c .out) line (chosen rank line) all (chosen-each rank _ line all) in
       each-so (lineFrom p n r line (c ∷ cs)) (λ y h. omega arith)
       (line-earlier cs (suc n) (next r c) (lineBy p n r c line)
-      (each-append (λ (y : Copy). y .turn < suc n) here (takenBy p n r c)
-      (each-so here (λ y h. omega arith) stay)
+      (line-each p (λ (y : Copy). y .turn < suc n) n r c line
+      (each-so line (λ y h. omega arith) all)
       (each-so (takenBy p n r c) (λ y same. omega arith) (taken-turn n r c))))
 
   -- a call that places a copy hands nothing out

@@ -19,7 +19,8 @@ use Rattle.queue.specs.Waits.{Chosen, nobody, one, chosen, rankBy, Highest, Wai
 use Rattle.queue.specs.declared.Head.{Head}
 use Rattle.queue.specs.declared.Head.the-variants.{First, Nothing}
 use Rattle.queue.specs.declared.Queue.{Queue}
-use Rattle.queue.proofs.Waits.{EachOf, chosen-asked, waits-fresh, waits-count, waits-put, waits-take, waits-nothing}
+use Rattle.queue.proofs.Each.{each-append}
+use Rattle.queue.proofs.Waits.{EachOf, chosen-each, chosen-asked, waits-fresh, waits-count, waits-put, waits-take, waits-nothing}
 use Rattle.state.specs.Relay.{Relay, freshRelay, queueIn, portSetUp}
 use Rattle.taking.specs.Taking.{handsOut, without, takeOutcome, takenRelay}
 use Rattle.taking.specs.declared.Taking.the-variants.{Refused}
@@ -33,11 +34,17 @@ use Rattle.history.proofs.Queues.{Eight, entered-queue}
 use Rattle.history.proofs.Settled.{queues-of, settle-queues}
 use Rattle.history.proofs.Ledger.{next-eight, fresh-eight}
 
--- what holds of each that waits holds of each that a call leaves
-pub left-each : (p : ℕ) (P : Copy → Type 0) (o : Out) (line : List Copy) (c : Chosen Copy) → Each P line → EachOf (rankBy entryOf) P c → Each P (leftBy p o line c)
+left-each : (p : ℕ) (P : Copy → Type 0) (o : Out) (line : List Copy) (c : Chosen Copy) → Each P line → EachOf (rankBy entryOf) P c → Each P (leftBy p o line c)
 left-each p P nothing line c all h = all
 left-each p P (from q e) line nobody all h = all
 left-each p P (from q e) line (one x others) all h = either (Each P) (eqb q p) (h .1) all
+
+-- what holds of each that waits and of each that a call places holds of each that waits after the call
+pub line-each : (p : ℕ) (P : Copy → Type 0) (n : ℕ) (r : Relay) (c : Call) (line : List Copy) → Each P line → Each P (takenBy p n r c) → Each P (lineBy p n r c line)
+line-each p P n r c line all come =
+    let x = chosen (rankBy entryOf) line in
+    each-append P (leftBy p (outcome r c .out) line x) (takenBy p n r c)
+    (left-each p P (outcome r c .out) line x all (chosen-each (rankBy entryOf) P line all)) come
 
 module _ (p : ℕ) (inside : p < 8) where
   abbrev Held : Relay → List Copy → Type 0

@@ -32,7 +32,6 @@ use Rattle.settings.proofs.Values.{flag-taken}
 use Rattle.queue.specs.Order.{Each}
 use Rattle.queue.specs.Waits.{Chosen, nobody, one, chosen, rankBy}
 use Rattle.queue.specs.declared.Entry.{Entry}
-use Rattle.queue.proofs.Each.{each-append}
 use Rattle.queue.proofs.Waits.{EachOf, chosen-each, waits-count}
 use Rattle.records.specs.Fresh.{freshPort, freshGroup, freshPath}
 use Rattle.records.specs.SetUp.{isSetUp}
@@ -74,7 +73,7 @@ use Rattle.history.specs.Line.{Copy, entryOf, copyOf, takenBy, leftBy, l
 use Rattle.history.specs.Ranges.{Flag, Flags, InRange, Octets, Passed, EntryFits, CopyFits}
 use Rattle.history.proofs.Settled.{settle-keeps}
 use Rattle.history.proofs.Reach.{madeOf, received-made, taken-made}
-use Rattle.history.proofs.Line.{left-each, queue-waits}
+use Rattle.history.proofs.Line.{line-each, queue-waits}
 use Rattle.history.proofs.Takes.{take-is}
 use Rattle.page.specs.Table.{hasRoom}
 use Rattle.page.proofs.Exactly.{took-exactly}
@@ -310,10 +309,7 @@ module _ (p : ℕ) where
   all-fit : (cs : List Call) (n : ℕ) (r : Relay) (line : List Copy) → Each Passed cs → Each CopyFits line → Each CopyFits (lineFrom p n r line cs)
   all-fit [] n r line passed all = all
   all-fit (c ∷ cs) n r line passed all =
-      let o = outcome r c .out in
-      let x = chosen (rankBy entryOf) line in
-      all-fit cs (suc n) (next r c) (lineBy p n r c line) (passed .1)
-      (each-append CopyFits (leftBy p o line x) (takenBy p n r c) (left-each p CopyFits o line x all (chosen-each (rankBy entryOf) CopyFits line all)) (enters-fits r n c (passed .0)))
+      all-fit cs (suc n) (next r c) (lineBy p n r c line) (passed .1) (line-each p CopyFits n r c line all (enters-fits r n c (passed .0)))
 
   -- After any history that C can make each copy that waits has a precedence of 0 to 15 and a slot of 16 bits, and came as octets, ..
   pub waiting-fits : (cs : List Call) → Each Passed cs → Each CopyFits (lineAt p cs)
