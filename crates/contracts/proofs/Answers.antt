@@ -50,28 +50,28 @@ use Rattle.contracts.proofs.Kept.{clear-route-kept, clear-group-kept, c
 use Rattle.contracts.proofs.Rows.{row-contract}
 
 -- words that have this view
-abbrev Words : Lent → Type 0
-Words view = (v : List ℕ) × (lent v ≡ view)
+abbrev SomeWords : Lent → Type 0
+SomeWords view = (v : List ℕ) × (lent v ≡ view)
 
 -- the words of the state changed, or the words as they were
-left-by : (w : List ℕ) {f : State → State} → ((s : State) → Formed s → Formed (f s)) → Words (changed f w)
+left-by : (w : List ℕ) {f : State → State} → ((s : State) → Formed s → Formed (f s)) → SomeWords (changed f w)
 left-by w {f} keeps = by-length (eqb (length w) stateWords) refl
   where
-    held : length w ≡ stateWords → Words (changed f w)
+    held : length w ≡ stateWords → SomeWords (changed f w)
     held right =
         let formed = keeps (decode w) (decode-formed w right) in
         let s = f (decode w) in
         (encode s, held-changed w right f (encode s) (words-length s formed) (words-hold s formed))
 
-    by-length : (t : Bool) → eqb (length w) stateWords ≡ t → Words (changed f w)
+    by-length : (t : Bool) → eqb (length w) stateWords ≡ t → SomeWords (changed f w)
     by-length true e = held (eqb-true (length w) stateWords e)
     by-length false e = (w, other-changed w (eqb-false (length w) stateWords e) f)
 
 -- the same of a call that leaves the counters
-relay-left-by : (w : List ℕ) {f : Relay → Relay} → ((r : Relay) → FormedRelay r → FormedRelay (f r)) → Words (changedRelay f w)
+relay-left-by : (w : List ℕ) {f : Relay → Relay} → ((r : Relay) → FormedRelay r → FormedRelay (f r)) → SomeWords (changedRelay f w)
 relay-left-by w keeps = left-by w (relay-kept keeps)
 
-words-left : (c : Exported) → Passable c → Words (promised c .words)
+words-left : (c : Exported) → Passable c → SomeWords (promised c .words)
 words-left (hj-read l) fits = ([], refl)
 words-left (hj-build fields size o) fits = ([], refl)
 words-left (hj-class a) fits = ([], refl)

@@ -1,15 +1,15 @@
 -- Demand 1 is kept. Assumes nothing.
 use native.Mathlib.Omega.{arith}
-use Prim.Native.Nat.{ℕ, _+_, _%_, _^_, _<_}
+use Prim.Native.Nat.{ℕ}
 use mathlib.Core.Path.{_≡_, refl, sym, ap, _∙_}
-use mathlib.Core.Bool.{Bool, true, false, not, _||_}
+use mathlib.Core.Bool.{Bool, true, false, not}
 use mathlib.Core.Logic.{_⊎_, inl, inr, ⊎-elim}
-use mathlib.Core.List.{List, []}
+use mathlib.Core.List.{List}
 use lib.ListN.{length}
 use lib.Dec.{eqb, ltb}
-use borrow.Author.Tests.{eqb-true, eqb-false, ltb-true, ne-eqb}
+use borrow.Author.Tests.{eqb-true, ltb-true, ne-eqb}
 use Rattle.checks.specs.Order.{pick, firstOf}
-use Rattle.checks.proofs.Bools.{true-false, or-true}
+use Rattle.checks.proofs.Bools.{true-false, or-true, not-false}
 use Rattle.header.specs.Read.{readOf}
 use Rattle.header.specs.declared.Header.{Header}
 use Rattle.header.specs.declared.Read.the-variants.{Good}
@@ -25,56 +25,20 @@ use Rattle.taking.specs.declared.Taking.the-variants.{Handed, Refused}
 use Rattle.judge.specs.Ending.{endingOf}
 use Rattle.judge.specs.declared.Ending.{Ending}
 use Rattle.relay.specs.Received.{receivedRelay}
-use Rattle.relay.specs.Outgoing.{sentOutput}
 use Rattle.harpjuniper.specs.Face.{numbersChecks, buildOutput}
-use Rattle.contracts.specs.Promised.{Told, number, port, route, group, path, Result, Exported, hj-fresh}
-use Rattle.contracts.specs.Contracts.{Says, Passable}
+use Rattle.contracts.specs.Promised.{Told, number, port, route, group, path, Result, hj-fresh}
+use Rattle.contracts.specs.Contracts.{Says}
 use Rattle.contracts.proofs.Answers.{each-call-answers}
 use Rattle.contracts.proofs.Rows.{says-row, one-result-by-contract}
 use Rattle.contracts.proofs.Given as given
-use Rattle.history.specs.Calls.{
-  Setting,
-  setRouter,
-  setPort,
-  setRoute,
-  setGroup,
-  setPath,
-  clearRoute,
-  clearGroup,
-  clearPath,
-  theRouter,
-  thePort,
-  theRoute,
-  theGroup,
-  thePath,
-  Look,
-  setting,
-  search,
-  counter,
-  waiting,
-  read,
-  build,
-  class,
-  form,
-  checksum,
-  stateWords,
-  Call,
-  sets,
-  hears,
-  takes,
-  looks,
-  checksOf,
-  settle,
-}
+use Rattle.history.specs.Calls.{Setting, setRouter, setPort, setRoute, setGroup, setPath, clearRoute, clearGroup, clearPath, theRouter, thePort, theRoute, theGroup, thePath, Look, setting, search, counter, waiting, read, build, class, form, checksum, stateWords, Call, sets, hears, takes, looks, checksOf}
 use Rattle.history.specs.Outcome.{ofEnding, ofTaking, next, relayAfter}
 use Rattle.history.specs.Outcome as outcome
 use Rattle.history.specs.Tally.{stateAfter}
 use Rattle.history.specs.Answers.{answersOf, stands}
 use Rattle.history.specs.Transport.{SameButTpid, SameButLocal, localBy}
 use Rattle.history.proofs.Answered.{every-answer-is-listed}
-use Rattle.history.proofs.Listed.{every-ending-is-listed}
 use Rattle.history.proofs.ReadBack.{ReadBack, read-back}
-use Rattle.history.proofs.Reach.{not-false-true}
 use Rattle.history.proofs.Refusals.{refused-grants-nothing, nobody-took, output-as-lent, refused-take-leaves}
 use Rattle.history.proofs.Sums.{sent-where-taken}
 use Rattle.history.proofs.Transport as transport
@@ -83,7 +47,7 @@ use Rattle.demands.proofs.Promised.{promisedOf}
 use Rattle.demands.specs.ReadOut.{numberIn, looksAtState, readOut, isRefusal, outputOf, relayIn}
 use Rattle.demands.specs.Demand1.{LocalAlone, WithoutState, Demand1}
 use Rattle.demands.proofs.Traced.{step-stays}
-use Rattle.demands.proofs.Told.{gives-row, gives-before, gives-next, counters-move}
+use Rattle.demands.proofs.Told.{gives-row, gives-before, gives-next, counters-move, receive-told}
 use Rattle.demands.proofs.ReadOut.{read-out}
 
 -- ---- a refusal leaves the relay
@@ -103,7 +67,7 @@ module _ (r : Relay) where
       (λ onward.
       let over = ltb-true 1 n onward in
       eqb-true (e .ruling .took) 0
-      (not-false-true (eqb (e .ruling .took) 0) (sym (sent-where-taken r at octets room) ∙ ne-eqb n 1 (λ z. omega (arith, over, z)))))
+      (not-false (eqb (e .ruling .took) 0) (sym (sent-where-taken r at octets room) ∙ ne-eqb n 1 (λ z. omega (arith, over, z)))))
       (or-true (not (eqb (e .refusal) 0)) (ltb 1 n) h)
 
   taken-case : (p : ℕ) (x : Taking) → takeOutcome r p ≡ x → isRefusal (ofTaking p x .answer) ≡ true → takenRelay r p ≡ r
@@ -159,7 +123,7 @@ module _ (steps : List Step) (p : ℕ) (slot : Slot) (output : List ℕ) where
   -- the parts of an answer are those of the ending, and the words hold what it leaves
   module _ (octets : List ℕ) (x : Result) (g : Gives steps (calls (hears p slot octets output)) x) where
     answered : ReadBack (numberIn (x .answer)) (endingOf r p octets (length output))
-    answered = rw (gives-row steps (calls (hears p slot octets output)) x g .0) (read-back r p octets (length output))
+    answered = rw (receive-told steps x p slot octets output g .0) (read-back r p octets (length output))
 
     left : relayIn (x .words) ≡ receivedRelay r slot (endingOf r p octets (length output))
     left =

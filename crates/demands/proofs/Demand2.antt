@@ -1,27 +1,25 @@
 -- Demand 2 is kept. Assumes nothing.
 use native.Mathlib.Omega.{arith}
-use Prim.Native.Nat.{ℕ, _+_, _*_, _^_, _<_, _≤_}
-use mathlib.Core.Path.{_≡_, refl, sym, ap, subst, _∙_}
-use mathlib.Core.Logic.{_↔_, _≢_, _⊎_, ⊎-elim}
-use mathlib.Core.Bool.{Bool, true, false, _&&_, _||_, not}
-use mathlib.Core.List.{List, [], _∷_, _++_, map, append-assoc}
+use Prim.Native.Nat.{ℕ, _+_, _^_, _<_, _≤_}
+use mathlib.Core.Path.{_≡_, refl, sym, ap, _∙_}
+use mathlib.Core.Logic.{_↔_, _≢_, ⊎-elim}
+use mathlib.Core.Bool.{Bool, true, false, _||_, not}
+use mathlib.Core.List.{List, [], _∷_, _++_, map, append-nil, append-assoc}
 use lib.ListN.{length, take, drop}
-use lib.Dec.{eqb, ltb}
-use borrow.Author.Tests.{eqb-true, eqb-false, ltb-false}
+use lib.Dec.{eqb}
+use borrow.Author.Tests.{eqb-true, ltb-false}
+use Rattle.header.specs.declared.Read.{Read}
 use Rattle.checks.specs.Order.{pick, Checks, firstOf, noneHolds, firstHolds}
 use Rattle.checks.specs.Answer.{refusalNumber}
 use Rattle.checks.proofs.Bools.{true-false, and-true, or-true}
-use Rattle.checks.proofs.Laws.{zero-none}
 use Rattle.refusals.proofs.Chains.{Decided, decided}
 use Rattle.sets.specs.Sets.{inSet}
 use Rattle.address.specs.declared.Slot.{Slot}
 use Rattle.header.specs.Build.{sizeOf}
-use Rattle.header.specs.Form.{controlOf}
 use Rattle.header.specs.Limits.{longestHeader, mostData, noRoom, tooMuchData}
 use Rattle.header.specs.Onward.{headerSentOn, oneLess, withHops}
-use Rattle.header.specs.Read.{readChecks, headerOf, readBy, readOf}
+use Rattle.header.specs.Read.{readChecks, headerOf, readOf}
 use Rattle.header.specs.declared.Header.{Header}
-use Rattle.header.specs.declared.Read.{Read}
 use Rattle.header.specs.declared.Read.the-variants.{Good, Refused}
 use Rattle.header.proofs.Beyond.{agree-up-to-the-length}
 use Rattle.header.proofs.BuiltLaws.{built-size}
@@ -57,31 +55,10 @@ use Rattle.page.specs.Table.{oneOctet, hasRoom, verdictOf}
 use Rattle.page.proofs.Exactly.{took-exactly, dropped-exactly}
 use Rattle.page.proofs.Sought.{sought-taken, sought-no-route}
 use Rattle.page.proofs.Verdict.{verdict-is-the-page}
-use Rattle.contracts.specs.Promised.{number, reading, Result, hj-read, hj-build}
-use Rattle.contracts.specs.Contracts.{Says}
+use Rattle.contracts.specs.Promised.{Told, number, reading, Result, hj-read, hj-build}
 use Rattle.contracts.proofs.Answers.{each-call-answers}
 use Rattle.contracts.proofs.Rows.{says-row}
-use Rattle.history.specs.Calls.{
-  Setting,
-  setRouter,
-  setPort,
-  setRoute,
-  setGroup,
-  setPath,
-  clearRoute,
-  clearGroup,
-  clearPath,
-  Part,
-  read,
-  build,
-  Call,
-  sets,
-  hears,
-  takes,
-  looks,
-  checksOf,
-  settle,
-}
+use Rattle.history.specs.Calls.{Setting, setRouter, setPort, setRoute, setGroup, setPath, clearRoute, clearGroup, clearPath, Part, read, Call, sets, hears, takes, looks, checksOf, settle}
 use Rattle.history.specs.Outcome.{entry, ofTaking, outcome, next, runFrom, relayAfter}
 use Rattle.history.specs.Tally.{stateAfter}
 use Rattle.history.specs.Parts.{About, settingIn}
@@ -89,7 +66,6 @@ use Rattle.history.specs.Line.{Copy, entryOf, sentOf, takingOf, lineAt}
 use Rattle.history.specs.Marked.{Marked, markedCases}
 use Rattle.history.specs.Ranges.{Octets, EntryFits, CopyFits}
 use Rattle.history.proofs.Domain.{NamesTheSame, waiting-copies-name-the-same}
-use Rattle.history.proofs.Line.{append-nil}
 use Rattle.history.proofs.Holds.{holds-until-changed}
 use Rattle.history.proofs.Keys.{keys-unique}
 use Rattle.history.proofs.Marked.{marked-cases}
@@ -99,10 +75,10 @@ use Rattle.history.proofs.ReadBack.{ReadBack, read-back}
 use Rattle.history.proofs.Search.{masks-contiguous}
 use Rattle.history.proofs.Takes.{take-is}
 use Rattle.demands.specs.Trace.{Step, calls, heard, heardAll, historyOf, Gives}
-use Rattle.demands.specs.ReadOut.{readOut, numberIn, tookIn, droppedIn, onwardIn, relayIn, Reads, Builds}
+use Rattle.demands.specs.ReadOut.{numberIn, tookIn, droppedIn, relayIn, Reads, Builds, readOut}
 use Rattle.demands.specs.Demand2.{ToldAs, Answered, Demand2}
 use Rattle.demands.proofs.Lasts.{passable}
-use Rattle.demands.proofs.Told.{gives-row, gives-before, gives-next, part-told}
+use Rattle.demands.proofs.Told.{gives-before, gives-next, setting-told, receive-told, take-told, part-told, gives-row}
 use Rattle.demands.proofs.ReadOut.{history-passed, read-out}
 
 -- ---- reading
@@ -133,10 +109,14 @@ reader-decided : (s : List ℕ) → Decided (readChecks s)
 unfolding readChecks
 reader-decided s = decided (readChecks s) refl
 
--- ---- building
+-- ---- an answer that is a number
 same-told : (a b : ℕ) → number a ≡ number b → a ≡ b
 same-told a b e = cc
 
+by-answer : {a : Told} {m : ℕ} → a ≡ number m → (n : ℕ) {P : Type 0} → (m ≡ n) ↔ P → (a ≡ number n) ↔ P
+by-answer {a} {m} said n by = (λ e. by .0 (same-told m n (sym said ∙ e)), λ p. said ∙ ap number (by .1 p))
+
+-- ---- building
 module _ (fields : Numbers) (size : ℕ) where
   builds : (lent : List ℕ) → Builds fields size lent (buildAnswer fields size (length lent)) (buildOutput fields size lent)
   builds lent =
@@ -165,7 +145,7 @@ module _ (fields : Numbers) (size : ℕ) where
     built-small : firstOf (numbersChecks fields size room) ≡ 0 → sizeOf (fieldsFrom fields) < 2 ^ 32
     unfolding numbersChecks
     built-small z =
-        let none = zero-none (checks room) ((λ z. omega arith), ((λ z. omega arith), ((λ z. omega arith), tt))) z in
+        let none = decided (checks room) refl .0 .0 z in
         let most = built-size (fieldsFrom fields) (fields-in fields words (none .1 .0)) .1 in
         omega (arith, most)
 
@@ -186,7 +166,7 @@ module _ (fields : Numbers) (size : ℕ) where
     unfolding buildAnswer numbersChecks
     passed low =
         let m = firstOf (checks room) in
-        zero-none (checks room) ((λ z. omega arith), ((λ z. omega arith), ((λ z. omega arith), tt)))
+        decided (checks room) refl .0 .0
         (passed-case m (sizeOf (fieldsFrom fields)) (eqb m 0) refl low)
 
 build-then-read : (fields : Numbers) (size : ℕ) (lent left userData : List ℕ) (answer : ℕ) → Words fields → Builds fields size lent answer left
@@ -267,7 +247,7 @@ module _ (steps : List Step) where
   -- a datagram
   module _ (at : ℕ) (slot : Slot) (octets output : List ℕ) (x : Result) (g : Gives steps (calls (hears at slot octets output)) x) where
     told : ReadBack (numberIn (x .answer)) (endingOf r at octets (length output))
-    told = rw (gives-row steps (calls (hears at slot octets output)) x g .0) (read-back r at octets (length output))
+    told = rw (receive-told steps x at slot octets output g .0) (read-back r at octets (length output))
 
     verdict : ToldAs x (verdictOf r at octets (length output)) × (x .output ≡ sentOutput (tookIn x) octets output)
     verdict =
@@ -279,7 +259,7 @@ module _ (steps : List Step) where
             took = λ p inside. ap (inSet p) (told .took) ∙ page .ruling .took p inside;
             dropped = λ p inside. ap (inSet p) (told .dropped) ∙ page .ruling .dropped p inside;
           },
-          gives-row steps (calls (hears at slot octets output)) x g .1 .1 ∙ ap (λ (took : ℕ). sentOutput took octets output) (sym (told .took)),
+          receive-told steps x at slot octets output g .1 ∙ ap (λ (took : ℕ). sentOutput took octets output) (sym (told .took)),
         )
 
     granted : (p : ℕ) → p < 8 → (inSet p (tookIn x) || inSet p (droppedIn x)) ≡ true
@@ -318,13 +298,7 @@ module _ (steps : List Step) where
   -- a setting
   module _ (s : Setting) (x : Result) (g : Gives steps (calls (sets s)) x) where
     said : x .answer ≡ number (firstOf (checksOf r s))
-    said = gives-row steps (calls (sets s)) x g .0
-
-    by-number : (n : ℕ) {P : Type 0} → (firstOf (checksOf r s) ≡ n) ↔ P → (x .answer ≡ number n) ↔ P
-    by-number n by = (
-      λ e. by .0 (let same : firstOf (checksOf r s) ≡ n = cc (said, e) in same),
-      λ p. said ∙ ap number (by .1 p),
-    )
+    said = setting-told steps x s g
 
     settled : relayIn (x .words) ≡ settle r s
     settled =
@@ -337,17 +311,13 @@ module _ (steps : List Step) where
     fits = chosen-each (rankBy entryOf) CopyFits (lineAt p h) (waiting-fits p h (history-passed steps (g .begun .passed)))
 
     handed : x .answer ≡ number (takingNumber (takingOf (portSetUp r p) (chosen (rankBy entryOf) (lineAt p h))))
-    handed = gives-row steps (calls (takes p)) x g .0 ∙ ap (λ t. number (takingNumber t)) (take-is h p)
-
-    by-taking : (n : ℕ) {P : Type 0} → (takingNumber (takingOf (portSetUp r p) (chosen (rankBy entryOf) (lineAt p h))) ≡ n) ↔ P
-        → (x .answer ≡ number n) ↔ P
-    by-taking n by = (λ e. by .0 (same-told _ n (sym handed ∙ e)), λ q. handed ∙ ap number (by .1 q))
+    handed = take-told steps x p g ∙ ap (λ t. number (takingNumber t)) (take-is h p)
 
     takings : ((x .answer ≡ number (refusalNumber 16)) ↔ (portSetUp r p ≡ false))
         × ((x .answer ≡ number (refusalNumber 18)) ↔ ((portSetUp r p ≡ true) × (lineAt p h ≡ [])))
     takings = (
-      by-taking (refusalNumber 16) (told-16 (lineAt p h) (portSetUp r p) (chosen (rankBy entryOf) (lineAt p h)) fits),
-      by-taking (refusalNumber 18) (told-18 (lineAt p h) (portSetUp r p) (chosen (rankBy entryOf) (lineAt p h)) refl fits),
+      by-answer handed (refusalNumber 16) (told-16 (lineAt p h) (portSetUp r p) (chosen (rankBy entryOf) (lineAt p h)) fits),
+      by-answer handed (refusalNumber 18) (told-18 (lineAt p h) (portSetUp r p) (chosen (rankBy entryOf) (lineAt p h)) refl fits),
     )
 
     taken-entry : (t : Taking) (e : Entry) → ofTaking p t .answer ≡ entry e → t ≡ taking.Handed e
@@ -414,7 +384,7 @@ demand-2 =
       marked = marked;
       settings = λ steps s x g.
           let by = checks-decided (relayAfter (historyOf steps)) s in
-          (λ n some. by-number steps s x g n (by .1 n some), (by-number steps s x g 0 (by .0), settled steps s x g));
+          (λ n some. by-answer (said steps s x g) n (by .1 n some), (by-answer (said steps s x g) 0 (by .0), settled steps s x g));
       settings-hold = settings-hold;
       settings-back = λ steps part x g. part-told steps x part g;
       settings-good = λ steps. (reached (historyOf steps), (keys-unique (historyOf steps), in-range (historyOf steps)));

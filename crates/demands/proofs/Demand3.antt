@@ -1,28 +1,27 @@
 -- Demand 3 is kept. Assumes nothing.
 use native.Mathlib.Omega.{arith}
-use Prim.Native.Nat.{ℕ, _+_, _%_, _^_, _<_}
+use Prim.Native.Nat.{ℕ, _+_, _<_}
 use mathlib.Core.Path.{_≡_, refl, sym, ap, _∙_}
-use mathlib.Core.Bool.{true, false}
+use mathlib.Core.Bool.{false}
 use mathlib.Core.List.{List, [], _∷_, _++_, map}
 use lib.ListN.{length}
 use lib.Dec.{ltb}
 use borrow.Author.Tests.{lt-ltb, ltb-false}
 use Rattle.sets.specs.Sets.{inSet}
-use Rattle.address.specs.declared.Slot.{Slot}
-use Rattle.queue.specs.Waits.{chosen, rankBy, AsAsked}
+use Rattle.queue.specs.Waits.{rankBy}
 use Rattle.queue.proofs.Waits.{chosen-asked, waits-count, waits-fits}
 use Rattle.queue.specs.declared.Entry.{Entry}
-use Rattle.state.specs.Relay.{Relay, freshRelay, counterIn, queueIn, portSetUp}
+use Rattle.state.specs.Relay.{Relay, freshRelay, counterIn, queueIn}
 use Rattle.answers.specs.Answers.{partAt, takingNumber}
 use Rattle.judge.specs.Ending.{endingOf}
 use Rattle.harpjuniper_relay.specs.Face.{counterAnswer, waitingAnswer}
 use Rattle.contracts.specs.Promised.{number, Result}
 use Rattle.contracts.specs.Contracts.{Says}
-use Rattle.history.specs.Calls.{counter, waiting, Call, hears, takes, looks}
-use Rattle.history.specs.Outcome.{Answer, outcome, relayAfter, sumOver}
-use Rattle.history.specs.Tally.{tally, stateAfter}
-use Rattle.history.specs.Ledger.{granted, dropped, handedOut}
-use Rattle.history.specs.Line.{entryOf, lineAt, takenAt, handedAt, times}
+use Rattle.history.specs.Calls.{counter, waiting, Call, looks}
+use Rattle.history.specs.Outcome.{Answer, outcome, relayAfter}
+use Rattle.history.specs.Tally.{stateAfter}
+use Rattle.history.specs.Ledger.{dropped}
+use Rattle.history.specs.Line.{entryOf, lineAt}
 use Rattle.history.specs.Foretold.{andThen, answeredBy, answeredFrom, answeredSince}
 use Rattle.history.proofs.Counters as tallied
 use Rattle.history.proofs.Sums.{receives-sum, delivers-sum, forwards-sum, discards-sum}
@@ -35,7 +34,7 @@ use Rattle.history.proofs.ReadBack.{read-back}
 use Rattle.demands.specs.Trace.{Step, calls, made, leftBy, Trace, Passes, AllPass, Begun, heard, heardAll, historyOf, Gives}
 use Rattle.demands.specs.ReadOut.{numberIn, droppedIn, entriesIn}
 use Rattle.demands.specs.Demand3.{Demand3}
-use Rattle.demands.proofs.Told.{gives-row}
+use Rattle.demands.proofs.Told.{receive-told, take-told, counter-told, waiting-told}
 use Rattle.demands.proofs.ReadOut.{read-out}
 
 -- ---- what hj_counter and hj_waiting answer
@@ -54,11 +53,11 @@ module _ (steps : List Step) where
   abbrev r : Relay
   r = relayAfter h
 
-  counter-told : (i : ℕ) (x : Result) → i < 15 → Gives steps (calls (looks (counter i))) x → x .answer ≡ number (counterIn (stateAfter h .counters) i)
-  counter-told i x inside g = gives-row steps (calls (looks (counter i))) x g .0 ∙ ap number (counter-is (stateAfter h .counters) i inside)
+  counter-reads : (i : ℕ) (x : Result) → i < 15 → Gives steps (calls (looks (counter i))) x → x .answer ≡ number (counterIn (stateAfter h .counters) i)
+  counter-reads i x inside g = counter-told steps x i g ∙ ap number (counter-is (stateAfter h .counters) i inside)
 
-  waiting-told : (p : ℕ) (x : Result) → p < 8 → Gives steps (calls (looks (waiting p))) x → x .answer ≡ number (queueIn r p .count)
-  waiting-told p x inside g = gives-row steps (calls (looks (waiting p))) x g .0 ∙ ap number (waiting-is r p inside)
+  waiting-reads : (p : ℕ) (x : Result) → p < 8 → Gives steps (calls (looks (waiting p))) x → x .answer ≡ number (queueIn r p .count)
+  waiting-reads p x inside g = waiting-told steps x p g ∙ ap number (waiting-is r p inside)
 
   many-wait : (p : ℕ) → p < 8 → queueIn r p .count ≡ length (lineAt p h)
   many-wait p inside = waits-count entryOf (queue-waits p inside h)
@@ -110,30 +109,30 @@ entries-told p (c ∷ ds) steps w v u b t all =
 pub demand-3 : Demand3
 demand-3 =
     record {
-      counters = λ steps i x inside g. counter-told steps i x inside g ∙ ap number (tallied.counters i inside (historyOf steps));
+      counters = λ steps i x inside g. counter-reads steps i x inside g ∙ ap number (tallied.counters i inside (historyOf steps));
       named = λ steps x. (
-        λ g. counter-told steps 0 x (omega arith) g ∙ ap number (receives-sum (historyOf steps)),
+        λ g. counter-reads steps 0 x (omega arith) g ∙ ap number (receives-sum (historyOf steps)),
         (
-          λ g. counter-told steps 8 x (omega arith) g ∙ ap number (delivers-sum (historyOf steps)),
+          λ g. counter-reads steps 8 x (omega arith) g ∙ ap number (delivers-sum (historyOf steps)),
           (
-            λ g. counter-told steps 10 x (omega arith) g ∙ ap number (forwards-sum (historyOf steps)),
-            λ g. counter-told steps 12 x (omega arith) g ∙ ap number (discards-sum (historyOf steps)),
+            λ g. counter-reads steps 10 x (omega arith) g ∙ ap number (forwards-sum (historyOf steps)),
+            λ g. counter-reads steps 12 x (omega arith) g ∙ ap number (discards-sum (historyOf steps)),
           ),
         ),
       );
       ledger = λ steps p x inside g.
-          (queueIn (relayAfter (historyOf steps)) p .count, (waiting-told steps p x inside g, ledgers.ledger p inside (historyOf steps)));
+          (queueIn (relayAfter (historyOf steps)) p .count, (waiting-reads steps p x inside g, ledgers.ledger p inside (historyOf steps)));
       dropped-by-32 = λ steps p at slot octets output x y inside g dropped k.
-          let told = gives-row steps (calls (hears at slot octets output)) x g .0 in
+          let told = receive-told steps x at slot octets output g .0 in
           let r = relayAfter (historyOf steps) in
           let is : droppedIn x ≡ endingOf r at octets (length output) .ruling .dropped =
           ap (λ t. partAt 32 (numberIn t)) told ∙ read-back r at octets (length output) .dropped in
-          waiting-told steps p y inside k
+          waiting-reads steps p y inside k
           ∙ ap number (full-is steps p inside (fair r p inside at octets (length output) .full (sym (ap (inSet p) is) ∙ dropped)));
       waiting-are = λ steps p turn. (taken-once p turn (historyOf steps), taken-out-or-waiting p turn (historyOf steps));
-      waiting-many = λ steps p x inside g. waiting-told steps p x inside g ∙ ap number (many-wait steps p inside);
+      waiting-many = λ steps p x inside g. waiting-reads steps p x inside g ∙ ap number (many-wait steps p inside);
       order = λ steps p x g. (
-        gives-row steps (calls (takes p)) x g .0 ∙ ap (λ t. number (takingNumber t)) (take-is (historyOf steps) p),
+        take-told steps x p g ∙ ap (λ t. number (takingNumber t)) (take-is (historyOf steps) p),
         chosen-asked (rankBy entryOf) (lineAt p (historyOf steps)),
       );
       foretold = λ cs ds c p k x placed. foretold-over-histories p cs c x placed ds k;

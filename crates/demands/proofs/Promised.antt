@@ -7,23 +7,16 @@ use Rattle.address.specs.Class.{classOf, classNumber}
 use Rattle.address.specs.Path.{pathForm, pathNumber}
 use Rattle.checksum.specs.Sum.{checksumOf}
 use Rattle.header.specs.Read.{readOf}
-use Rattle.state.specs.Relay.{Relay, State, freshState}
+use Rattle.state.specs.Relay.{State, freshState}
 use Rattle.state.specs.Layout as layout
 use Rattle.tally.specs.Tally.{countedAll}
 use Rattle.lent_state.specs.View.{Held, lent}
 use Rattle.harpjuniper.specs.Face.{readingOf, buildAnswer, buildOutput}
-use Rattle.harpjuniper_reads.specs.Back.{portBack, routeBack, groupBack, pathBack}
 use Rattle.harpjuniper_reads.specs.Search.{searchAnswer}
 use Rattle.harpjuniper_receive.specs.Face.{receiveAnswer, receiveOutput}
 use Rattle.harpjuniper_relay.specs.Face.{takeAnswer, counterAnswer, waitingAnswer}
-use Rattle.contracts.specs.Promised.{Told, number, reading, port, route, group, path, Promise}
+use Rattle.contracts.specs.Promised.{Told, number, reading, Promise}
 use Rattle.history.specs.Calls.{
-  Part,
-  theRouter,
-  thePort,
-  theRoute,
-  theGroup,
-  thePath,
   Look,
   setting,
   search,

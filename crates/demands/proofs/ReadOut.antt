@@ -9,7 +9,6 @@ use lib.Dec.{eqb, ltb}
 use borrow.Author.Tests.{eqb-true, ltb-true, ne-eqb}
 use Rattle.checks.specs.Order.{pick, firstOf}
 use Rattle.checks.specs.Answer.{refusalNumber}
-use Rattle.checks.proofs.Laws.{zero-none}
 use Rattle.header.specs.Build.{sizeOf}
 use Rattle.header.specs.Limits.{noRoom, tooMuchData}
 use Rattle.header.proofs.BuiltLaws.{built-size}
@@ -21,35 +20,14 @@ use Rattle.queue.specs.Waits.{Chosen, nobody, one, chosen, rankBy}
 use Rattle.queue.proofs.Each.{each-append}
 use Rattle.queue.proofs.Waits.{EachOf, chosen-each}
 use Rattle.state.specs.Relay.{Relay, portSetUp}
+use Rattle.refusals.proofs.Chains.{decided}
 use Rattle.answers.specs.Answers.{takingNumber, refusalIn}
 use Rattle.answers.proofs.Digits.{entry-parts, refusal-parts, value-parts}
 use Rattle.harpjuniper.specs.Face.{fieldsOut, numbersChecks, buildAnswer}
 use Rattle.harpjuniper.proofs.Promises.{fields-in}
 use Rattle.harpjuniper_relay.specs.Face.{counterAnswer, waitingAnswer}
 use Rattle.contracts.specs.Promised.{Result}
-use Rattle.history.specs.Calls.{
-  theRouter,
-  thePort,
-  theRoute,
-  theGroup,
-  thePath,
-  Look,
-  setting,
-  search,
-  counter,
-  waiting,
-  read,
-  build,
-  class,
-  form,
-  checksum,
-  stateWords,
-  Call,
-  sets,
-  hears,
-  takes,
-  looks,
-}
+use Rattle.history.specs.Calls.{theRouter, thePort, theRoute, theGroup, thePath, Look, setting, search, counter, waiting, read, build, class, form, checksum, stateWords, Call, sets, hears, takes, looks}
 use Rattle.history.specs.Looks.{lookNumber}
 use Rattle.history.specs.Line.{Copy, entryOf, takingOf, lineAt}
 use Rattle.history.specs.Outcome.{relayAfter}
@@ -62,7 +40,7 @@ use Rattle.history.proofs.Takes.{take-is}
 use Rattle.history.proofs.ReadBack.{read-back}
 use Rattle.demands.specs.Trace.{Step, starts, calls, Passes, AllPass, heard, heardAll, historyOf, Gives}
 use Rattle.demands.specs.ReadOut.{numberIn, takenOut, lookOut, readOut}
-use Rattle.demands.proofs.Told.{gives-row}
+use Rattle.demands.proofs.Told.{gives-row, setting-told, take-told, search-told, counter-told, waiting-told}
 
 -- ---- a value of 32 bits, or a refusal above it
 value-out : (n : ℕ) → n < 2 ^ 32 → refusalIn n ≡ 0
@@ -116,7 +94,7 @@ build-out fields size room words =
     let n = firstOf ((noRoom room, 17) ∷ (fieldsOut fields, 19) ∷ (tooMuchData size, 20) ∷ []) in
     answer-out (eqb n 0) n (sizeOf (fieldsFrom fields)) refl
     (λ z.
-    let none = zero-none ((noRoom room, 17) ∷ (fieldsOut fields, 19) ∷ (tooMuchData size, 20) ∷ []) ((λ z. omega arith), ((λ z. omega arith), ((λ z. omega arith), tt))) z in
+    let none = decided ((noRoom room, 17) ∷ (fieldsOut fields, 19) ∷ (tooMuchData size, 20) ∷ []) refl .0 .0 z in
     let most = built-size (fieldsFrom fields) (fields-in fields words (none .1 .0)) .1 in
     omega (arith, most))
     (build-low (noRoom room) (fieldsOut fields) (tooMuchData size))
@@ -148,9 +126,9 @@ module _ (steps : List Step) where
   look-out (setting (theRoute i)) x g = ap numberIn (gives-row steps _ x g .0)
   look-out (setting (theGroup i)) x g = ap numberIn (gives-row steps _ x g .0)
   look-out (setting (thePath i)) x g = ap numberIn (gives-row steps _ x g .0)
-  look-out (search a) x g = ap (λ t. numberIn t % 2 ^ 16) (gives-row steps _ x g .0)
-  look-out (counter i) x g = ap (λ t. refusalIn (numberIn t)) (gives-row steps _ x g .0) ∙ counter-out h i
-  look-out (waiting p) x g = ap (λ t. refusalIn (numberIn t)) (gives-row steps _ x g .0) ∙ waiting-out h p
+  look-out (search a) x g = ap (λ t. numberIn t % 2 ^ 16) (search-told steps x a g)
+  look-out (counter i) x g = ap (λ t. refusalIn (numberIn t)) (counter-told steps x i g) ∙ counter-out h i
+  look-out (waiting p) x g = ap (λ t. refusalIn (numberIn t)) (waiting-told steps x p g) ∙ waiting-out h p
   look-out (read octets) x g = ap numberIn (gives-row steps _ x g .0)
   look-out (build fields size output) x g =
       ap (λ t. refusalIn (numberIn t)) (gives-row steps _ x g .0) ∙ build-out fields size (length output) (g .passes)
@@ -161,7 +139,7 @@ module _ (steps : List Step) where
 
   -- What C reads out of the answer to any call is what the rules give after the history.
   pub read-out : (c : Call) (x : Result) → Gives steps (calls c) x → readOut c (x .answer) ≡ outcome.outcome r c .answer
-  read-out (sets s) x g = ap (λ t. outcome.number (numberIn t)) (gives-row steps (calls (sets s)) x g .0)
+  read-out (sets s) x g = ap (λ t. outcome.number (numberIn t)) (setting-told steps x s g)
   read-out (hears p slot octets output) x g =
       let c = hears p slot octets output in
       let back = read-back r p octets (length output) in
@@ -169,7 +147,7 @@ module _ (steps : List Step) where
   read-out (takes p) x g =
       let line = lineAt p h in
       let is = take-is h p in
-      ap (λ t. takenOut (numberIn t)) (gives-row steps (calls (takes p)) x g .0)
+      ap (λ t. takenOut (numberIn t)) (take-told steps x p g)
       ∙ ap (λ t. takenOut (takingNumber t)) is
       ∙ taken-out p (portSetUp r p) (chosen (rankBy entryOf) line)
       (chosen-each (rankBy entryOf) CopyFits line (waiting-fits p h (history-passed steps (g .begun .passed))))

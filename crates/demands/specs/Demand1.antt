@@ -21,7 +21,7 @@ use Rattle.history.specs.Outcome as outcome
 use Rattle.history.specs.Answers.{answersOf, stands}
 use Rattle.history.specs.Tally.{sumAt}
 use Rattle.history.specs.Transport.{SameButTpid, localBy}
-use Rattle.demands.specs.Trace.{Step, starts, calls, made, leftBy, historyOf, relayOf, Gives}
+use Rattle.demands.specs.Trace.{Step, starts, calls, made, leftBy, relayOf, Gives}
 use Rattle.demands.specs.ReadOut.{looksAtState, readOut, endedBy, localIn, onwardIn, tookIn, droppedIn, isRefusal, outputOf, relayIn, counterAt}
 
 -- what two datagrams come to that have these TP-IDs and differ in nothing else

@@ -34,18 +34,7 @@ use Rattle.relay.specs.Outgoing.{sentOutput}
 use Rattle.page.specs.Table.{oneOctet, Verdict, verdictOf}
 use Rattle.page.specs.Sought.{RouteSought, RouteTaken}
 use Rattle.contracts.specs.Promised.{number, Result}
-use Rattle.history.specs.Calls.{
-  Setting,
-  Part,
-  setting,
-  Call,
-  sets,
-  hears,
-  takes,
-  looks,
-  checksOf,
-  settle,
-}
+use Rattle.history.specs.Calls.{Setting, Part, setting, Call, sets, hears, takes, looks, checksOf, settle}
 use Rattle.history.specs.Outcome.{entry}
 use Rattle.history.specs.Parts.{About, settingIn}
 use Rattle.history.specs.Reach.{Reached, KeysUnique}

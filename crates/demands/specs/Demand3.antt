@@ -13,7 +13,7 @@ use Rattle.queue.specs.Waits.{chosen, rankBy, AsAsked}
 use Rattle.state.specs.Relay.{portSetUp}
 use Rattle.answers.specs.Answers.{takingNumber}
 use Rattle.contracts.specs.Promised.{number, Result}
-use Rattle.history.specs.Calls.{counter, waiting, Call, hears, takes, looks}
+use Rattle.history.specs.Calls.{counter, waiting, hears, takes, looks, Call}
 use Rattle.history.specs.Outcome.{relayAfter, sumOver}
 use Rattle.history.specs.Tally.{tally}
 use Rattle.history.specs.Sums.{receipts, deliveries, forwardings, drops}

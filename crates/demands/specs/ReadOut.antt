@@ -8,36 +8,13 @@ use Rattle.checks.specs.Order.{pick}
 use Rattle.answers.specs.Answers.{partAt, refusalIn, slotIn, precedenceIn}
 use Rattle.numbers.specs.declared.Numbers.{Numbers}
 use Rattle.queue.specs.declared.Entry.{Entry}
-use Rattle.state.specs.Relay.{Relay, State, counterIn}
+use Rattle.state.specs.Relay.{Relay, counterIn}
 use Rattle.state.specs.Layout.{decode}
 use Rattle.harpjuniper.specs.declared.Reading.{Reading}
 use Rattle.harpjuniper_reads.specs.Back.{portBack, routeBack, groupBack, pathBack}
 use Rattle.contracts.specs.Promised.{Told, number, reading, port, route, group, path, Result, hj-read, hj-build}
 use Rattle.contracts.specs.Contracts.{Says}
-use Rattle.history.specs.Calls.{
-  Part,
-  theRouter,
-  thePort,
-  theRoute,
-  theGroup,
-  thePath,
-  Look,
-  setting,
-  search,
-  counter,
-  waiting,
-  read,
-  build,
-  class,
-  form,
-  checksum,
-  stateWords,
-  Call,
-  sets,
-  hears,
-  takes,
-  looks,
-}
+use Rattle.history.specs.Calls.{Part, theRouter, thePort, theRoute, theGroup, thePath, Look, setting, search, counter, waiting, read, build, class, form, checksum, stateWords, Call, sets, hears, takes, looks}
 use Rattle.history.specs.Foretold.{answeredBy}
 use Rattle.history.specs.Outcome as outcome
 use Rattle.demands.specs.Trace.{calls, leftBy, Trace}

@@ -3,73 +3,12 @@
 use Prim.Native.Nat.{ℕ}
 use mathlib.Core.Path.{_≡_}
 use mathlib.Core.List.{List, [], _∷_, _++_}
-use Rattle.contracts.specs.Promised.{
-  number,
-  Result,
-  Exported,
-  hj-read,
-  hj-build,
-  hj-class,
-  hj-path,
-  hj-checksum,
-  hj-state-words,
-  hj-fresh,
-  hj-set-router,
-  hj-set-port,
-  hj-set-route,
-  hj-set-group,
-  hj-set-path,
-  hj-clear-route,
-  hj-clear-group,
-  hj-clear-path,
-  hj-get-router,
-  hj-get-port,
-  hj-get-route,
-  hj-get-group,
-  hj-get-path,
-  hj-search,
-  hj-receive,
-  hj-take,
-  hj-counter,
-  hj-waiting,
-}
+use Rattle.contracts.specs.Promised.{number, Result, Exported, hj-read, hj-build, hj-class, hj-path, hj-checksum, hj-state-words, hj-fresh, hj-set-router, hj-set-port, hj-set-route, hj-set-group, hj-set-path, hj-clear-route, hj-clear-group, hj-clear-path, hj-get-router, hj-get-port, hj-get-route, hj-get-group, hj-get-path, hj-search, hj-receive, hj-take, hj-counter, hj-waiting}
 use Rattle.contracts.specs.Contracts.{Says}
 use Rattle.history.specs.Ranges.{Passed}
 use Rattle.history.specs.Outcome.{relayAfter}
 use Rattle.state.specs.Relay.{Relay}
-use Rattle.history.specs.Calls.{
-  Setting,
-  setRouter,
-  setPort,
-  setRoute,
-  setGroup,
-  setPath,
-  clearRoute,
-  clearGroup,
-  clearPath,
-  Part,
-  theRouter,
-  thePort,
-  theRoute,
-  theGroup,
-  thePath,
-  Look,
-  setting,
-  search,
-  counter,
-  waiting,
-  read,
-  build,
-  class,
-  form,
-  checksum,
-  stateWords,
-  Call,
-  sets,
-  hears,
-  takes,
-  looks,
-}
+use Rattle.history.specs.Calls.{Setting, setRouter, setPort, setRoute, setGroup, setPath, clearRoute, clearGroup, clearPath, Part, theRouter, thePort, theRoute, theGroup, thePath, Look, setting, search, counter, waiting, read, build, class, form, checksum, stateWords, Call, sets, hears, takes, looks}
 
 -- ---- what C does: it makes the relay fresh, or calls it
 pub data Step : Type 0 where

@@ -21,23 +21,14 @@ use Rattle.state.specs.Relay.{Relay, State, queueIn, counterIn, portSetUp}
 use Rattle.state.specs.Layout.{stateWords, decode, entryOfWord, queueOf}
 use Rattle.state.proofs.Reading.{taken, queue-read, counter-read}
 use Rattle.taking.specs.Taking.{handsOut, takeOutcome}
-use Rattle.taking.specs.declared.Taking.{Taking}
-use Rattle.taking.specs.declared.Taking.the-variants.{Handed, Refused}
+use Rattle.taking.specs.declared.Taking.the-variants.{Refused}
 use Rattle.state_ports.proofs.SetUp.{is-port}
 use Rattle.checks.specs.Answer.{refusalNumber}
 use Rattle.answers.specs.Answers.{takingNumber}
-use Rattle.answers.proofs.Digits.{Three, entry-parts, refusal-parts, Two, value-parts, refusal-above}
+use Rattle.answers.proofs.Digits.{entry-parts, refusal-parts, Two, value-parts, refusal-above}
 use Rattle.lent_state.specs.View.{Held, Other, lent, byLent, told, toldRelay}
 use Rattle.harpjuniper_relay.specs.Face.{takeAnswer, counterAnswer, waitingAnswer}
-
--- words as C lends them
-abbrev pub Words : List ℕ → Type 0
-Words w = (i : ℕ) → getD w i 0 < 2 ^ 32
-
--- what is read of the answer n: the entry's slot and precedence and no refusal, or the refusal alone
-abbrev pub TakeRead : ℕ → Taking → Type 0
-TakeRead n (Handed e) = Three n 0 (e .slot .0) (e .precedence)
-TakeRead n (Refused m) = Three n m 0 0
+use Rattle.harpjuniper_relay.specs.ReadBack.{FitWords, TakeRead}
 
 -- ---- an entry that waits fits
 abbrev Fits : Head → Type 0
@@ -82,7 +73,7 @@ module _ (w : List ℕ) (value : State → ℕ) where
   unfolding told lent
   value-read there h = value-case there (eqb (length w) stateWords) h
 
-module _ (w : List ℕ) (words : Words w) (port : ℕ) where
+module _ (w : List ℕ) (words : FitWords w) (port : ℕ) where
   -- the words of a queue
   abbrev piece : List ℕ
   piece = taken 161 33 port w

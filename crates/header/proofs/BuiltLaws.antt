@@ -21,7 +21,7 @@ use Rattle.checksum.proofs.Laws.{zeros-of-sum}
 use Rattle.header.specs.Limits.{longestHeader, mostData, lengthLimit}
 use Rattle.header.specs.Form.{addressSize, timeSize}
 use Rattle.header.specs.Build.{sixOctets, addressesOctets, qosOctets, octetOctets, stampOctets, frontOctets, restOctets, bodyOctets, checksumOctets, headerOctets, sizeOf, buildChecks, builtBy, builtOf, present, secondOctet, thirdOctet}
-use Rattle.header.specs.Range.{qosOutOfRange, stampOutOfRange, outOfRange, addressesFit, qosFits, octetFits, stampFits, InRange}
+use Rattle.header.specs.Range.{qosOutOfRange, stampOutOfRange, outOfRange, qosFits, stampFits, InRange, qosTyped, stampTyped, Typed}
 use Rattle.header.specs.declared.Fields.{Fields}
 use Rattle.header.specs.declared.Six.{Six}
 use Rattle.header.specs.declared.Addresses.{Addresses}
@@ -123,27 +123,6 @@ unfolding headerOctets bodyOctets frontOctets restOctets checksumOctets
 header-small f n = search (append-small, octets-small, addresses-small, qos-small, octet-small, stamp-small, pick-small) depth 9
 
 -- ---- the range of fields
-
-abbrev pub qosTyped : Qos → Type 0
-qosTyped qos.Absent = Unit
-qosTyped (qos.Present precedence routing program) = (precedence < 256) × ((routing < 256) × (program < 256))
-
-abbrev pub stampTyped : Timestamp → Type 0
-stampTyped stamp.Absent = Unit
-stampTyped (stamp.Implicit t) = t < 256 ^ 8
-stampTyped (stamp.Explicit p t) = (p < 256) × (t < 256 ^ 8)
-stampTyped (stamp.Binary t) = t < 256 ^ 8
-
--- the bounds of the Rattle types of the fields; with them the builder's test is exact (`in-range`, `not-out`)
-pub record Typed (f : Fields) : Type 0 where
-  pub tpid : f .tpid < 256
-  pub addresses : addressesFit (f .addresses)
-  pub qos : qosTyped (f .qos)
-  pub hops : octetFits (f .hops)
-  pub stamp : stampTyped (f .stamp)
-  pub expanded : octetFits (f .expanded)
-  pub checksum : f .checksum < 256
-  pub intermediate : f .intermediate < 256
 
 qos-in : (m : Qos) → qosOutOfRange m ≡ false → qosFits m
 qos-in qos.Absent h = tt

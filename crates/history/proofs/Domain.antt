@@ -4,35 +4,30 @@
 use native.Mathlib.Omega.{arith}
 use Prim.Native.Nat.{ℕ, suc, _+_, _<_}
 use mathlib.Core.Path.{_≡_, refl, sym, ap, _∙_}
-use mathlib.Core.Bool.{Bool, true, false, not, _&&_}
-use mathlib.Core.List.{List, [], _∷_, _++_}
-use lib.ListN.{length, getD, drop}
+use mathlib.Core.Bool.{Bool, true, false}
+use mathlib.Core.List.{List, [], _∷_, append-nil}
+use lib.ListN.{length, getD}
 use lib.Dec.{eqb}
 use borrow.Author.Tests.{eqb-true, eqb-false}
 use Rattle.checks.specs.Order.{pick, firstOf}
-use Rattle.checks.proofs.Bools.{true-false}
-use Rattle.checks.proofs.Laws.{either}
-use Rattle.checks.proofs.Laws.{zero-none}
+use Rattle.checks.proofs.Bools.{true-false, not-false}
 use Rattle.sets.specs.Sets.{inSet}
 use Rattle.address.specs.declared.Slot.{Slot}
 use Rattle.header.specs.Read.{readOf}
-use Rattle.header.specs.Onward.{headerSentOn, oneLess}
 use Rattle.header.specs.declared.Header.{Header}
 use Rattle.header.specs.declared.Read.{Read}
 use Rattle.header.specs.declared.Read.the-variants.{Good, Refused}
-use Rattle.header.proofs.Promises.{read-what-was-sent-on}
 use Rattle.networks.specs.Networks.{domainOf}
 use Rattle.meaning.specs.Names.{aimOf, originOf}
 use Rattle.queue.specs.Order.{Each}
-use Rattle.queue.specs.Waits.{Chosen, nobody, chosen, rankBy, Waits}
-use Rattle.queue.specs.Waits as choice
-use Rattle.queue.proofs.Each.{each-append}
-use Rattle.queue.proofs.Waits.{EachOf, chosen-each, waits-count}
+use Rattle.queue.specs.Waits.{Waits}
+use Rattle.queue.proofs.Waits.{waits-count}
 use Rattle.records.specs.Fresh.{freshPort}
 use Rattle.records.specs.declared.Port.{Port}
 use Rattle.state.specs.Relay.{Relay, freshRelay, portIn, queueIn, withPort}
 use Rattle.state.proofs.Places.{port-left}
-use Rattle.refusals.specs.Lists.{entriesWait, portChecks}
+use Rattle.refusals.specs.Lists.{portChecks, entriesWait}
+use Rattle.refusals.proofs.Chains.{decided}
 use Rattle.adjust.specs.Settled.{newPort}
 use Rattle.taking.specs.Taking.{takenRelay}
 use Rattle.judge.specs.Ending.{refusedBy, callChecks, headerEnding, octetsEnding, ruledEnding, arrivalAt, endingOf}
@@ -56,20 +51,19 @@ use Rattle.history.specs.Calls.{
   looks,
   checksOf,
   written,
-  settle,
 }
-use Rattle.history.specs.Outcome.{Out, nothing, from, outcome, next, runFrom, relayAfter}
+use Rattle.history.specs.Outcome.{next, runFrom, relayAfter}
 use Rattle.history.specs.Ledger.{one}
-use Rattle.history.specs.Line.{Copy, entryOf, copyOf, sentOf, takenBy, leftBy, lineBy, lineFrom, lineAt}
+use Rattle.history.specs.Line.{Copy, entryOf, copyOf, takenBy, lineBy, lineFrom, lineAt}
 use Rattle.history.proofs.Settled.{settle-keeps}
 use Rattle.page.specs.Table.{oneOctet}
 use Rattle.page.proofs.Bits.{in-none}
-use Rattle.history.proofs.Fair.{Fair, fair}
+use Rattle.history.proofs.Fair.{fair}
 use Rattle.history.proofs.Meaning.{stays-in-its-domain, names-the-same}
-use Rattle.history.proofs.Reach.{madeOf, received-made, taken-made, numbered-five, not-false-true}
+use Rattle.history.proofs.Reach.{madeOf, received-made, taken-made}
 use Rattle.history.proofs.Queues.{Eight}
 use Rattle.history.proofs.Ledger.{next-eight, fresh-eight}
-use Rattle.history.proofs.Line.{append-nil, next-waits, fresh-waits}
+use Rattle.history.proofs.Line.{line-each, next-waits, fresh-waits}
 
 -- ---- a copy was read, and its header is as long as it says
 module _ (p : ℕ) where
@@ -144,25 +138,15 @@ module _ (p : ℕ) (inside : p < 8) where
   entered-named n r (takes port) = tt
   entered-named n r (looks l) = tt
 
-  -- ---- a take leaves some of them
-  left-case : (r : Relay) (line : List Copy) (o : Out) (c : Chosen Copy) → AllNamed r line → EachOf (rankBy entryOf) (NamesTheSame (portIn r p)) c
-      → AllNamed r (leftBy p o line c)
-  left-case r line nothing c all some = all
-  left-case r line (from q e) nobody all some = all
-  left-case r line (from q e) (choice.one x others) all some = either (AllNamed r) (eqb q p) (some .1) all
-
+  -- ---- a call leaves some of them
   line-named : (n : ℕ) (r : Relay) (c : Call) (line : List Copy) → AllNamed r line → AllNamed r (lineBy p n r c line)
-  line-named n r c line all =
-      let x = chosen (rankBy entryOf) line in
-      each-append (NamesTheSame (portIn r p)) (leftBy p (outcome r c .out) line x) (takenBy p n r c)
-      (left-case r line (outcome r c .out) x all (chosen-each (rankBy entryOf) (NamesTheSame (portIn r p)) line all))
-      (entered-named n r c)
+  line-named n r c line all = line-each p (NamesTheSame (portIn r p)) n r c line all (entered-named n r c)
 
   -- ---- the port stays as it is where anything waits
   nothing-waits : (r : Relay) (line : List Copy) → Waits entryOf (queueIn r p) line → entriesWait r p ≡ false → line ≡ []
   nothing-waits r [] w h = refl
   nothing-waits r (c ∷ line) w h =
-      absurd (let none = eqb-true (queueIn r p .count) 0 (not-false-true (eqb (queueIn r p .count) 0) h) in omega (arith, waits-count entryOf w))
+      absurd (let none = eqb-true (queueIn r p .count) 0 (not-false (eqb (queueIn r p .count) 0) h) in omega (arith, waits-count entryOf w))
 
   port-case : (r : Relay) (line : List Copy) → Waits entryOf (queueIn r p) line → (q : ℕ) (x : Port) → entriesWait r q ≡ false → (t : Bool) → eqb p q ≡ t
       → AllNamed r line → AllNamed (withPort r q x) line
@@ -174,9 +158,7 @@ module _ (p : ℕ) (inside : p < 8) where
       → AllNamed r line → AllNamed (written r s) line
   written-named r line w (setRouter x) z all = all
   written-named r line w (setPort q a m u) z all =
-      let free =
-      numbered-five _ _ _ _ _ 21 25 22 24 35 (λ z. omega arith) (λ z. omega arith) (λ z. omega arith) (λ z. omega arith) (λ z. omega arith) z .1 .1 .1 .1 in
-      port-case r line w q (newPort a m u) free (eqb p q) refl all
+      port-case r line w q (newPort a m u) (decided (portChecks r q a m u) refl .0 .0 z .1 .1 .1 .1 .0) (eqb p q) refl all
   written-named r line w (setRoute i prefix mask port availability capabilities) z all = all
   written-named r line w (setGroup i a send subscribed) z all = all
   written-named r line w (setPath i path send here) z all = all

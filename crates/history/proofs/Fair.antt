@@ -1,10 +1,11 @@
 -- What a ruling grants to a port it takes or drops: it takes where fewer than 32 wait, and drops where not (page 01, end of "Onward half"). Assumes nothing.
 use Prim.Native.Nat.{ℕ, _+_, _<_}
-use mathlib.Core.Path.{_≡_, refl, sym, ap, _∙_}
+use mathlib.Core.Path.{_≡_, refl, sym, _∙_}
 use mathlib.Core.Bool.{Bool, true, false, not, _&&_}
+use borrow.Author.Tests.{not-true}
 use mathlib.Core.List.{List}
 use lib.Dec.{ltb}
-use Rattle.checks.proofs.Bools.{true-false, and-true}
+use Rattle.checks.proofs.Bools.{and-true}
 use Rattle.sets.specs.Sets.{inSet}
 use Rattle.state.specs.Relay.{Relay, queueIn}
 use Rattle.verdict.specs.declared.Ruling.{Ruling}
@@ -16,10 +17,6 @@ split-case : (g f : Bool) → one g ≡ one (g && f) + one (g && not f)
 split-case true true = refl
 split-case true false = refl
 split-case false f = refl
-
-not-true : (t : Bool) → not t ≡ true → t ≡ false
-not-true true h = true-false (sym h)
-not-true false h = refl
 
 module _ (r : Relay) (p : ℕ) (inside : p < 8) where
   pub record Fair (x : Ruling) : Type 0 where

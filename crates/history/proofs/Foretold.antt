@@ -1,8 +1,9 @@
 -- How long a copy waits, over histories (page 02, W-213). The theorem is `foretold-over-histories`: take number k after the placing hands the copy
 -- out exactly where k is r + h + 1 and that many takes are made. It is the law of lines (crate queue), since calls do to a port's line what deeds do.
--- Beside it: what is handed out is what the takes of the port answer (`handed-is-answered`, `answers-are-handed`, `foretold-answer`); r is what
--- stands before the copy in the queue (`stands-behind`); refused calls and other ports' traffic count nothing (`idle-counts-nothing`); a call places
--- at most one copy on a port (`taken-once`); and laws near to it are false (`all-mistaken`). Assumes nothing.
+-- Beside it: what is handed out is what the takes of the port answer (`handed-is-answered`, `answers-are-handed`, `takes-are-answers`,
+-- `foretold-answer`); r is what stands before the copy in the queue (`stands-behind`); refused calls and other ports' traffic count nothing
+-- (`idle-counts-nothing`, `other-take-idle`, `refused-idle`); a call places at most one copy on a port (`taken-once`); and laws near to it are false
+-- (`all-mistaken`). Assumes nothing.
 use native.Mathlib.Omega.{arith}
 use Prim.Native.Nat.{ℕ, suc, _+_, _≤_, _<_, _*_}
 use mathlib.Core.Path.{_≡_, refl, sym, ap, _∙_}
@@ -13,6 +14,7 @@ use lib.ListN.{length, length-append, length-map, replicate}
 use lib.Dec.{eqb, ltb, leb}
 use borrow.Author.Tests.{eqb-true, ne-eqb, eqb-false}
 use Rattle.checks.specs.Order.{pick, firstOf}
+use Rattle.checks.proofs.Laws.{either}
 use Rattle.sets.specs.Sets.{inSet}
 use Rattle.address.specs.Octets.{dotted}
 use Rattle.address.specs.Class.{familyOf, scpsClass, classIn, classOf}
@@ -27,7 +29,7 @@ use Rattle.queue.specs.Foretold.{Deed, enters, handsOut, entered, takesIn, howM
 use Rattle.queue.specs.declared.Entry.{Entry}
 use Rattle.queue.proofs.Each.{each-so, each-append}
 use Rattle.queue.proofs.Order.{insert-placed, insert-map}
-use Rattle.queue.proofs.Waits.{chosen-asked, chosen-each, EachOf, ordered-enters}
+use Rattle.queue.proofs.Waits.{chosen-asked, ordered-enters}
 use Rattle.queue.proofs.Foretold.{foretold, stand-before}
 use Rattle.networks.specs.Networks.{subnetBroadcast}
 use Rattle.settings.specs.Refusals.{otherClass, onesRefused, formRefused, portMaskRefused}
@@ -46,9 +48,9 @@ use Rattle.relay.specs.Received.{receivedRelay}
 use Rattle.history.specs.Calls.{Setting, setRouter, setPort, Look, Call, sets, hears, takes, looks}
 use Rattle.history.specs.Outcome.{Answer, number, ended, entry, Out, nothing, from, ofTaking, outcome, next, runFrom, relayAfter, sumFrom}
 use Rattle.history.specs.Ledger.{one as oneIf, outBy, handedOut}
-use Rattle.history.specs.Line.{Copy, entryOf, copyOf, takenBy, handedBy, leftBy, lineBy, lineFrom, takenFrom, handedFrom, lineAt, takenAt, handedAt, takingOf, times}
+use Rattle.history.specs.Line.{Copy, entryOf, takenBy, handedBy, leftBy, lineBy, lineFrom, takenFrom, handedFrom, lineAt, takenAt, takingOf, times}
 use Rattle.history.specs.Foretold.{andThen, handedSince, takesSince, answeredBy, answeredFrom, answeredSince, before, Idle, isHanded, waitsFrom, higherEnter, CountsNothing, Refusal, takenSince, whileWaits}
-use Rattle.history.proofs.Line.{queue-waits, taken-out-or-waiting}
+use Rattle.history.proofs.Line.{line-each, queue-waits}
 use Rattle.page.proofs.Bits.{in-none}
 use Rattle.history.proofs.Refusals.{refused-grants-nothing}
 use Rattle.history.proofs.Takes.{take-is}
@@ -72,11 +74,7 @@ module _ (p : ℕ) where
   -- ---- what enters
   entered-out : (o : Out) (es : List (Deed Copy)) → entered (outDeed o ++ es) ≡ entered es
   entered-out nothing es = refl
-  entered-out (from q e) es = by (eqb q p)
-    where
-      by : (t : Bool) → entered (pick t (handsOut ∷ []) [] ++ es) ≡ entered es
-      by true = refl
-      by false = refl
+  entered-out (from q e) es = either (λ (ds : List (Deed Copy)). entered (ds ++ es) ≡ entered es) (eqb q p) refl refl
 
   entered-in : (ts : List Copy) (es : List (Deed Copy)) → entered (map enters ts ++ es) ≡ ts ++ entered es
   entered-in [] es = refl
@@ -203,11 +201,8 @@ module _ (p : ℕ) where
   -- ---- each copy has the turn of the call that placed it
   taken-turn : (n : ℕ) (r : Relay) (c : Call) → Each (λ (y : Copy). y .turn ≡ n) (takenBy p n r c)
   taken-turn n r (sets s) = tt
-  taken-turn n r (hears port slot octets output) = by (inSet p (endingOf r port octets (length output) .ruling .took))
-    where
-      by : (t : Bool) → Each (λ (y : Copy). y .turn ≡ n) (pick t (copyOf n r port slot octets (endingOf r port octets (length output)) ∷ []) [])
-      by true = (refl, tt)
-      by false = tt
+  taken-turn n r (hears port slot octets output) =
+      either (Each (λ (y : Copy). y .turn ≡ n)) (inSet p (endingOf r port octets (length output) .ruling .took)) (refl, tt) tt
   taken-turn n r (takes port) = tt
   taken-turn n r (looks l) = tt
 
@@ -219,25 +214,14 @@ module _ (p : ℕ) where
       (each-so (takenBy p n r c) (λ y same. omega arith) (taken-turn n r c))
       (taken-later cs m (suc n) (next r c) (omega arith))
 
-  left-each : (P : Copy → Type 0) (o : Out) (line : List Copy) (c : Chosen Copy) → Each P line → EachOf rank P c → Each P (leftBy p o line c)
-  left-each P nothing line c all h = all
-  left-each P (from q e) line nobody all h = all
-  left-each P (from q e) line (one y others) all h = by (eqb q p)
-    where
-      by : (t : Bool) → Each P (pick t others line)
-      by true = h .1
-      by false = all
-
   line-earlier : (cs : List Call) (n : ℕ) (r : Relay) (line : List Copy) → Each (λ (y : Copy). y .turn < n) line
       → Each (λ (y : Copy). y .turn < n + length cs) (lineFrom p n r line cs)
   line-earlier [] n r line all = each-so line (λ y h. omega arith) all
   line-earlier (c ∷ cs) n r line all =
-      let here = leftBy p (outcome r c .out) line (chosen rank line) in
-      let stay : Each (λ (y : Copy). y .turn < n) here = left-each _ (outcome r c .out) line (chosen rank line) all (chosen-each rank _ line all) in
       each-so (lineFrom p n r line (c ∷ cs)) (λ y h. omega arith)
       (line-earlier cs (suc n) (next r c) (lineBy p n r c line)
-      (each-append (λ (y : Copy). y .turn < suc n) here (takenBy p n r c)
-      (each-so here (λ y h. omega arith) stay)
+      (line-each p (λ (y : Copy). y .turn < suc n) n r c line
+      (each-so line (λ y h. omega arith) all)
       (each-so (takenBy p n r c) (λ y same. omega arith) (taken-turn n r c))))
 
   -- a call that places a copy hands nothing out
@@ -472,11 +456,8 @@ module _ (p n : ℕ) where
 
   taken-few : (m : ℕ) (r : Relay) (c : Call) → length (takenBy p m r c) ≤ 1
   taken-few m r (sets s) = omega arith
-  taken-few m r (hears port slot octets output) = by (inSet p (endingOf r port octets (length output) .ruling .took))
-    where
-      by : (t : Bool) → length (pick t (copyOf m r port slot octets (endingOf r port octets (length output)) ∷ []) []) ≤ 1
-      by true = omega arith
-      by false = omega arith
+  taken-few m r (hears port slot octets output) =
+      either (λ (l : List Copy). length l ≤ 1) (inSet p (endingOf r port octets (length output) .ruling .took)) (omega arith) (omega arith)
   taken-few m r (takes port) = omega arith
   taken-few m r (looks l) = omega arith
 
@@ -498,10 +479,6 @@ module _ (p n : ℕ) where
 
   pub taken-once : (cs : List Call) → times n (takenAt p cs) ≤ 1
   taken-once cs = taken-once-from cs 0 freshRelay
-
-  -- So a copy that was taken has been handed out or waits, and not both; one that was not taken does neither.
-  pub out-or-waiting-once : (cs : List Call) → times n (handedAt p cs) + times n (lineAt p cs) ≤ 1
-  out-or-waiting-once cs = omega (arith, taken-once cs, taken-out-or-waiting p n cs)
 
 -- ---- laws near to it that are false, each with a history that breaks it
 

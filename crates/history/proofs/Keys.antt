@@ -1,15 +1,14 @@
 -- In every state that a history reaches no two places hold the same entry: the same prefix and mask, group or path. The theorem is `keys-unique`, at
 -- the end. Assumes nothing.
-use native.Mathlib.Omega.{arith}
 use Prim.Native.Nat.{ℕ, _<_}
 use mathlib.Core.Path.{_≡_, refl, sym, ap, _∙_}
 use mathlib.Core.Bool.{Bool, true, false, not, _&&_}
 use mathlib.Core.List.{List, [], _∷_}
-use lib.Dec.{eqb, ltb}
+use lib.Dec.{eqb}
 use lib.ListN.{length, getD, set, getD-replicate}
 use lib.Seq.{getD-set-same, getD-set-other}
 use borrow.Author.Tests.{eqb-true, eqb-false, eq-eqb, ne-eqb}
-use Rattle.checks.specs.Order.{pick, firstOf}
+use Rattle.checks.specs.Order.{firstOf}
 use Rattle.checks.proofs.Bools.{true-false, refuted}
 use Rattle.sets.specs.Sets.{anyBelow}
 use Rattle.sets.proofs.Anywhere.{any-found}
@@ -20,9 +19,10 @@ use Rattle.records.specs.declared.Group.{Group}
 use Rattle.records.specs.declared.PathPlace.{PathPlace}
 use Rattle.routes.specs.Routes.{isFilled, sameEntry, emptyRoute}
 use Rattle.routes.specs.declared.Route.{Route}
-use Rattle.state.specs.Relay.{Relay, freshRelay, routeIn, groupIn, pathIn, withRouter, withPort, withRoute, withGroup, withPath}
+use Rattle.state.specs.Relay.{Relay, freshRelay, routeIn, groupIn, pathIn, withRouter, withRoute, withGroup, withPath}
 use Rattle.refusals.specs.Elsewhere.{otherRoute, otherGroup, otherPath, routeElsewhere, groupElsewhere, pathElsewhere}
-use Rattle.refusals.specs.Lists.{portChecks, routeChecks, groupChecks, pathChecks, routerChecks, clearChecks}
+use Rattle.refusals.specs.Lists.{routeChecks, groupChecks, pathChecks}
+use Rattle.refusals.proofs.Chains.{decided}
 use Rattle.adjust.specs.Settled.{newRoute, newGroup, newPath}
 use Rattle.taking.specs.Taking.{takenRelay}
 use Rattle.judge.specs.Ending.{endingOf}
@@ -48,7 +48,7 @@ use Rattle.history.specs.Calls.{
 use Rattle.history.specs.Outcome.{next, runFrom, relayAfter}
 use Rattle.history.specs.Reach.{sameGroup, samePath, Unique, KeysUnique}
 use Rattle.history.proofs.Settled.{settle-keeps}
-use Rattle.history.proofs.Reach.{Kept, settingsOf, numbered-five, received-settings, taken-settings, one-kept, fresh-kept}
+use Rattle.history.proofs.Reach.{Kept, settingsOf, received-settings, taken-settings, one-kept, fresh-kept}
 
 -- ---- the same either way round
 eqb-case : (a b : ℕ) (t : Bool) → eqb a b ≡ t → eqb b a ≡ t
@@ -105,34 +105,23 @@ not-here : (t u : Bool) → t ≡ false → (not t && u) ≡ false → u ≡ fal
 not-here true u h e = true-false h
 not-here false u h e = e
 
-both-and : (f g s : Bool) → (f && s) ≡ false → (f && (g && s)) ≡ false
-both-and true true s h = h
-both-and true false s h = refl
-both-and false g s h = refl
-
 module _ (r : Relay) where
   route-new : (i : ℕ) (x : Route) → firstOf (routeChecks r i x) ≡ 0 → (j : ℕ) → j < 64 → (j ≡ i → ⊥) → sameEntry (routeIn r j) x ≡ false
   unfolding routeElsewhere
   route-new i x taken j h ne =
-      let none =
-      numbered-five _ _ _ _ _ 21 21 22 24 23 (λ z. omega arith) (λ z. omega arith) (λ z. omega arith) (λ z. omega arith) (λ z. omega arith) taken in
-      not-here (eqb j i) (sameEntry (routeIn r j) x) (ne-eqb j i ne) (none-of (otherRoute r i x) 64 (none .1 .1 .1 .1) j h)
+      not-here (eqb j i) (sameEntry (routeIn r j) x) (ne-eqb j i ne) (none-of (otherRoute r i x) 64 (decided (routeChecks r i x) refl .0 .0 taken .1 .1 .1 .1 .0) j h)
 
   group-new : (i : ℕ) (a : Address) (send subscribed : ℕ) → firstOf (groupChecks r i a send subscribed) ≡ 0
       → (j : ℕ) → j < 16 → (j ≡ i → ⊥) → sameGroup (groupIn r j) (newGroup a send subscribed) ≡ false
   unfolding groupElsewhere
   group-new i a send subscribed taken j h ne =
-      let none =
-      numbered-five _ _ _ _ _ 21 21 21 25 23 (λ z. omega arith) (λ z. omega arith) (λ z. omega arith) (λ z. omega arith) (λ z. omega arith) taken in
-      not-here (eqb j i) (sameGroup (groupIn r j) (newGroup a send subscribed)) (ne-eqb j i ne) (none-of (otherGroup r i a) 16 (none .1 .1 .1 .1) j h)
+      not-here (eqb j i) (sameGroup (groupIn r j) (newGroup a send subscribed)) (ne-eqb j i ne) (none-of (otherGroup r i a) 16 (decided (groupChecks r i a send subscribed) refl .0 .0 taken .1 .1 .1 .1 .0) j h)
 
   path-new : (i : ℕ) (p : PathAddress) (send here : ℕ) → firstOf (pathChecks r i p send here) ≡ 0
       → (j : ℕ) → j < 16 → (j ≡ i → ⊥) → samePath (pathIn r j) (newPath p send here) ≡ false
   unfolding pathElsewhere
   path-new i p send here taken j h ne =
-      let none =
-      numbered-five _ _ _ _ _ 21 21 25 24 23 (λ z. omega arith) (λ z. omega arith) (λ z. omega arith) (λ z. omega arith) (λ z. omega arith) taken in
-      not-here (eqb j i) (samePath (pathIn r j) (newPath p send here)) (ne-eqb j i ne) (none-of (otherPath r i p) 16 (none .1 .1 .1 .1) j h)
+      not-here (eqb j i) (samePath (pathIn r j) (newPath p send here)) (ne-eqb j i ne) (none-of (otherPath r i p) 16 (decided (pathChecks r i p send here) refl .0 .0 taken .1 .1 .1 .1 .0) j h)
 
 -- an empty place holds nothing
 empty-second : (f s : Bool) → (f && (false && s)) ≡ false

@@ -10,6 +10,7 @@ use lib.Seq.{getD-set-same, getD-set-other}
 use lib.Dec.{eqb, ltb}
 use borrow.Author.Tests.{eqb-true, eqb-false}
 use Rattle.checks.specs.Order.{pick}
+use Rattle.checks.proofs.Laws.{either}
 use Rattle.sets.specs.Sets.{inSet}
 use Rattle.address.specs.declared.Slot.{Slot}
 use Rattle.queue.specs.Queue.{fresh as freshQueue, putOf, takeOf}
@@ -29,7 +30,7 @@ use Rattle.history.specs.Outcome.{ofTaking, outcome, next, runFrom, rela
 use Rattle.history.specs.Ledger.{one, granted, dropped, handedOut}
 use Rattle.page.proofs.Bits.{in-none}
 use Rattle.history.proofs.Fair.{Fair, fair}
-use Rattle.history.proofs.Queues.{Eight, eight-entered, putIf, entered-queue, put-count, take-count}
+use Rattle.history.proofs.Queues.{Eight, eight-entered, entered-queue, put-count, take-count}
 use Rattle.history.proofs.Settled.{queues-of, settle-queues}
 
 -- ---- eight queues stay
@@ -37,13 +38,10 @@ without-eight : (r : Relay) (port : ℕ) (q : Queue) (h : Head) → Eight r → 
 without-eight r port q (First e) l = length-set (queues-of r) port q ∙ l
 without-eight r port q Nothing l = l
 
-taken-case : (t : Bool) (r : Relay) (port : ℕ) (q : Queue) (h : Head) → Eight r → Eight (pick t r (without r port q h))
-taken-case true r port q h l = l
-taken-case false r port q h l = without-eight r port q h l
-
 taken-eight : (r : Relay) (port : ℕ) → Eight r → Eight (takenRelay r port)
 unfolding takenRelay
-taken-eight r port l = taken-case (not (portSetUp r port)) r port (takeOf (queueIn r port) .queue) (takeOf (queueIn r port) .head) l
+taken-eight r port l =
+    either Eight (not (portSetUp r port)) l (without-eight r port (takeOf (queueIn r port) .queue) (takeOf (queueIn r port) .head) l)
 
 received-eight : (r : Relay) (slot : Slot) (e : Ending) → Eight r → Eight (receivedRelay r slot e)
 unfolding receivedRelay

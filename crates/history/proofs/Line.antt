@@ -4,39 +4,47 @@ use native.Mathlib.Omega.{arith}
 use Prim.Native.Nat.{ℕ, suc, _+_, _<_}
 use mathlib.Core.Path.{_≡_, refl, sym, ap, _∙_}
 use mathlib.Core.Bool.{Bool, true, false, not}
-use mathlib.Core.List.{List, [], _∷_, _++_}
+use mathlib.Core.List.{List, [], _∷_, _++_, append-nil}
 use lib.ListN.{length, getD, set, getD-replicate}
 use lib.Seq.{getD-set-same, getD-set-other}
 use lib.Dec.{eqb, ltb}
 use borrow.Author.Tests.{eqb-true, eqb-false, ltb-true}
 use Rattle.checks.specs.Order.{pick}
 use Rattle.checks.proofs.Bools.{true-false}
+use Rattle.checks.proofs.Laws.{either}
 use Rattle.sets.specs.Sets.{inSet}
+use Rattle.queue.specs.Order.{Each}
 use Rattle.queue.specs.Queue.{fresh as freshQueue, putOf, takeOf}
 use Rattle.queue.specs.Waits.{Chosen, nobody, one, chosen, rankBy, Highest, Waits}
-use Rattle.queue.specs.declared.Entry.{Entry}
 use Rattle.queue.specs.declared.Head.{Head}
 use Rattle.queue.specs.declared.Head.the-variants.{First, Nothing}
 use Rattle.queue.specs.declared.Queue.{Queue}
-use Rattle.queue.proofs.Waits.{chosen-asked, waits-fresh, waits-count, waits-put, waits-take, waits-nothing}
+use Rattle.queue.proofs.Each.{each-append}
+use Rattle.queue.proofs.Waits.{EachOf, chosen-each, chosen-asked, waits-fresh, waits-count, waits-put, waits-take, waits-nothing}
 use Rattle.state.specs.Relay.{Relay, freshRelay, queueIn, portSetUp}
 use Rattle.taking.specs.Taking.{handsOut, without, takeOutcome, takenRelay}
-use Rattle.taking.specs.declared.Taking.{Taking}
-use Rattle.taking.specs.declared.Taking.the-variants.{Handed, Refused}
+use Rattle.taking.specs.declared.Taking.the-variants.{Refused}
 use Rattle.judge.specs.Ending.{endingOf}
-use Rattle.judge.specs.declared.Ending.{Ending}
 use Rattle.relay.specs.Received.{receivedRelay}
 use Rattle.history.specs.Calls.{Call, sets, hears, takes, looks, settle}
 use Rattle.history.specs.Outcome.{Out, nothing, from, ofTaking, outcome, next, runFrom, relayAfter}
 use Rattle.history.specs.Line.{Copy, entryOf, copyOf, takenBy, handedBy, leftBy, lineBy, lineFrom, takenFrom, handedFrom, lineAt, takenAt, handedAt, times}
-use Rattle.history.proofs.Fair.{Fair, fair}
-use Rattle.history.proofs.Queues.{Eight, putIf, entered-queue}
+use Rattle.history.proofs.Fair.{fair}
+use Rattle.history.proofs.Queues.{Eight, entered-queue}
 use Rattle.history.proofs.Settled.{queues-of, settle-queues}
 use Rattle.history.proofs.Ledger.{next-eight, fresh-eight}
 
-pub append-nil : {A : Type 0} (l : List A) → l ++ [] ≡ l
-append-nil [] = refl
-append-nil (x ∷ l) = ap (λ (k : List _). x ∷ k) (append-nil l)
+left-each : (p : ℕ) (P : Copy → Type 0) (o : Out) (line : List Copy) (c : Chosen Copy) → Each P line → EachOf (rankBy entryOf) P c → Each P (leftBy p o line c)
+left-each p P nothing line c all h = all
+left-each p P (from q e) line nobody all h = all
+left-each p P (from q e) line (one x others) all h = either (Each P) (eqb q p) (h .1) all
+
+-- what holds of each that waits and of each that a call places holds of each that waits after the call
+pub line-each : (p : ℕ) (P : Copy → Type 0) (n : ℕ) (r : Relay) (c : Call) (line : List Copy) → Each P line → Each P (takenBy p n r c) → Each P (lineBy p n r c line)
+line-each p P n r c line all come =
+    let x = chosen (rankBy entryOf) line in
+    each-append P (leftBy p (outcome r c .out) line x) (takenBy p n r c)
+    (left-each p P (outcome r c .out) line x all (chosen-each (rankBy entryOf) P line all)) come
 
 module _ (p : ℕ) (inside : p < 8) where
   abbrev Held : Relay → List Copy → Type 0

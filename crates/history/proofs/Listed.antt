@@ -2,7 +2,7 @@
 -- answer stands in it is one computed test. Assumes nothing.
 use Prim.Native.Nat.{ℕ}
 use mathlib.Core.Path.{_≡_, refl, sym, ap, _∙_}
-use mathlib.Core.Bool.{Bool, true, false, not, _&&_, _||_}
+use mathlib.Core.Bool.{Bool, true, false, not, _&&_, _||_, or-true}
 use mathlib.Core.List.{List, [], _∷_}
 use lib.ListN.{length}
 use lib.Bits.{bitAnd}
@@ -83,10 +83,6 @@ first-listed xs (c ∷ cs) z h =
     let both = and-true (listed xs (c .1)) (allListed xs cs) h in
     either (λ n. listed xs n ≡ true) (c .0) (both .0) (first-listed xs cs z (both .1))
 
-or-right : (t u : Bool) → u ≡ true → (t || u) ≡ true
-or-right true u h = refl
-or-right false u h = h
-
 row-first : (t u : Bool) → t ≡ true → ((t && true) || u) ≡ true
 row-first true u h = refl
 row-first false u h = true-false (sym h)
@@ -146,7 +142,7 @@ module _ (bare : Bool) where
 
   -- any other obstacle
   other : (o : Obstacle) → isOurs o ≡ true → numbered bare (Refused o) ≡ true
-  other o h = or-right bare (isOurs o) h
+  other o h = rw h (or-true bare)
 
   group-numbered : (p : Place) (arrival others : ℕ) → Numbered (groupLine p arrival others)
   unfolding groupLine
@@ -238,15 +234,16 @@ Judged x = stands endingRows (ended 0 (localNumber (x .local)) (onwardNumber (x 
 abbrev sent : Bool → ℕ
 sent none = onwardNumber (pick none (onward.Refused QueuesFull) onward.SentOn)
 
--- not delivered: any obstacle
-refused-not-delivered : (o : Obstacle) → stands endingRows (ended 0 0 (obstacleNumber o) 0) ≡ true
-refused-not-delivered NotForUs = refl
-refused-not-delivered HopsUsedUp = refl
-refused-not-delivered NoRoute = refl
-refused-not-delivered LeavesDomain = refl
-refused-not-delivered TooBig = refl
-refused-not-delivered QueuesFull = refl
+-- what holds of the six numbers of obstacles holds of any obstacle's
+pub each-obstacle : (P : ℕ → Type 0) → P 9 × (P 10 × (P 11 × (P 13 × (P 14 × P 15)))) → (o : Obstacle) → P (obstacleNumber o)
+each-obstacle P h NotForUs = h .0
+each-obstacle P h HopsUsedUp = h .1 .0
+each-obstacle P h NoRoute = h .1 .1 .0
+each-obstacle P h LeavesDomain = h .1 .1 .1 .0
+each-obstacle P h TooBig = h .1 .1 .1 .1 .0
+each-obstacle P h QueuesFull = h .1 .1 .1 .1 .1
 
+-- not delivered: any obstacle
 sent-not-delivered : (t : Bool) (took : ℕ) → eqb took 0 ≡ t → stands endingRows (ended 0 0 (sent t) took) ≡ true
 sent-not-delivered true took h = simp (h)
 sent-not-delivered false took h = simp (h)
@@ -254,7 +251,7 @@ sent-not-delivered false took h = simp (h)
 not-delivered : (l : Wish) (full : ℕ) → good true l ≡ true → Judged (rulingOf No l full)
 unfolding rulingOf copiesOf
 not-delivered NotAsked full h = true-false (sym h)
-not-delivered (Refused o) full h = refused-not-delivered o
+not-delivered (Refused o) full h = each-obstacle (λ (n : ℕ). stands endingRows (ended 0 0 n 0) ≡ true) (refl, (refl, (refl, (refl, (refl, refl))))) o
 not-delivered (Wanted set) full h = sent-not-delivered (eqb (exceptBy set full) 0) (exceptBy set full) refl
 
 -- delivered or 26: any obstacle but that it is not for us
@@ -364,18 +361,10 @@ every-ending-is-listed r port octets room = ended-case r port octets room _ refl
 unended : (e : Ending) → stands endingRows (ofEnding e .answer) ≡ true → e .refusal ≡ 12 → ⊥
 unended e h is = true-false (sym h ∙ rw is)
 
-not-twelve : (o : Obstacle) → eqb (obstacleNumber o) 12 ≡ false
-not-twelve NotForUs = refl
-not-twelve HopsUsedUp = refl
-not-twelve NoRoute = refl
-not-twelve LeavesDomain = refl
-not-twelve TooBig = refl
-not-twelve QueuesFull = refl
-
 onward-not-twelve : (x : Onward) → eqb (onwardNumber x) 12 ≡ false
 onward-not-twelve onward.NotAsked = refl
 onward-not-twelve onward.SentOn = refl
-onward-not-twelve (onward.Refused o) = not-twelve o
+onward-not-twelve (onward.Refused o) = each-obstacle (λ (n : ℕ). eqb n 12 ≡ false) (refl, (refl, (refl, (refl, (refl, refl))))) o
 
 pub never-twelve : (r : Relay) (port : ℕ) (octets : List ℕ) (room : ℕ)
     → (endingOf r port octets room .refusal ≡ 12 → ⊥) × (onwardNumber (endingOf r port octets room .ruling .onward) ≡ 12 → ⊥)

@@ -1,14 +1,12 @@
 -- Demand 2: for every copy granted, what each address of the header names at the port it leaves by is what it named at the port it came in by;
 -- hence a one-octet address is granted no copy into another domain. Assumes nothing.
-use native.Mathlib.Omega.{arith}
-use Prim.Native.Nat.{ℕ, zero, suc, _<_}
+use Prim.Native.Nat.{ℕ, _<_}
 use mathlib.Core.Path.{_≡_, refl, sym, ap, _∙_}
 use mathlib.Core.Bool.{true}
 use mathlib.Core.Logic.{_⊎_, inl, inr, ⊎-elim}
 use mathlib.Core.List.{List}
-use lib.Dec.{eqb}
 use Rattle.sets.specs.Sets.{inSet}
-use Rattle.header.specs.Read.{readOf, headerOf}
+use Rattle.header.specs.Read.{readOf}
 use Rattle.header.specs.declared.Addresses.{Addresses}
 use Rattle.header.specs.declared.Addresses.the-variants.{BasicPath, ExtendedPath, BasicEndSystem, ExtendedEndSystem, Ipv6}
 use Rattle.header.specs.declared.Header.{Header}

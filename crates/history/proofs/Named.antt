@@ -1,12 +1,12 @@
 -- What the rules give the counters that the customer names: npInReceives, npInDelivers, npForwDatagrams, npOutDiscards. Assumes nothing.
 use native.Mathlib.Omega.{arith}
-use Prim.Native.Nat.{ℕ, _+_}
+use Prim.Native.Nat.{ℕ}
 use mathlib.Core.Path.{_≡_, refl, sym, ap, _∙_}
 use mathlib.Core.Bool.{Bool, true, false, not, _&&_, _||_}
 use mathlib.Core.List.{List, [], _∷_}
 use lib.Dec.{eqb}
-use borrow.Author.Tests.{eqb-true}
-use Rattle.checks.proofs.Bools.{true-false, and-true}
+use borrow.Author.Tests.{eqb-true, not-true}
+use Rattle.checks.proofs.Bools.{and-true}
 use Rattle.checks.specs.Order.{pick}
 use Rattle.checks.proofs.Laws.{either}
 use Rattle.address.specs.Mask.{onesBelow, onesOf}
@@ -14,24 +14,20 @@ use Rattle.verdict.specs.Numbers.{localNumber, obstacleNumber, onwardNumber}
 use Rattle.verdict.specs.declared.Local.{Local}
 use Rattle.verdict.specs.declared.Local.the-variants.{No, Delivered, Unknown}
 use Rattle.verdict.specs.declared.Obstacle.{Obstacle}
-use Rattle.verdict.specs.declared.Obstacle.the-variants.{NotForUs, HopsUsedUp, NoRoute, LeavesDomain, TooBig, QueuesFull}
 use Rattle.verdict.specs.declared.Onward.{Onward}
 use Rattle.verdict.specs.declared.Onward.the-variants as onward
 use Rattle.judge.specs.declared.Ending.{Ending}
 use Rattle.tally.specs.declared.Counter.{Counter}
 use Rattle.tally.specs.declared.Counter.the-variants as counter
-use Rattle.tally.specs.Tally.{movesOf, CounterRow, numbered, inTable, counterFor, receiptCounter, localCounter, onwardCounter, discardCounter}
+use Rattle.tally.specs.Tally.{movesOf, CounterRow, numbered, inTable, counterFor, localCounter, onwardCounter}
 use Rattle.history.specs.Tally.{isAt, sumAt}
 use Rattle.history.specs.Ledger.{one}
+use Rattle.history.proofs.Listed.{each-obstacle}
 
 -- no row of the table gives counter i
 abbrev misses : List CounterRow → ℕ → Bool
 misses [] i = true
 misses (row ∷ rows) i = not (eqb (row .1) i) && misses rows i
-
-not-true : (t : Bool) → not t ≡ true → t ≡ false
-not-true true h = true-false (sym h)
-not-true false h = refl
 
 in-no-row : (rows : List CounterRow) (i n : ℕ) → misses rows i ≡ true → isAt (inTable rows n) i ≡ false
 in-no-row [] i n h = refl
@@ -46,12 +42,7 @@ apart i h n = in-no-row numbered i n h
 
 -- 1 is no obstacle's number
 not-one : (o : Obstacle) → eqb (obstacleNumber o) 1 ≡ false
-not-one NotForUs = refl
-not-one HopsUsedUp = refl
-not-one NoRoute = refl
-not-one LeavesDomain = refl
-not-one TooBig = refl
-not-one QueuesFull = refl
+not-one = each-obstacle (λ (n : ℕ). eqb n 1 ≡ false) (refl, (refl, (refl, (refl, (refl, refl)))))
 
 -- ---- what each move of an ending gives such a counter
 module _ (i : ℕ) (none : (n : ℕ) → isAt (counterFor n) i ≡ false) where

@@ -4,7 +4,7 @@
 use native.Mathlib.Omega.{arith}
 use Prim.Native.Nat.{ℕ, zero, suc, _<_, _≤_, _%_}
 use mathlib.Core.Path.{_≡_, refl, sym, ap, _∙_}
-use mathlib.Core.Bool.{Bool, true, false, not, _&&_}
+use mathlib.Core.Bool.{Bool, true, false, _&&_}
 use mathlib.Core.List.{List, [], _∷_}
 use lib.Dec.{eqb, ltb}
 use lib.ListN.{length, getD, set, replicate}
@@ -16,7 +16,7 @@ use Rattle.verdict.specs.declared.Ruling.{Ruling}
 use Rattle.history.proofs.Small.{sets-small}
 use Rattle.checks.specs.Order.{pick, firstOf}
 use Rattle.checks.proofs.Bools.{true-false, refuted, and-true}
-use Rattle.checks.proofs.Laws.{either, zero-none}
+use Rattle.checks.proofs.Laws.{either}
 use Rattle.sets.specs.Sets.{inSet}
 use Rattle.header.specs.Range.{qosFits}
 use Rattle.header.specs.Read.{readOf}
@@ -32,7 +32,6 @@ use Rattle.settings.proofs.Values.{flag-taken}
 use Rattle.queue.specs.Order.{Each}
 use Rattle.queue.specs.Waits.{Chosen, nobody, one, chosen, rankBy}
 use Rattle.queue.specs.declared.Entry.{Entry}
-use Rattle.queue.proofs.Each.{each-append}
 use Rattle.queue.proofs.Waits.{EachOf, chosen-each, waits-count}
 use Rattle.records.specs.Fresh.{freshPort, freshGroup, freshPath}
 use Rattle.records.specs.SetUp.{isSetUp}
@@ -42,6 +41,8 @@ use Rattle.records.specs.declared.PathPlace.{PathPlace}
 use Rattle.routes.specs.Routes.{emptyRoute}
 use Rattle.routes.specs.declared.Route.{Route}
 use Rattle.state.specs.Relay.{Relay, freshRelay, portIn, withRoute, withGroup, withPath, portSetUp}
+use Rattle.refusals.specs.Lists.{pathChecks}
+use Rattle.refusals.proofs.Chains.{decided}
 use Rattle.verdict.specs.declared.Wish.the-variants.{Refused}
 use Rattle.adjust.specs.Settled.{newPort}
 use Rattle.taking.specs.Taking.{takeOutcome, takenRelay}
@@ -71,8 +72,8 @@ use Rattle.history.specs.Outcome.{Out, nothing, from, outcome, next, run
 use Rattle.history.specs.Line.{Copy, entryOf, copyOf, takenBy, leftBy, lineBy, lineFrom, lineAt, takingOf}
 use Rattle.history.specs.Ranges.{Flag, Flags, InRange, Octets, Passed, EntryFits, CopyFits}
 use Rattle.history.proofs.Settled.{settle-keeps}
-use Rattle.history.proofs.Reach.{madeOf, received-made, taken-made, numbered-five}
-use Rattle.history.proofs.Line.{queue-waits}
+use Rattle.history.proofs.Reach.{madeOf, received-made, taken-made}
+use Rattle.history.proofs.Line.{line-each, queue-waits}
 use Rattle.history.proofs.Takes.{take-is}
 use Rattle.page.specs.Table.{hasRoom}
 use Rattle.page.proofs.Exactly.{took-exactly}
@@ -126,7 +127,7 @@ module _ (r : Relay) (f : Flags r) where
 
   written-flags : (s : Setting) → firstOf (checksOf r s) ≡ 0 → Flags (written r s)
   written-flags (setRouter x) taken =
-      let none = zero-none (checksOf r (setRouter x)) ((λ z. omega arith), tt) taken in
+      let none = decided (checksOf r (setRouter x)) refl .0 .0 taken in
       record { router = flag-taken x .0 (none .0); ports = f .ports; routes = f .routes; groups = f .groups; paths = f .paths }
   written-flags (setPort p address mask mtu) taken =
       record {
@@ -139,9 +140,7 @@ module _ (r : Relay) (f : Flags r) where
   written-flags (setRoute i prefix mask port availability capabilities) taken = route-flags i _ (omega arith)
   written-flags (setGroup i address send subscribed) taken = group-flags i _ (omega arith)
   written-flags (setPath i path send here) taken =
-      let none =
-      numbered-five _ _ _ _ _ 21 21 25 24 23 (λ z. omega arith) (λ z. omega arith) (λ z. omega arith) (λ z. omega arith) (λ z. omega arith) taken in
-      path-flags i _ (omega arith, flag-taken here .0 (none .1 .1 .1 .0))
+      path-flags i _ (omega arith, flag-taken here .0 (decided (pathChecks r i path send here) refl .0 .0 taken .1 .1 .1 .0))
   written-flags (clearRoute i) taken = route-flags i _ (omega arith)
   written-flags (clearGroup i) taken = group-flags i _ (omega arith)
   written-flags (clearPath i) taken = path-flags i _ (omega arith, omega arith)
@@ -307,18 +306,10 @@ module _ (p : ℕ) where
   enters-fits r n (takes port) passed = tt
   enters-fits r n (looks l) passed = tt
 
-  left-fits : (line : List Copy) (o : Out) (c : Chosen Copy) → Each CopyFits line → EachOf (rankBy entryOf) CopyFits c → Each CopyFits (leftBy p o line c)
-  left-fits line nothing c all some = all
-  left-fits line (from q e) nobody all some = all
-  left-fits line (from q e) (one x others) all some = either (Each CopyFits) (eqb q p) (some .1) all
-
   all-fit : (cs : List Call) (n : ℕ) (r : Relay) (line : List Copy) → Each Passed cs → Each CopyFits line → Each CopyFits (lineFrom p n r line cs)
   all-fit [] n r line passed all = all
   all-fit (c ∷ cs) n r line passed all =
-      let o = outcome r c .out in
-      let x = chosen (rankBy entryOf) line in
-      all-fit cs (suc n) (next r c) (lineBy p n r c line) (passed .1)
-      (each-append CopyFits (leftBy p o line x) (takenBy p n r c) (left-fits line o x all (chosen-each (rankBy entryOf) CopyFits line all)) (enters-fits r n c (passed .0)))
+      all-fit cs (suc n) (next r c) (lineBy p n r c line) (passed .1) (line-each p CopyFits n r c line all (enters-fits r n c (passed .0)))
 
   -- After any history that C can make each copy that waits has a precedence of 0 to 15 and a slot of 16 bits, and came as octets, ..
   pub waiting-fits : (cs : List Call) → Each Passed cs → Each CopyFits (lineAt p cs)

@@ -2,7 +2,7 @@
 use Prim.Native.Nat.{ℕ, zero, suc}
 use mathlib.Core.Path.{_≡_, refl, sym, ap, _∙_}
 use mathlib.Core.Bool.{Bool, true, false, not}
-use mathlib.Core.List.{List, []}
+use mathlib.Core.List.{List}
 use lib.ListN.{length}
 use lib.Bits.{bitAnd, and-zero-l}
 use lib.Dec.{eqb}
@@ -12,7 +12,6 @@ use Rattle.checks.proofs.Bools.{true-false}
 use Rattle.sets.specs.Sets.{onlyPort}
 use Rattle.address.specs.declared.Slot.{Slot}
 use Rattle.header.specs.Read.{readOf}
-use Rattle.header.specs.declared.Header.{Header}
 use Rattle.header.specs.declared.Read.{Read}
 use Rattle.header.specs.declared.Read.the-variants as read
 use Rattle.queue.specs.Queue.{takeOf}
@@ -29,8 +28,7 @@ use Rattle.judge.specs.declared.Ending.{Ending}
 use Rattle.tally.specs.Tally.{movesOf, counterFor}
 use Rattle.relay.specs.Outgoing.{entered, enteredIf, enteredAll, sentOutput}
 use Rattle.relay.specs.Received.{newEntry, receivedRelay}
-use Rattle.taking.specs.declared.Taking.{Taking}
-use Rattle.taking.specs.declared.Taking.the-variants.{Handed, Refused}
+use Rattle.taking.specs.declared.Taking.the-variants.{Refused}
 use Rattle.history.specs.Tally.{sumAt}
 
 -- ---- a refusal has no ruling

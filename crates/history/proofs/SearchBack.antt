@@ -10,7 +10,7 @@ use mathlib.Core.Bool.{true}
 use mathlib.Core.List.{List}
 use lib.Bits.{bitAnd, and-zero-r}
 use borrow.Author.Tests.{ltb-true}
-use Rattle.checks.proofs.Bools.{true-false, and-true}
+use Rattle.checks.proofs.Bools.{true-false, and-true, not-false}
 use Rattle.address.specs.Mask.{onesOf}
 use Rattle.address.proofs.Ones.{ones-at-most}
 use Rattle.address.proofs.Masks.{mask-ones}
@@ -30,7 +30,7 @@ use Rattle.answers.proofs.Digits.{digit}
 use Rattle.harpjuniper_reads.specs.Search.{searchParts, foundNumber, searchAnswer}
 use Rattle.history.specs.Calls.{Call}
 use Rattle.history.specs.Outcome.{relayAfter}
-use Rattle.history.proofs.Reach.{not-false-true, kept-after}
+use Rattle.history.proofs.Reach.{kept-after}
 use Rattle.history.proofs.Search.{good-record, taken-has-most-ones, taken-is-the-only}
 
 -- ---- the accessors: hj_is_found, hj_found_place, hj_found_ones and hj_found_port; hj_found_refusal reads the part at 0
@@ -129,7 +129,7 @@ module _ (cs : List Call) (a : Address) where
       let filled = candidate-is r a .0 (taken .2) .0 in
       let good = good-record cs p (ap isFilled (sym (taken .1)) ∙ filled) .0 in
       let port : r .port < 8 =
-      subst (λ (x : Route). x .port < 8) (sym (taken .1)) (port-low _ _ (not-false-true _ good))
+      subst (λ (x : Route). x .port < 8) (sym (taken .1)) (port-low _ _ (not-false _ good))
       in
       let is : searchAnswer (relayAfter cs) a ≡ searchParts 1 p n (r .port) = ap foundNumber e in
       (rw is (named-whole p n (r .port) (omega arith) (omega arith) (omega arith)), (place, (ones, port)))

@@ -1,5 +1,4 @@
 -- What a setting leaves: the relay as it was where it is refused, else what it writes. Assumes nothing.
-use Prim.Native.Nat.{ℕ}
 use mathlib.Core.Path.{_≡_, refl}
 use mathlib.Core.Bool.{Bool, true, false}
 use mathlib.Core.List.{List}

@@ -3,7 +3,7 @@ use native.Mathlib.Omega.{arith}
 use native.Mathlib.Nat.{div-eq-of-lt, mod-lt}
 use Prim.Native.Nat.{ℕ, zero, suc, _/_, _%_, _^_, _<_, _≤_}
 use mathlib.Core.Path.{_≡_, refl, sym, ap, _∙_}
-use mathlib.Core.Bool.{Bool, true, false, not, _&&_, _||_}
+use mathlib.Core.Bool.{Bool, true, false, not, _||_, and-false}
 use mathlib.Core.List.{List, [], _∷_}
 use lib.ListN.{length}
 use lib.Dec.{eqb}
@@ -70,10 +70,6 @@ pub delivers-sum : (cs : List Call) → counterIn (stateAfter cs .counters) 8 �
 delivers-sum = totalled 8 deliveries (λ n. refl) (λ p e. refl) (λ r port octets room. delivers-counted (endingOf r port octets room)) (omega arith)
 
 -- ---- 1 stands in the onward half where a port took an entry, and only there
-and-false : (t : Bool) → (t && false) ≡ false
-and-false true = refl
-and-false false = refl
-
 sent-case : (refusal local onward took : ℕ) (t u : Bool) → eqb took 0 ≡ t → eqb onward 1 ≡ u
     → stands endingRows (ended refusal local onward took) ≡ true → u ≡ not t
 sent-case refusal local onward took true true h k s =

@@ -1,23 +1,21 @@
 -- Demand 3, the order, of the call: what a take answers after any history. The theorem is `take-is`: 16 where the port is not set up, 18 where nothing
 -- waits, else the oldest of the highest precedence. Assumes nothing.
 use Prim.Native.Nat.{ℕ, _<_}
-use mathlib.Core.Path.{_≡_, refl, sym, ap, _∙_}
+use mathlib.Core.Path.{_≡_, refl, ap}
 use mathlib.Core.Bool.{Bool, true, false, not}
 use mathlib.Core.List.{List}
 use lib.Dec.{ltb}
 use borrow.Author.Tests.{ltb-true}
 use Rattle.checks.specs.Order.{pick}
-use Rattle.checks.proofs.Bools.{true-false, and-true}
+use Rattle.checks.proofs.Bools.{and-true}
 use Rattle.queue.specs.Queue.{takeOf}
 use Rattle.queue.specs.Waits.{Chosen, nobody, one, chosen, rankBy, Waits}
-use Rattle.queue.specs.declared.Head.{Head}
 use Rattle.queue.specs.declared.Queue.{Queue}
 use Rattle.queue.proofs.Waits.{chosen-asked, waits-take, waits-nothing}
 use Rattle.records.specs.SetUp.{isSetUp}
 use Rattle.state.specs.Relay.{Relay, portIn, queueIn, portSetUp}
 use Rattle.taking.specs.Taking.{handsOut, takeOutcome}
-use Rattle.taking.specs.declared.Taking.{Taking}
-use Rattle.taking.specs.declared.Taking.the-variants.{Handed, Refused}
+use Rattle.taking.specs.declared.Taking.the-variants.{Refused}
 use Rattle.history.specs.Calls.{Call}
 use Rattle.history.specs.Outcome.{relayAfter}
 use Rattle.history.specs.Line.{Copy, entryOf, lineAt, takingOf}

@@ -2,8 +2,7 @@
 -- made of such calls"). Assumes nothing.
 use Prim.Native.Nat.{ℕ}
 use mathlib.Core.List.{List}
-use lib.Dec.{eqb}
-use Rattle.checks.specs.Order.{Checks, pick, firstOf}
+use Rattle.checks.specs.Order.{Checks, firstOf}
 use Rattle.address.specs.declared.Address.{Address}
 use Rattle.address.specs.declared.Mask.{Mask}
 use Rattle.address.specs.declared.PathAddress.{PathAddress}

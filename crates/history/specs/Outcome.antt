@@ -13,7 +13,7 @@ use Rattle.taking.specs.Taking.{takeOutcome, takenRelay}
 use Rattle.taking.specs.declared.Taking.{Taking}
 use Rattle.taking.specs.declared.Taking.the-variants.{Handed, Refused}
 use Rattle.tally.specs.Tally.{Move, movesOf}
-use Rattle.relay.specs.Received.{newEntry, receivedRelay}
+use Rattle.relay.specs.Received.{receivedRelay}
 use Rattle.history.specs.Calls.{Call, sets, hears, takes, looks, checksOf, settle}
 use Rattle.history.specs.Looks.{lookNumber}
 

@@ -35,8 +35,9 @@ use Rattle.verdict.specs.declared.Survey.{Survey}
 use Rattle.judge.specs.Ruling.{caseOf, soughtOf}
 use Rattle.page.specs.Table.{Ports, somePort, Line, notAsked, refused, wanted, hopsUsedUp, oneOctet, hasRoom, takenBy, droppedBy, ofDomain, ofSize, grantedPorts, copyRows, Verdict, lineNumber, lineGrants, halves}
 use Rattle.page.specs.Ends.{Agrees}
-use Rattle.page.proofs.Bits.{in-and, in-except}
-use Rattle.page.proofs.Sets.{none-in, empty-is}
+use Rattle.page.proofs.Bits.{in-none, in-and, in-except}
+use Rattle.page.proofs.Sets.{empty-is}
+use Rattle.page.proofs.Local.{pick-zero}
 use Rattle.page.proofs.Ports.{domain-in, fitting-in, domain-small, fitting-small, full-in}
 
 -- a line says what the table's line says
@@ -58,19 +59,15 @@ pub empty-agrees : (local : Local) (onward : Onward) (v : Verdict) → localNumb
 empty-agrees local onward v here on granted took dropped = record {
   local = here;
   onward = on;
-  granted = λ p l. none-in p ∙ sym (granted p l);
-  took = λ p l. none-in p ∙ sym (took p l);
-  dropped = λ p l. none-in p ∙ sym (dropped p l);
+  granted = λ p l. in-none p ∙ sym (granted p l);
+  took = λ p l. in-none p ∙ sym (took p l);
+  dropped = λ p l. in-none p ∙ sym (dropped p l);
 }
 
 -- ---- the tests
 spent-is : (n : Octet) → eqb (spentOf n) 0 ≡ not (hopsUsedUp n)
 spent-is octet.Absent = refl
-spent-is (octet.Present n) = by (ltb n 2)
-  where
-    by : (t : Bool) → eqb (pick t 1 0) 0 ≡ not t
-    by true = refl
-    by false = refl
+spent-is (octet.Present n) = pick-zero (ltb n 2)
 
 basic-is : (a : Addresses) → eqb (isBasic a) 0 ≡ not (oneOctet a)
 basic-is (BasicPath z) = refl

@@ -27,7 +27,7 @@ oursByName r at x =
     equalsPort r x || destinationIs x isLimited || broadcastOfOurs r x || destinationIs x (λ a. isMulticast a && isSubscribed r at a)
     || pathIs x (isHere r)
 
-pick-zero : (t : Bool) → eqb (pick t 1 0) 0 ≡ not t
+pub pick-zero : (t : Bool) → eqb (pick t 1 0) 0 ≡ not t
 pick-zero true = refl
 pick-zero false = refl
 

@@ -6,7 +6,7 @@ use native.Mathlib.Decide.{decLe}
 use Prim.Native.Nat.{ℕ, zero, suc, _-_, _*_, _%_, _^_, _<_, _≤_}
 use mathlib.Core.Path.{_≡_, refl, sym, ap, subst, _∙_}
 use mathlib.Core.Logic.{by-cases}
-use mathlib.Core.Bool.{Bool, true, false, not, _&&_, _||_, or-false}
+use mathlib.Core.Bool.{Bool, true, false, not, _||_, or-false}
 use lib.Dec.{eqb, ltb}
 use lib.Bits.{bitAnd}
 use lib.Pow.{pow-pos}
@@ -16,12 +16,8 @@ use Rattle.sets.specs.Sets.{inSet, onlyPort, anyBelow}
 use Rattle.sets.proofs.Anywhere.{any-is, any-found}
 use Rattle.networks.proofs.Bits.{bit, bit-small, same-bits}
 use Rattle.verdict.specs.Rule.{exceptBy}
-use Rattle.page.specs.Table.{Ports, somePort, noPort, without, nothingBut}
-use Rattle.page.proofs.Bits.{with-power, in-except, only-that, only-has}
-
--- no port is in the empty set
-pub none-in : (p : ℕ) → inSet p 0 ≡ false
-none-in p = ap (λ (n : ℕ). eqb (n % 2) 1) (div-eq-of-lt (pow-pos p))
+use Rattle.page.specs.Table.{Ports, somePort, nothingBut}
+use Rattle.page.proofs.Bits.{in-none, with-power, only-that, only-has}
 
 -- a bit that is not one is zero
 bit-none : (p n : ℕ) → inSet p n ≡ false → bit p n ≡ bit p 0
@@ -37,7 +33,7 @@ empty-is n ports small same = by (anyBelow ports 8) refl
     by : (t : Bool) → anyBelow ports 8 ≡ t → eqb n 0 ≡ not t
     by true e =
         let at = any-is ports 8 .0 e in
-        ne-eqb n 0 (λ z. true-false (sym (at .2) ∙ sym (same (at .0) (at .1)) ∙ ap (inSet (at .0)) z ∙ none-in (at .0)))
+        ne-eqb n 0 (λ z. true-false (sym (at .2) ∙ sym (same (at .0) (at .1)) ∙ ap (inSet (at .0)) z ∙ in-none (at .0)))
     by false e =
         eq-eqb n 0 (same-bits 8 n 0 small (omega arith) (λ p l.
         bit-none p n (same p l ∙ refuted (ports p) (λ h. true-false (sym (any-found ports p 8 l h) ∙ e)))))
@@ -48,7 +44,7 @@ only-is p q l = by (eqb p q) refl
   where
     over : (t : Bool) → ltb q 8 ≡ t → inSet p (onlyPort q) ≡ true → p ≡ q
     over true e h = only-that p q (ltb-true q 8 e) h
-    over false e h = true-false (sym h ∙ ap (inSet p) (simp e) ∙ none-in p)
+    over false e h = true-false (sym h ∙ ap (inSet p) (simp e) ∙ in-none p)
 
     by : (t : Bool) → eqb p q ≡ t → inSet p (onlyPort q) ≡ t
     by true e = ap (λ (x : ℕ). inSet p (onlyPort x)) (sym (eqb-true p q e)) ∙ only-has p l
@@ -85,10 +81,3 @@ nothing-is at set l =
         ∙ same w under some (eqb set w) refl
         ∙ sym (simp (ne-eqb set 0 (λ z. omega arith)))
     by (suc (suc b)) w h e f = absurd (omega arith)
-
--- Of ports 0 to 7 that is: none of the eight is left.
-pub nothing-below : (at set : ℕ) → at < 8 → set < 256 → nothingBut at set ≡ noPort (without at (λ (p : ℕ). inSet p set))
-nothing-below at set l small =
-    sym (nothing-is at set l)
-    ∙ empty-is _ (without at (λ (p : ℕ). inSet p set)) (omega (arith)) λ p m.
-    in-except p set (onlyPort at) ∙ ap (λ (t : Bool). inSet p set && not t) (only-is p at m)

@@ -2,28 +2,27 @@
 -- 11 is said exactly where none matches. And the domain: with one-octet addresses a port is granted a copy only in the arrival port's domain.
 -- Assumes nothing.
 use Prim.Native.Nat.{ℕ, _<_, _≤_}
-use mathlib.Core.Path.{_≡_, refl, sym, ap, _∙_}
+use mathlib.Core.Path.{_≡_, sym, ap, _∙_}
 use mathlib.Core.Logic.{_↔_}
 use mathlib.Core.Bool.{Bool, true, false, not, _&&_, _||_}
 use mathlib.Core.List.{List}
 use lib.Dec.{eqb, ltb}
 use lib.ListN.{length}
-use borrow.Author.Tests.{eqb-true, eq-eqb, lt-ltb, ltb-false}
+use borrow.Author.Tests.{eqb-true, ltb-false}
 use Rattle.checks.specs.Order.{pick}
 use Rattle.checks.proofs.Bools.{true-false, and-true, or-false, refuted}
-use Rattle.sets.specs.Sets.{inSet, anyBelow}
+use Rattle.sets.specs.Sets.{inSet}
 use Rattle.sets.proofs.Anywhere.{any-is, any-found}
 use Rattle.address.specs.Mask.{onesOf}
 use Rattle.address.specs.declared.Address.{Address}
 use Rattle.header.specs.Read.{headerOf}
 use Rattle.header.specs.declared.Header.{Header}
-use Rattle.meaning.specs.Names.{aimOf, isBasic}
+use Rattle.meaning.specs.Names.{aimOf}
 use Rattle.meaning.specs.declared.Aim.{Aim}
 use Rattle.meaning.specs.declared.Aim.the-variants.{Node}
 use Rattle.networks.specs.Networks.{domainOf}
 use Rattle.routes.specs.Routes.{candidate}
 use Rattle.routes.specs.Search.{longerMask}
-use Rattle.routes.specs.declared.Route.{Route}
 use Rattle.routes.proofs.Candidates.{candidate-within}
 use Rattle.routes.proofs.Longest.{Contiguous}
 use Rattle.state.specs.Relay.{Relay, portIn, routeIn, portSetUp}

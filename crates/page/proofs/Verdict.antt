@@ -31,7 +31,7 @@ use Rattle.verdict.specs.declared.Onward.the-variants.{NotAsked}
 use Rattle.judge.specs.Ruling.{ruleOf}
 use Rattle.judge.specs.Ending.{refusedBy, orElse, callChecks, ruledEnding, headerEnding, octetsEnding, arrivalAt, endingOf}
 use Rattle.judge.specs.declared.Ending.{Ending}
-use Rattle.page.specs.Table.{stepRows, moreOnes, Verdict, judged, refusedWith, verdictBy, verdictOf}
+use Rattle.page.specs.Table.{stepRows, moreOnes, judged, refusedWith, verdictBy, verdictOf}
 use Rattle.page.specs.Ends.{Ends, Chooses}
 use Rattle.page.proofs.Copies.{empty-agrees}
 use Rattle.page.proofs.Halves.{aim-agrees}

@@ -12,10 +12,6 @@ module _ {A : Type 0} where
   each-so [] f h = tt
   each-so (x ∷ l) f h = (f x (h .0), each-so l f (h .1))
 
-  pub each-later : (P : A → Type 0) (l : List A) → Each P l → Each P (drop 1 l)
-  each-later P [] h = tt
-  each-later P (x ∷ l) h = h .1
-
   pub order-later : (R : A → A → Type 0) (l : List A) → InOrder R l → InOrder R (drop 1 l)
   order-later R [] h = tt
   order-later R (x ∷ l) h = h .1

@@ -13,11 +13,11 @@ use Rattle.checks.specs.Order.{pick}
 use Rattle.queue.specs.Order.{Each, Sorted, insertBy, Placed}
 use Rattle.queue.specs.Queue.{waiting, precedenceOf}
 use Rattle.queue.specs.Waits.{Chosen, nobody, one, chosen, insertOldest, ordered, rankBy, Waits}
-use Rattle.queue.specs.Foretold.{Deed, enters, handsOut, entered, takesIn, howMany, out, left, AtTake, lineAfter, handed, standingBefore, higherIn, IsNext, InTurn, Other, isOut, whileWaits}
+use Rattle.queue.specs.Foretold.{Deed, enters, handsOut, entered, takesIn, howMany, out, left, AtTake, lineAfter, handed, standingBefore, higherIn, Other, isOut, whileWaits}
 use Rattle.queue.specs.declared.Entry.{Entry}
 use Rattle.queue.specs.declared.Queue.{Queue}
 use Rattle.queue.proofs.Compare.{by-order}
-use Rattle.queue.proofs.Each.{each-so, each-append, each-front, each-rest, order-front, order-rest}
+use Rattle.queue.proofs.Each.{each-so, each-append, each-front, each-rest}
 use Rattle.queue.proofs.Order.{insert-length, insert-each, insert-placed, after-lower, insert-ahead, insert-behind}
 use Rattle.queue.proofs.Waits.{ordered-enters, ordered-each, each-of-ordered, ordered-sorted, EachOf, chosen-each, goesOut, ordered-chosen}
 
@@ -120,13 +120,6 @@ module _ {A : Type 0} (rank : A → ℕ) where
         let c = chosen-each rank P line here in
         each-append P (out (chosen rank line)) _ (each-out (chosen rank line) c) (each-handed (left (chosen rank line)) ds (each-left (chosen rank line) c) come)
 
--- turns that grow are each one's own
-pub in-turn-other : {A : Type 0} (turn : A → ℕ) (x : A) (line come : List A) → InTurn turn (line ++ x ∷ come) → Each (Other turn x) (line ++ come)
-in-turn-other turn x line come h =
-    each-append _ line come
-    (each-so line (λ y earlier same. omega arith) (order-front _ line x come h))
-    (each-so come (λ y later same. omega arith) (order-rest _ line (x ∷ come) h .0))
-
 -- ---- where x stands in the order of going out
 
 module _ {A : Type 0} (rank turn : A → ℕ) (x : A) where
@@ -204,14 +197,6 @@ module _ {A : Type 0} (rank turn : A → ℕ) (x : A) where
           another (length front) (sym number) z (other .0) others (is ∙ ap (λ (t : A). one t others) same)
           (record { front = front; back = p .back; goes = rest; number = refl; front-other = other .1; back-other = p .back-other })
 
-  next-none : {line : List A} {n : ℕ} → Next line n → IsNext rank x line → n ≡ 0
-  next-none (itself none others is rest) h = none
-  next-none (another m more y other others is q) h = let same : y ≡ x = cc (is, h .1) in absurd (other (ap turn same))
-
-  none-next : {line : List A} {n : ℕ} → Next line n → n ≡ 0 → IsNext rank x line
-  none-next (itself none others is rest) h = (others, is)
-  none-next (another m more y other others is q) h = absurd (omega arith)
-
   -- ---- while x waits, one fewer goes out before it after a take, and one more after a higher one has entered
 
   record Kept (line : List A) (n : ℕ) (es : List (Deed A)) : Type 0 where
@@ -256,17 +241,6 @@ module _ {A : Type 0} (rank turn : A → ℕ) (x : A) where
     -- no more takes have been made than go before it
     pub takes-at-most : takesIn es ≤ standingBefore rank x line + higherIn rank x es
     takes-at-most = omega (arith, waited .number)
-
-    -- each take has handed one out
-    pub takes-hand-out : length (handed rank (line ++ (x ∷ [])) es) ≡ takesIn es
-    takes-hand-out = waited .made
-
-    -- the next take hands x out exactly where as many have been made
-    pub next-exactly : IsNext rank x (lineAfter rank (line ++ (x ∷ [])) es) ↔ (takesIn es ≡ standingBefore rank x line + higherIn rank x es)
-    next-exactly = (
-      λ h. let none : waited .still ≡ 0 = next-none (next (waited .place)) h in omega (arith, waited .number),
-      λ h. none-next (next (waited .place)) (omega (arith, waited .number)),
-    )
 
   -- ---- over any deeds
 

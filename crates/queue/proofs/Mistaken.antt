@@ -6,11 +6,17 @@ use native.Mathlib.Omega.{arith}
 use lib.Dec.{ltb, leb}
 use lib.ListN.{length}
 use Rattle.queue.specs.Order.{Each}
-use Rattle.queue.specs.Turns.{Entered, rankOf}
 use Rattle.queue.specs.Waits.{chosen}
 use Rattle.queue.specs.Foretold.{Deed, enters, handsOut, entered, howMany, AtTake, handed, standingBefore, higherIn, Other, whileWaits}
 use Rattle.queue.proofs.Foretold.{foretold}
-use Rattle.queue.proofs.Marked.{entry}
+
+-- one that waits, by its rank and its turn alone
+pub record Entered : Type 0 where
+  pub rank : ℕ
+  pub turn : ℕ
+
+abbrev rankOf : Entered → ℕ
+rankOf x = x .rank
 
 abbrev turnOf : Entered → ℕ
 turnOf x = x .turn
@@ -30,16 +36,16 @@ meanwhile x line ds = whileWaits rankOf turnOf x (line ++ (x ∷ [])) ds
 pub true-rule : Holds (λ x line ds. standingBefore rankOf x line + higherIn rankOf x (meanwhile x line ds) + 1)
 true-rule x line ds others k h = foretold rankOf turnOf x line ds others k .0 h .0
 
--- ---- one of precedence 5 in turn 1, and what may stand beside it
+-- ---- one of rank 5 in turn 1, and what may stand beside it
 
 abbrev five : Entered
-five = record { entry = entry 7 5; turn = 1 }
+five = record { rank = 5; turn = 1 }
 
 abbrev older : ℕ → Entered
-older precedence = record { entry = entry 7 precedence; turn = 0 }
+older rank = record { rank = rank; turn = 0 }
 
 abbrev newer : ℕ → Entered
-newer precedence = record { entry = entry 7 precedence; turn = 2 }
+newer rank = record { rank = rank; turn = 2 }
 
 abbrev takeAfter : Entered → List (Deed Entered)
 takeAfter y = enters y ∷ handsOut ∷ handsOut ∷ []
@@ -59,7 +65,7 @@ pub not-whatever-enters : Holds (λ x line ds. standingBefore rankOf x line + 1)
 unfolding handed chosen
 not-whatever-enters law = two-is-not-one (law five [] (takeAfter (newer 6)) (λ same. omega arith, tt) 2 (out-after (newer 6 ∷ []) []))
 
--- one of the same precedence that enters does not
+-- one of the same rank that enters does not
 pub not-equals-too : Holds (λ x line ds. standingBefore rankOf x line + howMany (λ y. leb (rankOf x) (rankOf y)) (entered (meanwhile x line ds)) + 1) → ⊥
 unfolding handed chosen whileWaits
 not-equals-too law = one-is-not-two (law five [] (takeAfter (newer 5)) (λ same. omega arith, tt) 1 (out-after [] (newer 5 ∷ [])))
@@ -69,7 +75,7 @@ pub not-later-too : Holds (λ x line ds. standingBefore rankOf x line + higherIn
 unfolding handed chosen
 not-later-too law = one-is-not-two (law five [] (handsOut ∷ takeAfter (newer 6)) (λ same. omega arith, tt) 1 (out-after [] (newer 6 ∷ [])))
 
--- of those that waited already, one of the same precedence counts, and a lower one does not
+-- of those that waited already, one of the same rank counts, and a lower one does not
 pub not-higher-alone : Holds (λ x line ds. howMany (λ y. ltb (rankOf x) (rankOf y)) line + higherIn rankOf x (meanwhile x line ds) + 1) → ⊥
 unfolding handed chosen whileWaits
 not-higher-alone law = two-is-not-one (law five (older 5 ∷ []) (handsOut ∷ handsOut ∷ []) (λ same. omega arith, tt) 2 (out-after (older 5 ∷ []) []))

@@ -21,8 +21,8 @@ use Rattle.queue.specs.declared.Head.the-variants.{First, Nothing}
 use Rattle.queue.proofs.Compare.{by-order}
 use Rattle.queue.proofs.Each.{each-so, each-append}
 use Rattle.queue.proofs.Order.{insert-map}
-use Rattle.queue.proofs.Cases.{dropped, handedNone, put-full, take-none}
-use Rattle.queue.proofs.Waiting.{count-waiting, put-took, put-waiting, take-head, take-waiting}
+use Rattle.queue.proofs.Cases.{handedNone, take-none}
+use Rattle.queue.proofs.Waiting.{count-waiting, put-waiting, take-head, take-waiting}
 use Rattle.queue.proofs.Sound.{fresh-sound, put-sound, take-sound}
 
 module _ {A : Type 0} (rank : A → ℕ) where
@@ -113,14 +113,6 @@ module _ {A : Type 0} (rank : A → ℕ) where
   unfolding ordered
   ordered-sorted [] = tt
   ordered-sorted (x ∷ l) = oldest-sorted x (ordered rank l) (ordered-sorted l)
-
-  pub ordered-empty : (l : List A) → (ordered rank l ≡ []) ↔ (l ≡ [])
-  unfolding ordered
-  ordered-empty l = (none l, λ h. ap (ordered rank) h)
-    where
-      none : (l : List A) → ordered rank l ≡ [] → l ≡ []
-      none [] h = refl
-      none (x ∷ l) h = let e : length (ordered rank (x ∷ l)) ≡ 0 = ap length h in absurd (omega (arith, ordered-length (x ∷ l)))
 
   -- ---- the choice is what the page asks for
 
@@ -217,25 +209,6 @@ module _ {A : Type 0} (rank : A → ℕ) where
   ordered-chosen [] = refl
   ordered-chosen (x ∷ l) = goes-with x l (chosen rank l) (ordered-chosen l)
 
--- what is forgotten of the things does not touch their order
-module _ {A B : Type 0} (rank : A → ℕ) (rankThere : B → ℕ) (f : A → B) (agree : (x : A) → rankThere (f x) ≡ rank x) where
-  oldest-map : (x : A) (l : List A) → map f (insertOldest rank x l) ≡ insertOldest rankThere (f x) (map f l)
-  unfolding insertOldest
-  oldest-map x [] = refl
-  oldest-map x (y ∷ l) = by (oldest-map x l) (ltb (rank x) (rank y)) ∙ rw (agree x, agree y)
-    where
-      by : map f (insertOldest rank x l) ≡ insertOldest rankThere (f x) (map f l)
-          → (t : Bool)
-          → map f (pick t (y ∷ insertOldest rank x l) (x ∷ y ∷ l))
-          ≡ pick t (f y ∷ insertOldest rankThere (f x) (map f l)) (f x ∷ f y ∷ map f l)
-      by h true = ap (λ (t : List B). f y ∷ t) h
-      by h false = refl
-
-  pub ordered-map : (l : List A) → map f (ordered rank l) ≡ ordered rankThere (map f l)
-  unfolding ordered
-  ordered-map [] = refl
-  ordered-map (x ∷ l) = oldest-map x (ordered rank l) ∙ ap (insertOldest rankThere (f x)) (ordered-map l)
-
 -- ---- a queue does with its entries what puts and takes do with a line
 
 module _ {A : Type 0} (entryOf : A → Entry) where
@@ -259,10 +232,7 @@ module _ {A : Type 0} (entryOf : A → Entry) where
     pub waits-fits : length line ≤ 32
     waits-fits = omega (arith, waits-count, bounded .fits)
 
-    -- with fewer than 32 waiting a put appends, and with 32 it changes nothing
-    pub waits-took : (e : Entry) → putOf q e .took ≡ ltb (length line) 32
-    waits-took e = put-took q bounded e ∙ ap (λ (n : ℕ). ltb n 32) same-length
-
+    -- with fewer than 32 waiting a put appends
     pub waits-put : (x : A) → length line < 32 → Waits entryOf (putOf q (entryOf x) .queue) (line ++ (x ∷ []))
     waits-put x room =
         record {
@@ -272,9 +242,6 @@ module _ {A : Type 0} (entryOf : A → Entry) where
               ∙ rw (same-length, lt-ltb _ _ room, waits .same)
               (sym (insert-map precedenceOf entryOf x (ordered rank line)) ∙ ap (map entryOf) (sym (ordered-enters rank x line)));
         }
-
-    pub waits-drop : (e : Entry) → length line ≡ 32 → putOf q e ≡ dropped q
-    waits-drop e full = put-full q e (omega (arith, waits-count))
 
     -- a take of an empty line changes nothing and hands nothing out; any other hands out the one that is chosen
     pub waits-none : line ≡ [] → takeOf q ≡ handedNone q

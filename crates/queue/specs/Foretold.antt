@@ -3,14 +3,13 @@
 -- many takes are made"). It is said of a line in the order of entering, as in `Waits`. Higher is strictly higher, a copy that is dropped does
 -- not enter, and a take that finds nobody hands nothing out. Two of a kind are told apart by their turns, of which each has its own.
 -- Assumes nothing.
-use Prim.Native.Nat.{ℕ, suc, _+_, _<_}
+use Prim.Native.Nat.{ℕ, suc, _+_}
 use mathlib.Core.Bool.{Bool, false}
 use mathlib.Core.Path.{_≡_}
 use mathlib.Core.List.{List, [], _∷_, _++_}
 use lib.ListN.{length}
 use lib.Dec.{ltb, leb, eqb}
 use Rattle.checks.specs.Order.{pick}
-use Rattle.queue.specs.Order.{InOrder}
 use Rattle.queue.specs.Waits.{Chosen, nobody, one, chosen}
 
 -- what happens to a line
@@ -70,15 +69,7 @@ module _ {A : Type 0} (rank : A → ℕ) where
     abbrev pub higherIn : List (Deed A) → ℕ
     higherIn ds = howMany (λ (y : A). ltb (rank x) (rank y)) (entered ds)
 
-    -- the next take hands x out
-    abbrev pub IsNext : List A → Type 0
-    IsNext line = (others : List A) × (chosen rank line ≡ one x others)
-
 module _ {A : Type 0} (turn : A → ℕ) where
-  -- in the order of entering, each with a greater turn than all before it
-  abbrev pub InTurn : List A → Type 0
-  InTurn = InOrder (λ (y z : A). turn y < turn z)
-
   module _ (x : A) where
     abbrev pub Other : A → Type 0
     Other y = turn y ≡ turn x → ⊥

@@ -2,8 +2,7 @@
 use native.Mathlib.Omega.{arith}
 use lib.Dec.{eqb}
 use Rattle.checks.proofs.Laws.{either}
-use Rattle.header.specs.Range.{addressesFit, octetFits}
-use Rattle.header.proofs.BuiltLaws.{Typed, qosTyped, stampTyped}
+use Rattle.header.specs.Range.{addressesFit, octetFits, qosTyped, stampTyped, Typed}
 use Rattle.numbers.specs.declared.Numbers.{Numbers}
 use Rattle.numbers.specs.Words.{Words}
 use Rattle.numbers.specs.Fields.{addressesFrom, qosFrom, octetFrom, stampFrom, fieldsFrom}
