@@ -4,17 +4,19 @@ use Prim.Native.Nat.{ℕ}
 use mathlib.Core.Path.{_≡_, refl, sym, ap, _∙_}
 use mathlib.Core.Bool.{Bool, true, false, not}
 use mathlib.Core.Logic.{_⊎_, inl, inr, ⊎-elim}
-use mathlib.Core.List.{List}
+use mathlib.Core.List.{List, []}
 use lib.ListN.{length}
 use lib.Dec.{eqb, ltb}
 use borrow.Author.Tests.{eqb-true, ltb-true, ne-eqb}
+use Rattle.tally.specs.Tally.{countedAll}
+use Rattle.demands.proofs.Lasts.{gives-lasts}
 use Rattle.checks.specs.Order.{pick, firstOf}
 use Rattle.checks.proofs.Bools.{true-false, or-true, not-false}
 use Rattle.header.specs.Read.{readOf}
 use Rattle.header.specs.declared.Header.{Header}
 use Rattle.header.specs.declared.Read.the-variants.{Good}
 use Rattle.address.specs.declared.Slot.{Slot}
-use Rattle.state.specs.Relay.{Relay, State}
+use Rattle.state.specs.Relay.{Relay, State, freshState}
 use Rattle.state.specs.Layout as layout
 use Rattle.lent_state.specs.View.{told}
 use Rattle.lent_state.proofs.Calls.{other-told}
@@ -29,7 +31,7 @@ use Rattle.harpjuniper.specs.Face.{numbersChecks, buildOutput}
 use Rattle.contracts.specs.Promised.{Told, number, port, route, group, path, Result, hj-fresh}
 use Rattle.contracts.specs.Contracts.{Says}
 use Rattle.contracts.proofs.Answers.{each-call-answers}
-use Rattle.contracts.proofs.Rows.{says-row, one-result-by-contract}
+use Rattle.contracts.proofs.Rows.{says-row, one-result-by-contract, row-contract}
 use Rattle.contracts.proofs.Given as given
 use Rattle.history.specs.Calls.{Setting, setRouter, setPort, setRoute, setGroup, setPath, clearRoute, clearGroup, clearPath, theRouter, thePort, theRoute, theGroup, thePath, Look, setting, search, counter, waiting, read, build, class, form, checksum, stateWords, Call, sets, hears, takes, looks, checksOf}
 use Rattle.history.specs.Outcome.{ofEnding, ofTaking, next, relayAfter}
@@ -44,9 +46,9 @@ use Rattle.history.proofs.Sums.{sent-where-taken}
 use Rattle.history.proofs.Transport as transport
 use Rattle.demands.specs.Trace.{Step, starts, calls, made, leftBy, historyOf, Gives}
 use Rattle.demands.proofs.Promised.{promisedOf}
-use Rattle.demands.specs.ReadOut.{numberIn, looksAtState, readOut, isRefusal, outputOf, relayIn}
+use Rattle.demands.specs.ReadOut.{numberIn, looksAtState, readOut, isRefusal, outputOf, relayIn, hearsNothing, tookIn}
 use Rattle.demands.specs.Demand1.{LocalAlone, WithoutState, Demand1}
-use Rattle.demands.proofs.Traced.{step-stays}
+use Rattle.demands.proofs.Traced.{step-stays, fresh-answers, fresh-holds, held-words}
 use Rattle.demands.proofs.Told.{gives-row, gives-before, gives-next, counters-move, receive-told}
 use Rattle.demands.proofs.ReadOut.{read-out}
 
@@ -147,6 +149,18 @@ module _ (steps : List Step) (p : ℕ) (slot : Slot) (output : List ℕ) where
         local = rw (one .local, two .local) (local-numbers (h .fields .tpid) (k .fields .tpid) e f but);
       }
 
+  untaken : (octets : List ℕ) (x : Result) (g : Gives steps (calls (hears p slot octets output)) x) → tookIn x ≡ 0
+      → (relayIn (x .words) ≡ relayIn (g .before)) × (x .output ≡ output)
+  untaken octets x g none =
+      let e = endingOf r p octets (length output) in
+      let took = sym (answered octets x g .took) ∙ none in
+      let before = ap (λ (s : State). s .relay) (gives-before steps (calls (hears p slot octets output)) x g) in
+      (left octets x g ∙ nobody-took r slot e took ∙ sym before, receive-told steps x p slot octets output g .1 ∙ output-as-lent e octets output took)
+
+untaken-leaves : (steps : List Step) (p : ℕ) (slot : Slot) (octets output : List ℕ) (x : Result) (g : Gives steps (calls (hears p slot octets output)) x)
+    → tookIn x ≡ 0 → (relayIn (x .words) ≡ relayIn (g .before)) × (x .output ≡ output)
+untaken-leaves steps p slot octets output = untaken steps p slot output octets
+
 -- ---- words that hold no state
 module _ (w : List ℕ) (wrong : length w ≡ layout.stateWords → ⊥) (x : Result) where
   none : {A : Type 0} (f : State → A) (d : A) → told f d w ≡ d
@@ -208,16 +222,46 @@ module _ (steps : List Step) (c : Call) (x : Result) (g : Gives steps (calls c) 
         gives-row steps (calls c) x g .1 .1 ∙ refused-output s c (refused-rules h),
       )
 
+-- ---- a call that hears no datagram counts nothing
+quiet-taking : (p : ℕ) (t : Taking) → ofTaking p t .moves ≡ []
+quiet-taking p (Handed e) = refl
+quiet-taking p (Refused n) = refl
+
+no-moves : (r : Relay) (c : Call) → hearsNothing c ≡ true → outcome.outcome r c .moves ≡ []
+no-moves r (sets s) h = refl
+no-moves r (hears p slot octets output) h = true-false (sym h)
+no-moves r (takes p) h = quiet-taking p (takeOutcome r p)
+no-moves r (looks l) h = refl
+
+counters-stay : (steps : List Step) (c : Call) (x : Result) (g : Gives steps (calls c) x) → hearsNothing c ≡ true
+    → layout.decode (leftBy (g .before) (calls c) x) .counters ≡ layout.decode (g .before) .counters
+counters-stay steps c x g none =
+    let s = layout.decode (g .before) in
+    ap (λ (t : State). t .counters) (gives-next steps (calls c) x g) ∙ ap (countedAll (s .counters)) (no-moves (s .relay) c none)
+
+-- a history of no calls leaves a fresh state
+fresh-is : stateAfter [] ≡ freshState
+unfolding freshState
+fresh-is = refl
+
 pub demand-1 : Demand1
 demand-1 =
     record {
-      ends = λ c passable. let a = each-call-answers c passable in (a .0, (a .1, λ y says. one-result-by-contract c y (a .0) says (a .1)));
+      ends = λ c passable.
+          let a = each-call-answers c passable in
+          (a .0, (λ y. row-contract y (a .0) c (says-row c (a .0) (a .1)), λ y says. one-result-by-contract c y (a .0) says (a .1)));
+      fresh = λ w x right says.
+          let told = fresh-answers w x right says in
+          (told, held-words (x .words) (stateAfter []) (fresh-holds w x says told) .1 ∙ fresh-is);
+      lasts = gives-lasts;
       stated = λ steps c x g.
           let is = read-out steps c x g in
           (is, ap (stands (answersOf c)) is ∙ every-answer-is-listed (relayAfter (historyOf steps)) c);
       other-words = λ w wrong c x says. (step-stays w x wrong c says, without w wrong x c says);
       nobody-checks-first = given.nobody-checks-first;
       refusal-leaves = refusal-leaves;
+      untaken-leaves = untaken-leaves;
       counters-move = counters-move;
+      counters-stay = counters-stay;
       transport-alone = λ steps p slot s t output h k x y. alone steps p slot output s t h k x y;
     }

@@ -85,8 +85,9 @@ begun-lasts w right cs fit =
     (rest .0, record { first = a .0; fresh = a .1; done = fresh-answers w (a .0) right (a .1); then = rest .1; passed = fit })
 
 -- So after any steps each step has a result.
-pub gives-lasts : (w : List ℕ) → length w ≡ layout.stateWords → (cs : List Step) → AllPass cs → (c : Step) → Passes c → (x : Result) × Gives cs c x
+pub gives-lasts : (w : List ℕ) → length w ≡ layout.stateWords → (cs : List Step) → AllPass cs → (c : Step) → Passes c
+    → (x : Result) × ((g : Gives cs c x) × (g .first ≡ w))
 gives-lasts w right cs fit c fits =
     let b = begun-lasts w right cs fit in
     let a = each-call-answers (made (b .0) c) (passable (b .0) c fits) in
-    (a .0, record { first = w; before = b .0; begun = b .1; says = a .1; passes = fits })
+    (a .0, (record { first = w; before = b .0; begun = b .1; says = a .1; passes = fits }, refl))

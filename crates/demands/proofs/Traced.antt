@@ -226,7 +226,7 @@ fresh-told : (w : List ℕ) → told none 21 w ≡ 0 → (s : State) × (lent w 
 unfolding told
 fresh-told w e = told-none (lent w) e
 
-fresh-holds : (w : List ℕ) (x : Result) → Says (hj-fresh w) x → x .answer ≡ number 0 → lent (x .words) ≡ Held (stateAfter [])
+pub fresh-holds : (w : List ℕ) (x : Result) → Says (hj-fresh w) x → x .answer ≡ number 0 → lent (x .words) ≡ Held (stateAfter [])
 fresh-holds w x says e =
     let k = says-row (hj-fresh w) x says in
     let held = fresh-told w (zero-told (told none 21 w) (sym (k .0) ∙ e)) in

@@ -1,5 +1,5 @@
 -- What C reads out of a result, by the functions of include/harpjuniper.h, and what the words that it lent hold. Assumes nothing.
-use Prim.Native.Nat.{ℕ, _%_, _^_}
+use Prim.Native.Nat.{ℕ, _/_, _%_, _^_}
 use mathlib.Core.Path.{_≡_}
 use mathlib.Core.Bool.{Bool, true, false, not, _||_}
 use mathlib.Core.List.{List, [], _∷_, _++_, map}
@@ -89,7 +89,21 @@ tookIn x = partAt 24 (numberIn (x .answer))
 abbrev pub droppedIn : Result → ℕ
 droppedIn x = partAt 32 (numberIn (x .answer))
 
--- a refusal: a number, of a datagram as a whole or of its onward half
+-- how many octets the header sent on has, and what stands above all parts
+abbrev pub headerIn : Result → ℕ
+headerIn x = partAt 40 (numberIn (x .answer))
+
+abbrev pub aboveIn : Result → ℕ
+aboveIn x = numberIn (x .answer) / 2 ^ 48
+
+-- whether a call hears no datagram
+abbrev pub hearsNothing : Call → Bool
+hearsNothing (sets s) = true
+hearsNothing (hears p slot octets output) = false
+hearsNothing (takes p) = true
+hearsNothing (looks l) = true
+
+-- a refusal: a number, of a datagram as a whole or of its onward half (of a look any number but 0, since a look changes nothing)
 abbrev pub isRefusal : outcome.Answer → Bool
 isRefusal (outcome.number n) = not (eqb n 0)
 isRefusal (outcome.ended refusal local onward took) = not (eqb refusal 0) || ltb 1 onward
