@@ -1,14 +1,17 @@
 -- Demand 2 is kept. Assumes nothing.
 use native.Mathlib.Omega.{arith}
 use Prim.Native.Nat.{ℕ, _+_, _^_, _<_, _≤_}
-use mathlib.Core.Path.{_≡_, refl, sym, ap, _∙_}
+use mathlib.Core.Path.{_≡_, refl, sym, ap, subst, _∙_}
 use mathlib.Core.Logic.{_↔_, _≢_, ⊎-elim}
 use mathlib.Core.Bool.{Bool, true, false, _||_, not}
 use mathlib.Core.List.{List, [], _∷_, _++_, map, append-nil, append-assoc}
 use lib.ListN.{length, take, drop}
 use lib.Dec.{eqb}
-use borrow.Author.Tests.{eqb-true, ltb-false}
+use borrow.Author.Tests.{eqb-true, ltb-false, ne-eqb, eqb-false}
 use Rattle.header.specs.declared.Read.{Read}
+use Rattle.header.proofs.Refusals.{read-good}
+use Rattle.header.proofs.SentOn.{sent-size}
+use lib.Seq.{take-append-seam}
 use Rattle.checks.specs.Order.{pick, Checks, firstOf, noneHolds, firstHolds}
 use Rattle.checks.specs.Answer.{refusalNumber}
 use Rattle.checks.proofs.Bools.{true-false, and-true, or-true}
@@ -51,10 +54,11 @@ use Rattle.harpjuniper.specs.Face.{readingOf, dataRead, fieldsOut, numbersCheck
 use Rattle.harpjuniper.specs.declared.Reading.{Reading}
 use Rattle.harpjuniper.proofs.Promises.{fields-in, hj-build-then-hj-read}
 use Rattle.harpjuniper.proofs.RoundTrip as trip
-use Rattle.page.specs.Table.{oneOctet, hasRoom, verdictOf}
+use Rattle.page.specs.Table.{oneOctet, hasRoom, verdictOf, moreOnes, GivenBy, stepRows, localRows, aimAt}
 use Rattle.page.proofs.Exactly.{took-exactly, dropped-exactly}
+use Rattle.page.proofs.Exactly as exactly
 use Rattle.page.proofs.Sought.{sought-taken, sought-no-route}
-use Rattle.page.proofs.Verdict.{verdict-is-the-page}
+use Rattle.page.proofs.Verdict.{verdict-is-the-page, ones-choose}
 use Rattle.contracts.specs.Promised.{Told, number, reading, Result, hj-read, hj-build}
 use Rattle.contracts.proofs.Answers.{each-call-answers}
 use Rattle.contracts.proofs.Rows.{says-row}
@@ -65,7 +69,7 @@ use Rattle.history.specs.Parts.{About, settingIn}
 use Rattle.history.specs.Line.{Copy, entryOf, sentOf, takingOf, lineAt}
 use Rattle.history.specs.Marked.{Marked, markedCases}
 use Rattle.history.specs.Ranges.{Octets, EntryFits, CopyFits}
-use Rattle.history.proofs.Domain.{NamesTheSame, waiting-copies-name-the-same}
+use Rattle.history.proofs.Domain.{NamesTheSame, waiting-copies-name-the-same, took-read}
 use Rattle.history.proofs.Holds.{holds-until-changed}
 use Rattle.history.proofs.Keys.{keys-unique}
 use Rattle.history.proofs.Marked.{marked-cases}
@@ -73,10 +77,10 @@ use Rattle.history.proofs.Ranges.{in-range, waiting-fits, taken-fits}
 use Rattle.history.proofs.Reach.{reached}
 use Rattle.history.proofs.ReadBack.{ReadBack, read-back}
 use Rattle.history.proofs.Search.{masks-contiguous}
-use Rattle.history.proofs.Takes.{take-is}
+use Rattle.history.proofs.Takes.{take-is, is-port}
 use Rattle.demands.specs.Trace.{Step, calls, heard, heardAll, historyOf, Gives}
-use Rattle.demands.specs.ReadOut.{numberIn, tookIn, droppedIn, relayIn, Reads, Builds, readOut}
-use Rattle.demands.specs.Demand2.{ToldAs, Answered, Demand2}
+use Rattle.demands.specs.ReadOut.{numberIn, tookIn, droppedIn, relayIn, Reads, Builds, readOut, headerIn}
+use Rattle.demands.specs.Demand2.{ToldAs, Answered, Demand2, ExactlyAs, GoesOut}
 use Rattle.demands.proofs.Lasts.{passable}
 use Rattle.demands.proofs.Told.{gives-before, gives-next, setting-told, receive-told, take-told, part-told, gives-row}
 use Rattle.demands.proofs.ReadOut.{history-passed, read-out}
@@ -249,17 +253,74 @@ module _ (steps : List Step) where
     told : ReadBack (numberIn (x .answer)) (endingOf r at octets (length output))
     told = rw (receive-told steps x at slot octets output g .0) (read-back r at octets (length output))
 
-    verdict : ToldAs x (verdictOf r at octets (length output)) × (x .output ≡ sentOutput (tookIn x) octets output)
-    verdict =
-        let page = verdict-is-the-page r (masks-contiguous h) at octets (length output) in (
-          record {
-            refusal = told .refusal ∙ page .refusal;
-            local = told .local ∙ page .ruling .local;
-            onward = told .onward ∙ page .ruling .onward;
-            took = λ p inside. ap (inSet p) (told .took) ∙ page .ruling .took p inside;
-            dropped = λ p inside. ap (inSet p) (told .dropped) ∙ page .ruling .dropped p inside;
-          },
-          receive-told steps x at slot octets output g .1 ∙ ap (λ (took : ℕ). sentOutput took octets output) (sym (told .took)),
+    -- the header's size is told where a port took an entry
+    size-case : (e : Ending) → e ≡ endingOf r at octets (length output) → (t : Bool) → eqb (e .ruling .took) 0 ≡ t
+        → pick t 0 (e .size) ≡ pick t 0 (headerOf octets .size)
+    size-case e same true z = refl
+    size-case e same false z =
+        let was = took-read r at octets (length output) (rw same at (eqb-false (e .ruling .took) 0 z)) in
+        ap (λ (y : Ending). y .size) same ∙ was .size ∙ ap (λ (y : Header). y .size) (read-good octets (was .header) .0 (was .read) .1)
+
+    told-as : ToldAs octets x (verdictOf r at octets (length output))
+    told-as =
+        let page = verdict-is-the-page r (masks-contiguous h) at octets (length output) in
+        let e = endingOf r at octets (length output) in
+        record {
+          refusal = told .refusal ∙ page .refusal;
+          local = told .local ∙ page .ruling .local;
+          onward = told .onward ∙ page .ruling .onward;
+          took = λ p inside. ap (inSet p) (told .took) ∙ page .ruling .took p inside;
+          dropped = λ p inside. ap (inSet p) (told .dropped) ∙ page .ruling .dropped p inside;
+          header = told .header
+              ∙ size-case e refl (eqb (e .ruling .took) 0) refl
+              ∙ ap (λ (took : ℕ). pick (eqb took 0) 0 (headerOf octets .size)) (sym (told .took));
+          above = told .above;
+          alone = λ some. told .alone (λ z. some (told .refusal ∙ z)) ∙ sym (told .refusal);
+        }
+
+    exactly-as : ExactlyAs r at octets (length output) x
+    exactly-as =
+        record {
+          refusal = subst (GivenBy (stepRows r at octets (length output))) (sym (told .refusal)) (exactly.refusal-exactly r at octets (length output));
+          local = λ none.
+              subst (GivenBy (localRows r at (aimAt r at octets) (headerOf octets .fields))) (sym (told .local))
+              (exactly.local-exactly r at octets (length output) none);
+          onward = λ none n.
+              let by = exactly.onward-exactly r at octets (length output) moreOnes (ones-choose r (masks-contiguous h)) none n in
+              (λ e. by .0 (sym (told .onward) ∙ e), λ d. told .onward ∙ by .1 d);
+        }
+
+    verdict : ToldAs octets x (verdictOf r at octets (length output))
+        × (ExactlyAs r at octets (length output) x × (x .output ≡ sentOutput (tookIn x) octets output))
+    verdict = (
+      told-as,
+      (exactly-as, receive-told steps x at slot octets output g .1 ∙ ap (λ (took : ℕ). sentOutput took octets output) (sym (told .took))),
+    )
+
+    -- the header sent on, as C finds it
+    sent-on : tookIn x ≢ 0
+        → (k : Header) × ((readOf octets ≡ Good k)
+        × (readOf (take (headerIn x) (x .output) ++ drop (headerIn x) octets) ≡ Good (withHops (oneLess (k .fields .hops)) k)))
+    unfolding sentOutput
+    sent-on some =
+        let e = endingOf r at octets (length output) in
+        let took : e .ruling .took ≢ 0 = λ z. some (told .took ∙ z) in
+        let was = took-read r at octets (length output) took in
+        let k = was .header in
+        let none = ne-eqb (e .ruling .took) 0 took in
+        let size : headerIn x ≡ k .size = told .header ∙ ap (λ (t : Bool). pick t 0 (e .size)) none ∙ was .size in
+        let out : x .output ≡ headerSentOn octets ++ drop (length (headerSentOn octets)) output =
+        receive-told steps x at slot octets output g .1 ∙ ap (λ (t : Bool). pick t output (headerSentOn octets ++ drop (length (headerSentOn octets)) output)) none in
+        let long = sent-size octets k (g .passes .1) (was .read) in
+        let front : take (headerIn x) (x .output) ≡ headerSentOn octets =
+        ap (λ (n : ℕ). take n (x .output)) (size ∙ sym long) ∙ ap (take (length (headerSentOn octets))) out ∙ take-append-seam (headerSentOn octets) _ in (
+          k,
+          (
+            was .read,
+            ap (λ (l : List ℕ). readOf (l ++ drop (headerIn x) octets)) front
+                ∙ ap (λ (n : ℕ). readOf (headerSentOn octets ++ drop n octets)) size
+                ∙ read-what-was-sent-on octets k (g .passes .1) (was .read),
+          ),
         )
 
     granted : (p : ℕ) → p < 8 → (inSet p (tookIn x) || inSet p (droppedIn x)) ≡ true
@@ -329,28 +390,34 @@ module _ (steps : List Step) where
         taken-fits p h (history-passed steps (g .begun .passed)) e (taken-entry (takeOutcome r p) e (sym (read-out steps (takes p) x g) ∙ is))
 
     -- the copy that goes out
-    module _ (inside : p < 8) (c : Copy) (others : List Copy) (out : chosen (rankBy entryOf) (lineAt p h) ≡ one c others) where
-      names : NamesTheSame (portIn r p) c
-      names = rw out at (chosen-each (rankBy entryOf) (NamesTheSame (portIn r p)) (lineAt p h) (waiting-copies-name-the-same p inside h)) .0
+    same-header : (a b : Header) → Good a ≡ Good b → a ≡ b
+    same-header a b e = cc
 
-      came-as : Octets (c .octets)
-      came-as = (rw out at fits) .0 .1
+    goes-case : (up : Bool) → portSetUp r p ≡ up → (c : Chosen Copy) → chosen (rankBy entryOf) (lineAt p h) ≡ c → (e : Entry) → takingOf up c ≡ taking.Handed e
+        → GoesOut r p (lineAt p h) e
+    goes-case false is c out e handed = true-false cc
+    goes-case true is nobody out e handed = true-false cc
+    goes-case true is (one c others) out e handed =
+        let inside = is-port r p is in
+        let names = (rw out at (chosen-each (rankBy entryOf) (NamesTheSame (portIn r p)) (lineAt p h) (waiting-copies-name-the-same p inside h))) .0 in
+        let came = (rw out at fits) .0 .1 in
+        record {
+          copy = c;
+          others = others;
+          first = out;
+          entry = cc handed;
+          header = withHops (oneLess (names .header .fields .hops)) (names .header);
+          reads = ap (λ (n : ℕ). readOf (headerSentOn (c .octets) ++ drop n (c .octets))) (names .size)
+              ∙ read-what-was-sent-on (c .octets) (names .header) came (names .read);
+          domain = names .domain;
+          aim = names .aim;
+          origin = names .origin;
+        }
 
-      goes-as : readOf (sentOf c) ≡ Good (withHops (oneLess (names .header .fields .hops)) (names .header))
-      goes-as =
-          ap (λ (n : ℕ). readOf (headerSentOn (c .octets) ++ drop n (c .octets))) (names .size)
-          ∙ read-what-was-sent-on (c .octets) (names .header) came-as (names .read)
-
-      same-header : (a b : Header) → Good a ≡ Good b → a ≡ b
-      same-header a b e = cc
-
-      domain : (k : Header) → readOf (sentOf c) ≡ Good k
-          → (oneOctet (k .fields .addresses) ≡ true → domainOf (portIn r p .address) ≡ domainOf (c .arrival))
-          × ((aimOf (portIn r p .address .0) (k .fields .addresses) ≡ aimOf (c .arrival .0) (k .fields .addresses))
-          × (originOf (portIn r p .address .0) (k .fields .addresses) ≡ originOf (c .arrival .0) (k .fields .addresses)))
-      domain k good =
-          let same : names .header .fields .addresses ≡ k .fields .addresses = ap (λ (y : Header). y .fields .addresses) (same-header _ k (sym goes-as ∙ good)) in
-          rw (← same) (names .domain, (names .aim, names .origin))
+    goes-out : (e : Entry) → readOut (takes p) (x .answer) ≡ entry e → GoesOut r p (lineAt p h) e
+    goes-out e is =
+        goes-case (portSetUp r p) refl (chosen (rankBy entryOf) (lineAt p h)) refl e
+        (sym (take-is h p) ∙ taken-entry (takeOutcome r p) e (sym (read-out steps (takes p) x g) ∙ is))
 
 -- ---- the marked cases
 marked : Each Answered markedCases
@@ -380,7 +447,7 @@ demand-2 =
       verdict = verdict;
       hears-no-further = λ steps at slot s t output n x y long control agree g k.
           hears-alike steps at slot output s t x y (agree-up-to-the-length s t n long control agree) g k;
-      sent-on = λ s h octets good. read-what-was-sent-on s h octets good;
+      sent-on = sent-on;
       marked = marked;
       settings = λ steps s x g.
           let by = checks-decided (relayAfter (historyOf steps)) s in
@@ -397,5 +464,5 @@ demand-2 =
           let by = sought-no-route (relayAfter (historyOf steps)) at octets (length output) a sought in
           let is = told steps at slot octets output x g .onward in
           (λ e. by .0 (sym is ∙ e), λ none. is ∙ by .1 none);
-      domain = λ steps p x c others k g inside out read. domain steps p x g inside c others out k read;
+      domain = λ steps p x e g. goes-out steps p x g e;
     }

@@ -18,6 +18,7 @@ use Rattle.header.specs.declared.Header.{Header}
 use Rattle.header.specs.declared.Read.{Read}
 use Rattle.header.specs.declared.Read.the-variants.{Good, Refused}
 use Rattle.networks.specs.Networks.{domainOf}
+use Rattle.meaning.specs.Asked.{precedenceAsked}
 use Rattle.meaning.specs.Names.{aimOf, originOf}
 use Rattle.queue.specs.Order.{Each}
 use Rattle.queue.specs.Waits.{Waits}
@@ -65,31 +66,34 @@ use Rattle.history.proofs.Queues.{Eight}
 use Rattle.history.proofs.Ledger.{next-eight, fresh-eight}
 use Rattle.history.proofs.Line.{line-each, next-waits, fresh-waits}
 
--- ---- a copy was read, and its header is as long as it says
-module _ (p : ℕ) where
-  took-case : (t : Bool) (n : ℕ) (e : Ending) → inSet p (pick t e (refusedBy n) .ruling .took) ≡ true
-      → (pick t e (refusedBy n) ≡ e) × (inSet p (e .ruling .took) ≡ true)
-  took-case true n e h = (refl, h)
-  took-case false n e h = true-false (sym h ∙ in-none p)
+-- ---- a datagram that a port took was read, and its ending has the header's size and precedence
+pub record WasRead (octets : List ℕ) (e : Ending) : Type 0 where
+  pub header : Header
+  pub read : readOf octets ≡ Good header
+  pub size : e .size ≡ header .size
+  pub precedence : e .precedence ≡ precedenceAsked (header .fields .qos)
 
-  abbrev WasRead : List ℕ → ℕ → Type 0
-  WasRead octets size = (h : Header) × ((readOf octets ≡ Good h) × (size ≡ h .size))
+took-case : (t : Bool) (n : ℕ) (e : Ending) → (pick t e (refusedBy n) .ruling .took ≡ 0 → ⊥)
+    → (pick t e (refusedBy n) ≡ e) × (e .ruling .took ≡ 0 → ⊥)
+took-case true n e h = (refl, h)
+took-case false n e h = absurd (h refl)
 
-  octets-read : (r : Relay) (port : ℕ) (octets : List ℕ) (x : Read) → readOf octets ≡ x
-      → inSet p (octetsEnding r (arrivalAt r port) x .ruling .took) ≡ true → WasRead octets (octetsEnding r (arrivalAt r port) x .size)
-  unfolding headerEnding
-  octets-read r port octets (Good h) is took =
-      let n = firstOf (arrivalChecks (portIn r port .address) (h .fields)) in
-      (h, (is, ap (λ (e : Ending). e .size) (took-case (eqb n 0) n (ruledEnding r (arrivalAt r port) h) took .0)))
-  octets-read r port octets (Refused n) is took = true-false (sym took ∙ in-none p)
+octets-read : (r : Relay) (port : ℕ) (octets : List ℕ) (x : Read) → readOf octets ≡ x
+    → (octetsEnding r (arrivalAt r port) x .ruling .took ≡ 0 → ⊥) → WasRead octets (octetsEnding r (arrivalAt r port) x)
+unfolding headerEnding
+octets-read r port octets (Good h) is took =
+    let n = firstOf (arrivalChecks (portIn r port .address) (h .fields)) in
+    let same = took-case (eqb n 0) n (ruledEnding r (arrivalAt r port) h) took .0 in
+    record { header = h; read = is; size = ap (λ (e : Ending). e .size) same; precedence = ap (λ (e : Ending). e .precedence) same }
+octets-read r port octets (Refused n) is took = absurd (took refl)
 
-  copy-read : (r : Relay) (port : ℕ) (octets : List ℕ) (room : ℕ) → inSet p (endingOf r port octets room .ruling .took) ≡ true
-      → WasRead octets (endingOf r port octets room .size)
-  unfolding endingOf
-  copy-read r port octets room took =
-      let n = firstOf (callChecks r port room) in
-      let case = took-case (eqb n 0) n (octetsEnding r (arrivalAt r port) (readOf octets)) took in
-      rw (case .0) (octets-read r port octets (readOf octets) refl (case .1))
+pub took-read : (r : Relay) (port : ℕ) (octets : List ℕ) (room : ℕ) → (endingOf r port octets room .ruling .took ≡ 0 → ⊥)
+    → WasRead octets (endingOf r port octets room)
+unfolding endingOf
+took-read r port octets room took =
+    let n = firstOf (callChecks r port room) in
+    let case = took-case (eqb n 0) n (octetsEnding r (arrivalAt r port) (readOf octets)) took in
+    rw (case .0) (octets-read r port octets (readOf octets) refl (case .1))
 
 -- ---- what a copy named at the port that it came in by, it names at the port where it waits, as that port stands
 pub record NamesTheSame (x : Port) (c : Copy) : Type 0 where
@@ -114,16 +118,16 @@ module _ (p : ℕ) (inside : p < 8) where
       → NamesTheSame (portIn r p) (copyOf n r port slot octets (endingOf r port octets room))
   new-copy r n port slot octets room took =
       let x = endingOf r port octets room .ruling in
-      let was = copy-read p r port octets room took in
+      let was = took-read r port octets room (λ z. true-false (sym (sym (ap (inSet p) z) ∙ took) ∙ in-none p)) in
       let granted = took-granted (inSet p (x .granted)) (inSet p (x .took)) (inSet p (x .dropped)) (fair r p inside port octets room .split) took in
-      let names = names-the-same p inside r port octets room (was .0) (was .1 .0) granted in
+      let names = names-the-same p inside r port octets room (was .header) (was .read) granted in
       record {
-        header = was .0;
-        read = was .1 .0;
-        size = was .1 .1;
+        header = was .header;
+        read = was .read;
+        size = was .size;
         aim = names .0;
         origin = names .1;
-        domain = stays-in-its-domain p inside r port octets room (was .0) (was .1 .0) granted;
+        domain = stays-in-its-domain p inside r port octets room (was .header) (was .read) granted;
       }
 
   enters-case : (t : Bool) (r : Relay) (c : Copy) → (t ≡ true → NamesTheSame (portIn r p) c) → AllNamed r (pick t (c ∷ []) [])

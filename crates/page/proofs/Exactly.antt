@@ -30,7 +30,7 @@ use Rattle.state.specs.Relay.{Relay, portIn, routeIn}
 use Rattle.verdict.specs.Numbers.{localNumber, onwardNumber}
 use Rattle.judge.specs.Ending.{endingOf}
 use Rattle.judge.specs.declared.Ending.{Ending}
-use Rattle.page.specs.Table.{Ports, firstRow, Decides, GivenBy, stepRows, destinationIs, equalsPort, isLimited, broadcastOfOurs, isMulticast, isOurs, localRows, localHalf, matches, someMatches, bestPort, Line, notAsked, refused, wanted, isHost, onwardRows, onwardLine, hasRoom, copyRows, lineNumber, Gives, lineGrants, Verdict, judged, refusedWith, verdictBy}
+use Rattle.page.specs.Table.{Ports, firstRow, Decides, GivenBy, stepRows, destinationIs, equalsPort, isLimited, broadcastOfOurs, isMulticast, isOurs, localRows, localHalf, matches, someMatches, bestPort, Line, notAsked, refused, wanted, isHost, onwardRows, onwardLine, hasRoom, copyRows, lineNumber, GivesNumber, lineGrants, Verdict, judged, refusedWith, verdictBy}
 use Rattle.page.specs.Ends.{Agrees, Chooses}
 use Rattle.page.proofs.Rows.{row-decides, every-row, every-check}
 use Rattle.page.proofs.Verdict.{ends, masks-choose, steps-numbers}
@@ -58,7 +58,7 @@ module _ (r : Relay) (at : ℕ) (h : Header) (ports : Ports) where
       every-check (λ (m : ℕ). m ≢ 11) (copyRows r at h ports)
       ((λ z. omega arith), ((λ z. omega arith), ((λ z. omega arith), ((λ z. omega arith), ((λ z. omega arith), tt))))) (λ z. omega arith)
 
-gives-is : (r : Relay) (at : ℕ) (h : Header) (n : ℕ) (line : Line) → (lineNumber r at h line ≡ n) ↔ Gives r at h n line
+gives-is : (r : Relay) (at : ℕ) (h : Header) (n : ℕ) (line : Line) → (lineNumber r at h line ≡ n) ↔ GivesNumber r at h n line
 gives-is r at h n notAsked = (λ e. e, λ e. e)
 gives-is r at h n (refused m) = (λ e. e, λ e. e)
 gives-is r at h n (wanted ports) = copies-say r at h ports n
@@ -203,14 +203,14 @@ module _ (r : Relay) (at : ℕ) (octets : List ℕ) (room : ℕ) where
 
     -- a line of the table says n, and so decides
     abbrev pub LineGives : ℕ → Type 0
-    LineGives n = Decides (Gives r at h n) (onwardRows r at x (h .fields)) (wanted (bestPort more r x))
+    LineGives n = Decides (GivesNumber r at h n) (onwardRows r at x (h .fields)) (wanted (bestPort more r x))
 
     -- Where no step refuses, each number, 0 for not asked too, exactly where its line decides.
     pub onward-exactly : noneHolds rows → (n : ℕ) → (onward ≡ n) ↔ LineGives n
     unfolding onwardLine
     onward-exactly none n =
         let gives = gives-is r at h n (onwardLine more r at x (h .fields)) in
-        let decides = row-decides (Gives r at h n) (onwardRows r at x (h .fields)) (wanted (bestPort more r x)) in
+        let decides = row-decides (GivesNumber r at h n) (onwardRows r at x (h .fields)) (wanted (bestPort more r x)) in
         (λ e. decides .0 (gives .0 (sym (onward-number none) ∙ e)), λ d. onward-number none ∙ gives .1 (decides .1 d))
 
     -- So of any call: 9, 10, 11, 13, 14, 15 and 1 exactly where no step refuses and their line decides.

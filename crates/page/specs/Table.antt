@@ -81,6 +81,10 @@ without at ports p = ports p && not (eqb p at)
 abbrev pub nothingBut : ℕ → ℕ → Bool
 nothingBut at set = eqb set 0 || eqb set (2 ^ at)
 
+-- what the octets name, come in by port `at`: "it takes that port's first three octets"
+abbrev pub aimAt : Relay → ℕ → List ℕ → Aim
+aimAt r at octets = aimOf (portIn r at .address .0) (headerOf octets .fields .addresses)
+
 -- ---- steps 1 to 6
 unfoldable pub stepRows : Relay → ℕ → List ℕ → ℕ → Checks
 stepRows r at octets room =
@@ -340,10 +344,10 @@ lineNumber r at h (refused n) = n
 lineNumber r at h (wanted ports) = firstOf (copyRows r at h ports)
 
 -- the line's number is n: by itself, or by the first of the rows on copies that holds
-abbrev pub Gives : Relay → ℕ → Header → ℕ → Line → Type 0
-Gives r at h n notAsked = 0 ≡ n
-Gives r at h n (refused m) = m ≡ n
-Gives r at h n (wanted ports) = firstHolds (copyRows r at h ports) n
+abbrev pub GivesNumber : Relay → ℕ → Header → ℕ → Line → Type 0
+GivesNumber r at h n notAsked = 0 ≡ n
+GivesNumber r at h n (refused m) = m ≡ n
+GivesNumber r at h n (wanted ports) = firstHolds (copyRows r at h ports) n
 
 abbrev pub lineGrants : Relay → ℕ → Header → Line → Ports
 lineGrants r at h notAsked = nobody
