@@ -34,19 +34,20 @@ use Rattle.contracts.proofs.Answers.{each-call-answers}
 use Rattle.contracts.proofs.Rows.{says-row, one-result-by-contract, row-contract}
 use Rattle.contracts.proofs.Given as given
 use Rattle.history.specs.Calls.{Setting, setRouter, setPort, setRoute, setGroup, setPath, clearRoute, clearGroup, clearPath, theRouter, thePort, theRoute, theGroup, thePath, Look, setting, search, counter, waiting, read, build, class, form, checksum, stateWords, Call, sets, hears, takes, looks, checksOf}
-use Rattle.history.specs.Outcome.{ofEnding, ofTaking, next, relayAfter}
+use Rattle.history.specs.Outcome.{isRefusal, ofTaking, next, relayAfter}
 use Rattle.history.specs.Outcome as outcome
 use Rattle.history.specs.Tally.{stateAfter}
 use Rattle.history.specs.Answers.{answersOf, stands}
 use Rattle.history.specs.Transport.{SameButTpid, SameButLocal, localBy}
 use Rattle.history.proofs.Answered.{every-answer-is-listed}
 use Rattle.history.proofs.ReadBack.{ReadBack, read-back}
+use Rattle.history.proofs.Untaken.{took-none}
 use Rattle.history.proofs.Refusals.{refused-grants-nothing, nobody-took, output-as-lent, refused-take-leaves}
 use Rattle.history.proofs.Sums.{sent-where-taken}
 use Rattle.history.proofs.Transport as transport
 use Rattle.demands.specs.Trace.{Step, starts, calls, made, leftBy, historyOf, Gives}
 use Rattle.demands.proofs.Promised.{promisedOf}
-use Rattle.demands.specs.ReadOut.{numberIn, looksAtState, readOut, isRefusal, outputOf, relayIn, hearsNothing, tookIn}
+use Rattle.demands.specs.ReadOut.{numberIn, looksAtState, readOut, outputOf, relayIn, hearsNothing, tookIn}
 use Rattle.demands.specs.Demand1.{LocalAlone, WithoutState, Demand1}
 use Rattle.demands.proofs.Traced.{step-stays, fresh-answers, fresh-holds, held-words}
 use Rattle.demands.proofs.Told.{gives-row, gives-before, gives-next, counters-move, receive-told}
@@ -58,20 +59,6 @@ module _ (r : Relay) where
   settle-case n s true e h = true-false (sym (sym (ap not e) ∙ h))
   settle-case n s false e h = refl
 
-  -- no port took an entry where the datagram is refused, as a whole or onward
-  took-none : (at : ℕ) (octets : List ℕ) (room : ℕ) → isRefusal (ofEnding (endingOf r at octets room) .answer) ≡ true
-      → endingOf r at octets room .ruling .took ≡ 0
-  took-none at octets room h =
-      let e = endingOf r at octets room in
-      let n = onwardNumber (e .ruling .onward) in
-      ⊎-elim
-      (λ refused. ap (λ x. x .took) (refused-grants-nothing r at octets room (λ z. true-false (sym (sym (ap (λ (k : ℕ). not (eqb k 0)) z) ∙ refused)))))
-      (λ onward.
-      let over = ltb-true 1 n onward in
-      eqb-true (e .ruling .took) 0
-      (not-false (eqb (e .ruling .took) 0) (sym (sent-where-taken r at octets room) ∙ ne-eqb n 1 (λ z. omega (arith, over, z)))))
-      (or-true (not (eqb (e .refusal) 0)) (ltb 1 n) h)
-
   taken-case : (p : ℕ) (x : Taking) → takeOutcome r p ≡ x → isRefusal (ofTaking p x .answer) ≡ true → takenRelay r p ≡ r
   taken-case p (Handed e) is h = true-false (sym h)
   taken-case p (Refused n) is h = refused-take-leaves r p n is
@@ -79,7 +66,7 @@ module _ (r : Relay) where
   refused-next : (c : Call) → isRefusal (outcome.outcome r c .answer) ≡ true → next r c ≡ r
   refused-next (sets s) h = settle-case (firstOf (checksOf r s)) _ (eqb (firstOf (checksOf r s)) 0) refl h
   refused-next (hears p slot octets output) h =
-      nobody-took r slot (endingOf r p octets (length output)) (took-none p octets (length output) h)
+      nobody-took r slot (endingOf r p octets (length output)) (took-none r p octets (length output) h)
   refused-next (takes p) h = taken-case p (takeOutcome r p) refl h
   refused-next (looks l) h = refl
 

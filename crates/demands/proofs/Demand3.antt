@@ -2,37 +2,48 @@
 use native.Mathlib.Omega.{arith}
 use Prim.Native.Nat.{ℕ, _+_, _<_}
 use mathlib.Core.Path.{_≡_, refl, sym, ap, _∙_}
-use mathlib.Core.Bool.{false}
+use mathlib.Core.Bool.{false, Bool, true}
 use mathlib.Core.List.{List, [], _∷_, _++_, map}
 use lib.ListN.{length}
 use lib.Dec.{ltb}
 use borrow.Author.Tests.{lt-ltb, ltb-false}
+use Rattle.checks.specs.Order.{pick}
+use Rattle.checks.proofs.Bools.{true-false}
+use Rattle.header.specs.Read.{headerOf}
+use Rattle.header.proofs.Refusals.{read-good}
+use Rattle.meaning.specs.Asked.{precedenceAsked}
+use Rattle.address.specs.declared.Slot.{Slot}
+use Rattle.judge.specs.declared.Ending.{Ending}
+use Rattle.history.proofs.Domain.{took-read}
+use Rattle.history.proofs.Search.{masks-contiguous}
+use Rattle.page.proofs.Verdict.{verdict-is-the-page}
+use Rattle.page.proofs.Bits.{in-none}
 use Rattle.sets.specs.Sets.{inSet}
 use Rattle.queue.specs.Waits.{rankBy}
 use Rattle.queue.proofs.Waits.{chosen-asked, waits-count, waits-fits}
 use Rattle.queue.specs.declared.Entry.{Entry}
-use Rattle.state.specs.Relay.{Relay, freshRelay, counterIn, queueIn}
+use Rattle.state.specs.Relay.{Relay, freshRelay, counterIn, queueIn, portIn}
 use Rattle.answers.specs.Answers.{partAt, takingNumber}
 use Rattle.judge.specs.Ending.{endingOf}
 use Rattle.harpjuniper_relay.specs.Face.{counterAnswer, waitingAnswer}
 use Rattle.contracts.specs.Promised.{number, Result}
 use Rattle.contracts.specs.Contracts.{Says}
-use Rattle.history.specs.Calls.{counter, waiting, Call, looks}
+use Rattle.history.specs.Calls.{counter, waiting, Call, looks, hears}
 use Rattle.history.specs.Outcome.{Answer, outcome, relayAfter}
 use Rattle.history.specs.Tally.{stateAfter}
 use Rattle.history.specs.Ledger.{dropped}
-use Rattle.history.specs.Line.{entryOf, lineAt}
+use Rattle.history.specs.Line.{entryOf, lineAt, Copy, copyOf, takenBy}
 use Rattle.history.specs.Foretold.{andThen, answeredBy, answeredFrom, answeredSince}
 use Rattle.history.proofs.Counters as tallied
 use Rattle.history.proofs.Sums.{receives-sum, delivers-sum, forwards-sum, discards-sum}
 use Rattle.history.proofs.Ledger as ledgers
 use Rattle.history.proofs.Line.{queue-waits, taken-out-or-waiting}
-use Rattle.history.proofs.Foretold.{relay-then, foretold-over-histories, answers-are-handed, taken-once}
+use Rattle.history.proofs.Foretold.{relay-then, foretold-over-histories, answers-are-handed, taken-once, stands-behind, refused-idle, other-take-idle, idle-counts-nothing}
 use Rattle.history.proofs.Takes.{take-is}
 use Rattle.history.proofs.Fair.{fair}
-use Rattle.history.proofs.ReadBack.{read-back}
+use Rattle.history.proofs.ReadBack.{read-back, ReadBack}
 use Rattle.demands.specs.Trace.{Step, calls, made, leftBy, Trace, Passes, AllPass, Begun, heard, heardAll, historyOf, Gives}
-use Rattle.demands.specs.ReadOut.{numberIn, droppedIn, entriesIn}
+use Rattle.demands.specs.ReadOut.{numberIn, droppedIn, entriesIn, tookIn}
 use Rattle.demands.specs.Demand3.{Demand3}
 use Rattle.demands.proofs.Told.{receive-told, take-told, counter-told, waiting-told}
 use Rattle.demands.proofs.ReadOut.{read-out}
@@ -106,6 +117,44 @@ entries-told p (c ∷ ds) steps w v u b t all =
     ∙ ap (λ (l : List Entry). answeredBy p c (outcome (relayAfter (historyOf steps)) c .answer) ++ l)
     (rest ∙ ap (λ (cs : List Call). answeredFrom p (relayAfter cs) ds) (heard-more steps c []) ∙ ap (λ (r : Relay). answeredFrom p r ds) (relay-then (historyOf steps) freshRelay c))
 
+-- ---- the copies of a datagram
+module _ (steps : List Step) (p at : ℕ) (slot : Slot) (octets output : List ℕ) (x : Result) (g : Gives steps (calls (hears at slot octets output)) x) where
+  abbrev e : Ending
+  e = endingOf (relayAfter (historyOf steps)) at octets (length output)
+
+  parts : ReadBack (numberIn (x .answer)) e
+  parts = rw (receive-told steps x at slot octets output g .0) (read-back (relayAfter (historyOf steps)) at octets (length output))
+
+  -- what a port took was read, and has the header's size and precedence
+  placed-case : (t : Bool) → inSet p (e .ruling .took) ≡ t
+      → pick t (copyOf (length (historyOf steps)) (relayAfter (historyOf steps)) at slot octets e ∷ []) []
+      ≡ pick t
+      (record {
+        turn = length (historyOf steps);
+        arrival = portIn (relayAfter (historyOf steps)) at .address;
+        octets = octets;
+        size = headerOf octets .size;
+        entry = record { slot = slot; precedence = precedenceAsked (headerOf octets .fields .qos) };
+      } ∷ [])
+      []
+  placed-case true took =
+      let was = took-read (relayAfter (historyOf steps)) at octets (length output) (λ z. true-false (sym (sym (ap (inSet p) z) ∙ took) ∙ in-none p)) in
+      let is = read-good octets (was .header) .0 (was .read) .1 in
+      rw (was .size, was .precedence, is)
+  placed-case false took = refl
+
+  placed : takenBy p (length (historyOf steps)) (relayAfter (historyOf steps)) (hears at slot octets output)
+      ≡ pick (inSet p (tookIn x))
+      (record {
+        turn = length (historyOf steps);
+        arrival = portIn (relayAfter (historyOf steps)) at .address;
+        octets = octets;
+        size = headerOf octets .size;
+        entry = record { slot = slot; precedence = precedenceAsked (headerOf octets .fields .qos) };
+      } ∷ [])
+      []
+  placed = placed-case (inSet p (e .ruling .took)) refl ∙ rw (parts .took)
+
 pub demand-3 : Demand3
 demand-3 =
     record {
@@ -129,6 +178,11 @@ demand-3 =
           ap (λ t. partAt 32 (numberIn t)) told ∙ read-back r at octets (length output) .dropped in
           waiting-reads steps p y inside k
           ∙ ap number (full-is steps p inside (fair r p inside at octets (length output) .full (sym (ap (inSet p) is) ∙ dropped)));
+      copies-told = λ steps p at slot octets output x inside g.
+          let page = verdict-is-the-page (relayAfter (historyOf steps)) (masks-contiguous (historyOf steps)) at octets (length output) in
+          let told = parts steps p at slot octets output x g in
+          (page .ruling .granted p inside, (ap (inSet p) (sym (told .took)), ap (inSet p) (sym (told .dropped))));
+      placed = placed;
       waiting-are = λ steps p turn. (taken-once p turn (historyOf steps), taken-out-or-waiting p turn (historyOf steps));
       waiting-many = λ steps p x inside g. waiting-reads steps p x inside g ∙ ap number (many-wait steps p inside);
       order = λ steps p x g. (
@@ -136,5 +190,10 @@ demand-3 =
         chosen-asked (rankBy entryOf) (lineAt p (historyOf steps)),
       );
       foretold = λ cs ds c p k x placed. foretold-over-histories p cs c x placed ds k;
+      foretold-behind = λ cs c p x inside placed. stands-behind p cs c x placed inside;
+      foretold-idle = λ cs c p. (
+        refused-idle p cs c,
+        (λ q is other. rw is (other-take-idle p cs q other), λ ds x idle. idle-counts-nothing p x cs c ds idle),
+      );
       handed-is-told = λ steps ds p w v u b t all. entries-told p ds steps w v u b t all ∙ sym (answers-are-handed p ds (historyOf steps));
     }

@@ -23,7 +23,7 @@ use Rattle.history.specs.Answers.{answersOf, stands}
 use Rattle.history.specs.Tally.{sumAt}
 use Rattle.history.specs.Transport.{SameButTpid, localBy}
 use Rattle.demands.specs.Trace.{Step, starts, calls, made, leftBy, Passes, AllPass, relayOf, Gives}
-use Rattle.demands.specs.ReadOut.{hearsNothing, looksAtState, readOut, endedBy, localIn, onwardIn, tookIn, droppedIn, isRefusal, outputOf, relayIn, counterAt}
+use Rattle.demands.specs.ReadOut.{hearsNothing, looksAtState, readOut, endedBy, localIn, onwardIn, tookIn, droppedIn, outputOf, relayIn, counterAt}
 
 -- what two datagrams come to that have these TP-IDs and differ in nothing else
 pub record LocalAlone (a b : ℕ) (x y : Result) : Type 0 where
@@ -63,7 +63,7 @@ pub record Demand1 : Type 2 where
   -- "Nobody has to check first.": the code of each function, proved to do what its contract says, asks nothing of its caller.
   pub nobody-checks-first : (c : Exported) → Unchecked (functionOf c)
   -- "A refusal carries its number and leaves queues, settings and lent octets unchanged;": 9 to 15 of the onward half too
-  pub refusal-leaves : (steps : List Step) (c : Call) (x : Result) (g : Gives steps (calls c) x) → isRefusal (readOut c (x .answer)) ≡ true
+  pub refusal-leaves : (steps : List Step) (c : Call) (x : Result) (g : Gives steps (calls c) x) → outcome.isRefusal (readOut c (x .answer)) ≡ true
       → (relayIn (leftBy (g .before) (calls c) x) ≡ relayIn (g .before)) × (x .output ≡ outputOf c)
   -- and so does a datagram of which no port took an entry, whatever its local half
   pub untaken-leaves : (steps : List Step) (p : ℕ) (slot : Slot) (octets output : List ℕ) (x : Result) (g : Gives steps (calls (hears p slot octets output)) x)

@@ -103,12 +103,6 @@ hearsNothing (hears p slot octets output) = false
 hearsNothing (takes p) = true
 hearsNothing (looks l) = true
 
--- a refusal: a number, of a datagram as a whole or of its onward half (of a look any number but 0, since a look changes nothing)
-abbrev pub isRefusal : outcome.Answer → Bool
-isRefusal (outcome.number n) = not (eqb n 0)
-isRefusal (outcome.ended refusal local onward took) = not (eqb refusal 0) || ltb 1 onward
-isRefusal (outcome.entry e) = false
-
 -- ---- what was lent
 -- the output of a call that is lent one
 abbrev pub outputOf : Call → List ℕ

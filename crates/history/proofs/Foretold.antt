@@ -14,6 +14,7 @@ use lib.ListN.{length, length-append, length-map, replicate}
 use lib.Dec.{eqb, ltb, leb}
 use borrow.Author.Tests.{eqb-true, ne-eqb, eqb-false}
 use Rattle.checks.specs.Order.{pick, firstOf}
+use Rattle.checks.proofs.Bools.{true-false}
 use Rattle.checks.proofs.Laws.{either}
 use Rattle.sets.specs.Sets.{inSet}
 use Rattle.address.specs.Octets.{dotted}
@@ -46,13 +47,13 @@ use Rattle.judge.specs.Ending.{endingOf, callChecks, headerEnding}
 use Rattle.relay.specs.Outgoing.{enteredIf, enteredAll}
 use Rattle.relay.specs.Received.{receivedRelay}
 use Rattle.history.specs.Calls.{Setting, setRouter, setPort, Look, Call, sets, hears, takes, looks}
-use Rattle.history.specs.Outcome.{Answer, number, ended, entry, Out, nothing, from, ofTaking, outcome, next, runFrom, relayAfter, sumFrom}
+use Rattle.history.specs.Outcome.{isRefusal, Answer, number, ended, entry, Out, nothing, from, ofTaking, outcome, next, runFrom, relayAfter, sumFrom}
 use Rattle.history.specs.Ledger.{one as oneIf, outBy, handedOut}
 use Rattle.history.specs.Line.{Copy, entryOf, takenBy, handedBy, leftBy, lineBy, lineFrom, takenFrom, handedFrom, lineAt, takenAt, takingOf, times}
-use Rattle.history.specs.Foretold.{andThen, handedSince, takesSince, answeredBy, answeredFrom, answeredSince, before, Idle, isHanded, waitsFrom, higherEnter, CountsNothing, Refusal, takenSince, whileWaits}
+use Rattle.history.specs.Foretold.{andThen, handedSince, takesSince, answeredBy, answeredFrom, answeredSince, before, Idle, isHanded, waitsFrom, higherEnter, CountsNothing, takenSince, whileWaits}
 use Rattle.history.proofs.Line.{line-each, queue-waits}
 use Rattle.page.proofs.Bits.{in-none}
-use Rattle.history.proofs.Refusals.{refused-grants-nothing}
+use Rattle.history.proofs.Untaken.{took-none}
 use Rattle.history.proofs.Takes.{take-is}
 
 abbrev rank : Copy → ℕ
@@ -436,15 +437,14 @@ module _ (p : ℕ) where
       by (Refused n) = refl
 
   -- and whatever is refused.
-  pub refused-idle : (cs : List Call) (c : Call) → Refusal (outcome (relayAfter cs) c .answer) → Idle p cs c
+  pub refused-idle : (cs : List Call) (c : Call) → isRefusal (outcome (relayAfter cs) c .answer) ≡ true → Idle p cs c
   refused-idle cs (sets s) refused = setting-idle cs s
   refused-idle cs (hears port slot octets output) refused =
-      not-taken-idle cs port slot octets output
-      (ap (λ (g : Ruling). inSet p (g .took)) (refused-grants-nothing (relayAfter cs) port octets (length output) refused) ∙ in-none p)
+      not-taken-idle cs port slot octets output (ap (inSet p) (took-none (relayAfter cs) port octets (length output) refused) ∙ in-none p)
   refused-idle cs (takes q) refused = (refl, by (takeOutcome (relayAfter cs) q) refused)
     where
-      by : (t : Taking) → Refusal (ofTaking q t .answer) → outBy p (ofTaking q t .out) ≡ 0
-      by (Handed e) h = absurd h
+      by : (t : Taking) → isRefusal (ofTaking q t .answer) ≡ true → outBy p (ofTaking q t .out) ≡ 0
+      by (Handed e) h = true-false (sym h)
       by (Refused n) h = refl
   refused-idle cs (looks l) refused = look-idle cs l
 

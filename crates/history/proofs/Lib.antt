@@ -18,6 +18,7 @@ pub mod Small
 pub mod ReadBack
 pub mod Named
 pub mod Sums
+pub mod Untaken
 pub mod Line
 pub mod Takes
 pub mod Foretold

@@ -86,9 +86,3 @@ module _ (p : ℕ) where
     pub handed : handedSince cs (c ∷ ds) ≡ handedSince (andThen cs c) ds
     pub takes : takesSince cs (c ∷ ds) ≡ takesSince (andThen cs c) ds
     pub higher : higherEnter x cs (c ∷ ds) ≡ higherEnter x (andThen cs c) ds
-
--- a refusal, by its number
-abbrev pub Refusal : Answer → Type 0
-Refusal (number n) = n ≡ 0 → ⊥
-Refusal (ended refusal local onward took) = refusal ≡ 0 → ⊥
-Refusal (entry e) = ⊥

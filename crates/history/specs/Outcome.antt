@@ -1,8 +1,10 @@
 -- What one call does, and what a history of calls leaves: all that is counted, granted, dropped and handed out, from the settings and the queues
 -- alone. No counter is looked at (page 01 has no rule that reads one). Assumes nothing.
 use Prim.Native.Nat.{ℕ, _+_}
+use mathlib.Core.Bool.{Bool, false, not, _||_}
 use mathlib.Core.List.{List, [], _∷_}
 use lib.ListN.{length}
+use lib.Dec.{eqb, ltb}
 use Rattle.checks.specs.Order.{firstOf}
 use Rattle.queue.specs.declared.Entry.{Entry}
 use Rattle.state.specs.Relay.{Relay, freshRelay}
@@ -25,6 +27,12 @@ pub data Answer : Type 0 where
   ended : ℕ → ℕ → ℕ → ℕ → Answer
   -- of a take: what is handed out
   entry : Entry → Answer
+
+-- a refusal: a number, of a datagram as a whole or of its onward half (of a look any number but 0, since a look changes nothing)
+abbrev pub isRefusal : Answer → Bool
+isRefusal (number n) = not (eqb n 0)
+isRefusal (ended refusal local onward took) = not (eqb refusal 0) || ltb 1 onward
+isRefusal (entry e) = false
 
 -- what is handed out, and by which port
 pub data Out : Type 0 where
