@@ -1,4 +1,4 @@
--- Laws over histories. To be read, each by itself with the definitions it cites: Counters and Sums (every counter; four in the customer's words), Ledger,
+-- Laws over histories. To be read, each by itself with the definitions it cites: Counters and Sums (every counter; in the customer's words), Ledger,
 -- Line, Takes and Foretold (the copies of a port: their ledger, which wait, which is handed out, and at which take), Domain and Meaning (what a copy
 -- names where it goes out), Reach, Keys, Ranges and Holds (the settings), Search and SearchBack (the route that an address takes, and as C reads it),
 -- Answered and Listed (each answer is one that the page lists), Refusals and Transport (what a refusal leaves; the TP-ID alone).
@@ -16,7 +16,6 @@ pub mod Listed
 pub mod Answered
 pub mod Small
 pub mod ReadBack
-pub mod Named
 pub mod Sums
 pub mod Untaken
 pub mod Line

@@ -1,45 +1,63 @@
--- Four counters in the customer's words: page 01, step 1 ("These two count nothing. All later ends count one in npInReceives") and below its table of
--- refusal numbers ("npOutDiscards counts dropped copies .. npInDelivers counts deliveries, npForwDatagrams datagrams with at least one entry taken").
--- No counter and no table of counters is looked at here. Assumes nothing.
+-- The fifteen counters in the customer's words, one rule for all: page 01's table of refusal numbers read by counter, step 1 ("These two count nothing. All
+-- later ends count one in npInReceives") and what stands below the table ("npOutDiscards counts dropped copies .. npInDelivers counts deliveries,
+-- npForwDatagrams datagrams with at least one entry taken"). No counter and no list of moves is looked at here. Assumes nothing.
 use Prim.Native.Nat.{ℕ, zero, suc, _+_}
-use mathlib.Core.Bool.{not, _||_}
+use mathlib.Core.Bool.{not}
+use mathlib.Core.List.{List, [], _∷_}
 use lib.Dec.{eqb}
+use lib.ListN.{getD}
 use Rattle.sets.specs.Sets.{inSet}
 use Rattle.sets.specs.Limits.{portCount}
+use Rattle.history.specs.Answers.{listed}
 use Rattle.history.specs.Outcome.{Answer, number, ended, entry, Outcome}
 use Rattle.history.specs.Ledger.{one}
-
--- a datagram that did not end in 16 or 17
-abbrev pub isReceipt : Answer → ℕ
-isReceipt (number n) = 0
-isReceipt (ended refusal local onward took) = one (not (eqb refusal 16 || eqb refusal 17))
-isReceipt (entry e) = 0
-
-abbrev pub isDelivery : Answer → ℕ
-isDelivery (number n) = 0
-isDelivery (ended refusal local onward took) = one (eqb local 1)
-isDelivery (entry e) = 0
-
--- one that at least one port took
-abbrev pub isForwarded : Answer → ℕ
-isForwarded (number n) = 0
-isForwarded (ended refusal local onward took) = one (not (eqb took 0))
-isForwarded (entry e) = 0
 
 -- how many of the first n ports are in a set
 abbrev pub portsIn : ℕ → ℕ → ℕ
 portsIn zero set = 0
 portsIn (suc p) set = portsIn p set + one (inSet p set)
 
-abbrev pub receipts : Outcome → ℕ
-receipts o = isReceipt (o .answer)
+-- what an answer gives each counter, where so many copies were dropped; only a received datagram gives any
+abbrev pub counted : Answer → ℕ → List ℕ
+counted (number n) copies = []
+counted (ended refusal local onward took) copies =
+    -- npInReceives: every end but 16 and 17
+    one (not (listed (16 ∷ 17 ∷ []) refusal))
+    -- npInBadLength: 1, short; 3, length
+    ∷ one (listed (1 ∷ 3 ∷ []) refusal)
+    -- npInBadVersion: 2, version
+    ∷ one (eqb refusal 2)
+    -- npInBadAddress: 4, form; 6, address; 7, no domain to supply
+    ∷ one (listed (4 ∷ 6 ∷ 7 ∷ []) refusal)
+    -- npInBadChecksum: 5, checksum
+    ∷ one (eqb refusal 5)
+    -- unsupported: 8, service not carried
+    ∷ one (eqb refusal 8)
+    -- npInAddrErrors: 9, not for us
+    ∷ one (eqb onward 9)
+    -- npInUnknownProtos: 26, TP-ID unknown
+    ∷ one (eqb local 26)
+    -- npInDelivers: deliveries
+    ∷ one (eqb local 1)
+    -- npForwHopDiscard: 10, hops used up
+    ∷ one (eqb onward 10)
+    -- npForwDatagrams: datagrams with at least one entry taken
+    ∷ one (not (eqb took 0))
+    -- npOutNoRoutes: 11, no route; 12, not up
+    ∷ one (listed (11 ∷ 12 ∷ []) onward)
+    -- npOutDiscards: dropped copies, also when another port took its copy
+    ∷ copies
+    -- left domain: 13, would leave its domain
+    ∷ one (eqb onward 13)
+    -- too big: 14, too big for every port
+    ∷ one (eqb onward 14)
+    ∷ []
+counted (entry e) copies = []
 
-abbrev pub deliveries : Outcome → ℕ
-deliveries o = isDelivery (o .answer)
+-- what an outcome gives each counter; a copy is dropped for each of the eight ports that drops
+abbrev pub counts : Outcome → List ℕ
+counts o = counted (o .answer) (portsIn portCount (o .dropped))
 
-abbrev pub forwardings : Outcome → ℕ
-forwardings o = isForwarded (o .answer)
-
--- the copies that ports dropped
-abbrev pub drops : Outcome → ℕ
-drops o = portsIn portCount (o .dropped)
+-- and what it gives counter i
+abbrev pub givenBy : ℕ → Outcome → ℕ
+givenBy i o = getD (counts o) i 0
