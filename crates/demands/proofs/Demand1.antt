@@ -1,17 +1,15 @@
 -- Demand 1 is kept. Assumes nothing.
-use native.Mathlib.Omega.{arith}
-use Prim.Native.Nat.{ℕ}
+use Prim.Native.Nat.{ℕ, _+_, _%_, _^_}
 use mathlib.Core.Path.{_≡_, refl, sym, ap, _∙_}
 use mathlib.Core.Bool.{Bool, true, false, not}
 use mathlib.Core.Logic.{_⊎_, inl, inr, ⊎-elim}
 use mathlib.Core.List.{List, []}
 use lib.ListN.{length}
-use lib.Dec.{eqb, ltb}
-use borrow.Author.Tests.{eqb-true, ltb-true, ne-eqb}
+use lib.Dec.{eqb}
 use Rattle.tally.specs.Tally.{countedAll}
 use Rattle.demands.proofs.Lasts.{gives-lasts}
 use Rattle.checks.specs.Order.{pick, firstOf}
-use Rattle.checks.proofs.Bools.{true-false, or-true, not-false}
+use Rattle.checks.proofs.Bools.{true-false}
 use Rattle.header.specs.Read.{readOf}
 use Rattle.header.specs.declared.Header.{Header}
 use Rattle.header.specs.declared.Read.the-variants.{Good}
@@ -42,12 +40,12 @@ use Rattle.history.specs.Transport.{SameButTpid, SameButLocal, localBy}
 use Rattle.history.proofs.Answered.{every-answer-is-listed}
 use Rattle.history.proofs.ReadBack.{ReadBack, read-back}
 use Rattle.history.proofs.Untaken.{took-none}
-use Rattle.history.proofs.Refusals.{refused-grants-nothing, nobody-took, output-as-lent, refused-take-leaves}
-use Rattle.history.proofs.Sums.{sent-where-taken}
+use Rattle.history.proofs.Refusals.{nobody-took, output-as-lent, refused-take-leaves}
+use Rattle.history.proofs.Sums.{moves-as-written}
 use Rattle.history.proofs.Transport as transport
 use Rattle.demands.specs.Trace.{Step, starts, calls, made, leftBy, historyOf, Gives}
 use Rattle.demands.proofs.Promised.{promisedOf}
-use Rattle.demands.specs.ReadOut.{numberIn, looksAtState, readOut, outputOf, relayIn, hearsNothing, tookIn}
+use Rattle.demands.specs.ReadOut.{numberIn, looksAtState, readOut, outputOf, relayIn, hearsNothing, tookIn, counterAt}
 use Rattle.demands.specs.Demand1.{LocalAlone, WithoutState, Demand1}
 use Rattle.demands.proofs.Traced.{step-stays, fresh-answers, fresh-holds, held-words}
 use Rattle.demands.proofs.Told.{gives-row, gives-before, gives-next, counters-move, receive-told}
@@ -248,7 +246,9 @@ demand-1 =
       nobody-checks-first = given.nobody-checks-first;
       refusal-leaves = refusal-leaves;
       untaken-leaves = untaken-leaves;
-      counters-move = counters-move;
+      counters-move = λ steps c x g i inside.
+          counters-move steps c x g i inside
+          ∙ ap (λ (n : ℕ). (counterAt (g .before) i + n) % 2 ^ 32) (moves-as-written (relayIn (g .before)) c i inside);
       counters-stay = counters-stay;
       transport-alone = λ steps p slot s t output h k x y. alone steps p slot output s t h k x y;
     }

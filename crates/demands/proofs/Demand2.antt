@@ -37,8 +37,6 @@ use Rattle.queue.specs.Waits.{Chosen, nobody, one, chosen, rankBy}
 use Rattle.queue.specs.declared.Entry.{Entry}
 use Rattle.queue.proofs.Each.{each-so}
 use Rattle.queue.proofs.Waits.{EachOf, chosen-each, chosen-nobody}
-use Rattle.networks.specs.Networks.{domainOf}
-use Rattle.meaning.specs.Names.{aimOf, originOf}
 use Rattle.state.specs.Relay.{Relay, State, freshRelay, portIn, portSetUp}
 use Rattle.taking.specs.Taking.{takeOutcome}
 use Rattle.taking.specs.declared.Taking.{Taking}
@@ -54,7 +52,7 @@ use Rattle.harpjuniper.specs.Face.{readingOf, dataRead, fieldsOut, numbersCheck
 use Rattle.harpjuniper.specs.declared.Reading.{Reading}
 use Rattle.harpjuniper.proofs.Promises.{fields-in, hj-build-then-hj-read}
 use Rattle.harpjuniper.proofs.RoundTrip as trip
-use Rattle.page.specs.Table.{oneOctet, hasRoom, verdictOf, moreOnes, GivenBy, stepRows, localRows, aimAt}
+use Rattle.page.specs.Table.{hasRoom, verdictOf, moreOnes, GivenBy, stepRows, localRows, aimAt}
 use Rattle.page.proofs.Exactly.{took-exactly, dropped-exactly}
 use Rattle.page.proofs.Exactly as exactly
 use Rattle.page.proofs.Sought.{sought-taken, sought-no-route}
@@ -66,7 +64,7 @@ use Rattle.history.specs.Calls.{Setting, setRouter, setPort, setRoute, setGroup
 use Rattle.history.specs.Outcome.{entry, ofTaking, outcome, next, runFrom, relayAfter}
 use Rattle.history.specs.Tally.{stateAfter}
 use Rattle.history.specs.Parts.{About, settingIn}
-use Rattle.history.specs.Line.{Copy, entryOf, sentOf, takingOf, lineAt}
+use Rattle.history.specs.Line.{Copy, entryOf, takingOf, lineAt}
 use Rattle.history.specs.Marked.{Marked, markedCases}
 use Rattle.history.specs.Ranges.{Octets, EntryFits, CopyFits}
 use Rattle.history.proofs.Domain.{NamesTheSame, waiting-copies-name-the-same, took-read}

@@ -32,10 +32,9 @@ use Rattle.history.specs.Calls.{counter, waiting, Call, looks, hears}
 use Rattle.history.specs.Outcome.{Answer, outcome, relayAfter}
 use Rattle.history.specs.Tally.{stateAfter}
 use Rattle.history.specs.Ledger.{dropped}
-use Rattle.history.specs.Line.{entryOf, lineAt, Copy, copyOf, takenBy}
+use Rattle.history.specs.Line.{entryOf, lineAt, copyOf, takenBy}
 use Rattle.history.specs.Foretold.{andThen, answeredBy, answeredFrom, answeredSince}
-use Rattle.history.proofs.Counters as tallied
-use Rattle.history.proofs.Sums.{receives-sum, delivers-sum, forwards-sum, discards-sum}
+use Rattle.history.proofs.Sums.{counted-as-written}
 use Rattle.history.proofs.Ledger as ledgers
 use Rattle.history.proofs.Line.{queue-waits, taken-out-or-waiting}
 use Rattle.history.proofs.Foretold.{relay-then, foretold-over-histories, answers-are-handed, taken-once, stands-behind, refused-idle, other-take-idle, idle-counts-nothing}
@@ -158,17 +157,7 @@ module _ (steps : List Step) (p at : ℕ) (slot : Slot) (octets output : List �
 pub demand-3 : Demand3
 demand-3 =
     record {
-      counters = λ steps i x inside g. counter-reads steps i x inside g ∙ ap number (tallied.counters i inside (historyOf steps));
-      named = λ steps x. (
-        λ g. counter-reads steps 0 x (omega arith) g ∙ ap number (receives-sum (historyOf steps)),
-        (
-          λ g. counter-reads steps 8 x (omega arith) g ∙ ap number (delivers-sum (historyOf steps)),
-          (
-            λ g. counter-reads steps 10 x (omega arith) g ∙ ap number (forwards-sum (historyOf steps)),
-            λ g. counter-reads steps 12 x (omega arith) g ∙ ap number (discards-sum (historyOf steps)),
-          ),
-        ),
-      );
+      counters = λ steps i x inside g. counter-reads steps i x inside g ∙ ap number (counted-as-written i inside (historyOf steps));
       ledger = λ steps p x inside g.
           (queueIn (relayAfter (historyOf steps)) p .count, (waiting-reads steps p x inside g, ledgers.ledger p inside (historyOf steps)));
       dropped-by-32 = λ steps p at slot octets output x y inside g dropped k.

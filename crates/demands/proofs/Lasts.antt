@@ -9,35 +9,7 @@ use Rattle.state.specs.Layout as layout
 use Rattle.contracts.specs.Promised.{Result, hj-fresh}
 use Rattle.contracts.specs.Contracts.{Passable}
 use Rattle.contracts.proofs.Answers.{each-call-answers}
-use Rattle.history.specs.Calls.{
-  setRouter,
-  setPort,
-  setRoute,
-  setGroup,
-  setPath,
-  clearRoute,
-  clearGroup,
-  clearPath,
-  theRouter,
-  thePort,
-  theRoute,
-  theGroup,
-  thePath,
-  setting,
-  search,
-  counter,
-  waiting,
-  read,
-  build,
-  class,
-  form,
-  checksum,
-  stateWords,
-  sets,
-  hears,
-  takes,
-  looks,
-}
+use Rattle.history.specs.Calls.{setRouter, setPort, setRoute, setGroup, setPath, clearRoute, clearGroup, clearPath, theRouter, thePort, theRoute, theGroup, thePath, setting, search, counter, waiting, read, build, class, form, checksum, stateWords, sets, hears, takes, looks}
 use Rattle.demands.specs.Trace.{Step, starts, calls, made, leftBy, Trace, Begun, Gives, Passes, AllPass}
 use Rattle.demands.proofs.Traced.{fresh-answers}
 

@@ -16,25 +16,7 @@ use Rattle.harpjuniper_reads.specs.Search.{searchAnswer}
 use Rattle.harpjuniper_receive.specs.Face.{receiveAnswer, receiveOutput}
 use Rattle.harpjuniper_relay.specs.Face.{takeAnswer, counterAnswer, waitingAnswer}
 use Rattle.contracts.specs.Promised.{Told, number, reading, Promise}
-use Rattle.history.specs.Calls.{
-  Look,
-  setting,
-  search,
-  counter,
-  waiting,
-  read,
-  build,
-  class,
-  form,
-  checksum,
-  stateWords,
-  Call,
-  sets,
-  hears,
-  takes,
-  looks,
-  checksOf,
-}
+use Rattle.history.specs.Calls.{Look, setting, search, counter, waiting, read, build, class, form, checksum, stateWords, Call, sets, hears, takes, looks, checksOf}
 use Rattle.history.specs.Outcome.{outcome, next}
 use Rattle.demands.specs.ReadOut.{partTold}
 use Rattle.demands.specs.Trace.{Step, starts, calls}

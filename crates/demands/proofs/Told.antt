@@ -17,39 +17,7 @@ use Rattle.harpjuniper_relay.specs.Face.{takeAnswer, counterAnswer, waitingAnsw
 use Rattle.contracts.specs.Promised.{Told, number, port, route, group, path, Result, Allows, promised}
 use Rattle.contracts.proofs.OneResult.{allowed-once}
 use Rattle.contracts.proofs.Rows.{says-row}
-use Rattle.history.specs.Calls.{
-  Setting,
-  setRouter,
-  setPort,
-  setRoute,
-  setGroup,
-  setPath,
-  clearRoute,
-  clearGroup,
-  clearPath,
-  Part,
-  theRouter,
-  thePort,
-  theRoute,
-  theGroup,
-  thePath,
-  setting,
-  search,
-  counter,
-  waiting,
-  read,
-  build,
-  class,
-  form,
-  checksum,
-  stateWords,
-  Call,
-  sets,
-  hears,
-  takes,
-  looks,
-  checksOf,
-}
+use Rattle.history.specs.Calls.{Setting, setRouter, setPort, setRoute, setGroup, setPath, clearRoute, clearGroup, clearPath, Part, theRouter, thePort, theRoute, theGroup, thePath, setting, search, counter, waiting, read, build, class, form, checksum, stateWords, Call, sets, hears, takes, looks, checksOf}
 use Rattle.history.specs.Outcome.{outcome, relayAfter}
 use Rattle.history.specs.Tally.{sumAt, stateAfter}
 use Rattle.history.proofs.Counters.{moves-sum, counters-fit}

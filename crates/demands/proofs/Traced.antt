@@ -20,39 +20,7 @@ use Rattle.lent_state.proofs.Same.{lent-injective}
 use Rattle.contracts.specs.Promised.{number, Result, Allows, hj-fresh, promised}
 use Rattle.contracts.specs.Contracts.{Says}
 use Rattle.contracts.proofs.Rows.{says-row}
-use Rattle.history.specs.Calls.{
-  Setting,
-  setRouter,
-  setPort,
-  setRoute,
-  setGroup,
-  setPath,
-  clearRoute,
-  clearGroup,
-  clearPath,
-  Part,
-  theRouter,
-  thePort,
-  theRoute,
-  theGroup,
-  thePath,
-  Look,
-  setting,
-  search,
-  counter,
-  waiting,
-  read,
-  build,
-  class,
-  form,
-  checksum,
-  stateWords,
-  Call,
-  sets,
-  hears,
-  takes,
-  looks,
-}
+use Rattle.history.specs.Calls.{Setting, setRouter, setPort, setRoute, setGroup, setPath, clearRoute, clearGroup, clearPath, Part, theRouter, thePort, theRoute, theGroup, thePath, Look, setting, search, counter, waiting, read, build, class, form, checksum, stateWords, Call, sets, hears, takes, looks}
 use Rattle.history.specs.Outcome.{ofTaking, outcome, next, runFrom}
 use Rattle.history.specs.Tally.{countersFrom, stateAfter}
 use Rattle.demands.specs.Trace.{Step, starts, calls, made, leftBy, Trace, Begun, heard, heardAll, historyOf}

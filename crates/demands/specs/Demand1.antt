@@ -20,7 +20,7 @@ use Rattle.contracts.specs.Functions.{functionOf, Unchecked}
 use Rattle.history.specs.Calls.{Call, sets, hears, takes, looks}
 use Rattle.history.specs.Outcome as outcome
 use Rattle.history.specs.Answers.{answersOf, stands}
-use Rattle.history.specs.Tally.{sumAt}
+use Rattle.history.specs.Sums.{givenBy}
 use Rattle.history.specs.Transport.{SameButTpid, localBy}
 use Rattle.demands.specs.Trace.{Step, starts, calls, made, leftBy, Passes, AllPass, relayOf, Gives}
 use Rattle.demands.specs.ReadOut.{hearsNothing, looksAtState, readOut, endedBy, localIn, onwardIn, tookIn, droppedIn, outputOf, relayIn, counterAt}
@@ -70,7 +70,7 @@ pub record Demand1 : Type 2 where
       → tookIn x ≡ 0 → (relayIn (x .words) ≡ relayIn (g .before)) × (x .output ≡ output)
   -- "only the counters of the received datagram move.": each counter by what page 01's table gives this call, and none where no datagram is heard
   pub counters-move : (steps : List Step) (c : Call) (x : Result) (g : Gives steps (calls c) x) (i : ℕ) → i < 15
-      → counterAt (leftBy (g .before) (calls c) x) i ≡ (counterAt (g .before) i + sumAt (outcome.outcome (relayIn (g .before)) c .moves) i) % 2 ^ 32
+      → counterAt (leftBy (g .before) (calls c) x) i ≡ (counterAt (g .before) i + givenBy i (outcome.outcome (relayIn (g .before)) c)) % 2 ^ 32
   pub counters-stay : (steps : List Step) (c : Call) (x : Result) (g : Gives steps (calls c) x) → hearsNothing c ≡ true
       → decode (leftBy (g .before) (calls c) x) .counters ≡ decode (g .before) .counters
   -- "An unknown transport number refuses local delivery alone.": of two datagrams that differ in that number

@@ -15,7 +15,7 @@ use Rattle.address.specs.declared.Address.{Address}
 use Rattle.address.specs.declared.Slot.{Slot}
 use Rattle.header.specs.Form.{controlOf}
 use Rattle.header.specs.Limits.{longestHeader, mostData}
-use Rattle.header.specs.Onward.{headerSentOn, oneLess, withHops}
+use Rattle.header.specs.Onward.{oneLess, withHops}
 use Rattle.header.specs.Read.{readChecks, lengthOf, readOf, headerOf}
 use Rattle.header.specs.Shortest.{unusedZero, noneShorter}
 use Rattle.header.specs.declared.Header.{Header}

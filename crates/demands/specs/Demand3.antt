@@ -21,8 +21,7 @@ use Rattle.answers.specs.Answers.{takingNumber}
 use Rattle.contracts.specs.Promised.{number, Result}
 use Rattle.history.specs.Calls.{counter, waiting, hears, takes, looks, Call}
 use Rattle.history.specs.Outcome.{relayAfter, sumOver, isRefusal, outcome}
-use Rattle.history.specs.Tally.{tally}
-use Rattle.history.specs.Sums.{receipts, deliveries, forwardings, drops}
+use Rattle.history.specs.Sums.{givenBy}
 use Rattle.history.specs.Ledger.{granted, dropped, handedOut}
 use Rattle.queue.specs.Foretold.{AtTake}
 use Rattle.history.specs.Line.{Copy, entryOf, takenBy, takingOf, lineAt, takenAt, handedAt, times}
@@ -32,16 +31,9 @@ use Rattle.demands.specs.ReadOut.{droppedIn, entriesIn, tookIn}
 
 pub record Demand3 : Type 0 where
   -- "From a fresh relay, after any calls, settings changed between them included, every counter equals, modulo 2^32, what the rules give over the
-  -- history.": hj_counter answers that number,
+  -- history.": hj_counter answers the sum, over the calls, of what page 01's table gives that counter
   pub counters : (steps : List Step) (i : ℕ) (x : Result) → i < 15 → Gives steps (calls (looks (counter i))) x
-      → x .answer ≡ number (tally (historyOf steps) i % 2 ^ 32)
-  -- which for four of them is, in page 01's words: receipts that did not end in 16 or 17, deliveries, datagrams with at least one entry taken, copies
-  -- dropped.
-  pub named : (steps : List Step) (x : Result)
-      → (Gives steps (calls (looks (counter 0))) x → x .answer ≡ number (sumOver receipts (historyOf steps) % 2 ^ 32))
-      × ((Gives steps (calls (looks (counter 8))) x → x .answer ≡ number (sumOver deliveries (historyOf steps) % 2 ^ 32))
-      × ((Gives steps (calls (looks (counter 10))) x → x .answer ≡ number (sumOver forwardings (historyOf steps) % 2 ^ 32))
-      × (Gives steps (calls (looks (counter 12))) x → x .answer ≡ number (sumOver drops (historyOf steps) % 2 ^ 32))))
+      → x .answer ≡ number (sumOver (givenBy i) (historyOf steps) % 2 ^ 32)
   -- "For each port, copies granted = handed out + waiting + dropped ..": hj_waiting answers n
   pub ledger : (steps : List Step) (p : ℕ) (x : Result) → p < 8 → Gives steps (calls (looks (waiting p))) x
       → (n : ℕ) × ((x .answer ≡ number n)

@@ -1,9 +1,9 @@
 -- What C reads out of a result, by the functions of include/harpjuniper.h, and what the words that it lent hold. Assumes nothing.
 use Prim.Native.Nat.{ℕ, _/_, _%_, _^_}
 use mathlib.Core.Path.{_≡_}
-use mathlib.Core.Bool.{Bool, true, false, not, _||_}
+use mathlib.Core.Bool.{Bool, true, false}
 use mathlib.Core.List.{List, [], _∷_, _++_, map}
-use lib.Dec.{eqb, ltb}
+use lib.Dec.{eqb}
 use Rattle.checks.specs.Order.{pick}
 use Rattle.answers.specs.Answers.{partAt, refusalIn, slotIn, precedenceIn}
 use Rattle.numbers.specs.declared.Numbers.{Numbers}

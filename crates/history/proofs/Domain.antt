@@ -35,24 +35,7 @@ use Rattle.judge.specs.Ending.{refusedBy, callChecks, headerEnding, octetsEndin
 use Rattle.judge.specs.declared.Ending.{Ending}
 use Rattle.meaning.specs.Arrival.{arrivalChecks}
 use Rattle.relay.specs.Received.{receivedRelay}
-use Rattle.history.specs.Calls.{
-  Setting,
-  setRouter,
-  setPort,
-  setRoute,
-  setGroup,
-  setPath,
-  clearRoute,
-  clearGroup,
-  clearPath,
-  Call,
-  sets,
-  hears,
-  takes,
-  looks,
-  checksOf,
-  written,
-}
+use Rattle.history.specs.Calls.{Setting, setRouter, setPort, setRoute, setGroup, setPath, clearRoute, clearGroup, clearPath, Call, sets, hears, takes, looks, checksOf, written}
 use Rattle.history.specs.Outcome.{next, runFrom, relayAfter}
 use Rattle.history.specs.Ledger.{one}
 use Rattle.history.specs.Line.{Copy, entryOf, copyOf, takenBy, lineBy, lineFrom, lineAt}

@@ -36,7 +36,6 @@ use Rattle.networks.specs.Networks.{subnetBroadcast}
 use Rattle.settings.specs.Refusals.{otherClass, onesRefused, formRefused, portMaskRefused}
 use Rattle.meaning.specs.Names.{aimOf, originOf}
 use Rattle.verdict.specs.Rule.{targetOf, lineOf, grantedOf, copiesOf, rulingOf}
-use Rattle.verdict.specs.declared.Ruling.{Ruling}
 use Rattle.state.specs.Relay.{Relay, freshRelay, queueIn, portSetUp}
 use Rattle.survey.specs.Survey.{ownBroadcast, surveyBelow}
 use Rattle.taking.specs.Taking.{takeOutcome, takenRelay}

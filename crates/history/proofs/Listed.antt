@@ -68,7 +68,7 @@ abbrev refusals : List ℕ
 refusals = 16 ∷ 17 ∷ 1 ∷ 2 ∷ 4 ∷ 3 ∷ 5 ∷ 8 ∷ 7 ∷ 6 ∷ []
 
 -- 0 where the datagram was judged
-abbrev endNumbers : List ℕ
+abbrev pub endNumbers : List ℕ
 endNumbers = 0 ∷ refusals
 
 -- ---- the first check that fails gives a number of its list
@@ -105,7 +105,7 @@ octets-listed r at s =
     let n = firstOf (readChecks s) in
     read-case r at (eqb n 0) n (headerOf s) (first-listed endNumbers (readChecks s) refl refl)
 
-end-listed : (r : Relay) (port : ℕ) (octets : List ℕ) (room : ℕ) → EndListed (endingOf r port octets room)
+pub end-listed : (r : Relay) (port : ℕ) (octets : List ℕ) (room : ℕ) → EndListed (endingOf r port octets room)
 unfolding endingOf callChecks
 end-listed r port octets room =
     let n = firstOf (callChecks r port room) in

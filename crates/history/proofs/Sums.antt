@@ -32,7 +32,7 @@ use Rattle.history.specs.Tally.{sumAt, stateAfter}
 use Rattle.history.specs.Ledger.{one}
 use Rattle.history.specs.Sums.{portsIn, counted, givenBy}
 use Rattle.history.proofs.Counters.{counters}
-use Rattle.history.proofs.Listed.{each-obstacle, every-ending-is-listed}
+use Rattle.history.proofs.Listed.{endNumbers, end-listed, each-obstacle, every-ending-is-listed}
 use Rattle.history.proofs.Small.{sets-small}
 
 -- ---- fifteen numbers, one for each counter
@@ -71,15 +71,6 @@ parts : (n local onward took copies : ℕ) → tabled 15 (together n local onwar
 parts n local onward took copies = simp (add-zero, zero-add)
 
 -- ---- the refusal is one of the page's numbers
-abbrev refusals : List ℕ
-refusals = 16 ∷ 17 ∷ 1 ∷ 2 ∷ 4 ∷ 3 ∷ 5 ∷ 8 ∷ 7 ∷ 6 ∷ []
-
-refusal-listed : (n local onward took : ℕ) (t u : Bool) → listed refusals n ≡ t → eqb n 0 ≡ u → stands endingRows (ended n local onward took) ≡ true
-    → listed (0 ∷ refusals) n ≡ true
-refusal-listed n local onward took t true h k s = rw k refl
-refusal-listed n local onward took true false h k s = rw k h
-refusal-listed n local onward took false false h k s = true-false (sym (simp (h, k) at s))
-
 -- what holds of each number of a list holds of one that is listed
 abbrev AllOf : (ℕ → Type 0) → List ℕ → Type 0
 AllOf P [] = Unit
@@ -93,10 +84,10 @@ of-listed : (P : ℕ → Type 0) (xs : List ℕ) (n : ℕ) → AllOf P xs → li
 of-listed P [] n all h = true-false (sym h)
 of-listed P (x ∷ xs) n all h = first-or P x n (eqb n x) (listed xs n) refl (all .0) (of-listed P xs n (all .1)) h
 
-refusal-part : (n : ℕ) → listed (0 ∷ refusals) n ≡ true → given ((receiptCounter n, 1) ∷ (counterFor n, 1) ∷ []) ≡ ofRefusal n
+refusal-part : (n : ℕ) → listed endNumbers n ≡ true → given ((receiptCounter n, 1) ∷ (counterFor n, 1) ∷ []) ≡ ofRefusal n
 unfolding counterFor
 refusal-part n =
-    of-listed (λ (m : ℕ). given ((receiptCounter m, 1) ∷ (counterFor m, 1) ∷ []) ≡ ofRefusal m) (0 ∷ refusals) n
+    of-listed (λ (m : ℕ). given ((receiptCounter m, 1) ∷ (counterFor m, 1) ∷ []) ≡ ofRefusal m) endNumbers n
     (refl, (refl, (refl, (refl, (refl, (refl, (refl, (refl, (refl, (refl, (refl, tt)))))))))))
 
 -- ---- the local half
@@ -189,10 +180,9 @@ module _ (i : ℕ) (inside : i < 15) where
       let x = e .ruling in
       let n = localNumber (x .local) in
       let m = onwardNumber (x .onward) in
-      let known = refusal-listed (e .refusal) n m (x .took) _ _ refl refl (every-ending-is-listed r port octets room) in
       omega (
         arith,
-        part-at ((receiptCounter (e .refusal), 1) ∷ (counterFor (e .refusal), 1) ∷ []) _ (refusal-part (e .refusal) known),
+        part-at ((receiptCounter (e .refusal), 1) ∷ (counterFor (e .refusal), 1) ∷ []) _ (refusal-part (e .refusal) (end-listed r port octets room)),
         part-at ((localCounter (x .local), 1) ∷ []) _ (local-part (x .local)),
         part-at ((onwardCounter (x .onward), 1) ∷ []) _ (onward-part (x .onward) (x .took) (sent-where-taken r port octets room)),
         part-at ((discardCounter (x .dropped), onesOf (x .dropped)) ∷ []) _ (discard-part (x .dropped) (sets-small r port octets room .dropped)),
