@@ -12,6 +12,10 @@ use Rattle.header.specs.declared.Read.{Read}
 use Rattle.header.proofs.Refusals.{read-good}
 use Rattle.header.proofs.SentOn.{sent-size}
 use lib.Seq.{take-append-seam}
+use Rattle.history.specs.SearchBack.{LongestOrNo}
+use Rattle.history.proofs.SearchBack.{search-names-the-longest}
+use Rattle.address.specs.Class.{classOf}
+use Rattle.address.proofs.ClassTable.{class-row}
 use Rattle.checks.specs.Order.{pick, Checks, firstOf, noneHolds, firstHolds}
 use Rattle.checks.specs.Answer.{refusalNumber}
 use Rattle.checks.proofs.Bools.{true-false, and-true, or-true}
@@ -63,6 +67,7 @@ use Rattle.contracts.proofs.Rows.{says-row}
 use Rattle.history.specs.Calls.{Setting, setRouter, setPort, setRoute, setGroup, setPath, clearRoute, clearGroup, clearPath, Part, read, Call, sets, hears, takes, looks, checksOf, settle}
 use Rattle.history.specs.Outcome.{entry, ofTaking, outcome, next, runFrom, relayAfter}
 use Rattle.history.specs.Tally.{stateAfter}
+use Rattle.history.specs.Calls as look
 use Rattle.history.specs.Parts.{About, settingIn}
 use Rattle.history.specs.Line.{Copy, entryOf, takingOf, lineAt}
 use Rattle.history.specs.Marked.{Marked, markedCases}
@@ -80,7 +85,7 @@ use Rattle.demands.specs.Trace.{Step, calls, heard, heardAll, historyOf,
 use Rattle.demands.specs.ReadOut.{numberIn, tookIn, droppedIn, relayIn, Reads, Builds, readOut, headerIn}
 use Rattle.demands.specs.Demand2.{ToldAs, Answered, Demand2, ExactlyAs, GoesOut}
 use Rattle.demands.proofs.Lasts.{passable}
-use Rattle.demands.proofs.Told.{gives-before, gives-next, setting-told, receive-told, take-told, part-told, gives-row}
+use Rattle.demands.proofs.Told.{gives-before, gives-next, setting-told, receive-told, take-told, part-told, gives-row, search-told}
 use Rattle.demands.proofs.ReadOut.{history-passed, read-out}
 
 -- ---- reading
@@ -462,5 +467,8 @@ demand-2 =
           let by = sought-no-route (relayAfter (historyOf steps)) at octets (length output) a sought in
           let is = told steps at slot octets output x g .onward in
           (λ e. by .0 (sym is ∙ e), λ none. is ∙ by .1 none);
+      search = λ steps a n x g is.
+          subst (LongestOrNo (relayAfter (historyOf steps)) a) (same-told _ n (sym (search-told steps x a g) ∙ is)) (search-names-the-longest (historyOf steps) a);
+      class = λ steps a x small g. (classOf (a .0), (gives-row steps (calls (looks (look.class a))) x g .0, class-row (a .0) small));
       domain = λ steps p x e g. goes-out steps p x g e;
     }

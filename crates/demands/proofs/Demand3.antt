@@ -36,8 +36,8 @@ use Rattle.history.specs.Line.{entryOf, lineAt, copyOf, takenBy}
 use Rattle.history.specs.Foretold.{andThen, answeredBy, answeredFrom, answeredSince}
 use Rattle.history.proofs.Sums.{counted-as-written}
 use Rattle.history.proofs.Ledger as ledgers
-use Rattle.history.proofs.Line.{queue-waits, taken-out-or-waiting}
-use Rattle.history.proofs.Foretold.{relay-then, foretold-over-histories, answers-are-handed, taken-once, stands-behind, refused-idle, other-take-idle, idle-counts-nothing}
+use Rattle.history.proofs.Line.{queue-waits, out-or-waiting, taken-in-turn, line-in-turn}
+use Rattle.history.proofs.Foretold.{relay-then, foretold-over-histories, answers-are-handed, stands-behind, refused-idle, other-take-idle, idle-counts-nothing}
 use Rattle.history.proofs.Takes.{take-is}
 use Rattle.history.proofs.Fair.{fair}
 use Rattle.history.proofs.ReadBack.{read-back, ReadBack}
@@ -172,7 +172,8 @@ demand-3 =
           let told = parts steps p at slot octets output x g in
           (page .ruling .granted p inside, (ap (inSet p) (sym (told .took)), ap (inSet p) (sym (told .dropped))));
       placed = placed;
-      waiting-are = λ steps p turn. (taken-once p turn (historyOf steps), taken-out-or-waiting p turn (historyOf steps));
+      waiting-are = λ steps p test. out-or-waiting p test (historyOf steps);
+      waiting-in-turn = λ steps p. (taken-in-turn p (historyOf steps), line-in-turn p (historyOf steps));
       waiting-many = λ steps p x inside g. waiting-reads steps p x inside g ∙ ap number (many-wait steps p inside);
       order = λ steps p x g. (
         take-told steps x p g ∙ ap (λ t. number (takingNumber t)) (take-is (historyOf steps) p),

@@ -8,6 +8,10 @@ use mathlib.Core.Bool.{true, false, _||_}
 use mathlib.Core.List.{List, [], _++_, map}
 use lib.ListN.{length, take, drop}
 use lib.Dec.{eqb}
+use Rattle.history.specs.SearchBack.{LongestOrNo}
+use Rattle.address.specs.Row.{Row}
+use Rattle.address.specs.Class.{classNumber}
+use Rattle.address.specs.declared.Class.{Class}
 use Rattle.checks.specs.Order.{noneHolds, firstHolds, pick}
 use Rattle.checks.specs.Answer.{refusalNumber}
 use Rattle.sets.specs.Sets.{inSet}
@@ -35,7 +39,7 @@ use Rattle.relay.specs.Outgoing.{sentOutput}
 use Rattle.page.specs.Table.{oneOctet, Verdict, verdictOf, GivenBy, Decides, GivesNumber, stepRows, localRows, onwardRows, wanted, bestPort, moreOnes, aimAt}
 use Rattle.page.specs.Sought.{RouteSought, RouteTaken}
 use Rattle.contracts.specs.Promised.{number, Result}
-use Rattle.history.specs.Calls.{Setting, Part, setting, Call, sets, hears, takes, looks, checksOf, settle}
+use Rattle.history.specs.Calls.{Setting, Part, setting, Call, sets, hears, takes, looks, checksOf, settle, search, class}
 use Rattle.history.specs.Outcome as outcome
 use Rattle.history.specs.Parts.{About, settingIn}
 use Rattle.history.specs.Reach.{Reached, KeysUnique}
@@ -139,14 +143,21 @@ pub record Demand2 : Type 0 where
   -- what is handed out has a precedence of 0 to 15 and a slot of 16 bits
   pub takings-fit : (steps : List Step) (p : ℕ) (x : Result) (e : Entry) → Gives steps (calls (takes p)) x → readOut (takes p) (x .answer) ≡ outcome.entry e
       → EntryFits e
-  -- "where a route is sought, the one taken matches the destination under its mask, no matching entry has more mask bits,"
+  -- "where a route is sought, the one taken matches the destination under its mask, no matching entry has more mask bits,": W-204 reads "no matching entry
+  -- that is up", and a candidate is filled, up and matches
   pub route-taken : (steps : List Step) (at : ℕ) (slot : Slot) (octets output : List ℕ) (a : Address) (p : ℕ) (x : Result)
       → Gives steps (calls (hears at slot octets output)) x → RouteSought (relayOf steps) at octets (length output) a → p < 8
       → (inSet p (tookIn x) || inSet p (droppedIn x)) ≡ true → RouteTaken (relayOf steps) a p
-  -- "and 'no route' is said exactly when none matches."
+  -- "and 'no route' is said exactly when none matches.": none that is up
   pub no-route : (steps : List Step) (at : ℕ) (slot : Slot) (octets output : List ℕ) (a : Address) (x : Result)
       → Gives steps (calls (hears at slot octets output)) x → RouteSought (relayOf steps) at octets (length output) a
       → (onwardIn x ≡ 11) ↔ ((q : ℕ) → candidate (routeIn (relayOf steps) q) a ≡ false)
+  -- W-202: hj_search says which route an address takes, or a plain no
+  pub search : (steps : List Step) (a : Address) (n : ℕ) (x : Result) → Gives steps (calls (looks (search a))) x → x .answer ≡ number n
+      → LongestOrNo (relayOf steps) a n
+  -- and hj_class says the class that page 01's table gives an address
+  pub class : (steps : List Step) (a : Address) (x : Result) → a .0 < 2 ^ 32 → Gives steps (calls (looks (class a))) x
+      → (c : Class) × ((x .answer ≡ number (classNumber c)) × Row c (a .0))
   -- "A one-octet address never goes out into another domain.": of the octets that go out, when hj_take hands the copy out, by the port as it is then
   pub domain : (steps : List Step) (p : ℕ) (x : Result) (e : Entry) → Gives steps (calls (takes p)) x → readOut (takes p) (x .answer) ≡ outcome.entry e
       → GoesOut (relayOf steps) p (lineAt p (historyOf steps)) e

@@ -3,7 +3,7 @@
 -- precedence is handed out first, the oldest within one." Each sentence is a field, said of what C calls. Proved in proofs/Demand3.antt. Assumes nothing.
 use Prim.Native.Nat.{ℕ, _+_, _%_, _^_, _<_, _≤_}
 use mathlib.Core.Path.{_≡_}
-use mathlib.Core.Bool.{true}
+use mathlib.Core.Bool.{Bool, true}
 use mathlib.Core.Logic.{_↔_, _≢_}
 use mathlib.Core.List.{List, [], _∷_, map}
 use lib.ListN.{length}
@@ -23,8 +23,8 @@ use Rattle.history.specs.Calls.{counter, waiting, hears, takes, looks, Call}
 use Rattle.history.specs.Outcome.{relayAfter, sumOver, isRefusal, outcome}
 use Rattle.history.specs.Sums.{givenBy}
 use Rattle.history.specs.Ledger.{granted, dropped, handedOut}
-use Rattle.queue.specs.Foretold.{AtTake}
-use Rattle.history.specs.Line.{Copy, entryOf, takenBy, takingOf, lineAt, takenAt, handedAt, times}
+use Rattle.queue.specs.Foretold.{howMany, AtTake}
+use Rattle.history.specs.Line.{Copy, entryOf, takenBy, takingOf, lineAt, takenAt, handedAt, InTurn}
 use Rattle.history.specs.Foretold.{andThen, handedSince, takesSince, before, higherEnter, Idle, CountsNothing}
 use Rattle.demands.specs.Trace.{Step, calls, Trace, AllPass, Begun, historyOf, relayOf, Gives}
 use Rattle.demands.specs.ReadOut.{droppedIn, entriesIn, tookIn}
@@ -60,9 +60,11 @@ pub record Demand3 : Type 0 where
         entry = record { slot = slot; precedence = precedenceAsked (headerOf octets .fields .qos) };
       } ∷ [])
       []
-  -- "Of the copies waiting on a port, ..": those taken and not yet handed out, each one time; hj_waiting answers how many,
-  pub waiting-are : (steps : List Step) (p turn : ℕ) → (times turn (takenAt p (historyOf steps)) ≤ 1)
-      × (times turn (takenAt p (historyOf steps)) ≡ times turn (handedAt p (historyOf steps)) + times turn (lineAt p (historyOf steps)))
+  -- "Of the copies waiting on a port, ..": those taken and not yet handed out, whatever is asked of them; each was taken by one call, and they stand in the
+  -- order of these; hj_waiting answers how many,
+  pub waiting-are : (steps : List Step) (p : ℕ) (test : Copy → Bool)
+      → howMany test (takenAt p (historyOf steps)) ≡ howMany test (handedAt p (historyOf steps)) + howMany test (lineAt p (historyOf steps))
+  pub waiting-in-turn : (steps : List Step) (p : ℕ) → InTurn (takenAt p (historyOf steps)) × InTurn (lineAt p (historyOf steps))
   pub waiting-many : (steps : List Step) (p : ℕ) (x : Result) → p < 8 → Gives steps (calls (looks (waiting p))) x
       → x .answer ≡ number (length (lineAt p (historyOf steps)))
   -- ".. the highest precedence is handed out first, the oldest within one.": hj_take answers the entry that is asked for, or 16 or 18

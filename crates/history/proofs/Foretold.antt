@@ -48,9 +48,9 @@ use Rattle.relay.specs.Received.{receivedRelay}
 use Rattle.history.specs.Calls.{Setting, setRouter, setPort, Look, Call, sets, hears, takes, looks}
 use Rattle.history.specs.Outcome.{isRefusal, Answer, number, ended, entry, Out, nothing, from, ofTaking, outcome, next, runFrom, relayAfter, sumFrom}
 use Rattle.history.specs.Ledger.{one as oneIf, outBy, handedOut}
-use Rattle.history.specs.Line.{Copy, entryOf, takenBy, handedBy, leftBy, lineBy, lineFrom, takenFrom, handedFrom, lineAt, takenAt, takingOf, times}
+use Rattle.history.specs.Line.{Copy, entryOf, takenBy, handedBy, leftBy, lineBy, lineFrom, takenFrom, handedFrom, lineAt, takenAt, takingOf, times, InTurn}
 use Rattle.history.specs.Foretold.{andThen, handedSince, takesSince, answeredBy, answeredFrom, answeredSince, before, Idle, isHanded, waitsFrom, higherEnter, CountsNothing, takenSince, whileWaits}
-use Rattle.history.proofs.Line.{line-each, queue-waits}
+use Rattle.history.proofs.Line.{queue-waits, taken-turn, taken-later, taken-in-turn, line-turns}
 use Rattle.page.proofs.Bits.{in-none}
 use Rattle.history.proofs.Untaken.{took-none}
 use Rattle.history.proofs.Takes.{take-is}
@@ -198,33 +198,7 @@ module _ (p : ℕ) where
         stops true ds = refl
         stops false ds = refl
 
-  -- ---- each copy has the turn of the call that placed it
-  taken-turn : (n : ℕ) (r : Relay) (c : Call) → Each (λ (y : Copy). y .turn ≡ n) (takenBy p n r c)
-  taken-turn n r (sets s) = tt
-  taken-turn n r (hears port slot octets output) =
-      either (Each (λ (y : Copy). y .turn ≡ n)) (inSet p (endingOf r port octets (length output) .ruling .took)) (refl, tt) tt
-  taken-turn n r (takes port) = tt
-  taken-turn n r (looks l) = tt
-
-  -- those that are taken from now on have no earlier one, and those that wait an earlier one
-  taken-later : (cs : List Call) (m n : ℕ) (r : Relay) → m ≤ n → Each (λ (y : Copy). m ≤ y .turn) (takenFrom p n r cs)
-  taken-later [] m n r h = tt
-  taken-later (c ∷ cs) m n r h =
-      each-append _ (takenBy p n r c) _
-      (each-so (takenBy p n r c) (λ y same. omega arith) (taken-turn n r c))
-      (taken-later cs m (suc n) (next r c) (omega arith))
-
-  line-earlier : (cs : List Call) (n : ℕ) (r : Relay) (line : List Copy) → Each (λ (y : Copy). y .turn < n) line
-      → Each (λ (y : Copy). y .turn < n + length cs) (lineFrom p n r line cs)
-  line-earlier [] n r line all = each-so line (λ y h. omega arith) all
-  line-earlier (c ∷ cs) n r line all =
-      each-so (lineFrom p n r line (c ∷ cs)) (λ y h. omega arith)
-      (line-earlier cs (suc n) (next r c) (lineBy p n r c line)
-      (line-each p (λ (y : Copy). y .turn < suc n) n r c line
-      (each-so line (λ y h. omega arith) all)
-      (each-so (takenBy p n r c) (λ y same. omega arith) (taken-turn n r c))))
-
-  -- a call that places a copy hands nothing out
+  -- ---- a call that places a copy hands nothing out
   placing-hands-nothing : (n : ℕ) (r : Relay) (c : Call) (x : Copy) → takenBy p n r c ≡ x ∷ [] → outcome r c .out ≡ nothing
   placing-hands-nothing n r (sets s) x is = refl
   placing-hands-nothing n r (hears port slot octets output) x is = refl
@@ -247,11 +221,11 @@ module _ (p : ℕ) where
       × (k ≤ sumFrom (handedOut p) (next r c) ds))
   foretold-from n r line earlier c x is ds k =
       let deeds = deedsFrom (suc n) (next r c) ds in
-      let here : x .turn ≡ n = (rw is at (taken-turn n r c)) .0 in
+      let here : x .turn ≡ n = (rw is at (taken-turn p n r c)) .0 in
       let others : Each (Other turnOf x) (line ++ entered deeds) =
       each-append (Other turnOf x) line (entered deeds)
       (each-so line (λ y h same. omega (arith, here)) earlier)
-      (rw (entered-deeds ds (suc n) (next r c)) (each-so (takenFrom p (suc n) (next r c) ds) (λ y h same. omega (arith, here)) (taken-later ds (suc n) (suc n) (next r c) (omega arith)))) in
+      (rw (entered-deeds ds (suc n) (next r c)) (each-so (takenFrom p (suc n) (next r c) ds) (λ y h same. omega (arith, here)) (taken-later p ds (suc n) (next r c)))) in
       rw (
         placed-last n r c x line is,
         ← handed-deeds ds (suc n) (next r c) (line ++ (x ∷ [])),
@@ -362,7 +336,7 @@ module _ (p : ℕ) (cs : List Call) (c : Call) (x : Copy) (placed : takenBy p (l
       ↔ ((k ≡ before p x cs + higherEnter p x (andThen cs c) ds + 1) × (k ≤ takesSince p (andThen cs c) ds))
   foretold-over-histories ds k =
       rw (length-then cs c, relay-then cs freshRelay c, line-at-then p cs c)
-      (foretold-from p (length cs) (relayAfter cs) (lineAt p cs) (each-so (lineAt p cs) (λ y h. omega arith) (line-earlier p cs 0 freshRelay [] tt)) c x placed ds k)
+      (foretold-from p (length cs) (relayAfter cs) (lineAt p cs) (line-turns p cs) c x placed ds k)
 
   -- If that many takes are made, the answer numbered r + h + 1 of the port's takes after the placing is the entry of x.
   pub foretold-answer : (ds : List Call) → before p x cs + higherEnter p x (andThen cs c) ds + 1 ≤ takesSince p (andThen cs c) ds
@@ -448,36 +422,22 @@ module _ (p : ℕ) where
   refused-idle cs (looks l) refused = look-idle cs l
 
 -- ---- a call places at most one copy on a port
-module _ (p n : ℕ) where
+module _ (n : ℕ) where
   none-of-turn : (l : List Copy) → Each (λ (y : Copy). n < y .turn) l → times n l ≡ 0
   none-of-turn [] all = refl
   none-of-turn (y ∷ l) all = rw (ne-eqb (y .turn) n (λ same. omega (arith, all .0))) (omega (arith, none-of-turn l (all .1)))
 
-  taken-few : (m : ℕ) (r : Relay) (c : Call) → length (takenBy p m r c) ≤ 1
-  taken-few m r (sets s) = omega arith
-  taken-few m r (hears port slot octets output) =
-      either (λ (l : List Copy). length l ≤ 1) (inSet p (endingOf r port octets (length output) .ruling .took)) (omega arith) (omega arith)
-  taken-few m r (takes port) = omega arith
-  taken-few m r (looks l) = omega arith
-
-  one-more : (m : ℕ) (l rest : List Copy) → length l ≤ 1 → Each (λ (y : Copy). y .turn ≡ m) l → Each (λ (y : Copy). suc m ≤ y .turn) rest
-      → times n rest ≤ 1 → times n (l ++ rest) ≤ 1
-  one-more m [] rest few here later few-later = few-later
-  one-more m (y ∷ z ∷ l) rest few here later few-later = absurd (omega arith)
-  one-more m (y ∷ []) rest few here later few-later = by (eqb (y .turn) n) refl
+  once-in-turn : (l : List Copy) → InTurn l → times n l ≤ 1
+  once-in-turn [] h = omega arith
+  once-in-turn (y ∷ l) h = by (once-in-turn l (h .1)) (eqb (y .turn) n) refl
     where
-      by : (t : Bool) → eqb (y .turn) n ≡ t → pick t 1 0 + times n rest ≤ 1
-      by true same = omega (arith, none-of-turn rest (each-so rest (λ z h. omega (arith, here .0, eqb-true (y .turn) n same)) later))
-      by false same = omega (arith, few-later)
+      by : times n l ≤ 1 → (t : Bool) → eqb (y .turn) n ≡ t → pick t 1 0 + times n l ≤ 1
+      by few true same = omega (arith, none-of-turn l (each-so l (λ z later. omega (arith, eqb-true (y .turn) n same)) (h .0)))
+      by few false same = omega arith
 
-  taken-once-from : (cs : List Call) (m : ℕ) (r : Relay) → times n (takenFrom p m r cs) ≤ 1
-  taken-once-from [] m r = omega arith
-  taken-once-from (c ∷ cs) m r =
-      one-more m (takenBy p m r c) _ (taken-few m r c) (taken-turn p m r c) (taken-later p cs (suc m) (suc m) (next r c) (omega arith))
-      (taken-once-from cs (suc m) (next r c))
-
+module _ (p n : ℕ) where
   pub taken-once : (cs : List Call) → times n (takenAt p cs) ≤ 1
-  taken-once cs = taken-once-from cs 0 freshRelay
+  taken-once cs = once-in-turn n (takenAt p cs) (taken-in-turn p cs)
 
 -- ---- laws near to it that are false, each with a history that breaks it
 

@@ -1,8 +1,9 @@
 -- Demand 3, the order: after any history a port's queue holds the copies that wait there, and a take hands out the oldest of the highest precedence.
--- What waits is what was taken and not yet handed out. The theorems are `queue-waits` and `taken-out-or-waiting`. Assumes nothing.
+-- What waits is what was taken and not yet handed out (`out-or-waiting`, of whatever copies, and `taken-out-or-waiting`, of one), and it stands in the
+-- order of entering (`line-in-turn`). The theorem of the queue is `queue-waits`. Assumes nothing.
 use native.Mathlib.Omega.{arith}
-use Prim.Native.Nat.{ℕ, suc, _+_, _<_}
-use mathlib.Core.Path.{_≡_, refl, sym, ap, _∙_}
+use Prim.Native.Nat.{ℕ, suc, _+_, _≤_, _<_}
+use mathlib.Core.Path.{_≡_, refl, sym, ap, subst, _∙_}
 use mathlib.Core.Bool.{Bool, true, false, not}
 use mathlib.Core.List.{List, [], _∷_, _++_, append-nil}
 use lib.ListN.{length, getD, set, getD-replicate}
@@ -13,13 +14,14 @@ use Rattle.checks.specs.Order.{pick}
 use Rattle.checks.proofs.Bools.{true-false}
 use Rattle.checks.proofs.Laws.{either}
 use Rattle.sets.specs.Sets.{inSet}
-use Rattle.queue.specs.Order.{Each}
+use Rattle.queue.specs.Order.{Each, InOrder}
 use Rattle.queue.specs.Queue.{fresh as freshQueue, putOf, takeOf}
 use Rattle.queue.specs.Waits.{Chosen, nobody, one, chosen, rankBy, Highest, Waits}
+use Rattle.queue.specs.Foretold.{howMany}
 use Rattle.queue.specs.declared.Head.{Head}
 use Rattle.queue.specs.declared.Head.the-variants.{First, Nothing}
 use Rattle.queue.specs.declared.Queue.{Queue}
-use Rattle.queue.proofs.Each.{each-append}
+use Rattle.queue.proofs.Each.{each-so, each-append, each-front, each-rest}
 use Rattle.queue.proofs.Waits.{EachOf, chosen-each, chosen-asked, waits-fresh, waits-count, waits-put, waits-take, waits-nothing}
 use Rattle.state.specs.Relay.{Relay, freshRelay, queueIn, portSetUp}
 use Rattle.taking.specs.Taking.{handsOut, without, takeOutcome, takenRelay}
@@ -28,7 +30,7 @@ use Rattle.judge.specs.Ending.{endingOf}
 use Rattle.relay.specs.Received.{receivedRelay}
 use Rattle.history.specs.Calls.{Call, sets, hears, takes, looks, settle}
 use Rattle.history.specs.Outcome.{Out, nothing, from, ofTaking, outcome, next, runFrom, relayAfter}
-use Rattle.history.specs.Line.{Copy, entryOf, copyOf, takenBy, handedBy, leftBy, lineBy, lineFrom, takenFrom, handedFrom, lineAt, takenAt, handedAt, times}
+use Rattle.history.specs.Line.{Copy, entryOf, copyOf, takenBy, handedBy, leftBy, lineBy, lineFrom, takenFrom, handedFrom, lineAt, takenAt, handedAt, times, InTurn}
 use Rattle.history.proofs.Fair.{fair}
 use Rattle.history.proofs.Queues.{Eight, entered-queue}
 use Rattle.history.proofs.Settled.{queues-of, settle-queues}
@@ -123,43 +125,159 @@ module _ (p : ℕ) (inside : p < 8) where
   queue-waits cs = all-wait cs 0 freshRelay [] fresh-eight fresh-waits
 
 -- ---- what waits is what was taken and not yet handed out
-times-both : (n : ℕ) (k l : List Copy) → times n (k ++ l) ≡ times n k + times n l
-times-both n [] l = omega arith
-times-both n (c ∷ k) l = omega (arith, times-both n k l)
+module _ (test : Copy → Bool) where
+  abbrev many : List Copy → ℕ
+  many = howMany test
+
+  many-both : (k l : List Copy) → many (k ++ l) ≡ many k + many l
+  many-both [] l = omega arith
+  many-both (c ∷ k) l = omega (arith, many-both k l)
+
+  chosen-many : (line : List Copy) (x : Copy) (others : List Copy) → Highest (rankBy entryOf) line x others
+      → many line ≡ many (x ∷ []) + many others
+  chosen-many line x others h =
+      let front = many-both (h .before) (x ∷ h .after) in
+      let back = many-both (h .before) (h .after) in
+      omega (arith, ap many (h .was), ap many (h .leaves), front, back)
+
+  module _ (p : ℕ) where
+    out-case : (line : List Copy) (o : Out) (c : Chosen Copy) → chosen (rankBy entryOf) line ≡ c
+        → many line ≡ many (handedBy p o c) + many (leftBy p o line c)
+    out-case line nothing c is = omega arith
+    out-case line (from q e) nobody is = omega arith
+    out-case line (from q e) (one x others) is = split (eqb q p)
+      where
+        split : (t : Bool) → many line ≡ many (pick t (x ∷ []) []) + many (pick t others line)
+        split true = chosen-many line x others (rw is at (chosen-asked (rankBy entryOf) line))
+        split false = omega arith
+
+    all-many : (cs : List Call) (k : ℕ) (r : Relay) (line : List Copy)
+        → many line + many (takenFrom p k r cs) ≡ many (handedFrom p k r line cs) + many (lineFrom p k r line cs)
+    all-many [] k r line = omega arith
+    all-many (c ∷ cs) k r line =
+        let o = outcome r c .out in
+        let x = chosen (rankBy entryOf) line in
+        omega (
+          arith,
+          out-case line o x refl,
+          many-both (leftBy p o line x) (takenBy p k r c),
+          many-both (takenBy p k r c) (takenFrom p (suc k) (next r c) cs),
+          many-both (handedBy p o x) (handedFrom p (suc k) (next r c) (lineBy p k r c line) cs),
+          all-many cs (suc k) (next r c) (lineBy p k r c line),
+        )
+
+-- Of whatever copies, as many were taken as were handed out and wait now.
+pub out-or-waiting : (p : ℕ) (test : Copy → Bool) (cs : List Call)
+    → howMany test (takenAt p cs) ≡ howMany test (handedAt p cs) + howMany test (lineAt p cs)
+out-or-waiting p test cs = omega (arith, all-many test p cs 0 freshRelay [])
 
 module _ (p n : ℕ) where
-  chosen-times : (line : List Copy) (x : Copy) (others : List Copy) → Highest (rankBy entryOf) line x others
-      → times n line ≡ times n (x ∷ []) + times n others
-  chosen-times line x others h =
-      let front = times-both n (h .before) (x ∷ h .after) in
-      let back = times-both n (h .before) (h .after) in
-      omega (arith, ap (times n) (h .was), ap (times n) (h .leaves), front, back)
-
-  out-case : (line : List Copy) (o : Out) (c : Chosen Copy) → chosen (rankBy entryOf) line ≡ c
-      → times n line ≡ times n (handedBy p o c) + times n (leftBy p o line c)
-  out-case line nothing c is = omega arith
-  out-case line (from q e) nobody is = omega arith
-  out-case line (from q e) (one x others) is = split (eqb q p)
-    where
-      split : (t : Bool) → times n line ≡ times n (pick t (x ∷ []) []) + times n (pick t others line)
-      split true = chosen-times line x others (rw is at (chosen-asked (rankBy entryOf) line))
-      split false = omega arith
-
-  all-times : (cs : List Call) (k : ℕ) (r : Relay) (line : List Copy)
-      → times n line + times n (takenFrom p k r cs) ≡ times n (handedFrom p k r line cs) + times n (lineFrom p k r line cs)
-  all-times [] k r line = omega arith
-  all-times (c ∷ cs) k r line =
-      let o = outcome r c .out in
-      let x = chosen (rankBy entryOf) line in
-      omega (
-        arith,
-        out-case line o x refl,
-        times-both n (leftBy p o line x) (takenBy p k r c),
-        times-both n (takenBy p k r c) (takenFrom p (suc k) (next r c) cs),
-        times-both n (handedBy p o x) (handedFrom p (suc k) (next r c) (lineBy p k r c line) cs),
-        all-times cs (suc k) (next r c) (lineBy p k r c line),
-      )
-
-  -- The copy that a call placed was taken as often as it was handed out and waits now.
+  -- So the copy that a call placed was taken as often as it was handed out and waits now.
   pub taken-out-or-waiting : (cs : List Call) → times n (takenAt p cs) ≡ times n (handedAt p cs) + times n (lineAt p cs)
-  taken-out-or-waiting cs = omega (arith, all-times cs 0 freshRelay [])
+  taken-out-or-waiting = out-or-waiting p (λ (c : Copy). eqb (c .turn) n)
+
+-- ---- the order of entering
+module _ {A : Type 0} (R : A → A → Type 0) where
+  order-append : (l r : List A) → InOrder R l → Each (λ (x : A). Each (R x) r) l → InOrder R r → InOrder R (l ++ r)
+  order-append [] r h across k = k
+  order-append (x ∷ l) r h across k = (each-append (R x) l r (h .0) (across .0), order-append l r (h .1) (across .1) k)
+
+  order-without : (l : List A) (x : A) (r : List A) → InOrder R (l ++ x ∷ r) → InOrder R (l ++ r)
+  order-without [] x r h = h .1
+  order-without (y ∷ l) x r h =
+      (each-append (R y) l r (each-front (R y) l (x ∷ r) (h .0)) (each-rest (R y) l (x ∷ r) (h .0) .1), order-without l x r (h .1))
+
+abbrev Before : Copy → Copy → Type 0
+Before c d = c .turn < d .turn
+
+-- those of turns below n, and then those from n on
+in-turn-both : (n : ℕ) (l r : List Copy) → InTurn l → Each (λ (c : Copy). c .turn < n) l → InTurn r → Each (λ (d : Copy). n ≤ d .turn) r
+    → InTurn (l ++ r)
+in-turn-both n l r first low then high =
+    order-append Before l r first (each-so l (λ c lower. each-so r (λ d higher. omega arith) high) low) then
+
+module _ (p : ℕ) where
+  -- each copy has the turn of the call that placed it
+  pub taken-turn : (n : ℕ) (r : Relay) (c : Call) → Each (λ (y : Copy). y .turn ≡ n) (takenBy p n r c)
+  taken-turn n r (sets s) = tt
+  taken-turn n r (hears port slot octets output) =
+      either (Each (λ (y : Copy). y .turn ≡ n)) (inSet p (endingOf r port octets (length output) .ruling .took)) (refl, tt) tt
+  taken-turn n r (takes port) = tt
+  taken-turn n r (looks l) = tt
+
+  by-in-turn : (n : ℕ) (r : Relay) (c : Call) → InTurn (takenBy p n r c)
+  by-in-turn n r (sets s) = tt
+  by-in-turn n r (hears port slot octets output) =
+      either InTurn (inSet p (endingOf r port octets (length output) .ruling .took)) (tt, tt) tt
+  by-in-turn n r (takes port) = tt
+  by-in-turn n r (looks l) = tt
+
+  -- ---- all that were taken: those that are taken from now on have no earlier turn
+  pub taken-later : (cs : List Call) (n : ℕ) (r : Relay) → Each (λ (y : Copy). n ≤ y .turn) (takenFrom p n r cs)
+  taken-later [] n r = tt
+  taken-later (c ∷ cs) n r =
+      each-append _ (takenBy p n r c) _
+      (each-so (takenBy p n r c) (λ y same. omega arith) (taken-turn n r c))
+      (each-so (takenFrom p (suc n) (next r c) cs) (λ y h. omega arith) (taken-later cs (suc n) (next r c)))
+
+  taken-earlier : (cs : List Call) (n : ℕ) (r : Relay) → Each (λ (y : Copy). y .turn < n + length cs) (takenFrom p n r cs)
+  taken-earlier [] n r = tt
+  taken-earlier (c ∷ cs) n r =
+      each-append _ (takenBy p n r c) _
+      (each-so (takenBy p n r c) (λ y same. omega arith) (taken-turn n r c))
+      (each-so (takenFrom p (suc n) (next r c) cs) (λ y h. omega arith) (taken-earlier cs (suc n) (next r c)))
+
+  taken-from-in-turn : (cs : List Call) (n : ℕ) (r : Relay) → InTurn (takenFrom p n r cs)
+  taken-from-in-turn [] n r = tt
+  taken-from-in-turn (c ∷ cs) n r =
+      in-turn-both (suc n) (takenBy p n r c) (takenFrom p (suc n) (next r c) cs)
+      (by-in-turn n r c) (each-so (takenBy p n r c) (λ y same. omega arith) (taken-turn n r c))
+      (taken-from-in-turn cs (suc n) (next r c)) (taken-later cs (suc n) (next r c))
+
+  -- The copies taken stand in the order in which the calls placed them, and each has the number of a call of the history.
+  pub taken-in-turn : (cs : List Call) → InTurn (takenAt p cs)
+  taken-in-turn cs = taken-from-in-turn cs 0 freshRelay
+
+  pub taken-turns : (cs : List Call) → Each (λ (c : Copy). c .turn < length cs) (takenAt p cs)
+  taken-turns cs = each-so (takenAt p cs) (λ y h. omega arith) (taken-earlier cs 0 freshRelay)
+
+  -- ---- those that wait: they have an earlier turn than the next call
+  by-earlier : (n : ℕ) (r : Relay) (c : Call) (line : List Copy) → Each (λ (y : Copy). y .turn < n) line
+      → Each (λ (y : Copy). y .turn < suc n) (lineBy p n r c line)
+  by-earlier n r c line all =
+      line-each p (λ (y : Copy). y .turn < suc n) n r c line
+      (each-so line (λ y h. omega arith) all)
+      (each-so (takenBy p n r c) (λ y same. omega arith) (taken-turn n r c))
+
+  line-earlier : (cs : List Call) (n : ℕ) (r : Relay) (line : List Copy) → Each (λ (y : Copy). y .turn < n) line
+      → Each (λ (y : Copy). y .turn < n + length cs) (lineFrom p n r line cs)
+  line-earlier [] n r line all = each-so line (λ y h. omega arith) all
+  line-earlier (c ∷ cs) n r line all =
+      each-so (lineFrom p n r line (c ∷ cs)) (λ y h. omega arith)
+      (line-earlier cs (suc n) (next r c) (lineBy p n r c line) (by-earlier n r c line all))
+
+  left-in-turn : (o : Out) (line : List Copy) (c : Chosen Copy) → chosen (rankBy entryOf) line ≡ c → InTurn line → InTurn (leftBy p o line c)
+  left-in-turn nothing line c is h = h
+  left-in-turn (from q e) line nobody is h = h
+  left-in-turn (from q e) line (one x others) is h =
+      let taken : Highest (rankBy entryOf) line x others = rw is at (chosen-asked (rankBy entryOf) line) in
+      let were : InTurn (taken .before ++ x ∷ taken .after) = subst InTurn (taken .was) h in
+      either InTurn (eqb q p) (subst InTurn (sym (taken .leaves)) (order-without Before (taken .before) x (taken .after) were)) h
+
+  line-from-in-turn : (cs : List Call) (n : ℕ) (r : Relay) (line : List Copy) → Each (λ (y : Copy). y .turn < n) line → InTurn line
+      → InTurn (lineFrom p n r line cs)
+  line-from-in-turn [] n r line all h = h
+  line-from-in-turn (c ∷ cs) n r line all h =
+      let x = chosen (rankBy entryOf) line in
+      let o = outcome r c .out in
+      line-from-in-turn cs (suc n) (next r c) (lineBy p n r c line) (by-earlier n r c line all)
+      (in-turn-both n (leftBy p o line x) (takenBy p n r c)
+      (left-in-turn o line x refl h) (left-each p _ o line x all (chosen-each (rankBy entryOf) _ line all))
+      (by-in-turn n r c) (each-so (takenBy p n r c) (λ y same. omega arith) (taken-turn n r c)))
+
+  -- After any history the line stands in the order in which the calls placed its copies, and each has the number of a call of the history.
+  pub line-in-turn : (cs : List Call) → InTurn (lineAt p cs)
+  line-in-turn cs = line-from-in-turn cs 0 freshRelay [] tt tt
+
+  pub line-turns : (cs : List Call) → Each (λ (c : Copy). c .turn < length cs) (lineAt p cs)
+  line-turns cs = each-so (lineAt p cs) (λ y h. omega arith) (line-earlier cs 0 freshRelay [] tt)

@@ -11,5 +11,6 @@ pub mod Foretold
 pub mod Parts
 pub mod Reach
 pub mod Ranges
+pub mod SearchBack
 pub mod Transport
 pub mod Marked

@@ -1,7 +1,7 @@
 -- The copies that wait on a port, in the order in which they entered, from the calls alone: page 01, demand 3 ("Of the copies waiting on a port, the
 -- highest precedence is handed out first, the oldest within one"). Each copy bears the number of the call that placed it, since slots may repeat, and
 -- what it was: the address of the port that it came in by, the octets, and how many of them were the header. Assumes nothing.
-use Prim.Native.Nat.{ℕ, suc, _+_}
+use Prim.Native.Nat.{ℕ, suc, _<_}
 use mathlib.Core.Bool.{Bool, true, false}
 use mathlib.Core.List.{List, [], _∷_, _++_}
 use lib.ListN.{length, drop}
@@ -11,7 +11,9 @@ use Rattle.sets.specs.Sets.{inSet}
 use Rattle.address.specs.declared.Address.{Address}
 use Rattle.address.specs.declared.Slot.{Slot}
 use Rattle.header.specs.Onward.{headerSentOn}
+use Rattle.queue.specs.Order.{InOrder}
 use Rattle.queue.specs.Waits.{Chosen, nobody, one, chosen, rankBy}
+use Rattle.queue.specs.Foretold.{howMany}
 use Rattle.queue.specs.declared.Entry.{Entry}
 use Rattle.state.specs.Relay.{Relay, freshRelay, portIn}
 use Rattle.judge.specs.Ending.{endingOf}
@@ -97,5 +99,8 @@ takingOf true (one x others) = Handed (x .entry)
 
 -- how often the copy of turn n is in a list
 abbrev pub times : ℕ → List Copy → ℕ
-times n [] = 0
-times n (c ∷ cs) = pick (eqb (c .turn) n) 1 0 + times n cs
+times n = howMany (λ (c : Copy). eqb (c .turn) n)
+
+-- in the order of entering: each was placed by an earlier call than all behind it
+abbrev pub InTurn : List Copy → Type 0
+InTurn = InOrder (λ (c d : Copy). c .turn < d .turn)
