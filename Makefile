@@ -132,8 +132,9 @@ build/settings_batch: examples/settings_batch.c
 build/soak: $(SOAK) $(PLAIN)
 build/readme: build/readme.c
 
-# The rehearsal on a relay that loses entries: its ledger must not close. The soak
-# with faults put between it and the library, which it has to find.
+# The rehearsal on a wrong relay, which it has to find out: one that loses entries or, by
+# WRONG_TAKE, swaps two or hands one out twice. The soak with faults put between it and
+# the library, which it has to find.
 build/rehearsal_wrong: $(REHEARSAL) tests/wrong_take.c
 build/soak_faulty: $(SOAK) $(PLAIN) tests/soak_faults.c
 build/rehearsal_wrong: wrapped := take

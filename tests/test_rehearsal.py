@@ -1,8 +1,9 @@
 #!/usr/bin/env python3
 """build/rehearsal: the customer's story goes as it should; a bad line, a failed
-expectation and a relay that loses entries are each found out.
+expectation, and relays that lose, swap or repeat entries are each found out.
 """
 import os
+import re
 import subprocess
 import tempfile
 import unittest
@@ -25,18 +26,37 @@ link Middle 1 Right 0 2400
 """
 
 
-def fly(*arguments, program="rehearsal"):
+# A low order behind two that wait; then one that is higher, one like it and one lower.
+WAITS = SMALL + """\
+hold Middle 1
+send Left 0 to 10.2.2.14 from 10.1.1.4 precedence 1 times 2 data "reading"
+send Left 0 to 10.2.2.14 from 10.1.1.4 data "log"
+send Left 0 to 10.2.2.14 from 10.1.1.4 precedence 1 data "dose"
+run
+foretell Middle 1 "dose"
+send Left 0 to 10.2.2.14 from 10.1.1.4 precedence 2 data "stop"
+send Left 0 to 10.2.2.14 from 10.1.1.4 precedence 1 data "later"
+send Left 0 to 10.2.2.14 from 10.1.1.4 data "last"
+run
+release Middle 1
+run
+expect Right delivered "dose"
+"""
+
+
+def fly(*arguments, program="rehearsal", **environment):
     """Its status, output and complaints."""
     words = [os.path.join(ROOT, "build", program), *arguments]
-    ended = subprocess.run(words, capture_output=True, text=True, check=False)
+    ended = subprocess.run(words, capture_output=True, text=True, check=False,
+                           env={**os.environ, **environment})
     return ended.returncode, ended.stdout, ended.stderr
 
 
-def fly_text(text, program="rehearsal"):
+def fly_text(text, program="rehearsal", **environment):
     with tempfile.NamedTemporaryFile("w", suffix=".txt", encoding="ascii") as file:
         file.write(text)
         file.flush()
-        return fly(file.name, program=program)
+        return fly(file.name, program=program, **environment)
 
 
 class Story(unittest.TestCase):
@@ -58,7 +78,8 @@ class Story(unittest.TestCase):
 
     def test_it_ends_well(self):
         self.assertEqual((self.status, self.complaints), (0, ""))
-        self.assertNotIn("NOT AS EXPECTED", self.output)
+        self.assertNotIn("NOT AS", self.output)
+        self.assertRegex(self.output, r"\n(\d+) of \1 entries went out at the take foretold\.\n")
         self.assertRegex(self.output, r"\n(\d+) of \1 expectations held; the ledger closes on every port\.\n$")
 
     def test_one_octet_order_stays_in_its_domain(self):
@@ -121,6 +142,28 @@ class Story(unittest.TestCase):
         self.has("14", "North receives \"East: dose", "taken by port 3", "East receives", "by port 1",
                  "North receives \"West: dose", "taken by port 2", "West receives", "by port 0")
 
+    def test_a_low_order_waits_as_long_as_foretold(self):
+        foretold = "foretold: \"dose biocide 3 litres\" goes out at take "
+        since = " of port 1 since the placing of \"dose biocide 3 litres\""
+        self.has("15", foretold + "3 + 0 + 1 = 4 of port 1; made since its placing: 0",
+                 "70 octets go before it: 0.2333 s at 2400 bit/s", "Satellite port 2: a take is REFUSED (18)",
+                 "Satellite port 5: a take is REFUSED (16)", "REFUSED (14)", "\"close valve 2\"", "take 1" + since,
+                 foretold + "3 + 1 + 1 = 5 of port 1; made since its placing: 1", "receives \"report the salt\"",
+                 "receives \"report the wind\"", "Satellite port 2 to Ship", "take 2" + since, "take 3" + since,
+                 foretold + "3 + 2 + 1 = 6 of port 1; made since its placing: 3", "take 4" + since, "The pass ends",
+                 foretold + "3 + 3 + 1 = 7 of port 1; made since its placing: 4",
+                 "126 octets go before it: 0.4200 s at 2400 bit/s", "take 5" + since, "take 6" + since,
+                 "Satellite port 1 to Station port 0: \"dose biocide 3 litres\"", "take 7" + since,
+                 "as foretold (take 7): Satellite port 1 hands out \"dose biocide 3 litres\" at take 7")
+        self.assertEqual(self.scenes["15"].count(foretold), 4)
+        self.assertEqual(self.scenes["15"].count(since), 7)
+
+    def test_the_seconds_are_those_on_the_wire(self):
+        scene = self.scenes["15"].split("made since its placing: 0")[1]
+        before = scene.split("Satellite port 1 to Station port 0: \"dose")[0]
+        octets = re.findall(r"Satellite port 1 to .*\n +(\d+) octets at 2400 bit/s", before)
+        self.assertEqual((len(octets), sum(map(int, octets))), (6, 126))
+
     def test_counters_and_ledger(self):
         self.assertIn(
             "\nNorth\n   counters: npInReceives 54, npInUnknownProtos 1, npInDelivers 1, npForwDatagrams 52, "
@@ -130,7 +173,8 @@ class Story(unittest.TestCase):
             "   port 2: granted 50 = handed out 48 + waiting 0 + dropped 2\n"
             "   port 3: granted 1 = handed out 1 + waiting 0 + dropped 0\n"
             "   port 4: granted 0 = handed out 0 + waiting 0 + dropped 0\n", self.output)
-        for relay in ("ControlRoom", "NorthUnit", "Buoy", "South", "SouthUnit", "East", "West"):
+        for relay in ("ControlRoom", "NorthUnit", "Buoy", "South", "SouthUnit", "East", "West", "Office",
+                      "Satellite", "Station", "Ship"):
             self.assertRegex(self.output, f"\n{relay}\n   counters: .*\n   port 0: granted ")
 
 
@@ -164,6 +208,37 @@ class Small(unittest.TestCase):
             self.assertIn("NOT AS EXPECTED: " + wrong + "\n", output)
             self.assertIn("1 of 2 expectations held", output)
 
+    def test_a_take_foretold(self):
+        status, output, _ = fly_text(WAITS)
+        self.assertEqual(status, 0, output)
+        self.assertEqual(output.count("foretold: \"dose\""), 2)
+        self.assertIn("goes out at take 2 + 1 + 1 = 4 of port 1; made since its placing: 0", output)
+        self.assertIn("as foretold (take 4): Middle port 1 hands out \"dose\" at take 4\n", output)
+        self.assertIn("7 of 7 entries went out at the take foretold.\n", output)
+
+    def test_what_is_dropped_costs_no_take(self):
+        status, output, _ = fly_text(SMALL + "hold Middle 1\nsend Left 0 to 10.2.2.14 from 10.1.1.4 times 31 data "
+                                     "\"log\"\nsend Left 0 to 10.2.2.14 from 10.1.1.4 data \"dose\"\nrun\n"
+                                     "foretell Middle 1 \"dose\"\nsend Left 0 to 10.2.2.14 from 10.1.1.4 "
+                                     "precedence 15 data \"stop\"\nrun\nexpect Middle dropped 1\n"
+                                     "take Middle 1\nrelease Middle 1\nrun\n")
+        self.assertEqual(status, 0, output)
+        self.assertEqual(output.count("foretold: \"dose\""), 1)
+        self.assertIn("as foretold (take 32): Middle port 1 hands out \"dose\" at take 32\n", output)
+
+    def test_a_relay_that_swaps_entries(self):
+        status, output, complaints = fly_text(WAITS, program="rehearsal_wrong", WRONG_TAKE="swap")
+        self.assertEqual((status, complaints), (1, ""))
+        self.assertIn("NOT AS FORETOLD (take 4): Middle port 1 hands out \"dose\" at take 3\n", output)
+        self.assertIn("NOT AS FORETOLD (take 1): Middle port 1 keeps \"stop\" at take 1\n", output)
+        self.assertIn("1 of 1 expectations held; the ledger closes on every port.\n", output)
+
+    def test_a_relay_that_repeats_entries(self):
+        status, output, complaints = fly_text(WAITS, program="rehearsal_wrong", WRONG_TAKE="repeat")
+        self.assertEqual((status, complaints), (1, ""))
+        self.assertIn("NOT AS FORETOLD: Middle port 1 hands out slot 4, which does not wait there\n", output)
+        self.assertIn("the ledger DOES NOT CLOSE.", output)
+
     def test_bad_lines(self):
         at = SMALL.count("\n") + 1
         for line, says in (("sned Left 0", "expected node, port, link"),
@@ -193,6 +268,10 @@ class Small(unittest.TestCase):
                            ("send Left 0 to 14 from 4 data x", "the data as \"text\", found 'x'"),
                            ("send Left 0 to 14 from 4", "times or data, found the end of the line"),
                            ("send Left 1 to 14 from 4 data \"x\"", "a port with a link"),
+                           ("take Left 8", "a port, 0 to 7, found '8'"),
+                           ("foretell Middle 1 \"dose\"", "the data of an entry that waits on the port, found 'dose'"),
+                           ("foretell Middle 2 \"dose\"", "a port with a link"),
+                           ("foretell Middle 1 dose", "the data as \"text\", found 'dose'"),
                            ("step", "something on a wire, found 'nothing'"),
                            ("expect Left happy", "found 'happy'"),
                            ("expect Left counter npOut 1", "the name of a counter, found 'npOut'"),
@@ -217,6 +296,16 @@ class Small(unittest.TestCase):
         self.assertEqual(status, 1)
         self.assertRegex(output, r"   port 2: granted .*  DOES NOT CLOSE\n")
         self.assertIn("the ledger DOES NOT CLOSE.", output)
+        self.assertIn("NOT AS FORETOLD (take 1): North port 2 keeps \"STOP the biocide pump\" at take 1\n", output)
+
+    def test_a_take_that_cannot_be_sent(self):
+        order = "send Left 0 to 10.2.2.14 from 10.1.1.4 data \"dose\"\n"
+        late = SMALL.replace("link Middle 1 Right 0 2400\n", "")
+        for text, says in ((SMALL + order + "take Left 0\n", "a port whose wire is free, found 'Left'"),
+                           (late + order + "run\ntake Middle 1\n", "a port with a link, found 'Middle'")):
+            status, _, complaints = fly_text(text)
+            self.assertEqual(status, 2)
+            self.assertIn(says, complaints)
 
     def test_arguments(self):
         for words in ((), (STORY, STORY)):

@@ -27,9 +27,22 @@ twice n = n + n
 hidden : ℕ
 hidden = 0
 
+pub record Pair (n : ℕ) : Type 0 where
+  pub first : ℕ
+  -- and another
+  pub second : ℕ
+
 module Inside (n : ℕ) where
     within : n ≡ n
     within = refl
+"""
+
+RECORD = """```antt
+pub record Pair (n : ℕ) : Type 0 where
+  pub first : ℕ
+  -- and another
+  pub second : ℕ
+```
 """
 
 PAGE = """# Theorems
@@ -123,6 +136,27 @@ class Promises(Tree):
     def test_a_name_that_is_not_quoted(self):
         summary = SUMMARY + "And `twice`, by `hidden` and `hj_twice`.\n"
         self.refused(PAGE, "PROMISES.md:4: docs/THEOREMS.md quotes no hidden", "PROMISES.md:4: docs/THEOREMS.md quotes no hj_twice", summary=summary)
+
+    def test_a_record_is_quoted_whole(self):
+        page = PAGE + "`Pair`, in `crates/address/proofs/Laws.antt`\n\n" + RECORD
+        status, output = self.check(page)
+        self.assertEqual(status, 0, output)
+        self.assertIn("promises: 4 statements", output)
+        self.refused(page.replace("  pub second : ℕ\n", ""), "Pair is quoted as", "pub first : ℕ -- and another pub second : ℕ")
+        self.refused(page.replace("  -- and another\n", ""), "Pair is quoted as")
+
+    def test_a_summary_that_quotes(self):
+        summary = SUMMARY + "\nBoth: `Pair`, in `crates/address/proofs/Laws.antt`.\n\n" + RECORD
+        status, output = self.check(PAGE, summary)
+        self.assertEqual(status, 0, output)
+        self.assertIn("promises: 4 statements are quoted as they stand, 2 of them named", output)
+        wrong = summary.replace("pub second : ℕ", "pub second : ℤ")
+        self.refused(PAGE, "docs/PROMISES.md:5: Pair is quoted as", summary=wrong)
+        status, output = self.check(PAGE, wrong, "--renew")
+        self.assertEqual(status, 0, output)
+        self.assertIn("promises: 1 quotations are written anew\n", output)
+        self.assertEqual(self.read("docs/PROMISES.md"), summary)
+        self.refused(PAGE, "docs/PROMISES.md:10: a quotation that belongs to no theorem ends here", summary=SUMMARY + "\n" + RECORD)
 
     def test_a_summary_without_theorems(self):
         self.refused(PAGE, "docs/PROMISES.md: names no theorem", summary="# Promises\n")

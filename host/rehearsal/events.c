@@ -174,6 +174,21 @@ void event_release(void)
     hold(false);
 }
 
+/* On a port without a link nothing may wait: it would be lost. */
+void event_take(void)
+{
+    uint32_t node = line_node();
+    uint32_t port = line_port();
+    const struct wire *wire = &nodes[node].wires[port];
+
+    line_end();
+    if (wire->busy)
+        line_refuse("a port whose wire is free", nodes[node].name);
+    if (!wire->linked && node_waiting(&nodes[node], port) > 0)
+        line_refuse("a port with a link", nodes[node].name);
+    net_take(node, port);
+}
+
 void event_step(void)
 {
     uint32_t steps =

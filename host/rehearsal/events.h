@@ -8,6 +8,7 @@
 void event_send(void);
 void event_hold(void);
 void event_release(void);
+void event_take(void);
 void event_step(void);
 void event_run(void);
 void event_scene(void);

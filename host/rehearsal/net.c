@@ -23,6 +23,7 @@
 #include <string.h>
 
 #include "expect.h"
+#include "foretold.h"
 #include "told.h"
 
 /* ---- A wire begins ----------------------------------------------------- */
@@ -59,6 +60,29 @@ static bool take_entry(struct node *node, uint32_t port, hj_answer *entry)
     return true;
 }
 
+/* What was taken goes out on the wire. */
+static void occupy(uint32_t node, uint32_t port, bool own, hj_answer entry)
+{
+    struct wire *wire = &nodes[node].wires[port];
+
+    wire->busy = true;
+    wire->until =
+        now + wire_microseconds(wire->flying.length, wire->bits_per_second);
+    told_start(node, port, own, entry);
+    if (!own)
+        foretold_take(node, port, hj_slot(entry));
+}
+
+void net_take(uint32_t node, uint32_t port)
+{
+    hj_answer entry;
+
+    if (take_entry(&nodes[node], port, &entry))
+        occupy(node, port, false, entry);
+    else
+        told_refused_take(node, port, hj_refusal(entry));
+}
+
 static void start_wire(uint32_t node, uint32_t port)
 {
     struct wire *wire = &nodes[node].wires[port];
@@ -71,10 +95,7 @@ static void start_wire(uint32_t node, uint32_t port)
         take_own(wire);
     else if (!take_entry(&nodes[node], port, &entry))
         return;
-    wire->busy = true;
-    wire->until =
-        now + wire_microseconds(wire->flying.length, wire->bits_per_second);
-    told_start(node, port, own, entry);
+    occupy(node, port, own, entry);
 }
 
 void net_start_wires(void)
@@ -139,6 +160,7 @@ static void arrive(uint32_t at, uint32_t port, const struct datagram *came)
              hj_header_octets(verdict));
     expect_note(at, came, verdict);
     told_arrival(at, port, came, verdict, before);
+    foretold_enter(at, hj_took(verdict), slot, came);
 }
 
 static void note_sooner(struct wire *wire, struct wire **soonest)

@@ -6,6 +6,8 @@
 
 /* False where no more of the node's own can stand before the wire. */
 bool net_send(uint32_t node, uint32_t port, const struct datagram *datagram);
+/* One take of a port whose wire is free, held or not; a refused one is told. */
+void net_take(uint32_t node, uint32_t port);
 /* Each wire that is free, and not held, begins with what is next on it. */
 void net_start_wires(void);
 /* The next arrival; false where nothing is on a wire. */

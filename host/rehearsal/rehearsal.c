@@ -14,6 +14,7 @@
  *   nodes.c, names.c        the nodes; what numbers and counters are called
  *   line.c, told.c          one line as words; the timeline as it is printed
  *   expect.c, books.c       what a scenario expects; counters and ledger
+ *   foretold.c              at which take each entry goes out
  *   net.c                   datagrams on their way between the nodes
  *   settings.c, events.c    the words that set up; those that send and step
  */
@@ -24,6 +25,7 @@
 #include "books.h"
 #include "events.h"
 #include "expect.h"
+#include "foretold.h"
 #include "line.h"
 #include "settings.h"
 #include "shared/options.h"
@@ -38,16 +40,18 @@ static const struct {
     {"node", set_node},         {"port", set_port},   {"link", set_link},
     {"route", set_route},       {"group", set_group}, {"path", set_path},
     {"send", event_send},       {"hold", event_hold},
-    {"release", event_release}, {"step", event_step}, {"run", event_run},
-    {"scene", event_scene},     {"say", event_say},   {"quiet", event_quiet},
-    {"loud", event_loud},       {"expect", expect},
+    {"release", event_release}, {"take", event_take}, {"step", event_step},
+    {"run", event_run},         {"scene", event_scene},
+    {"say", event_say},         {"quiet", event_quiet},
+    {"loud", event_loud},       {"foretell", foretell},
+    {"expect", expect},
 };
 
 static void perform_line(void)
 {
     static const char EXPECTED[] =
-        "node, port, link, route, group, path, send, hold, release, step, run, "
-        "scene, say, quiet, loud or expect";
+        "node, port, link, route, group, path, send, hold, release, take, "
+        "step, run, scene, say, quiet, loud, foretell or expect";
 
     for (size_t i = 0; i < sizeof WORDS / sizeof *WORDS; i++) {
         if (line_is(WORDS[i].word)) {
@@ -73,16 +77,19 @@ static void perform_file(FILE *file, const char *name)
     }
 }
 
-/* The end: counters, ledger, expectations. Answers the status. */
+/* The end: counters, ledger, takes, expectations. Answers the status. */
 static int conclude(void)
 {
     bool closes = books_close();
+    bool as_foretold = foretold_kept() == foretold_count();
 
-    printf("\n%u of %u expectations held; the ledger %s.\n",
+    printf("\n%u of %u entries went out at the take foretold.\n",
+           (unsigned)foretold_kept(), (unsigned)foretold_count());
+    printf("%u of %u expectations held; the ledger %s.\n",
            (unsigned)(expect_count() - expect_failures()),
            (unsigned)expect_count(),
            closes ? "closes on every port" : "DOES NOT CLOSE");
-    return closes && expect_failures() == 0 ? 0 : 1;
+    return closes && as_foretold && expect_failures() == 0 ? 0 : 1;
 }
 
 static int rehearse(const char *name)

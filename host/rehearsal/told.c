@@ -56,7 +56,7 @@ static void at_now(void)
     printf("%5" PRIu64 ".%04" PRIu64 " s  ", tenths / 10000, tenths % 10000);
 }
 
-static void data_of(const struct datagram *datagram)
+void told_data(const struct datagram *datagram)
 {
     printf("\"%.*s\"", (int)(datagram->length - datagram->header),
            (const char *)datagram->octets + datagram->header);
@@ -88,7 +88,7 @@ void told_send(uint32_t node, uint32_t port, const hj_fields *fields,
         return;
     at_now();
     printf("%s sends ", nodes[node].name);
-    data_of(datagram);
+    told_data(datagram);
     addresses(fields);
     printf(" by port %" PRIu32 "\n%14s%s-octet addresses, transport %" PRIu32,
            port, "", fields->extended ? "four" : "one", fields->tp_id);
@@ -126,7 +126,7 @@ void told_start(uint32_t node, uint32_t port, bool own, hj_answer entry)
     at_now();
     printf("%s port %" PRIu32 " to %s port %" PRIu32 ": ", nodes[node].name,
            port, nodes[wire->peer].name, wire->peer_port);
-    data_of(&wire->flying);
+    told_data(&wire->flying);
     puts("");
     wire_time(wire);
     if (reading.fields.has_hop_count)
@@ -136,6 +136,13 @@ void told_start(uint32_t node, uint32_t port, bool own, hj_answer entry)
                (unsigned)hj_slot(entry), (unsigned)hj_precedence(entry),
                node_waiting(&nodes[node], port));
     puts("");
+}
+
+void told_refused_take(uint32_t node, uint32_t port, uint32_t number)
+{
+    at_now();
+    printf("%s port %" PRIu32 ": a take is REFUSED (%" PRIu32 "), %s\n",
+           nodes[node].name, port, number, number_name(number));
 }
 
 /* ---- What a relay answered --------------------------------------------- */
@@ -205,7 +212,7 @@ void told_arrival(uint32_t node, uint32_t port,
         return;
     at_now();
     printf("%s receives ", nodes[node].name);
-    data_of(datagram);
+    told_data(datagram);
     printf(" by port %" PRIu32 "\n%14s", port, "");
     if (hj_ended_by(verdict) != HJ_DONE) {
         printf("REFUSED (%" PRIu32 "), %s", hj_ended_by(verdict),

@@ -1,7 +1,6 @@
--- The laws of the address crate. To be read: Row, ClassTable, Marked, Paths and Masks; the others serve these and the code's proofs.
+-- The laws of the address crate. To be read: ClassTable, Marked, Paths and Masks; the others serve these and the code's proofs.
 pub mod Clash
 pub mod Families
-pub mod Row
 pub mod RowClass
 pub mod RowFound
 pub mod ClassTable

@@ -10,6 +10,7 @@ ghost use mathlib.Core.Path.{_≡_};
 ghost use lib.ListN.{length};
 ghost use Rattle.checks.specs.Order.{firstOf};
 ghost use Rattle.sets.specs.Limits.{groupPlaces, pathPlaces};
+ghost use Rattle.state.specs.Relay.{onRelay};
 ghost use Rattle.state.specs.Layout.{stateWords, decode};
 ghost use Rattle.refusals.specs.Lists.{groupChecks, pathChecks, clearChecks};
 ghost use Rattle.adjust.specs.Settled.{settledGroup, settledPath, clearedGroup, clearedPath};
@@ -17,8 +18,8 @@ ghost use Rattle.adjust.specs.Settled.{settledGroup, settledPath, cleare
 // Fills a group place.
 pub fn set_group(state: &mut [u32], place: u32, address: Address, send: u32, subscribed: u32) -> u32
     requires { ⌜ length (now state) ≡ stateWords ⌝ }
-    ensures answer { λ r. ⌜ r ≡ firstOf (groupChecks (decode (now (state .entry))) place address send subscribed) ⌝ }
-    ensures left { λ _. ⌜ decode (now (state .exit)) ≡ settledGroup (decode (now (state .entry))) place address send subscribed ⌝ }
+    ensures answer { λ r. ⌜ r ≡ firstOf (groupChecks (decode (now (state .entry)) .relay) place address send subscribed) ⌝ }
+    ensures left { λ _. ⌜ decode (now (state .exit)) ≡ onRelay (λ r. settledGroup r place address send subscribed) (decode (now (state .entry))) ⌝ }
 {
     let refusal = refusals::groups_and_paths::group_refusal(
         state,
@@ -43,8 +44,8 @@ pub fn set_group(state: &mut [u32], place: u32, address: Address, send: u32, sub
 // Fills a path place.
 pub fn set_path(state: &mut [u32], place: u32, path: PathAddress, send: u32, here: u32) -> u32
     requires { ⌜ length (now state) ≡ stateWords ⌝ }
-    ensures answer { λ r. ⌜ r ≡ firstOf (pathChecks (decode (now (state .entry))) place path send here) ⌝ }
-    ensures left { λ _. ⌜ decode (now (state .exit)) ≡ settledPath (decode (now (state .entry))) place path send here ⌝ }
+    ensures answer { λ r. ⌜ r ≡ firstOf (pathChecks (decode (now (state .entry)) .relay) place path send here) ⌝ }
+    ensures left { λ _. ⌜ decode (now (state .exit)) ≡ onRelay (λ r. settledPath r place path send here) (decode (now (state .entry))) ⌝ }
 {
     let refusal = refusals::groups_and_paths::path_refusal(state, place, path, send, here);
     if refusal != 0 {
@@ -64,7 +65,7 @@ pub fn set_path(state: &mut [u32], place: u32, path: PathAddress, send: u32, her
 pub fn clear_group(state: &mut [u32], place: u32) -> u32
     requires { ⌜ length (now state) ≡ stateWords ⌝ }
     ensures answer { λ r. ⌜ r ≡ firstOf (clearChecks place groupPlaces) ⌝ }
-    ensures left { λ _. ⌜ decode (now (state .exit)) ≡ clearedGroup (decode (now (state .entry))) place ⌝ }
+    ensures left { λ _. ⌜ decode (now (state .exit)) ≡ onRelay (λ r. clearedGroup r place) (decode (now (state .entry))) ⌝ }
 {
     let Check::Passed = settings::check_place(place, sets::GROUPS) else {
         return 21;
@@ -83,7 +84,7 @@ pub fn clear_group(state: &mut [u32], place: u32) -> u32
 pub fn clear_path(state: &mut [u32], place: u32) -> u32
     requires { ⌜ length (now state) ≡ stateWords ⌝ }
     ensures answer { λ r. ⌜ r ≡ firstOf (clearChecks place pathPlaces) ⌝ }
-    ensures left { λ _. ⌜ decode (now (state .exit)) ≡ clearedPath (decode (now (state .entry))) place ⌝ }
+    ensures left { λ _. ⌜ decode (now (state .exit)) ≡ onRelay (λ r. clearedPath r place) (decode (now (state .entry))) ⌝ }
 {
     let Check::Passed = settings::check_place(place, sets::PATHS) else {
         return 21;

@@ -15,6 +15,7 @@ ghost use mathlib.Core.Path.{_≡_};
 ghost use lib.ListN.{length};
 ghost use Rattle.checks.specs.Order.{firstOf};
 ghost use Rattle.sets.specs.Limits.{routePlaces};
+ghost use Rattle.state.specs.Relay.{onRelay};
 ghost use Rattle.state.specs.Layout.{stateWords, decode};
 ghost use Rattle.refusals.specs.Lists.{portChecks, routeChecks, routerChecks, clearChecks};
 ghost use Rattle.adjust.specs.Settled.{newRoute, settledRouter, settledPort, settledRoute, clearedRoute};
@@ -23,7 +24,7 @@ ghost use Rattle.adjust.specs.Settled.{newRoute, settledRouter, settledP
 pub fn set_router(state: &mut [u32], router: u32) -> u32
     requires { ⌜ length (now state) ≡ stateWords ⌝ }
     ensures answer { λ r. ⌜ r ≡ firstOf (routerChecks router) ⌝ }
-    ensures left { λ _. ⌜ decode (now (state .exit)) ≡ settledRouter (decode (now (state .entry))) router ⌝ }
+    ensures left { λ _. ⌜ decode (now (state .exit)) ≡ onRelay (λ r. settledRouter r router) (decode (now (state .entry))) ⌝ }
 {
     let Check::Passed = settings::check_flag(router) else {
         return 24;
@@ -35,8 +36,8 @@ pub fn set_router(state: &mut [u32], router: u32) -> u32
 // Sets a port up, or anew.
 pub fn set_port(state: &mut [u32], port: u32, address: Address, mask: Mask, mtu: u32) -> u32
     requires { ⌜ length (now state) ≡ stateWords ⌝ }
-    ensures answer { λ r. ⌜ r ≡ firstOf (portChecks (decode (now (state .entry))) port address mask mtu) ⌝ }
-    ensures left { λ _. ⌜ decode (now (state .exit)) ≡ settledPort (decode (now (state .entry))) port address mask mtu ⌝ }
+    ensures answer { λ r. ⌜ r ≡ firstOf (portChecks (decode (now (state .entry)) .relay) port address mask mtu) ⌝ }
+    ensures left { λ _. ⌜ decode (now (state .exit)) ≡ onRelay (λ r. settledPort r port address mask mtu) (decode (now (state .entry))) ⌝ }
 {
     let refusal = refusals::port_refusal(state, port, address, mask, mtu);
     if refusal != 0 {
@@ -55,8 +56,8 @@ pub fn set_port(state: &mut [u32], port: u32, address: Address, mask: Mask, mtu:
 // Puts a record in a place that may be filled; the record's own flag says that it is a route.
 fn fill_route(state: &mut [u32], place: u32, x: Route) -> u32
     requires { ⌜ length (now state) ≡ stateWords ⌝ }
-    ensures answer { λ r. ⌜ r ≡ firstOf (routeChecks (decode (now (state .entry))) place x) ⌝ }
-    ensures left { λ _. ⌜ decode (now (state .exit)) ≡ settledRoute (decode (now (state .entry))) place x ⌝ }
+    ensures answer { λ r. ⌜ r ≡ firstOf (routeChecks (decode (now (state .entry)) .relay) place x) ⌝ }
+    ensures left { λ _. ⌜ decode (now (state .exit)) ≡ onRelay (λ r. settledRoute r place x) (decode (now (state .entry))) ⌝ }
 {
     let refusal = refusals::route_refusal(state, place, x);
     if refusal != 0 {
@@ -77,10 +78,10 @@ pub fn set_route(
     capabilities: u32,
 ) -> u32
     requires { ⌜ length (now state) ≡ stateWords ⌝ }
-    ensures answer { λ r. ⌜ r ≡ firstOf (routeChecks (decode (now (state .entry))) place (newRoute prefix mask port availability capabilities)) ⌝ }
+    ensures answer { λ r. ⌜ r ≡ firstOf (routeChecks (decode (now (state .entry)) .relay) place (newRoute prefix mask port availability capabilities)) ⌝ }
     ensures left { λ _. ⌜
         decode (now (state .exit))
-        ≡ settledRoute (decode (now (state .entry))) place (newRoute prefix mask port availability capabilities)
+        ≡ onRelay (λ r. settledRoute r place (newRoute prefix mask port availability capabilities)) (decode (now (state .entry)))
         ⌝ }
 {
     let x = Route {
@@ -98,7 +99,7 @@ pub fn set_route(
 pub fn clear_route(state: &mut [u32], place: u32) -> u32
     requires { ⌜ length (now state) ≡ stateWords ⌝ }
     ensures answer { λ r. ⌜ r ≡ firstOf (clearChecks place routePlaces) ⌝ }
-    ensures left { λ _. ⌜ decode (now (state .exit)) ≡ clearedRoute (decode (now (state .entry))) place ⌝ }
+    ensures left { λ _. ⌜ decode (now (state .exit)) ≡ onRelay (λ r. clearedRoute r place) (decode (now (state .entry))) ⌝ }
 {
     let Check::Passed = settings::check_place(place, sets::ROUTES) else {
         return 21;

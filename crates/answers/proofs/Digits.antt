@@ -6,16 +6,12 @@ use Prim.Native.Nat.{ℕ, _+_, _*_, _/_, _%_, _^_, _<_}
 use mathlib.Core.Path.{_≡_, ap, _∙_}
 use lib.Arith.{digits-div, digits-mod}
 use Rattle.checks.specs.Answer.{refusalNumber}
-use Rattle.answers.specs.Answers.{partsOf}
+use Rattle.answers.specs.Answers.{partsOf, partAt, refusalIn, slotIn, precedenceIn, valueIn}
 
 pub digit : (n q x r : ℕ) {m k : ℕ} → n ≡ (q * k + x) * m + r → r < m → x < k → n / m % k ≡ x
 digit n q x r {m} {k} e h l = ap (λ y. y / m % k) e ∙ ap (λ y. y % k) (digits-div (q * k + x) h) ∙ digits-mod q l
 
 -- ---- receiving
--- eight bits, from this one up: hj_ended_by, hj_local, hj_onward, hj_took, hj_dropped and hj_header_octets read at 0, 8, 16, 24, 32 and 40
-abbrev pub partAt : ℕ → ℕ → ℕ
-partAt low n = n / 2 ^ low % 256
-
 -- six parts, each of eight bits
 pub record Six (n a b c d f g : ℕ) : Type 0 where
   pub at-0 : partAt 0 n ≡ a
@@ -40,16 +36,7 @@ six a b c d f g a-low b-low c-low d-low f-low g-low =
       above = div-eq-of-lt (omega arith);
     }
 
--- ---- taking: hj_refusal, hj_slot and hj_precedence
-abbrev pub refusalIn : ℕ → ℕ
-refusalIn n = n / 2 ^ 32 % 2 ^ 32
-
-abbrev pub slotIn : ℕ → ℕ
-slotIn n = n % 65536
-
-abbrev pub precedenceIn : ℕ → ℕ
-precedenceIn n = n / 65536 % 65536
-
+-- ---- taking
 pub record Three (n a b c : ℕ) : Type 0 where
   pub refusal : refusalIn n ≡ a
   pub slot : slotIn n ≡ b
@@ -74,10 +61,7 @@ refusal-parts m h =
       precedence = digit n m 0 0 (omega arith) (omega arith) (omega arith);
     }
 
--- ---- a value, or a refusal above it: hj_refusal and hj_value
-abbrev pub valueIn : ℕ → ℕ
-valueIn n = n % 2 ^ 32
-
+-- ---- a value, or a refusal above it
 pub record Two (n a b : ℕ) : Type 0 where
   pub refusal : refusalIn n ≡ a
   pub value : valueIn n ≡ b

@@ -4,7 +4,7 @@ use native.Mathlib.Omega.{arith}
 use Prim.Native.Nat.{ℕ, _+_, _*_, _^_, _≤_, _<_}
 use mathlib.Core.Path.{_≡_, refl}
 use mathlib.Core.List.{List, [], _∷_, _++_}
-use mathlib.Core.Bool.{Bool, true, false, _||_}
+use mathlib.Core.Bool.{Bool, true, false}
 use mathlib.Core.Logic.{_↔_}
 use lib.ListN.{length, take, drop}
 use lib.Seq.{take-at}
@@ -20,16 +20,13 @@ use Rattle.header.proofs.BuiltLaws.{header-length, built-size, in-range}
 use Rattle.header.proofs.Trip.{read-built}
 use Rattle.numbers.specs.declared.Numbers.{Numbers}
 use Rattle.numbers.specs.Fields.{fieldsFrom}
-use Rattle.numbers.proofs.fields_from.Bounds.{Words, typed}
+use Rattle.numbers.specs.Words.{Words}
+use Rattle.numbers.proofs.fields_from.Bounds.{typed}
 use Rattle.numbers.specs.Out.{numbersOut}
 use Rattle.numbers.proofs.validity.Inverse.{numbers-back}
-use Rattle.harpjuniper.specs.Face.{readingOf, answerBy, numbersChecks, buildAnswer, buildOutput}
+use Rattle.harpjuniper.specs.Face.{readingOf, answerBy, fieldsOut, numbersChecks, buildAnswer, buildOutput}
 
--- the numbers stand for no fields, or for fields out of range
-abbrev pub fieldsOut : Numbers → Bool
-fieldsOut n = numbersOut n || outOfRange (fieldsFrom n)
-
-fields-in : (n : Numbers) → Words n → fieldsOut n ≡ false → InRange (fieldsFrom n)
+pub fields-in : (n : Numbers) → Words n → fieldsOut n ≡ false → InRange (fieldsFrom n)
 fields-in n w h = in-range (fieldsFrom n) (typed n w) (or-false (numbersOut n) (outOfRange (fieldsFrom n)) h .1)
 
 -- ---- refusals
@@ -81,14 +78,19 @@ refusal-writes-nothing n w dataSize lent h =
 
 -- ---- what was built
 
+-- asks of the fields only that the checksum's flag is one
+pub written : (n : Numbers) → fieldsFrom n .checksum < 2 → (dataSize : ℕ) (lent : List ℕ) → longestHeader ≤ length lent → fieldsOut n ≡ false → dataSize ≤ mostData
+    → (buildAnswer n dataSize (length lent) ≡ sizeOf (fieldsFrom n)) × (buildOutput n dataSize lent ≡ headerOctets (fieldsFrom n) dataSize ++ drop (sizeOf (fieldsFrom n)) lent)
+unfolding buildAnswer buildOutput numbersChecks firstOf
+written n flag dataSize lent room good short =
+    let a = le-ltb (length lent) longestHeader room in
+    let c = le-ltb mostData dataSize short in
+    (simp (a, good, c), simp (a, good, c) (rw (header-length (fieldsFrom n) dataSize flag)))
+
 -- the answer is the header's length, and the header stands at the front of the output
 pub built-octets : (n : Numbers) → Words n → (dataSize : ℕ) (lent : List ℕ) → longestHeader ≤ length lent → fieldsOut n ≡ false → dataSize ≤ mostData
     → (buildAnswer n dataSize (length lent) ≡ sizeOf (fieldsFrom n)) × (buildOutput n dataSize lent ≡ headerOctets (fieldsFrom n) dataSize ++ drop (sizeOf (fieldsFrom n)) lent)
-unfolding buildAnswer buildOutput numbersChecks firstOf
-built-octets n w dataSize lent room good short =
-    let a = le-ltb (length lent) longestHeader room in
-    let c = le-ltb mostData dataSize short in
-    (simp (a, good, c), simp (a, good, c) (rw (header-length (fieldsFrom n) dataSize (fields-in n w good .checksum))))
+built-octets n w dataSize lent room good short = written n (fields-in n w good .checksum) dataSize lent room good short
 
 -- with its data after it, the header is read as the numbers that it was built from
 pub built-then-read : (n : Numbers) → Words n → (dataSize : ℕ) (userData : List ℕ) → fieldsOut n ≡ false → dataSize ≤ mostData → dataSize ≤ length userData

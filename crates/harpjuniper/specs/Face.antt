@@ -1,7 +1,7 @@
 -- The numbers that C gets (include/harpjuniper.h). Assumes nothing.
-use Prim.Native.Nat.{ℕ}
+use Prim.Native.Nat.{ℕ, _-_}
 use mathlib.Core.List.{List, [], _∷_}
-use mathlib.Core.Bool.{_||_}
+use mathlib.Core.Bool.{Bool, _||_}
 use lib.ListN.{length}
 use lib.Dec.{eqb}
 use Rattle.checks.specs.Order.{pick, Checks, firstOf}
@@ -53,6 +53,10 @@ unfoldable pub readingOf : Read → Reading
 readingOf (read.Refused n) = record { refusal = n; length = 0; header = 0; reserved = 0; fields = nothing }
 readingOf (read.Good h) = record { refusal = 0; length = h .length; header = h .size; reserved = 0; fields = numbersOf (h .fields) }
 
+-- the octets of user data: the length field less the header's own length
+abbrev pub dataRead : Reading → ℕ
+dataRead r = r .length - r .header
+
 -- ---- building
 
 -- an answer that is a refusal or a value: the refusal above a value of 32 bits
@@ -63,9 +67,13 @@ abbrev pub builtAnswer : Built → ℕ
 builtAnswer (built.Done size) = size
 builtAnswer (built.Refused n) = refusalNumber n
 
--- no room; numbers that stand for no fields, or for fields out of range; too much data (page 01, "Refusal numbers")
+-- the numbers stand for no fields, or for fields out of range (page 01, refusal 19)
+abbrev pub fieldsOut : Numbers → Bool
+fieldsOut n = numbersOut n || outOfRange (fieldsFrom n)
+
+-- no room; no fields; too much data (page 01, "Refusal numbers")
 unfoldable pub numbersChecks : Numbers → ℕ → ℕ → Checks
-numbersChecks n dataSize room = (noRoom room, 17) ∷ (numbersOut n || outOfRange (fieldsFrom n), 19) ∷ (tooMuchData dataSize, 20) ∷ []
+numbersChecks n dataSize room = (noRoom room, 17) ∷ (fieldsOut n, 19) ∷ (tooMuchData dataSize, 20) ∷ []
 
 unfoldable pub buildAnswer : Numbers → ℕ → ℕ → ℕ
 buildAnswer n dataSize room = answerBy (firstOf (numbersChecks n dataSize room)) (sizeOf (fieldsFrom n))

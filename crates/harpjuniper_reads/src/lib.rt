@@ -8,7 +8,7 @@ pub mod search;
 ghost use mathlib.Core.Path.{_≡_};
 ghost use Rattle.checks.specs.Answer.{refusalNumber};
 ghost use Rattle.state.specs.Relay.{Relay};
-ghost use Rattle.lent_state.specs.View.{told};
+ghost use Rattle.lent_state.specs.View.{toldRelay};
 ghost use Rattle.harpjuniper_reads.specs.Back.{
   portBack,
   routeBack,
@@ -61,7 +61,7 @@ pub struct PathBack {
 // 1 for a router, 0 for a host; the refusal 21 stands above 32 bits.
 #[no_mangle]
 pub extern "C" fn hj_get_router(state: &[u32]) -> u64
-    ensures { λ r. ⌜ r ≡ told (λ (x : Relay). x .router) (refusalNumber 21) (now (state .entry)) ⌝ }
+    ensures { λ r. ⌜ r ≡ toldRelay (λ (x : Relay). x .router) (refusalNumber 21) (now (state .entry)) ⌝ }
 {
     if state.len() != state_ports::STATE_WORDS {
         return checks::refusal_number(21);
@@ -83,7 +83,7 @@ fn no_port() -> PortBack
 
 #[no_mangle]
 pub extern "C" fn hj_get_port(state: &[u32], port: u32) -> PortBack
-    ensures { λ r. ⌜ r ≡ told (λ (x : Relay). portBack x port) noPortBack (now (state .entry)) ⌝ }
+    ensures { λ r. ⌜ r ≡ toldRelay (λ (x : Relay). portBack x port) noPortBack (now (state .entry)) ⌝ }
 {
     if state.len() != state_ports::STATE_WORDS {
         return no_port();
@@ -117,7 +117,7 @@ fn no_route() -> RouteBack
 
 #[no_mangle]
 pub extern "C" fn hj_get_route(state: &[u32], place: u32) -> RouteBack
-    ensures { λ r. ⌜ r ≡ told (λ (x : Relay). routeBack x place) noRouteBack (now (state .entry)) ⌝ }
+    ensures { λ r. ⌜ r ≡ toldRelay (λ (x : Relay). routeBack x place) noRouteBack (now (state .entry)) ⌝ }
 {
     if state.len() != state_ports::STATE_WORDS {
         return no_route();
@@ -151,7 +151,7 @@ fn no_group() -> GroupBack
 
 #[no_mangle]
 pub extern "C" fn hj_get_group(state: &[u32], place: u32) -> GroupBack
-    ensures { λ r. ⌜ r ≡ told (λ (x : Relay). groupBack x place) noGroupBack (now (state .entry)) ⌝ }
+    ensures { λ r. ⌜ r ≡ toldRelay (λ (x : Relay). groupBack x place) noGroupBack (now (state .entry)) ⌝ }
 {
     if state.len() != state_ports::STATE_WORDS {
         return no_group();
@@ -183,7 +183,7 @@ fn no_path() -> PathBack
 
 #[no_mangle]
 pub extern "C" fn hj_get_path(state: &[u32], place: u32) -> PathBack
-    ensures { λ r. ⌜ r ≡ told (λ (x : Relay). pathBack x place) noPathBack (now (state .entry)) ⌝ }
+    ensures { λ r. ⌜ r ≡ toldRelay (λ (x : Relay). pathBack x place) noPathBack (now (state .entry)) ⌝ }
 {
     if state.len() != state_ports::STATE_WORDS {
         return no_path();

@@ -7,7 +7,7 @@ use address::Address;
 use routes::Found;
 ghost use mathlib.Core.Path.{_≡_};
 ghost use Rattle.state.specs.Relay.{Relay};
-ghost use Rattle.lent_state.specs.View.{told};
+ghost use Rattle.lent_state.specs.View.{toldRelay};
 ghost use Rattle.harpjuniper_reads.specs.Search.{searchParts, searchAnswer};
 
 // Four parts in one number, above a refusal that is none.
@@ -21,7 +21,7 @@ fn parts(found: u32, place: u32, ones: u32, port: u32) -> u64
 // The place, the ones and the port of the route that the address takes, or no.
 #[no_mangle]
 pub extern "C" fn hj_search(state: &[u32], address: u32) -> u64
-    ensures { λ r. ⌜ r ≡ told (λ (x : Relay). searchAnswer x (record { 0 = address })) 21 (now (state .entry)) ⌝ }
+    ensures { λ r. ⌜ r ≡ toldRelay (λ (x : Relay). searchAnswer x (record { 0 = address })) 21 (now (state .entry)) ⌝ }
 {
     if state.len() != state_ports::STATE_WORDS {
         return 21;

@@ -7,8 +7,8 @@
 use address::Slot;
 ghost use mathlib.Core.Path.{_≡_};
 ghost use lib.ListN.{length};
-ghost use Rattle.state.specs.Relay.{Relay};
-ghost use Rattle.lent_state.specs.View.{lent, told, changed};
+ghost use Rattle.state.specs.Relay.{Relay, State};
+ghost use Rattle.lent_state.specs.View.{lent, toldRelay, changed};
 ghost use Rattle.harpjuniper_receive.specs.Face.{receiveAnswer, receiveState, receiveOutput};
 
 // The verdict on the octets that came in by a port, carried out.
@@ -21,17 +21,17 @@ pub extern "C" fn hj_receive(
     output: &mut [u8],
 ) -> u64
     ensures { λ r. ⌜
-        r ≡ told (λ (x : Relay). receiveAnswer x port (now (octets .entry)) (length (now (output .entry)))) 16 (now (state .entry))
+        r ≡ toldRelay (λ (x : Relay). receiveAnswer x port (now (octets .entry)) (length (now (output .entry)))) 16 (now (state .entry))
         ⌝ }
     ensures { λ _. ⌜
         lent (now (state .exit))
         ≡ changed
-        (λ (x : Relay). receiveState x port slot (now (octets .entry)) (length (now (output .entry))))
+        (λ (x : State). receiveState x port slot (now (octets .entry)) (length (now (output .entry))))
         (now (state .entry))
         ⌝ }
     ensures { λ _. ⌜
         now (output .exit)
-        ≡ told
+        ≡ toldRelay
         (λ (x : Relay). receiveOutput x port (now (octets .entry)) (now (output .entry)))
         (now (output .entry))
         (now (state .entry))

@@ -17,27 +17,18 @@ use Rattle.queue.specs.declared.Queue.{Queue}
 use Rattle.queue.specs.declared.Taken.{Taken}
 use Rattle.queue.specs.declared.Head.{Head}
 use Rattle.queue.specs.declared.Head.the-variants.{First, Nothing}
-use Rattle.state.specs.Relay.{Relay, queueIn, counterIn, portSetUp}
+use Rattle.state.specs.Relay.{Relay, State, queueIn, counterIn, portSetUp}
 use Rattle.state.specs.Layout.{stateWords, decode, entryOfWord, queueOf}
 use Rattle.state.proofs.Reading.{taken, queue-read, counter-read}
 use Rattle.taking.specs.Taking.{handsOut, takeOutcome}
-use Rattle.taking.specs.declared.Taking.{Taking}
-use Rattle.taking.specs.declared.Taking.the-variants.{Handed, Refused}
+use Rattle.taking.specs.declared.Taking.the-variants.{Refused}
 use Rattle.state_ports.proofs.SetUp.{is-port}
 use Rattle.checks.specs.Answer.{refusalNumber}
 use Rattle.answers.specs.Answers.{takingNumber}
-use Rattle.answers.proofs.Digits.{Three, entry-parts, refusal-parts, Two, value-parts, refusal-above}
-use Rattle.lent_state.specs.View.{Held, Other, lent, byLent, told}
+use Rattle.answers.proofs.Digits.{entry-parts, refusal-parts, Two, value-parts, refusal-above}
+use Rattle.lent_state.specs.View.{Held, Other, lent, byLent, told, toldRelay}
 use Rattle.harpjuniper_relay.specs.Face.{takeAnswer, counterAnswer, waitingAnswer}
-
--- words as C lends them
-abbrev pub Words : List ℕ → Type 0
-Words w = (i : ℕ) → getD w i 0 < 2 ^ 32
-
--- what is read of the answer n: the entry's slot and precedence and no refusal, or the refusal alone
-abbrev pub TakeRead : ℕ → Taking → Type 0
-TakeRead n (Handed e) = Three n 0 (e .slot .0) (e .precedence)
-TakeRead n (Refused m) = Three n m 0 0
+use Rattle.harpjuniper_relay.specs.ReadBack.{FitWords, TakeRead}
 
 -- ---- an entry that waits fits
 abbrev Fits : Head → Type 0
@@ -64,25 +55,25 @@ outcome-read true (First e) f = entry-parts (e .slot .0) (e .precedence) (f refl
 outcome-read true Nothing f = refusal-parts 18 (omega arith)
 
 -- a value below 2^32 where there is one to answer, else 21
-module _ (w : List ℕ) (value : Relay → ℕ) where
+module _ (w : List ℕ) (value : State → ℕ) where
   value-case : (there t : Bool) → (there ≡ true → value (decode w) < 2 ^ 32)
       → Two
-      (byLent (λ (x : Relay). pick there (value x) (refusalNumber 21)) (refusalNumber 21) (pick t (Held (decode w)) (Other w)))
-      (byLent (λ (x : Relay). pick there 0 21) 21 (pick t (Held (decode w)) (Other w)))
-      (byLent (λ (x : Relay). pick there (value x) 0) 0 (pick t (Held (decode w)) (Other w)))
+      (byLent (λ (x : State). pick there (value x) (refusalNumber 21)) (refusalNumber 21) (pick t (Held (decode w)) (Other w)))
+      (byLent (λ (x : State). pick there 0 21) 21 (pick t (Held (decode w)) (Other w)))
+      (byLent (λ (x : State). pick there (value x) 0) 0 (pick t (Held (decode w)) (Other w)))
   value-case true true h = value-parts (value (decode w)) (h refl)
   value-case false true h = refusal-above 21 (omega arith)
   value-case there false h = refusal-above 21 (omega arith)
 
   value-read : (there : Bool) → (there ≡ true → value (decode w) < 2 ^ 32)
       → Two
-      (told (λ (x : Relay). pick there (value x) (refusalNumber 21)) (refusalNumber 21) w)
-      (told (λ (x : Relay). pick there 0 21) 21 w)
-      (told (λ (x : Relay). pick there (value x) 0) 0 w)
+      (told (λ (x : State). pick there (value x) (refusalNumber 21)) (refusalNumber 21) w)
+      (told (λ (x : State). pick there 0 21) 21 w)
+      (told (λ (x : State). pick there (value x) 0) 0 w)
   unfolding told lent
   value-read there h = value-case there (eqb (length w) stateWords) h
 
-module _ (w : List ℕ) (words : Words w) (port : ℕ) where
+module _ (w : List ℕ) (words : FitWords w) (port : ℕ) where
   -- the words of a queue
   abbrev piece : List ℕ
   piece = taken 161 33 port w
@@ -92,44 +83,44 @@ module _ (w : List ℕ) (words : Words w) (port : ℕ) where
       let at = 161 + port * 33 in
       rw (getD-take (at + 33 - at) (drop at w) i 0 (omega arith), getD-drop at w i 0) (words (at + i))
 
-  head-fits : portSetUp (decode w) port ≡ true → Fits (takeOf (queueIn (decode w) port) .head)
+  head-fits : portSetUp (decode w .relay) port ≡ true → Fits (takeOf (queueIn (decode w .relay) port) .head)
   head-fits ready =
-      let inside : port < 8 = is-port (decode w) port ready in
+      let inside : port < 8 = is-port (decode w .relay) port ready in
       rw (← queue-read w port (queueOf piece) inside refl) (queue-fits piece (piece-word 0 (omega arith)))
 
-  held-read : TakeRead (takeAnswer (decode w) port) (takeOutcome (decode w) port)
+  held-read : TakeRead (takeAnswer (decode w .relay) port) (takeOutcome (decode w .relay) port)
   unfolding takeOutcome
-  held-read = outcome-read (portSetUp (decode w) port) (takeOf (queueIn (decode w) port) .head) head-fits
+  held-read = outcome-read (portSetUp (decode w .relay) port) (takeOf (queueIn (decode w .relay) port) .head) head-fits
 
   lent-read : (t : Bool)
       → TakeRead
-      (byLent (λ (x : Relay). takeAnswer x port) (refusalNumber 16) (pick t (Held (decode w)) (Other w)))
-      (byLent (λ (x : Relay). takeOutcome x port) (Refused 16) (pick t (Held (decode w)) (Other w)))
+      (byLent (λ (x : State). takeAnswer (x .relay) port) (refusalNumber 16) (pick t (Held (decode w)) (Other w)))
+      (byLent (λ (x : State). takeOutcome (x .relay) port) (Refused 16) (pick t (Held (decode w)) (Other w)))
   lent-read true = held-read
   lent-read false = refusal-parts 16 (omega arith)
 
   -- What the accessors read of hj_take's answer is what a take is said to hand out or to be refused by.
-  pub take-read-back : TakeRead (told (λ (x : Relay). takeAnswer x port) (refusalNumber 16) w) (told (λ (x : Relay). takeOutcome x port) (Refused 16) w)
+  pub take-read-back : TakeRead (toldRelay (λ (x : Relay). takeAnswer x port) (refusalNumber 16) w) (toldRelay (λ (x : Relay). takeOutcome x port) (Refused 16) w)
   unfolding told lent
   take-read-back = lent-read (eqb (length w) stateWords)
 
   -- What they read of hj_waiting's answer is how many entries wait, or 21 where there is no such port.
   pub waiting-read-back :
       Two
-      (told (λ (x : Relay). waitingAnswer x port) (refusalNumber 21) w)
-      (told (λ (x : Relay). pick (ltb port 8) 0 21) 21 w)
-      (told (λ (x : Relay). pick (ltb port 8) (queueIn x port .count) 0) 0 w)
+      (toldRelay (λ (x : Relay). waitingAnswer x port) (refusalNumber 21) w)
+      (toldRelay (λ (x : Relay). pick (ltb port 8) 0 21) 21 w)
+      (toldRelay (λ (x : Relay). pick (ltb port 8) (queueIn x port .count) 0) 0 w)
   unfolding waitingAnswer queueOf
   waiting-read-back =
-      value-read w (λ (x : Relay). queueIn x port .count) (ltb port 8)
+      value-read w (λ (x : State). queueIn (x .relay) port .count) (ltb port 8)
       (λ h. rw (← queue-read w port (queueOf piece) (ltb-true port 8 h) refl) (piece-word 32 (omega arith)))
 
   -- And of hj_counter's the counter, or 21 where there is no such counter.
   pub counter-read-back : (i : ℕ)
       → Two
-      (told (λ (x : Relay). counterAnswer x i) (refusalNumber 21) w)
-      (told (λ (x : Relay). pick (ltb i 15) 0 21) 21 w)
-      (told (λ (x : Relay). pick (ltb i 15) (counterIn x i) 0) 0 w)
+      (told (λ (x : State). counterAnswer (x .counters) i) (refusalNumber 21) w)
+      (told (λ (x : State). pick (ltb i 15) 0 21) 21 w)
+      (told (λ (x : State). pick (ltb i 15) (counterIn (x .counters) i) 0) 0 w)
   unfolding counterAnswer
   counter-read-back i =
-      value-read w (λ (x : Relay). counterIn x i) (ltb i 15) (λ h. rw (← counter-read w i (ltb-true i 15 h)) (words (425 + i)))
+      value-read w (λ (x : State). counterIn (x .counters) i) (ltb i 15) (λ h. rw (← counter-read w i (ltb-true i 15 h)) (words (425 + i)))

@@ -1,5 +1,6 @@
--- What taking and the reads answer, of a relay: page 01, "Taking from a port" and the counters. Assumes nothing.
+-- What taking and the reads answer, of a relay and of its counters: page 01, "Taking from a port" and the counters. Assumes nothing.
 use Prim.Native.Nat.{ℕ}
+use mathlib.Core.List.{List}
 use lib.Dec.{ltb}
 use Rattle.checks.specs.Order.{pick}
 use Rattle.sets.specs.Limits.{portCount, counterCount}
@@ -12,8 +13,8 @@ abbrev pub takeAnswer : Relay → ℕ → ℕ
 takeAnswer r port = takingNumber (takeOutcome r port)
 
 -- 21 where there is no such counter, and no such port
-unfoldable pub counterAnswer : Relay → ℕ → ℕ
-counterAnswer r i = pick (ltb i counterCount) (counterIn r i) (refusalNumber 21)
+unfoldable pub counterAnswer : List ℕ → ℕ → ℕ
+counterAnswer l i = pick (ltb i counterCount) (counterIn l i) (refusalNumber 21)
 
 unfoldable pub waitingAnswer : Relay → ℕ → ℕ
 waitingAnswer r port = pick (ltb port portCount) (queueIn r port .count) (refusalNumber 21)

@@ -1,2 +1,3 @@
--- What the contracts of taking and of the reads cite.
+-- What the contracts of taking and of the reads cite, Face; and what the law of reading answers back speaks of, ReadBack.
 pub mod Face
+pub mod ReadBack

@@ -4,12 +4,11 @@
 // the one that the definitions state, and where the words are not as many as the state has, no port stands in them: taking answers 16,
 // reading answers 21, and nothing is written.
 ghost use mathlib.Core.Path.{_≡_};
-ghost use lib.ListN.{length};
-ghost use Rattle.state.specs.Relay.{Relay};
+ghost use Rattle.state.specs.Relay.{Relay, State};
 ghost use Rattle.state.specs.Layout.{stateWords};
-ghost use Rattle.taking.specs.Taking.{takenState};
+ghost use Rattle.taking.specs.Taking.{takenRelay};
 ghost use Rattle.checks.specs.Answer.{refusalNumber};
-ghost use Rattle.lent_state.specs.View.{lent, told, changed};
+ghost use Rattle.lent_state.specs.View.{lent, told, toldRelay, changedRelay};
 ghost use Rattle.harpjuniper_relay.specs.Face.{
   takeAnswer,
   counterAnswer,
@@ -27,8 +26,8 @@ pub extern "C" fn hj_state_words() -> u32
 // The first entry that waits on a port, removed.
 #[no_mangle]
 pub extern "C" fn hj_take(state: &mut [u32], port: u32) -> u64
-    ensures { λ r. ⌜ r ≡ told (λ (x : Relay). takeAnswer x port) (refusalNumber 16) (now (state .entry)) ⌝ }
-    ensures { λ _. ⌜ lent (now (state .exit)) ≡ changed (λ (x : Relay). takenState x port) (now (state .entry)) ⌝ }
+    ensures { λ r. ⌜ r ≡ toldRelay (λ (x : Relay). takeAnswer x port) (refusalNumber 16) (now (state .entry)) ⌝ }
+    ensures { λ _. ⌜ lent (now (state .exit)) ≡ changedRelay (λ (x : Relay). takenRelay x port) (now (state .entry)) ⌝ }
 {
     if state.len() != state_ports::STATE_WORDS {
         return checks::refusal_number(16);
@@ -39,7 +38,7 @@ pub extern "C" fn hj_take(state: &mut [u32], port: u32) -> u64
 // A counter.
 #[no_mangle]
 pub extern "C" fn hj_counter(state: &[u32], counter: u32) -> u64
-    ensures { λ r. ⌜ r ≡ told (λ (x : Relay). counterAnswer x counter) (refusalNumber 21) (now (state .entry)) ⌝ }
+    ensures { λ r. ⌜ r ≡ told (λ (x : State). counterAnswer (x .counters) counter) (refusalNumber 21) (now (state .entry)) ⌝ }
 {
     if state.len() != state_ports::STATE_WORDS {
         return checks::refusal_number(21);
@@ -53,7 +52,7 @@ pub extern "C" fn hj_counter(state: &[u32], counter: u32) -> u64
 // How many entries wait on a port.
 #[no_mangle]
 pub extern "C" fn hj_waiting(state: &[u32], port: u32) -> u64
-    ensures { λ r. ⌜ r ≡ told (λ (x : Relay). waitingAnswer x port) (refusalNumber 21) (now (state .entry)) ⌝ }
+    ensures { λ r. ⌜ r ≡ toldRelay (λ (x : Relay). waitingAnswer x port) (refusalNumber 21) (now (state .entry)) ⌝ }
 {
     if state.len() != state_ports::STATE_WORDS {
         return checks::refusal_number(21);

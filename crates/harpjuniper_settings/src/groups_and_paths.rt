@@ -9,7 +9,7 @@ ghost use mathlib.Core.Path.{_≡_};
 ghost use Rattle.checks.specs.Order.{firstOf};
 ghost use Rattle.sets.specs.Limits.{groupPlaces, pathPlaces};
 ghost use Rattle.state.specs.Relay.{Relay};
-ghost use Rattle.lent_state.specs.View.{lent, told, changed};
+ghost use Rattle.lent_state.specs.View.{lent, toldRelay, changedRelay};
 ghost use Rattle.refusals.specs.Lists.{groupChecks, pathChecks, clearChecks};
 ghost use Rattle.adjust.specs.Settled.{settledGroup, settledPath, clearedGroup, clearedPath};
 
@@ -22,8 +22,8 @@ pub extern "C" fn hj_set_group(
     send: u32,
     subscribed: u32,
 ) -> u32
-    ensures { λ r. ⌜ r ≡ told (λ (x : Relay). firstOf (groupChecks x place (record { 0 = address }) send subscribed)) 21 (now (state .entry)) ⌝ }
-    ensures { λ _. ⌜ lent (now (state .exit)) ≡ changed (λ (x : Relay). settledGroup x place (record { 0 = address }) send subscribed) (now (state .entry)) ⌝ }
+    ensures { λ r. ⌜ r ≡ toldRelay (λ (x : Relay). firstOf (groupChecks x place (record { 0 = address }) send subscribed)) 21 (now (state .entry)) ⌝ }
+    ensures { λ _. ⌜ lent (now (state .exit)) ≡ changedRelay (λ (x : Relay). settledGroup x place (record { 0 = address }) send subscribed) (now (state .entry)) ⌝ }
 {
     if state.len() != state_ports::STATE_WORDS {
         return 21;
@@ -34,8 +34,8 @@ pub extern "C" fn hj_set_group(
 // A path: its address, the ports to send to and whether it is delivered here.
 #[no_mangle]
 pub extern "C" fn hj_set_path(state: &mut [u32], place: u32, path: u32, send: u32, here: u32) -> u32
-    ensures { λ r. ⌜ r ≡ told (λ (x : Relay). firstOf (pathChecks x place (record { 0 = path }) send here)) 21 (now (state .entry)) ⌝ }
-    ensures { λ _. ⌜ lent (now (state .exit)) ≡ changed (λ (x : Relay). settledPath x place (record { 0 = path }) send here) (now (state .entry)) ⌝ }
+    ensures { λ r. ⌜ r ≡ toldRelay (λ (x : Relay). firstOf (pathChecks x place (record { 0 = path }) send here)) 21 (now (state .entry)) ⌝ }
+    ensures { λ _. ⌜ lent (now (state .exit)) ≡ changedRelay (λ (x : Relay). settledPath x place (record { 0 = path }) send here) (now (state .entry)) ⌝ }
 {
     if state.len() != state_ports::STATE_WORDS {
         return 21;
@@ -46,8 +46,8 @@ pub extern "C" fn hj_set_path(state: &mut [u32], place: u32, path: u32, send: u3
 // A group's place, emptied.
 #[no_mangle]
 pub extern "C" fn hj_clear_group(state: &mut [u32], place: u32) -> u32
-    ensures { λ r. ⌜ r ≡ told (λ (x : Relay). firstOf (clearChecks place groupPlaces)) 21 (now (state .entry)) ⌝ }
-    ensures { λ _. ⌜ lent (now (state .exit)) ≡ changed (λ (x : Relay). clearedGroup x place) (now (state .entry)) ⌝ }
+    ensures { λ r. ⌜ r ≡ toldRelay (λ (x : Relay). firstOf (clearChecks place groupPlaces)) 21 (now (state .entry)) ⌝ }
+    ensures { λ _. ⌜ lent (now (state .exit)) ≡ changedRelay (λ (x : Relay). clearedGroup x place) (now (state .entry)) ⌝ }
 {
     if state.len() != state_ports::STATE_WORDS {
         return 21;
@@ -58,8 +58,8 @@ pub extern "C" fn hj_clear_group(state: &mut [u32], place: u32) -> u32
 // A path's place, emptied.
 #[no_mangle]
 pub extern "C" fn hj_clear_path(state: &mut [u32], place: u32) -> u32
-    ensures { λ r. ⌜ r ≡ told (λ (x : Relay). firstOf (clearChecks place pathPlaces)) 21 (now (state .entry)) ⌝ }
-    ensures { λ _. ⌜ lent (now (state .exit)) ≡ changed (λ (x : Relay). clearedPath x place) (now (state .entry)) ⌝ }
+    ensures { λ r. ⌜ r ≡ toldRelay (λ (x : Relay). firstOf (clearChecks place pathPlaces)) 21 (now (state .entry)) ⌝ }
+    ensures { λ _. ⌜ lent (now (state .exit)) ≡ changedRelay (λ (x : Relay). clearedPath x place) (now (state .entry)) ⌝ }
 {
     if state.len() != state_ports::STATE_WORDS {
         return 21;

@@ -10,8 +10,8 @@ use address::Mask;
 ghost use mathlib.Core.Path.{_≡_};
 ghost use Rattle.checks.specs.Order.{firstOf};
 ghost use Rattle.sets.specs.Limits.{routePlaces};
-ghost use Rattle.state.specs.Relay.{Relay, freshRelay};
-ghost use Rattle.lent_state.specs.View.{lent, told, changed};
+ghost use Rattle.state.specs.Relay.{Relay, State, freshState};
+ghost use Rattle.lent_state.specs.View.{lent, told, changed, toldRelay, changedRelay};
 ghost use Rattle.refusals.specs.Lists.{portChecks, routeChecks, routerChecks, clearChecks};
 ghost use Rattle.adjust.specs.Settled.{
   newRoute,
@@ -24,8 +24,8 @@ ghost use Rattle.adjust.specs.Settled.{
 // A fresh relay, whatever stood there.
 #[no_mangle]
 pub extern "C" fn hj_fresh(state: &mut [u32]) -> u32
-    ensures { λ r. ⌜ r ≡ told (λ (x : Relay). 0) 21 (now (state .entry)) ⌝ }
-    ensures { λ _. ⌜ lent (now (state .exit)) ≡ changed (λ (x : Relay). freshRelay) (now (state .entry)) ⌝ }
+    ensures { λ r. ⌜ r ≡ told (λ (x : State). 0) 21 (now (state .entry)) ⌝ }
+    ensures { λ _. ⌜ lent (now (state .exit)) ≡ changed (λ (x : State). freshState) (now (state .entry)) ⌝ }
 {
     if state.len() != state_ports::STATE_WORDS {
         return 21;
@@ -37,8 +37,8 @@ pub extern "C" fn hj_fresh(state: &mut [u32]) -> u32
 // Router or host: 1 or 0.
 #[no_mangle]
 pub extern "C" fn hj_set_router(state: &mut [u32], router: u32) -> u32
-    ensures { λ r. ⌜ r ≡ told (λ (x : Relay). firstOf (routerChecks router)) 21 (now (state .entry)) ⌝ }
-    ensures { λ _. ⌜ lent (now (state .exit)) ≡ changed (λ (x : Relay). settledRouter x router) (now (state .entry)) ⌝ }
+    ensures { λ r. ⌜ r ≡ toldRelay (λ (x : Relay). firstOf (routerChecks router)) 21 (now (state .entry)) ⌝ }
+    ensures { λ _. ⌜ lent (now (state .exit)) ≡ changedRelay (λ (x : Relay). settledRouter x router) (now (state .entry)) ⌝ }
 {
     if state.len() != state_ports::STATE_WORDS {
         return 21;
@@ -55,8 +55,8 @@ pub extern "C" fn hj_set_port(
     mask: u32,
     mtu: u32,
 ) -> u32
-    ensures { λ r. ⌜ r ≡ told (λ (x : Relay). firstOf (portChecks x port (record { 0 = address }) (record { 0 = mask }) mtu)) 21 (now (state .entry)) ⌝ }
-    ensures { λ _. ⌜ lent (now (state .exit)) ≡ changed (λ (x : Relay). settledPort x port (record { 0 = address }) (record { 0 = mask }) mtu) (now (state .entry)) ⌝ }
+    ensures { λ r. ⌜ r ≡ toldRelay (λ (x : Relay). firstOf (portChecks x port (record { 0 = address }) (record { 0 = mask }) mtu)) 21 (now (state .entry)) ⌝ }
+    ensures { λ _. ⌜ lent (now (state .exit)) ≡ changedRelay (λ (x : Relay). settledPort x port (record { 0 = address }) (record { 0 = mask }) mtu) (now (state .entry)) ⌝ }
 {
     if state.len() != state_ports::STATE_WORDS {
         return 21;
@@ -75,8 +75,8 @@ pub extern "C" fn hj_set_route(
     availability: u32,
     capabilities: u32,
 ) -> u32
-    ensures { λ r. ⌜ r ≡ told (λ (x : Relay). firstOf (routeChecks x place (newRoute (record { 0 = prefix }) (record { 0 = mask }) port availability capabilities))) 21 (now (state .entry)) ⌝ }
-    ensures { λ _. ⌜ lent (now (state .exit)) ≡ changed (λ (x : Relay). settledRoute x place (newRoute (record { 0 = prefix }) (record { 0 = mask }) port availability capabilities)) (now (state .entry)) ⌝ }
+    ensures { λ r. ⌜ r ≡ toldRelay (λ (x : Relay). firstOf (routeChecks x place (newRoute (record { 0 = prefix }) (record { 0 = mask }) port availability capabilities))) 21 (now (state .entry)) ⌝ }
+    ensures { λ _. ⌜ lent (now (state .exit)) ≡ changedRelay (λ (x : Relay). settledRoute x place (newRoute (record { 0 = prefix }) (record { 0 = mask }) port availability capabilities)) (now (state .entry)) ⌝ }
 {
     if state.len() != state_ports::STATE_WORDS {
         return 21;
@@ -95,8 +95,8 @@ pub extern "C" fn hj_set_route(
 // A route's place, emptied.
 #[no_mangle]
 pub extern "C" fn hj_clear_route(state: &mut [u32], place: u32) -> u32
-    ensures { λ r. ⌜ r ≡ told (λ (x : Relay). firstOf (clearChecks place routePlaces)) 21 (now (state .entry)) ⌝ }
-    ensures { λ _. ⌜ lent (now (state .exit)) ≡ changed (λ (x : Relay). clearedRoute x place) (now (state .entry)) ⌝ }
+    ensures { λ r. ⌜ r ≡ toldRelay (λ (x : Relay). firstOf (clearChecks place routePlaces)) 21 (now (state .entry)) ⌝ }
+    ensures { λ _. ⌜ lent (now (state .exit)) ≡ changedRelay (λ (x : Relay). clearedRoute x place) (now (state .entry)) ⌝ }
 {
     if state.len() != state_ports::STATE_WORDS {
         return 21;

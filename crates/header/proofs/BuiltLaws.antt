@@ -1,6 +1,7 @@
 -- Laws of a built header: how long it is, that it is made of octets, that its checksum is never FFFF, and exactly when the builder refuses.
 -- Assumes nothing.
 use native.Mathlib.Omega.{arith}
+use native.Mathlib.Nat.{pow-le-pow-right}
 use Prim.Native.Nat.{ℕ, zero, suc, _+_, _*_, _/_, _%_, _^_, _≤_, _<_}
 use mathlib.Core.Path.{_≡_, refl}
 use mathlib.Core.List.{List, [], _∷_, _++_}
@@ -18,9 +19,9 @@ use Rattle.checksum.specs.Sum.{onesSum, checksumOf}
 use Rattle.checksum.proofs.Words.{Octets}
 use Rattle.checksum.proofs.Laws.{zeros-of-sum}
 use Rattle.header.specs.Limits.{longestHeader, mostData, lengthLimit}
-use Rattle.header.specs.Form.{addressSize}
+use Rattle.header.specs.Form.{addressSize, timeSize}
 use Rattle.header.specs.Build.{sixOctets, addressesOctets, qosOctets, octetOctets, stampOctets, frontOctets, restOctets, bodyOctets, checksumOctets, headerOctets, sizeOf, buildChecks, builtBy, builtOf, present, secondOctet, thirdOctet}
-use Rattle.header.specs.Range.{qosOutOfRange, stampOutOfRange, outOfRange, addressesFit, qosFits, octetFits, stampFits, InRange}
+use Rattle.header.specs.Range.{qosOutOfRange, stampOutOfRange, outOfRange, qosFits, stampFits, InRange, qosTyped, stampTyped, Typed}
 use Rattle.header.specs.declared.Fields.{Fields}
 use Rattle.header.specs.declared.Six.{Six}
 use Rattle.header.specs.declared.Addresses.{Addresses}
@@ -123,27 +124,6 @@ header-small f n = search (append-small, octets-small, addresses-small, qos-smal
 
 -- ---- the range of fields
 
-abbrev pub qosTyped : Qos → Type 0
-qosTyped qos.Absent = Unit
-qosTyped (qos.Present precedence routing program) = (precedence < 256) × ((routing < 256) × (program < 256))
-
-abbrev pub stampTyped : Timestamp → Type 0
-stampTyped stamp.Absent = Unit
-stampTyped (stamp.Implicit t) = t < 256 ^ 8
-stampTyped (stamp.Explicit p t) = (p < 256) × (t < 256 ^ 8)
-stampTyped (stamp.Binary t) = t < 256 ^ 8
-
--- the bounds of the Rattle types of the fields; with them the builder's test is exact (`in-range`, `not-out`)
-pub record Typed (f : Fields) : Type 0 where
-  pub tpid : f .tpid < 256
-  pub addresses : addressesFit (f .addresses)
-  pub qos : qosTyped (f .qos)
-  pub hops : octetFits (f .hops)
-  pub stamp : stampTyped (f .stamp)
-  pub expanded : octetFits (f .expanded)
-  pub checksum : f .checksum < 256
-  pub intermediate : f .intermediate < 256
-
 qos-in : (m : Qos) → qosOutOfRange m ≡ false → qosFits m
 qos-in qos.Absent h = tt
 qos-in (qos.Present a b c) h =
@@ -192,6 +172,33 @@ in-range f t h =
       expanded = t .expanded;
       checksum = p .checksum;
       intermediate = p .intermediate;
+    }
+
+qos-typed : (m : Qos) → qosFits m → qosTyped m
+qos-typed qos.Absent h = tt
+qos-typed (qos.Present a b c) h = (omega arith, (omega arith, omega arith))
+
+stamp-typed : (m : Timestamp) → stampFits m → stampTyped m
+stamp-typed stamp.Absent h = tt
+stamp-typed (stamp.Implicit t) h = omega arith
+stamp-typed (stamp.Explicit p t) h =
+    let few : timeSize p ≤ 8 = omega arith in
+    let most : 256 ^ timeSize p ≤ 256 ^ 8 = pow-le-pow-right (omega arith) few in
+    (h .0, omega (arith, h .1, most))
+stamp-typed (stamp.Binary t) h = omega arith
+
+-- fields that are in range are within their types
+pub range-typed : (f : Fields) → InRange f → Typed f
+range-typed f r =
+    record {
+      tpid = omega (arith, r .tpid);
+      addresses = r .addresses;
+      qos = qos-typed (f .qos) (r .qos);
+      hops = r .hops;
+      stamp = stamp-typed (f .stamp) (r .stamp);
+      expanded = r .expanded;
+      checksum = omega (arith, r .checksum);
+      intermediate = omega (arith, r .intermediate);
     }
 
 qos-not-out : (m : Qos) → qosFits m → qosOutOfRange m ≡ false

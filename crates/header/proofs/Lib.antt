@@ -1,5 +1,5 @@
--- The laws of headers. To be read: Refusals, Answers, Trip, Again, SentOn, BuiltLaws, Promises; the others serve them and the code's proofs. Tests
--- is for callers of this crate's functions.
+-- The laws of headers. To be read: Refusals, Answers, Trip, Again, Shortest, Beyond, SentOn, BuiltLaws, Promises; the others serve them and the
+-- code's proofs. Tests is for callers of this crate's functions.
 pub mod Tests
 pub mod Bounds
 pub mod Passed
@@ -9,6 +9,9 @@ pub mod BuiltLaws
 pub mod Trip
 pub mod Back
 pub mod Again
+pub mod Shortest
+pub mod Alike
+pub mod Beyond
 pub mod Answers
 pub mod SentOn
 pub mod Refusals

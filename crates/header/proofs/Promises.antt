@@ -7,12 +7,13 @@ use Rattle.header.specs.Limits.{longestHeader, mostData}
 use Rattle.header.specs.Form.{controlOf}
 use Rattle.header.specs.Read.{readOf}
 use Rattle.header.specs.Build.{builtOf, builtOutput}
-use Rattle.header.specs.Onward.{headerSentOn, oneLess}
+use Rattle.header.specs.Shortest.{shortest}
+use Rattle.header.specs.Onward.{headerSentOn, oneLess, withHops}
 use Rattle.header.specs.declared.Header.{Header}
 use Rattle.header.specs.declared.Read.the-variants.{Good}
 use Rattle.header.specs.declared.Built.the-variants.{Done}
-use Rattle.header.proofs.Again.{shortest, done-again, output-again}
-use Rattle.header.proofs.SentOn.{withHops, read-sent-on, sent-as-it-came}
+use Rattle.header.proofs.Again.{done-again, output-again}
+use Rattle.header.proofs.SentOn.{read-sent-on, sent-as-it-came}
 
 -- building what was read gives the same header octets, where the control field was shortest and the data at most 8,141 octets
 pub build-what-was-read : (s : List ℕ) (h : Header) → ((i : ℕ) → getD s i 0 < 256) → readOf s ≡ Good h → shortest (controlOf s)

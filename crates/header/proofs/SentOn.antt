@@ -1,39 +1,35 @@
 -- The header sent on (page 01, "One received datagram", last sentence) is as long as the one that came, differs from it in nothing but the hop
--- count and the checksum, and is read as the same fields with the hop count less one. Everything read up to the checksum stands in octets at
--- places: where another string has these octets too, the same is read of it (`Alike`), though the control field need not be the shortest, so
--- that the laws of built headers would not do. Assumes nothing.
+-- count and the checksum, and is read as the same fields with the hop count less one. It is read alike because it has the octets of the one that
+-- came (`header-alike`): its control field need not be the shortest, so that the laws of built headers would not do. Assumes nothing.
 use native.Mathlib.Omega.{arith}
-use Prim.Native.Nat.{ℕ, zero, suc, _+_, _-_, _≤_, _<_}
-use mathlib.Core.Path.{_≡_, refl, ap, sym, _∙_}
+use Prim.Native.Nat.{ℕ, zero, suc, _-_, _≤_, _<_}
+use mathlib.Core.Path.{_≡_, refl, sym, _∙_}
 use mathlib.Core.List.{List, [], _∷_, _++_, append-assoc}
 use mathlib.Core.Bool.{Bool, true, false}
 use mathlib.Core.Logic.{_⊎_, inl, inr}
-use lib.ListN.{getD, set, length, take, drop, length-append, length-drop, length-set, take-append-drop, List·getD-append}
-use lib.Seq.{length-take-le, drop-at, drop-append-le, getD-take, getD-drop, ext-getD, set-append-left, getD-set-same, getD-set-other, set-getD}
+use lib.ListN.{getD, set, length, take, drop, length-append, length-drop, length-set, List·getD-append}
+use lib.Seq.{length-take-le, getD-take, set-append-left, getD-set-same, getD-set-other, set-getD}
 use lib.Dec.{eqb}
 use borrow.Author.Tests.{eqb-true}
 use Rattle.checks.specs.Order.{pick}
 use Rattle.octets.specs.Octets.{octet, number}
 use Rattle.checksum.specs.Sum.{elementOf}
 use Rattle.checksum.proofs.Words.{Octets}
-use Rattle.header.specs.Form.{thirdFollows, controlOf, secondControl, thirdControl, layoutOf, placesOf, stampSize, hasQos, hasHops, stampFormat, hasExpanded, hasChecksum}
-use Rattle.header.specs.Read.{addressesOf, qosOf, octetOf, stampOf, lengthOf, fieldsOf, headerOf, readOf}
-use Rattle.header.specs.Build.{stampOctets, checksumOctets}
-use Rattle.header.specs.Range.{InRange}
-use Rattle.header.specs.Onward.{lessened, sentBody, headerSentOn, oneLess}
+use Rattle.header.specs.Form.{controlOf, layoutOf, placesOf, hasHops, hasChecksum}
+use Rattle.header.specs.Read.{octetOf, fieldsOf, headerOf, readOf}
+use Rattle.header.specs.Build.{checksumOctets}
+use Rattle.header.specs.Onward.{lessened, sentBody, headerSentOn, oneLess, withHops}
 use Rattle.header.specs.declared.Control.{Control}
 use Rattle.header.specs.declared.Layout.{Layout}
 use Rattle.header.specs.declared.Header.{Header}
-use Rattle.header.specs.declared.Octet.{Octet}
 use Rattle.header.specs.declared.Octet.the-variants as octet
 use Rattle.header.specs.declared.Read.the-variants.{Good}
 use Rattle.header.proofs.Bounds.{control-end, Placed, placed, allowed}
 use Rattle.header.proofs.Passed.{Passed, passed, read-passed}
-use Rattle.header.proofs.Pieces.{Stands, addresses-read, qos-read, octet-read, stamp-read, stamp-size}
+use Rattle.header.proofs.Alike.{Agree, header-alike}
 use Rattle.header.proofs.BuiltLaws.{checksum-length, append-small, pick-small}
 use Rattle.header.proofs.Trip.{right}
-use Rattle.header.proofs.Back.{zero-or-one, addresses-again, qos-again, octet-again, stamp-again, checksum-again}
-use Rattle.header.proofs.Answers.{fields-in-range}
+use Rattle.header.proofs.Back.{zero-or-one, checksum-again}
 
 -- ---- one octet less one
 
@@ -138,150 +134,40 @@ module _ (s : List ℕ) (room : placesOf s .size ≤ length s) where
 
 -- ---- what is read where octets agree
 
--- octets that stand in s from one place to another stand in t where the two agree there
-moved : (s t : List ℕ) → length t ≡ length s → (from to : ℕ) (x : List ℕ) → from ≤ to → to ≤ length s
-    → ((i : ℕ) → from ≤ i → i < to → octet t i ≡ octet s i) → take from s ++ x ≡ take to s → Stands t from x (drop to t)
-moved s t long from to x order inside same e =
-    let length-s : length (take to s) ≡ to = length-take-le to s inside in
-    let length-t : length (take to t) ≡ to = length-take-le to t (omega arith) in
-    let there : from ≤ length (take to t) = omega arith in
-    let x-is : drop from (take to s) ≡ x = rw (← e) (drop-at (take from s) x from (length-take-le from s (omega arith))) in
-    let agree : drop from (take to t) ≡ drop from (take to s) =
-    ext-getD 0 _ _ (simp (length-drop, length-s, length-t))
-    (λ i h.
-    let below : from + i < to = omega (arith, length-drop from (take to t)) in
-    simp (getD-drop, getD-take to t (from + i) 0 below, getD-take to s (from + i) 0 below) (same (from + i) (omega arith) below)) in
-    let cut : drop from t ≡ drop from (take to t) ++ drop to t = rw (← drop-append-le from (take to t) (drop to t) there, take-append-drop to t) in
-    record { is = cut ∙ ap (λ (y : List ℕ). y ++ drop to t) (agree ∙ x-is) }
-
 -- t is as long as s and has its octets up to the checksum, but for the hop count
 record Alike (s t : List ℕ) : Type 0 where
   long : length t ≡ length s
   same : (i : ℕ) → i < placesOf s .checksum → (hasHops (controlOf s) ≡ 1 → i ≡ placesOf s .hops → ⊥) → octet t i ≡ octet s i
 
--- the third control octet matters only where bit 24 says that it is there
-third-case : (s t : List ℕ) → secondControl t ≡ secondControl s → (thirdFollows (secondControl s) ≡ 0) ⊎ (thirdFollows (secondControl s) ≡ 1)
-    → (thirdFollows (secondControl s) ≡ 1 → octet t 4 ≡ octet s 4) → thirdControl t ≡ thirdControl s
-third-case s t second (inl none) four = rw (second, none) (omega arith)
-third-case s t second (inr one) four = rw (second, one, four one)
-
--- a header with another hop count
-abbrev pub withHops : Octet → Header → Header
-withHops hops h =
-    record {
-      fields = record {
-        tpid = h .fields .tpid;
-        addresses = h .fields .addresses;
-        qos = h .fields .qos;
-        hops = hops;
-        stamp = h .fields .stamp;
-        expanded = h .fields .expanded;
-        checksum = h .fields .checksum;
-        intermediate = h .fields .intermediate;
-      };
-      length = h .length;
-      size = h .size;
-    }
-
-module _ (s t : List ℕ) (h : Header) (small : Octets s) (p : Passed s h) (alike : Alike s t) where
+module _ (s t : List ℕ) (h : Header) (p : Passed s h) (alike : Alike s t) where
   abbrev k : Control
   k = controlOf s
 
   abbrev l : Layout
   l = placesOf s
 
-  fits : l .size ≤ length s
-  fits = omega (arith, p)
-
-  before-hops : (i : ℕ) → i < l .hops → octet t i ≡ octet s i
+  before-hops : Agree s t 0 (l .hops)
   unfolding layoutOf
-  before-hops i below = alike .same i (omega (arith, places s)) (λ on e. omega arith)
+  before-hops i above below = alike .same i (omega (arith, places s)) (λ on e. omega arith)
 
-  after-hops : (i : ℕ) → l .stamp ≤ i → i < l .checksum → octet t i ≡ octet s i
+  after-hops : Agree s t (l .stamp) (l .checksum)
   unfolding layoutOf
   after-hops i above below = alike .same i below (λ on e. omega arith)
-
-  -- what stands in s before or after the hop count stands in t
-  early : (from to : ℕ) (x : List ℕ) → from ≤ to → to ≤ l .hops → take from s ++ x ≡ take to s → Stands t from x (drop to t)
-  early from to x order end =
-      moved s t (alike .long) from to x order (omega (arith, places s, fits)) (λ i above below. before-hops i (omega arith))
-
-  late : (from to : ℕ) (x : List ℕ) → from ≤ to → l .stamp ≤ from → to ≤ l .checksum → take from s ++ x ≡ take to s → Stands t from x (drop to t)
-  late from to x order start end =
-      moved s t (alike .long) from to x order (omega (arith, places s, fits)) (λ i above below. after-hops i (omega arith) (omega arith))
-
-  control-same : controlOf t ≡ k
-  unfolding controlOf
-  control-same =
-      let two = before-hops 2 (omega (arith, places s, control-end s)) in
-      let three = before-hops 3 (omega (arith, places s, control-end s)) in
-      let second : secondControl t ≡ secondControl s = rw (two, three) in
-      let third = third-case s t second (zero-or-one _ (omega arith)) (λ on. before-hops 4 (omega (arith, places s, control-end s))) in
-      rw (third, second, two)
-
-  -- each element that was read is in range, and is read again where its octets stand
-  range : InRange (fieldsOf s k l)
-  range = fields-in-range s small k l
-
-  addresses-same : addressesOf t k ≡ addressesOf s k
-  unfolding layoutOf fieldsOf
-  addresses-same =
-      let a = addresses-again s small k (allowed k (p .allowed) .six) (omega (arith, places s, fits)) in
-      let there = early (k .end) (l .qos) _ (omega (arith, places s)) (omega (arith, places s)) (a .3) in
-      addresses-read k (addressesOf s k) (record { ipv6 = sym (a .2); extended = sym (a .1); source = sym (a .0) }) there (range .addresses)
-
-  qos-same : qosOf t (hasQos k) (l .qos) ≡ qosOf s (hasQos k) (l .qos)
-  unfolding layoutOf fieldsOf
-  qos-same =
-      let a = qos-again s small (hasQos k) (l .qos) (omega arith) (omega (arith, places s, fits)) in
-      let there = early (l .qos) (l .hops) _ (omega (arith, places s)) (omega arith) (a .1) in
-      rw (a .0) at (qos-read (qosOf s (hasQos k) (l .qos)) there (range .qos))
-
-  -- a timestamp is read alike, and so is its size
-  stamp-same : (stampOf t (stampFormat k) (l .stamp) ≡ stampOf s (stampFormat k) (l .stamp))
-      × (stampSize (stampFormat k) (octet t (l .stamp)) ≡ stampSize (stampFormat k) (octet s (l .stamp)))
-  unfolding layoutOf fieldsOf
-  stamp-same =
-      let m = stampOf s (stampFormat k) (l .stamp) in
-      let a = stamp-again s small (stampFormat k) (l .stamp) (omega arith) (omega (arith, places s, fits)) in
-      let here = moved s s refl (l .stamp) (l .expanded) (stampOctets m) (omega (arith, places s)) (omega (arith, places s, fits)) (λ i above below. refl) (a .1) in
-      let there = late (l .stamp) (l .expanded) (stampOctets m) (omega (arith, places s)) (omega arith) (omega (arith, places s)) (a .1) in
-      (rw (a .0) at (stamp-read m there (range .stamp)), rw (a .0) at (stamp-size m there (range .stamp) ∙ sym (stamp-size m here (range .stamp))))
-
-  expanded-same : octetOf t (hasExpanded k) (l .expanded) ≡ octetOf s (hasExpanded k) (l .expanded)
-  unfolding layoutOf fieldsOf
-  expanded-same =
-      let a = octet-again s small (hasExpanded k) (l .expanded) (omega arith) (omega (arith, places s, fits)) in
-      let there = late (l .expanded) (l .checksum) _ (omega (arith, places s)) (omega (arith, places s)) (omega arith) (a .1) in
-      rw (a .0) at (octet-read (octetOf s (hasExpanded k) (l .expanded)) there (range .expanded))
-
-  places-same : placesOf t ≡ l
-  unfolding layoutOf
-  places-same = rw (control-same, stamp-same .1)
-
-  length-same : lengthOf t ≡ lengthOf s
-  unfolding lengthOf
-  length-same = rw (before-hops 0 (omega (arith, places s)), before-hops 1 (omega (arith, places s, control-end s)))
-
-  header-same : headerOf t ≡ withHops (octetOf t (hasHops k) (l .hops)) (headerOf s)
-  unfolding headerOf fieldsOf
-  header-same =
-      let two = before-hops 2 (omega (arith, places s, control-end s)) in
-      rw (places-same, control-same, length-same, two, addresses-same, qos-same, stamp-same .0, expanded-same)
 
   -- t is read as s with t's own hop count, where its checksum is what it should be
   read-alike : (hasChecksum k ≡ 1 → number t (l .checksum) 2 ≡ elementOf t (l .checksum)) → readOf t ≡ Good (withHops (octetOf t (hasHops k) (l .hops)) h)
   read-alike is-right =
+      let r = header-alike s t (p .allowed) before-hops after-hops in
       read-passed t _
       (record {
         long = omega (arith, alike .long, p .long);
-        version = rw (before-hops 0 (omega (arith, places s))) (p .version);
-        whole = rw (control-same, alike .long) (p .whole);
-        allowed = rw control-same (p .allowed);
-        inside = rw (length-same, alike .long) (p .inside);
-        fits = rw (places-same, length-same) (p .fits);
-        right = λ on. rw places-same (is-right (rw control-same at on));
-        is = rw (header-same, p .is);
+        version = rw (before-hops 0 (omega arith) (omega (arith, places s))) (p .version);
+        whole = rw (r .control, alike .long) (p .whole);
+        allowed = rw (r .control) (p .allowed);
+        inside = rw (r .length-is, alike .long) (p .inside);
+        fits = rw (r .places, r .length-is) (p .fits);
+        right = λ on. rw (r .places) (is-right (rw (r .control) at on));
+        is = rw (r .header, p .is);
       })
 
 -- ---- the laws
@@ -357,4 +243,4 @@ module _ (s : List ℕ) (h : Header) (small : (i : ℕ) → getD s i 0 < 256) (e
 
   -- it is read as the same fields with the hop count less one
   pub read-sent-on : readOf (headerSentOn s ++ drop (h .size) s) ≡ Good (withHops (oneLess (h .fields .hops)) h)
-  read-sent-on = rw (← sent-less) (read-alike s sent h small was sent-alike sent-right)
+  read-sent-on = rw (← sent-less) (read-alike s sent h was sent-alike sent-right)

@@ -125,6 +125,14 @@ begun f len last r short =
       size = rw (h .control, e .end, b .checksum);
     }
 
+-- the control field of a built header, whatever stands behind it
+pub built-control : (f : Fields) (n : ℕ) (rest : List ℕ) → InRange f → n ≤ mostData → controlOf (headerOctets f n ++ rest) ≡ builtControl f
+unfolding headerOctets
+built-control f n rest r few =
+    let body = bodyOctets f (sizeOf f + n) in
+    let size = built-size f r in
+    rw (append-assoc body (checksumOctets (f .checksum) body) rest) (begun f (sizeOf f + n) (checksumOctets (f .checksum) body ++ rest) r (omega arith) .control)
+
 -- a checksum element that is asked for is what it should be
 pub right : (on : ℕ) (body userData : List ℕ) → on ≡ 1
     → number (body ++ (checksumOctets on body ++ userData)) (length body) 2 ≡ elementOf (body ++ (checksumOctets on body ++ userData)) (length body)

@@ -8,6 +8,7 @@ use Rattle.checks.specs.Order.{pick}
 use Rattle.octets.specs.Octets.{octet}
 use Rattle.header.specs.Form.{controlOf, placesOf, hasHops, hasChecksum}
 use Rattle.header.specs.Build.{checksumOctets}
+use Rattle.header.specs.declared.Header.{Header}
 use Rattle.header.specs.declared.Octet.{Octet}
 use Rattle.header.specs.declared.Octet.the-variants as octet
 
@@ -26,3 +27,21 @@ headerSentOn s = sentBody s ++ checksumOctets (hasChecksum (controlOf s)) (sentB
 abbrev pub oneLess : Octet → Octet
 oneLess octet.Absent = octet.Absent
 oneLess (octet.Present v) = octet.Present (v - 1)
+
+-- a header with another hop count
+abbrev pub withHops : Octet → Header → Header
+withHops hops h =
+    record {
+      fields = record {
+        tpid = h .fields .tpid;
+        addresses = h .fields .addresses;
+        qos = h .fields .qos;
+        hops = hops;
+        stamp = h .fields .stamp;
+        expanded = h .fields .expanded;
+        checksum = h .fields .checksum;
+        intermediate = h .fields .intermediate;
+      };
+      length = h .length;
+      size = h .size;
+    }

@@ -65,3 +65,25 @@ pub record InRange (f : Fields) : Type 0 where
   pub expanded : octetFits (f .expanded)
   pub checksum : f .checksum < 2
   pub intermediate : f .intermediate < 2
+
+-- ---- the bounds of the Rattle types of the fields; with them the builder's test is exact (`in-range`, `not-out`)
+
+abbrev pub qosTyped : Qos → Type 0
+qosTyped qos.Absent = Unit
+qosTyped (qos.Present precedence routing program) = (precedence < 256) × ((routing < 256) × (program < 256))
+
+abbrev pub stampTyped : Timestamp → Type 0
+stampTyped stamp.Absent = Unit
+stampTyped (stamp.Implicit t) = t < 256 ^ 8
+stampTyped (stamp.Explicit p t) = (p < 256) × (t < 256 ^ 8)
+stampTyped (stamp.Binary t) = t < 256 ^ 8
+
+pub record Typed (f : Fields) : Type 0 where
+  pub tpid : f .tpid < 256
+  pub addresses : addressesFit (f .addresses)
+  pub qos : qosTyped (f .qos)
+  pub hops : octetFits (f .hops)
+  pub stamp : stampTyped (f .stamp)
+  pub expanded : octetFits (f .expanded)
+  pub checksum : f .checksum < 256
+  pub intermediate : f .intermediate < 256

@@ -1,15 +1,14 @@
 -- In every state that a history reaches no two places hold the same entry: the same prefix and mask, group or path. The theorem is `keys-unique`, at
 -- the end. Assumes nothing.
-use native.Mathlib.Omega.{arith}
 use Prim.Native.Nat.{ℕ, _<_}
 use mathlib.Core.Path.{_≡_, refl, sym, ap, _∙_}
 use mathlib.Core.Bool.{Bool, true, false, not, _&&_}
 use mathlib.Core.List.{List, [], _∷_}
-use lib.Dec.{eqb, ltb}
+use lib.Dec.{eqb}
 use lib.ListN.{length, getD, set, getD-replicate}
 use lib.Seq.{getD-set-same, getD-set-other}
 use borrow.Author.Tests.{eqb-true, eqb-false, eq-eqb, ne-eqb}
-use Rattle.checks.specs.Order.{pick, firstOf}
+use Rattle.checks.specs.Order.{firstOf}
 use Rattle.checks.proofs.Bools.{true-false, refuted}
 use Rattle.sets.specs.Sets.{anyBelow}
 use Rattle.sets.proofs.Anywhere.{any-found}
@@ -20,14 +19,36 @@ use Rattle.records.specs.declared.Group.{Group}
 use Rattle.records.specs.declared.PathPlace.{PathPlace}
 use Rattle.routes.specs.Routes.{isFilled, sameEntry, emptyRoute}
 use Rattle.routes.specs.declared.Route.{Route}
-use Rattle.state.specs.Relay.{Relay, freshRelay, routeIn, groupIn, pathIn, withRouter, withPort, withRoute, withGroup, withPath}
+use Rattle.state.specs.Relay.{Relay, freshRelay, routeIn, groupIn, pathIn, withRouter, withRoute, withGroup, withPath}
 use Rattle.refusals.specs.Elsewhere.{otherRoute, otherGroup, otherPath, routeElsewhere, groupElsewhere, pathElsewhere}
-use Rattle.refusals.specs.Lists.{portChecks, routeChecks, groupChecks, pathChecks, routerChecks, clearChecks}
-use Rattle.adjust.specs.Settled.{settled, newPort, newRoute, newGroup, newPath}
+use Rattle.refusals.specs.Lists.{routeChecks, groupChecks, pathChecks}
+use Rattle.refusals.proofs.Chains.{decided}
+use Rattle.adjust.specs.Settled.{newRoute, newGroup, newPath}
+use Rattle.taking.specs.Taking.{takenRelay}
 use Rattle.judge.specs.Ending.{endingOf}
-use Rattle.history.specs.Calls.{Call, setRouter, setPort, setRoute, setGroup, setPath, clearRoute, clearGroup, clearPath, receives, takes, done, runFrom, relayAfter}
+use Rattle.relay.specs.Received.{receivedRelay}
+use Rattle.history.specs.Calls.{
+  Setting,
+  setRouter,
+  setPort,
+  setRoute,
+  setGroup,
+  setPath,
+  clearRoute,
+  clearGroup,
+  clearPath,
+  Call,
+  sets,
+  hears,
+  takes,
+  looks,
+  checksOf,
+  written,
+}
+use Rattle.history.specs.Outcome.{next, runFrom, relayAfter}
 use Rattle.history.specs.Reach.{sameGroup, samePath, Unique, KeysUnique}
-use Rattle.history.proofs.Reach.{Kept, settingsOf, numbered-five, received-settings, taken-settings, one-kept, fresh-kept}
+use Rattle.history.proofs.Settled.{settle-keeps}
+use Rattle.history.proofs.Reach.{Kept, settingsOf, received-settings, taken-settings, one-kept, fresh-kept}
 
 -- ---- the same either way round
 eqb-case : (a b : ℕ) (t : Bool) → eqb a b ≡ t → eqb b a ≡ t
@@ -84,34 +105,23 @@ not-here : (t u : Bool) → t ≡ false → (not t && u) ≡ false → u ≡ fal
 not-here true u h e = true-false h
 not-here false u h e = e
 
-both-and : (f g s : Bool) → (f && s) ≡ false → (f && (g && s)) ≡ false
-both-and true true s h = h
-both-and true false s h = refl
-both-and false g s h = refl
-
 module _ (r : Relay) where
   route-new : (i : ℕ) (x : Route) → firstOf (routeChecks r i x) ≡ 0 → (j : ℕ) → j < 64 → (j ≡ i → ⊥) → sameEntry (routeIn r j) x ≡ false
   unfolding routeElsewhere
   route-new i x taken j h ne =
-      let none =
-      numbered-five _ _ _ _ _ 21 21 22 24 23 (λ z. omega arith) (λ z. omega arith) (λ z. omega arith) (λ z. omega arith) (λ z. omega arith) taken in
-      not-here (eqb j i) (sameEntry (routeIn r j) x) (ne-eqb j i ne) (none-of (otherRoute r i x) 64 (none .1 .1 .1 .1) j h)
+      not-here (eqb j i) (sameEntry (routeIn r j) x) (ne-eqb j i ne) (none-of (otherRoute r i x) 64 (decided (routeChecks r i x) refl .0 .0 taken .1 .1 .1 .1 .0) j h)
 
   group-new : (i : ℕ) (a : Address) (send subscribed : ℕ) → firstOf (groupChecks r i a send subscribed) ≡ 0
       → (j : ℕ) → j < 16 → (j ≡ i → ⊥) → sameGroup (groupIn r j) (newGroup a send subscribed) ≡ false
   unfolding groupElsewhere
   group-new i a send subscribed taken j h ne =
-      let none =
-      numbered-five _ _ _ _ _ 21 21 21 25 23 (λ z. omega arith) (λ z. omega arith) (λ z. omega arith) (λ z. omega arith) (λ z. omega arith) taken in
-      not-here (eqb j i) (sameGroup (groupIn r j) (newGroup a send subscribed)) (ne-eqb j i ne) (none-of (otherGroup r i a) 16 (none .1 .1 .1 .1) j h)
+      not-here (eqb j i) (sameGroup (groupIn r j) (newGroup a send subscribed)) (ne-eqb j i ne) (none-of (otherGroup r i a) 16 (decided (groupChecks r i a send subscribed) refl .0 .0 taken .1 .1 .1 .1 .0) j h)
 
   path-new : (i : ℕ) (p : PathAddress) (send here : ℕ) → firstOf (pathChecks r i p send here) ≡ 0
       → (j : ℕ) → j < 16 → (j ≡ i → ⊥) → samePath (pathIn r j) (newPath p send here) ≡ false
   unfolding pathElsewhere
   path-new i p send here taken j h ne =
-      let none =
-      numbered-five _ _ _ _ _ 21 21 25 24 23 (λ z. omega arith) (λ z. omega arith) (λ z. omega arith) (λ z. omega arith) (λ z. omega arith) taken in
-      not-here (eqb j i) (samePath (pathIn r j) (newPath p send here)) (ne-eqb j i ne) (none-of (otherPath r i p) 16 (none .1 .1 .1 .1) j h)
+      not-here (eqb j i) (samePath (pathIn r j) (newPath p send here)) (ne-eqb j i ne) (none-of (otherPath r i p) 16 (decided (pathChecks r i p send here) refl .0 .0 taken .1 .1 .1 .1 .0) j h)
 
 -- an empty place holds nothing
 empty-second : (f s : Bool) → (f && (false && s)) ≡ false
@@ -123,10 +133,6 @@ unfolding sameEntry
 no-route x = empty-second (isFilled x) (eqb (x .prefix .0) 0 && eqb (x .mask .0) 0)
 
 -- ---- each call, and then all
-settled-keys : (t : Bool) (n : ℕ) (r s : Relay) → eqb n 0 ≡ t → KeysUnique r → (n ≡ 0 → KeysUnique s) → KeysUnique (pick t s r)
-settled-keys true n r s e u f = f (eqb-true n 0 e)
-settled-keys false n r s e u f = u
-
 by-settings : (r s : Relay) → KeysUnique r → settingsOf s ≡ settingsOf r → KeysUnique s
 by-settings r s u e =
     record {
@@ -160,38 +166,31 @@ module _ (r : Relay) (k : Kept r) (u : KeysUnique r) where
         paths = unique-written samePath path-sym freshPath 16 (r .mission .paths) i x (k .paths) (u .paths) new;
       }
 
-  settled-one : (n : ℕ) (s : Relay) → (n ≡ 0 → KeysUnique s) → KeysUnique (settled n s r)
-  settled-one n s f = settled-keys (eqb n 0) n r s refl u f
-
-  one-unique : (c : Call) → KeysUnique (done r c)
-  one-unique (setRouter x) = settled-one (firstOf (routerChecks x)) (withRouter r x) (λ z. by-settings r (withRouter r x) u refl)
-  one-unique (setPort p a m v) =
-      let s = withPort r p (newPort a m v) in
-      settled-one (firstOf (portChecks r p a m v)) s (λ z. record { routes = u .routes; groups = u .groups; paths = u .paths })
-  one-unique (setRoute i prefix mask port availability capabilities) =
+  taken-unique : (s : Setting) → firstOf (checksOf r s) ≡ 0 → KeysUnique (written r s)
+  taken-unique (setRouter x) z = by-settings r (withRouter r x) u refl
+  taken-unique (setPort p a m v) z = record { routes = u .routes; groups = u .groups; paths = u .paths }
+  taken-unique (setRoute i prefix mask port availability capabilities) z =
       let x = newRoute prefix mask port availability capabilities in
-      settled-one (firstOf (routeChecks r i x)) (withRoute r i x) (λ z. route-keys i x (route-new r i x z))
-  one-unique (setGroup i a send subscribed) =
-      let x = newGroup a send subscribed in
-      settled-one (firstOf (groupChecks r i a send subscribed)) (withGroup r i x) (λ z. group-keys i x (group-new r i a send subscribed z))
-  one-unique (setPath i p send here) =
-      let x = newPath p send here in
-      settled-one (firstOf (pathChecks r i p send here)) (withPath r i x) (λ z. path-keys i x (path-new r i p send here z))
-  one-unique (clearRoute i) =
-      settled-one (firstOf (clearChecks i 64)) (withRoute r i emptyRoute) (λ z. route-keys i emptyRoute (λ j h ne. no-route (routeIn r j)))
-  one-unique (clearGroup i) =
-      settled-one (firstOf (clearChecks i 16)) (withGroup r i freshGroup)
-      (λ z. group-keys i freshGroup (λ j h ne. empty-second (not (eqb (groupIn r j .filled) 0)) (eqb (groupIn r j .address .0) 0)))
-  one-unique (clearPath i) =
-      settled-one (firstOf (clearChecks i 16)) (withPath r i freshPath)
-      (λ z. path-keys i freshPath (λ j h ne. empty-second (not (eqb (pathIn r j .filled) 0)) (eqb (pathIn r j .path .0) 0)))
-  one-unique (receives port slot octets output) =
-      by-settings r (done r (receives port slot octets output)) u (received-settings r slot (endingOf r port octets (length output)))
-  one-unique (takes port) = by-settings r (done r (takes port)) u (taken-settings r port)
+      route-keys i x (route-new r i x z)
+  taken-unique (setGroup i a send subscribed) z = group-keys i (newGroup a send subscribed) (group-new r i a send subscribed z)
+  taken-unique (setPath i p send here) z = path-keys i (newPath p send here) (path-new r i p send here z)
+  taken-unique (clearRoute i) z = route-keys i emptyRoute (λ j h ne. no-route (routeIn r j))
+  taken-unique (clearGroup i) z =
+      group-keys i freshGroup (λ j h ne. empty-second (not (eqb (groupIn r j .filled) 0)) (eqb (groupIn r j .address .0) 0))
+  taken-unique (clearPath i) z =
+      path-keys i freshPath (λ j h ne. empty-second (not (eqb (pathIn r j .filled) 0)) (eqb (pathIn r j .path .0) 0))
+
+  one-unique : (c : Call) → KeysUnique (next r c)
+  one-unique (sets s) = settle-keeps KeysUnique r s u (taken-unique s)
+  one-unique (hears port slot octets output) =
+      let e = endingOf r port octets (length output) in
+      by-settings r (receivedRelay r slot e) u (received-settings r slot e)
+  one-unique (takes port) = by-settings r (takenRelay r port) u (taken-settings r port)
+  one-unique (looks l) = u
 
 all-unique : (cs : List Call) (r : Relay) → Kept r → KeysUnique r → KeysUnique (runFrom r cs)
 all-unique [] r k u = u
-all-unique (c ∷ cs) r k u = all-unique cs (done r c) (one-kept r c k) (one-unique r k u c)
+all-unique (c ∷ cs) r k u = all-unique cs (next r c) (one-kept r c k) (one-unique r k u c)
 
 fresh-unique : KeysUnique freshRelay
 unfolding freshRelay sameEntry

@@ -1,39 +1,34 @@
--- The demands over histories. To be read, each by itself with the definitions it cites:
--- OneResult (every promise to C leaves no choice); Refusals, Answered, Listed, ReadBack and Onward (demand 1: what a refused call leaves; the numbers an answer can be; that C reads back the parts of an ending;
--- the TP-ID refuses local delivery alone);
--- Meaning, Search, SearchBack, Routed, Copies, Wanted, Reach, Keys and Holds (demand 2: what addresses name on every copy granted, no one-octet address leaves its domain;
--- the route taken, by the search, as C reads it and by the verdict; which ports are wanted and granted; what holds of the settings in every state that a history reaches; that a setting holds until it
--- is changed);
--- Counters, Named, Sums, Ledger, Oldest and Takes (demand 3: every counter, the four that the customer names, by datagram and over a history, the
--- ledger of a port, the order of a queue and of taking);
--- Marked (page 01's marked cases, one table), WrongRelays and Wrong (its wrong relays and its slips, each shown wrong).
--- The others serve these: Boards, that no rule reads a counter; Small, that a set of ports is one of the eight; Bits, Fair and Queues.
-pub mod Boards
-pub mod Counters
-pub mod Bits
+-- Laws over histories. To be read, each by itself with the definitions it cites: Counters and Sums (every counter; in the customer's words), Ledger,
+-- Line, Takes and Foretold (the copies of a port: their ledger, which wait, which is handed out, and at which take), Domain and Meaning (what a copy
+-- names where it goes out), Reach, Keys, Ranges and Holds (the settings), Search and SearchBack (the route that an address takes, and as C reads it),
+-- Answered and Listed (each answer is one that the page lists), Refusals and Transport (what a refusal leaves; the TP-ID alone).
+-- The others serve these.
+pub mod Settled
 pub mod Fair
 pub mod Queues
 pub mod Ledger
+pub mod Counters
+pub mod Reach
+pub mod Keys
+pub mod Holds
 pub mod Refusals
-pub mod Meaning
-pub mod Oldest
-pub mod Takes
-pub mod Named
 pub mod Listed
 pub mod Answered
-pub mod OneResult
 pub mod Small
-pub mod Sums
 pub mod ReadBack
-pub mod Marked
-pub mod Reach
-pub mod Holds
-pub mod Keys
+pub mod Sums
+pub mod Untaken
+pub mod Line
+pub mod Takes
+pub mod Foretold
+pub mod Meaning
+pub mod Domain
+pub mod Ranges
 pub mod Search
 pub mod SearchBack
 pub mod Onward
-pub mod Wrong
-pub mod WrongRelays
 pub mod Wanted
-pub mod Copies
-pub mod Routed
+pub mod Transport
+pub mod Marked
+pub mod WrongRelays
+pub mod Wrong

@@ -2,7 +2,7 @@
 -- answer stands in it is one computed test. Assumes nothing.
 use Prim.Native.Nat.{ℕ}
 use mathlib.Core.Path.{_≡_, refl, sym, ap, _∙_}
-use mathlib.Core.Bool.{Bool, true, false, not, _&&_, _||_}
+use mathlib.Core.Bool.{Bool, true, false, not, _&&_, _||_, or-true}
 use mathlib.Core.List.{List, [], _∷_}
 use lib.ListN.{length}
 use lib.Bits.{bitAnd}
@@ -58,8 +58,9 @@ use Rattle.judge.specs.declared.Ending.{Ending}
 use Rattle.taking.specs.declared.Taking.the-variants as taking
 use Rattle.refusals.specs.Lists.{portChecks, routeChecks, groupChecks, pathChecks, routerChecks, clearChecks}
 use Rattle.adjust.specs.Settled.{newRoute}
-use Rattle.history.specs.Calls.{Call, setRouter, setPort, setRoute, setGroup, setPath, clearRoute, clearGroup, clearPath, receives, takes}
-use Rattle.history.specs.Answers.{number, ended, endedBy, takenBy, answerOf, numbers, entries, receiveRows, answersOf, listed, stands}
+use Rattle.history.specs.Calls.{Setting, setRouter, setPort, setRoute, setGroup, setPath, clearRoute, clearGroup, clearPath, takes, checksOf}
+use Rattle.history.specs.Outcome.{number, ended, ofEnding, ofTaking, outcome}
+use Rattle.history.specs.Answers.{numbers, entries, settingNumbers, endingRows, answersOf, listed, stands}
 use Rattle.history.proofs.Refusals.{refused-grants-nothing}
 
 -- ---- the lists of a receive
@@ -67,7 +68,7 @@ abbrev refusals : List ℕ
 refusals = 16 ∷ 17 ∷ 1 ∷ 2 ∷ 4 ∷ 3 ∷ 5 ∷ 8 ∷ 7 ∷ 6 ∷ []
 
 -- 0 where the datagram was judged
-abbrev endNumbers : List ℕ
+abbrev pub endNumbers : List ℕ
 endNumbers = 0 ∷ refusals
 
 -- ---- the first check that fails gives a number of its list
@@ -81,10 +82,6 @@ first-listed xs [] z h = z
 first-listed xs (c ∷ cs) z h =
     let both = and-true (listed xs (c .1)) (allListed xs cs) h in
     either (λ n. listed xs n ≡ true) (c .0) (both .0) (first-listed xs cs z (both .1))
-
-or-right : (t u : Bool) → u ≡ true → (t || u) ≡ true
-or-right true u h = refl
-or-right false u h = h
 
 row-first : (t u : Bool) → t ≡ true → ((t && true) || u) ≡ true
 row-first true u h = refl
@@ -108,7 +105,7 @@ octets-listed r at s =
     let n = firstOf (readChecks s) in
     read-case r at (eqb n 0) n (headerOf s) (first-listed endNumbers (readChecks s) refl refl)
 
-end-listed : (r : Relay) (port : ℕ) (octets : List ℕ) (room : ℕ) → EndListed (endingOf r port octets room)
+pub end-listed : (r : Relay) (port : ℕ) (octets : List ℕ) (room : ℕ) → EndListed (endingOf r port octets room)
 unfolding endingOf callChecks
 end-listed r port octets room =
     let n = firstOf (callChecks r port room) in
@@ -145,7 +142,7 @@ module _ (bare : Bool) where
 
   -- any other obstacle
   other : (o : Obstacle) → isOurs o ≡ true → numbered bare (Refused o) ≡ true
-  other o h = or-right bare (isOurs o) h
+  other o h = rw h (or-true bare)
 
   group-numbered : (p : Place) (arrival others : ℕ) → Numbered (groupLine p arrival others)
   unfolding groupLine
@@ -231,29 +228,30 @@ module _ (bare : Bool) where
 
 -- ---- the rows of a datagram that was judged
 abbrev Judged : Ruling → Type 0
-Judged x = stands receiveRows (ended 0 (localNumber (x .local)) (onwardNumber (x .onward)) (x .took)) ≡ true
+Judged x = stands endingRows (ended 0 (localNumber (x .local)) (onwardNumber (x .onward)) (x .took)) ≡ true
 
 -- a port took an entry, or all dropped theirs
 abbrev sent : Bool → ℕ
 sent none = onwardNumber (pick none (onward.Refused QueuesFull) onward.SentOn)
 
--- not delivered: any obstacle
-refused-not-delivered : (o : Obstacle) → stands receiveRows (ended 0 0 (obstacleNumber o) 0) ≡ true
-refused-not-delivered NotForUs = refl
-refused-not-delivered HopsUsedUp = refl
-refused-not-delivered NoRoute = refl
-refused-not-delivered LeavesDomain = refl
-refused-not-delivered TooBig = refl
-refused-not-delivered QueuesFull = refl
+-- what holds of the six numbers of obstacles holds of any obstacle's
+pub each-obstacle : (P : ℕ → Type 0) → P 9 × (P 10 × (P 11 × (P 13 × (P 14 × P 15)))) → (o : Obstacle) → P (obstacleNumber o)
+each-obstacle P h NotForUs = h .0
+each-obstacle P h HopsUsedUp = h .1 .0
+each-obstacle P h NoRoute = h .1 .1 .0
+each-obstacle P h LeavesDomain = h .1 .1 .1 .0
+each-obstacle P h TooBig = h .1 .1 .1 .1 .0
+each-obstacle P h QueuesFull = h .1 .1 .1 .1 .1
 
-sent-not-delivered : (t : Bool) (took : ℕ) → eqb took 0 ≡ t → stands receiveRows (ended 0 0 (sent t) took) ≡ true
+-- not delivered: any obstacle
+sent-not-delivered : (t : Bool) (took : ℕ) → eqb took 0 ≡ t → stands endingRows (ended 0 0 (sent t) took) ≡ true
 sent-not-delivered true took h = simp (h)
 sent-not-delivered false took h = simp (h)
 
 not-delivered : (l : Wish) (full : ℕ) → good true l ≡ true → Judged (rulingOf No l full)
 unfolding rulingOf copiesOf
 not-delivered NotAsked full h = true-false (sym h)
-not-delivered (Refused o) full h = refused-not-delivered o
+not-delivered (Refused o) full h = each-obstacle (λ (n : ℕ). stands endingRows (ended 0 0 n 0) ≡ true) (refl, (refl, (refl, (refl, (refl, refl))))) o
 not-delivered (Wanted set) full h = sent-not-delivered (eqb (exceptBy set full) 0) (exceptBy set full) refl
 
 -- delivered or 26: any obstacle but that it is not for us
@@ -266,7 +264,7 @@ ours-listed TooBig h = refl
 ours-listed QueuesFull h = refl
 
 module _ (local : Local) (bare : eqb (localNumber local) 0 ≡ false) (yes : listed (1 ∷ 26 ∷ []) (localNumber local) ≡ true) where
-  sent-delivered : (t : Bool) (took : ℕ) → eqb took 0 ≡ t → stands receiveRows (ended 0 (localNumber local) (sent t) took) ≡ true
+  sent-delivered : (t : Bool) (took : ℕ) → eqb took 0 ≡ t → stands endingRows (ended 0 (localNumber local) (sent t) took) ≡ true
   sent-delivered true took h = simp (bare, yes, h)
   sent-delivered false took h = simp (bare, yes, h)
 
@@ -341,40 +339,32 @@ judged-ending : (r : Relay) (port : ℕ) (octets : List ℕ) (room : ℕ) → en
 judged-ending = of-every-ending Judged (λ r q t p w c. judged t p w c (surveyOf r q))
 
 -- ---- receiving
-refused-row : (n : ℕ) → eqb n 0 ≡ false → listed endNumbers n ≡ true → stands receiveRows (ended n 0 0 0) ≡ true
+refused-row : (n : ℕ) → eqb n 0 ≡ false → listed endNumbers n ≡ true → stands endingRows (ended n 0 0 0) ≡ true
 refused-row n z h = let k : listed refusals n ≡ true = rw z at h in row-first _ _ k
 
 ended-case : (r : Relay) (port : ℕ) (octets : List ℕ) (room : ℕ) (t : Bool) → eqb (endingOf r port octets room .refusal) 0 ≡ t
-    → stands receiveRows (endedBy (endingOf r port octets room)) ≡ true
+    → stands endingRows (ofEnding (endingOf r port octets room) .answer) ≡ true
 ended-case r port octets room true z =
     let n = eqb-true (endingOf r port octets room .refusal) 0 z in
     rw n (judged-ending r port octets room n)
 ended-case r port octets room false z =
     let e = endingOf r port octets room in
     let none = refused-grants-nothing r port octets room (eqb-false (e .refusal) 0 z) in
-    ap (λ (x : Ruling). stands receiveRows (ended (e .refusal) (localNumber (x .local)) (onwardNumber (x .onward)) (x .took))) none
+    ap (λ (x : Ruling). stands endingRows (ended (e .refusal) (localNumber (x .local)) (onwardNumber (x .onward)) (x .took))) none
     ∙ refused-row (e .refusal) z (end-listed r port octets room)
 
 -- Every ending stands in the table's rows of a receive.
-pub every-ending-is-listed : (r : Relay) (port : ℕ) (octets : List ℕ) (room : ℕ) → stands receiveRows (endedBy (endingOf r port octets room)) ≡ true
+pub every-ending-is-listed : (r : Relay) (port : ℕ) (octets : List ℕ) (room : ℕ) → stands endingRows (ofEnding (endingOf r port octets room) .answer) ≡ true
 every-ending-is-listed r port octets room = ended-case r port octets room _ refl
 
 -- 12 is given nowhere: it ends no call, and is no onward half (page 02, W-204).
-unended : (e : Ending) → stands receiveRows (endedBy e) ≡ true → e .refusal ≡ 12 → ⊥
+unended : (e : Ending) → stands endingRows (ofEnding e .answer) ≡ true → e .refusal ≡ 12 → ⊥
 unended e h is = true-false (sym h ∙ rw is)
-
-not-twelve : (o : Obstacle) → eqb (obstacleNumber o) 12 ≡ false
-not-twelve NotForUs = refl
-not-twelve HopsUsedUp = refl
-not-twelve NoRoute = refl
-not-twelve LeavesDomain = refl
-not-twelve TooBig = refl
-not-twelve QueuesFull = refl
 
 onward-not-twelve : (x : Onward) → eqb (onwardNumber x) 12 ≡ false
 onward-not-twelve onward.NotAsked = refl
 onward-not-twelve onward.SentOn = refl
-onward-not-twelve (onward.Refused o) = not-twelve o
+onward-not-twelve (onward.Refused o) = each-obstacle (λ (n : ℕ). eqb n 12 ≡ false) (refl, (refl, (refl, (refl, (refl, refl))))) o
 
 pub never-twelve : (r : Relay) (port : ℕ) (octets : List ℕ) (room : ℕ)
     → (endingOf r port octets room .refusal ≡ 12 → ⊥) × (onwardNumber (endingOf r port octets room .ruling .onward) ≡ 12 → ⊥)
@@ -385,29 +375,29 @@ never-twelve r port octets room =
     )
 
 -- ---- taking
-taken-case : (t : Bool) (h : Head) → stands (numbers (16 ∷ 18 ∷ []) ∷ entries ∷ []) (takenBy (pick t (taking.Refused 16) (handsOut h))) ≡ true
-taken-case true h = refl
-taken-case false (First x) = refl
-taken-case false Nothing = refl
+taken-case : (port : ℕ) (t : Bool) (h : Head) → stands (numbers (16 ∷ 18 ∷ []) ∷ entries ∷ []) (ofTaking port (pick t (taking.Refused 16) (handsOut h)) .answer) ≡ true
+taken-case port true h = refl
+taken-case port false (First x) = refl
+taken-case port false Nothing = refl
 
 -- ---- settings
 pub number-row : (ns : List ℕ) (cs : Checks) → listed ns 0 ≡ true → allListed ns cs ≡ true → stands (numbers ns ∷ []) (number (firstOf cs)) ≡ true
 number-row ns cs z h = rw (first-listed ns cs z h) refl
 
--- The answer of every call that can change a relay stands in the table's rows for that call, whatever the relay.
-pub call-listed : (r : Relay) (c : Call) → stands (answersOf c) (answerOf r c) ≡ true
-unfolding takeOutcome
-call-listed r (setRouter x) = number-row (0 ∷ 24 ∷ []) (routerChecks x) refl refl
-call-listed r (setPort p address mask mtu) = number-row (0 ∷ 21 ∷ 25 ∷ 22 ∷ 24 ∷ 35 ∷ []) (portChecks r p address mask mtu) refl refl
-call-listed r (setRoute i prefix mask port availability capabilities) =
+pub setting-listed : (r : Relay) (s : Setting) → stands (numbers (settingNumbers s) ∷ []) (number (firstOf (checksOf r s))) ≡ true
+setting-listed r (setRouter x) = number-row (0 ∷ 24 ∷ []) (routerChecks x) refl refl
+setting-listed r (setPort p address mask mtu) = number-row (0 ∷ 21 ∷ 25 ∷ 22 ∷ 24 ∷ 35 ∷ []) (portChecks r p address mask mtu) refl refl
+setting-listed r (setRoute i prefix mask port availability capabilities) =
     number-row (0 ∷ 21 ∷ 22 ∷ 24 ∷ 23 ∷ []) (routeChecks r i (newRoute prefix mask port availability capabilities)) refl refl
-call-listed r (setGroup i address send subscribed) = number-row (0 ∷ 21 ∷ 25 ∷ 23 ∷ []) (groupChecks r i address send subscribed) refl refl
-call-listed r (setPath i path send here) = number-row (0 ∷ 21 ∷ 25 ∷ 24 ∷ 23 ∷ []) (pathChecks r i path send here) refl refl
-call-listed r (clearRoute i) = number-row (0 ∷ 21 ∷ []) (clearChecks i 64) refl refl
-call-listed r (clearGroup i) = number-row (0 ∷ 21 ∷ []) (clearChecks i 16) refl refl
-call-listed r (clearPath i) = number-row (0 ∷ 21 ∷ []) (clearChecks i 16) refl refl
-call-listed r (receives port slot octets output) = every-ending-is-listed r port octets (length output)
-call-listed r (takes port) = taken-case (not (portSetUp r port)) (takeOf (queueIn r port) .head)
+setting-listed r (setGroup i address send subscribed) = number-row (0 ∷ 21 ∷ 25 ∷ 23 ∷ []) (groupChecks r i address send subscribed) refl refl
+setting-listed r (setPath i path send here) = number-row (0 ∷ 21 ∷ 25 ∷ 24 ∷ 23 ∷ []) (pathChecks r i path send here) refl refl
+setting-listed r (clearRoute i) = number-row (0 ∷ 21 ∷ []) (clearChecks i 64) refl refl
+setting-listed r (clearGroup i) = number-row (0 ∷ 21 ∷ []) (clearChecks i 16) refl refl
+setting-listed r (clearPath i) = number-row (0 ∷ 21 ∷ []) (clearChecks i 16) refl refl
+
+pub taking-listed : (r : Relay) (port : ℕ) → stands (answersOf (takes port)) (outcome r (takes port) .answer) ≡ true
+unfolding takeOutcome
+taking-listed r port = taken-case port (not (portSetUp r port)) (takeOf (queueIn r port) .head)
 
 -- "No" with "not asked" never occurs: no row has it.
 unsaid : (x : Ruling) → Judged x → x .local ≡ No → x .onward ≡ onward.NotAsked → ⊥

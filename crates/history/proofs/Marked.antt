@@ -1,23 +1,38 @@
--- Page 01's marked cases a to l, as one table under one statement: what the search answers (a to e), the class (f to k), and the order in which
--- entries come out (l), each at the definition that the code is proved against. Assumes nothing.
-use Prim.Native.Nat.{ℕ}
-use mathlib.Core.Path.{_≡_}
-use mathlib.Core.List.{List, [], _∷_, map}
-use Rattle.address.specs.Class.{classOf}
-use Rattle.address.proofs.Marked as classes
-use Rattle.queue.specs.Queue.{fresh}
-use Rattle.queue.specs.Turns.{handed}
-use Rattle.queue.specs.declared.Head.{Head}
-use Rattle.queue.specs.declared.Head.the-variants.{First}
-use Rattle.queue.proofs.Marked as order
-use Rattle.routes.specs.Search.{searchOf}
-use Rattle.routes.proofs.Marked as search
+-- Page 01's marked cases a to l, together: the one statement over the table of specs/Marked.antt. Assumes nothing.
+use mathlib.Core.Path.{_≡_, refl}
+use Rattle.checks.specs.Order.{firstOf}
+use Rattle.octets.specs.Octets.{number}
+use Rattle.address.specs.Class.{familyOf, scpsClass, netClass, classIn, classOf}
+use Rattle.address.specs.Mask.{maskForm, onesBelow, onesOf}
+use Rattle.header.specs.Form.{controlOf, forbidden, addressSize, stampSize, layoutOf}
+use Rattle.header.specs.Read.{addressesOf, qosOf, octetOf, stampOf, lengthOf, fieldsOf, headerOf, readChecks, readOf}
+use Rattle.meaning.specs.Names.{aimOf, originOf}
+use Rattle.networks.specs.Networks.{subnetBroadcast, broadcastIn, classBroadcast}
+use Rattle.survey.specs.Survey.{ownBroadcast, surveyBelow}
+use Rattle.verdict.specs.Rule.{targetOf, localOf, routeLine, lineOf, grantedOf, copiesOf, rulingOf}
+use Rattle.judge.specs.Ruling.{ruledBy, ruleTarget, ruleOf}
+use Rattle.judge.specs.Ending.{callChecks, headerEnding, endingOf}
+use Rattle.settings.specs.Refusals.{otherClass, portMaskRefused, formRefused, onesRefused}
+use Rattle.refusals.specs.Ready.{readySet}
+use Rattle.refusals.specs.Elsewhere.{routeElsewhere}
+use Rattle.routes.specs.Refusals.{prefixRefused, codesRefused}
+use Rattle.routes.specs.Routes.{matched, candidate, sameEntry}
+use Rattle.routes.specs.Search.{beaten, betterOf, searchFrom, searchOf}
+use Rattle.queue.specs.Order.{Each, insertBy}
+use Rattle.queue.specs.Queue.{fresh, putOf, takeOf}
+use Rattle.state.specs.Relay.{freshRelay, portSetUp}
+use Rattle.relay.specs.Outgoing.{enteredIf, enteredAll}
+use Rattle.relay.specs.Received.{receivedRelay}
+use Rattle.taking.specs.Taking.{takeOutcome, takenRelay}
+use Rattle.history.specs.Outcome.{outcome, relayAfter}
+use Rattle.history.specs.Marked.{Marked, markedCases}
 
--- the slots and precedences that come out, in turn
-abbrev comeOut : List Head
-comeOut = First (order.entry 2 5) ∷ First (order.entry 4 5) ∷ First (order.entry 1 3) ∷ First (order.entry 3 3) ∷ []
+-- the rules, opened all at once: where this is unfolded, the calls of a closed history compute
+unfoldable pub opened : Unit {0}
+unfolding firstOf classOf classIn familyOf scpsClass netClass otherClass portMaskRefused formRefused onesRefused maskForm onesOf onesBelow fresh freshRelay readySet routeElsewhere prefixRefused codesRefused sameEntry number controlOf forbidden addressSize stampSize layoutOf addressesOf qosOf octetOf stampOf lengthOf fieldsOf headerOf readChecks readOf aimOf originOf subnetBroadcast broadcastIn classBroadcast ownBroadcast surveyBelow targetOf localOf routeLine lineOf grantedOf copiesOf rulingOf ruledBy ruleTarget ruleOf portSetUp callChecks headerEnding endingOf receivedRelay enteredAll enteredIf putOf takeOf insertBy takeOutcome takenRelay matched candidate beaten betterOf searchFrom searchOf
+opened = tt
 
-pub marked-cases :
-    (map (λ c. searchOf (record { 0 = c .0 }) (c .1)) search.marked ≡ map (λ c. c .2) search.marked)
-    × ((map (λ c. classOf (c .0)) classes.marked ≡ map (λ c. c .1) classes.marked) × (handed fresh order.deeds-l ≡ comeOut))
-marked-cases = (search.marked-cases, (classes.marked-cases, order.case-l))
+-- Each call of the table has the answer beside it, after the history before it.
+pub marked-cases : Each (λ (m : Marked). outcome (relayAfter (m .calls)) (m .asked) .answer ≡ m .answer) markedCases
+unfolding opened
+marked-cases = (refl, (refl, (refl, (refl, (refl, (refl, (refl, (refl, (refl, (refl, (refl, (refl, (refl, (refl, (refl, tt)))))))))))))))

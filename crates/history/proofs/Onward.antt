@@ -1,7 +1,7 @@
 -- Demand 1, the last sentence: an unknown transport number refuses local delivery alone. Two cases that differ in whether the TP-ID is assigned have
 -- the same onward half: the same number, copies granted, taken and dropped. Assumes nothing.
 use Prim.Native.Nat.{ℕ}
-use mathlib.Core.Path.{_≡_, refl, sym, ap, _∙_}
+use mathlib.Core.Path.{_≡_, refl, ap, _∙_}
 use Rattle.verdict.specs.Rule.{localOf, lineOf, afterHops, afterDomain, afterSize, grantedOf, copiesOf, rulingOf}
 use Rattle.verdict.specs.declared.Target.{Target}
 use Rattle.verdict.specs.declared.Place.{Place}

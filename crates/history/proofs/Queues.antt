@@ -1,51 +1,45 @@
 -- What a call makes of one port's queue. Assumes nothing.
 use native.Mathlib.Omega.{arith}
-use Prim.Native.Nat.{ℕ, zero, suc, _+_, _-_, _≤_, _<_}
+use Prim.Native.Nat.{ℕ, zero, suc, _+_, _≤_, _<_}
 use mathlib.Core.Path.{_≡_, refl, sym, ap, _∙_}
 use mathlib.Core.Bool.{Bool, true, false, not}
-use mathlib.Core.Logic.{_≢_, _⊎_, inl, inr, ⊎-elim}
+use mathlib.Core.Logic.{_≢_, ⊎-elim}
 use mathlib.Core.List.{List, [], _∷_}
 use native.Mathlib.Nat.{eq-or-lt-of-le, le-of-suc-le-suc}
 use lib.Bits.{bitAnd}
 use lib.Dec.{eqb, ltb}
-use lib.ListN.{length, getD, take, length-set}
+use lib.ListN.{length, take, length-set}
 use lib.Seq.{getD-set-same, getD-set-other}
 use Rattle.checks.specs.Order.{pick}
 use Rattle.checks.proofs.Bools.{true-false}
+use Rattle.checks.proofs.Laws.{either}
 use Rattle.sets.specs.Sets.{inSet, onlyPort}
 use Rattle.queue.specs.Queue.{putOf, takeOf, takenFrom, waiting}
 use Rattle.queue.specs.declared.Entry.{Entry}
-use Rattle.queue.specs.declared.Head.{Head}
 use Rattle.queue.specs.declared.Head.the-variants.{First, Nothing}
 use Rattle.queue.specs.declared.Queue.{Queue}
-use Rattle.queue.specs.declared.Taken.{Taken}
 use Rattle.state.specs.Relay.{Relay, queueIn}
 use Rattle.relay.specs.Outgoing.{entered, enteredIf, enteredAll}
-use Rattle.history.proofs.Bits.{only-in}
+use Rattle.page.proofs.Bits.{only-in}
 
 -- the eight queues
 abbrev pub Eight : Relay → Type 0
 Eight r = length (r .mission .queues) ≡ 8
 
 -- ---- entering
-eight-case : (t : Bool) (r : Relay) (q : ℕ) (e : Entry) → Eight r → Eight (pick t r (entered r q e))
-eight-case true r q e h = h
-eight-case false r q e h = length-set (r .mission .queues) q _ ∙ h
-
 pub eight-entered : (took : ℕ) (e : Entry) (n : ℕ) (r : Relay) → Eight r → Eight (enteredAll r took e n)
 unfolding enteredAll enteredIf
 eight-entered took e zero r h = h
-eight-entered took e (suc q) r h = eight-case (eqb (bitAnd took (onlyPort q)) 0) (enteredAll r took e q) q e (eight-entered took e q r h)
+eight-entered took e (suc q) r h =
+    let l = eight-entered took e q r h in
+    either Eight (eqb (bitAnd took (onlyPort q)) 0) l (length-set (enteredAll r took e q .mission .queues) q _ ∙ l)
 
 module _ (p : ℕ) (inside : p < 8) (took : ℕ) (e : Entry) where
   -- another port's entry leaves the queue
-  other-case : (t : Bool) (r : Relay) (q : ℕ) → p ≢ q → queueIn (pick t r (entered r q e)) p ≡ queueIn r p
-  other-case true r q h = refl
-  other-case false r q h = getD-set-other (r .mission .queues) q p _ _ h
-
   other-port : (r : Relay) (q : ℕ) → p ≢ q → queueIn (enteredIf r took e q) p ≡ queueIn r p
   unfolding enteredIf
-  other-port r q h = other-case (eqb (bitAnd took (onlyPort q)) 0) r q h
+  other-port r q h =
+      either (λ (s : Relay). queueIn s p ≡ queueIn r p) (eqb (bitAnd took (onlyPort q)) 0) refl (getD-set-other (r .mission .queues) q p _ _ h)
 
   -- the port's own entry is put where it is in the set
   abbrev pub putIf : Queue → Queue

@@ -1,20 +1,19 @@
 -- Every state that a history reaches has good settings. The theorem is `reached`, at the end. Assumes nothing.
-use native.Mathlib.Omega.{arith}
 use Prim.Native.Nat.{ℕ, zero, suc, _<_}
 use mathlib.Core.Path.{_≡_, refl, sym, ap, _∙_}
-use mathlib.Core.Bool.{Bool, true, false, not, _&&_, _||_}
-use mathlib.Core.Logic.{_⊎_, inl, inr, ⊎-elim}
+use mathlib.Core.Bool.{Bool, true, false, not, _&&_}
 use mathlib.Core.List.{List, [], _∷_}
 use lib.Bits.{bitAnd}
 use lib.Dec.{eqb, ltb}
 use lib.ListN.{length, getD, set, length-set, getD-replicate}
 use lib.Seq.{getD-set-same, getD-set-other}
-use borrow.Author.Tests.{eqb-true, eqb-false, eq-eqb, lt-ltb, ltb-true}
-use Rattle.checks.specs.Order.{pick, Checks, firstOf, noneHolds}
-use Rattle.checks.proofs.Bools.{true-false, and-true, or-false}
-use Rattle.checks.proofs.Laws.{zero-none, none-zero}
+use borrow.Author.Tests.{eqb-true, eqb-false, lt-ltb, ltb-true}
+use Rattle.checks.specs.Order.{firstOf}
+use Rattle.checks.proofs.Bools.{true-false, and-true, or-false, not-false, and-not-false, and-not}
+use Rattle.checks.proofs.Laws.{either, none-zero}
 use Rattle.sets.specs.Sets.{inSet, onlyPort, portSet}
 use Rattle.settings.specs.Sets.{isReady, namesOther, setRefused}
+use Rattle.settings.proofs.Answers.{both-false}
 use Rattle.state.specs.Relay.{Relay, freshRelay, portIn, routeIn, groupIn, pathIn, queueIn, withRouter, withPort, withRoute, withGroup, withPath, portSetUp}
 use Rattle.records.specs.SetUp.{isSetUp}
 use Rattle.refusals.specs.Ready.{readySet}
@@ -29,59 +28,62 @@ use Rattle.routes.specs.declared.Route.{Route}
 use Rattle.address.specs.declared.Address.{Address}
 use Rattle.address.specs.declared.Mask.{Mask}
 use Rattle.address.specs.declared.PathAddress.{PathAddress}
-use Rattle.settings.specs.Refusals.{placeRefused, flagRefused}
-use Rattle.refusals.specs.Elsewhere.{routeElsewhere, groupElsewhere, pathElsewhere}
-use Rattle.refusals.specs.Lists.{entriesWait, portChecks, routeChecks, groupChecks, pathChecks, routerChecks, clearChecks}
-use Rattle.adjust.specs.Settled.{settled, newPort, newRoute, newGroup, newPath}
+use Rattle.refusals.specs.Lists.{portChecks, routeChecks, groupChecks, pathChecks}
+use Rattle.refusals.proofs.Chains.{decided}
+use Rattle.adjust.specs.Settled.{newPort, newRoute, newGroup, newPath}
 use Rattle.address.specs.declared.Slot.{Slot}
 use Rattle.queue.specs.Queue.{takeOf}
 use Rattle.queue.specs.declared.Entry.{Entry}
 use Rattle.queue.specs.declared.Head.{Head}
 use Rattle.queue.specs.declared.Head.the-variants.{First, Nothing}
 use Rattle.queue.specs.declared.Queue.{Queue}
-use Rattle.taking.specs.Taking.{without, takenState}
+use Rattle.taking.specs.Taking.{without, takenRelay}
 use Rattle.judge.specs.Ending.{endingOf}
 use Rattle.judge.specs.declared.Ending.{Ending}
-use Rattle.tally.specs.Tally.{Move, movesOf, countedAt, countedAll}
-use Rattle.tally.specs.declared.Counter.{Counter}
-use Rattle.tally.specs.declared.Counter.the-variants as counter
-use Rattle.relay.specs.Outgoing.{entered, enteredIf, enteredAll}
-use Rattle.relay.specs.Received.{newEntry, receivedState}
-use Rattle.history.specs.Calls.{Call, setRouter, setPort, setRoute, setGroup, setPath, clearRoute, clearGroup, clearPath, receives, takes, done, runFrom, relayAfter}
+use Rattle.relay.specs.Outgoing.{enteredIf, enteredAll}
+use Rattle.relay.specs.Received.{newEntry, receivedRelay}
+use Rattle.history.specs.Calls.{
+  Setting,
+  setRouter,
+  setPort,
+  setRoute,
+  setGroup,
+  setPath,
+  clearRoute,
+  clearGroup,
+  clearPath,
+  Call,
+  sets,
+  hears,
+  takes,
+  looks,
+  checksOf,
+  written,
+}
+use Rattle.history.specs.Outcome.{next, runFrom, relayAfter}
 use Rattle.history.specs.Reach.{Reached}
-use Rattle.history.proofs.Bits.{in-gathered}
+use Rattle.page.proofs.Bits.{in-gathered}
+use Rattle.history.proofs.Settled.{settle-keeps}
 
 -- ---- which ports are set up only grows
 abbrev Grows : ℕ → ℕ → Type 0
 Grows a b = (p : ℕ) → isReady p a ≡ true → isReady p b ≡ true
-
-refused-step : (s a b : Bool) → (a ≡ true → b ≡ true) → (s && not a) ≡ false → (s && not b) ≡ false
-refused-step true true b h e = rw (h refl)
-refused-step true false b h e = true-false e
-refused-step false a b h e = refl
-
-or-both : (t u : Bool) → t ≡ false → u ≡ false → (t || u) ≡ false
-or-both t u h k = simp (h, k)
 
 names-grows : (a b : ℕ) → Grows a b → (k s : ℕ) → namesOther k s a ≡ false → namesOther k s b ≡ false
 unfolding namesOther
 names-grows a b g zero s h = refl
 names-grows a b g (suc p) s h =
     let both = or-false (inSet p s && not (isReady p a)) (namesOther p s a) h in
-    or-both _ _ (refused-step (inSet p s) (isReady p a) (isReady p b) (g p) (both .0)) (names-grows a b g p s (both .1))
+    both-false _ _ (and-not (inSet p s) (isReady p b) (λ e. g p (and-not-false (inSet p s) (isReady p a) (both .0) e))) (names-grows a b g p s (both .1))
 
 set-grows : (a b : ℕ) → Grows a b → (s : ℕ) → setRefused s a ≡ false → setRefused s b ≡ false
 unfolding setRefused
 set-grows a b g s h = names-grows a b g 32 s h
 
-pub not-false-true : (t : Bool) → not t ≡ false → t ≡ true
-not-false-true true h = refl
-not-false-true false h = true-false h
-
 record-grows : (a b : ℕ) → Grows a b → (x : Route) → firstOf (recordChecks a x) ≡ 0 → firstOf (recordChecks b x) ≡ 0
 record-grows a b g x h =
-    let none = zero-none (recordChecks a x) ((λ z. omega arith), ((λ z. omega arith), ((λ z. omega arith), tt))) h in
-    let ready = g (x .port) (not-false-true (isReady (x .port) a) (none .0)) in
+    let none = decided (recordChecks a x) refl .0 .0 h in
+    let ready = g (x .port) (not-false (isReady (x .port) a) (none .0)) in
     none-zero (recordChecks b x) (ap not ready, none .1)
 
 -- a port is ready where it is set up
@@ -89,22 +91,9 @@ pub ready-is : (r : Relay) (p : ℕ) → p < 8 → isReady p (readySet r) ≡ is
 unfolding readySet
 ready-is r p h = simp (lt-ltb p 8 h) (in-gathered (λ (q : ℕ). isSetUp (portIn r q)) p 8 h)
 
-ready-case : (t a b : Bool) → (t ≡ true → a ≡ b) → (t && a) ≡ (t && b)
-ready-case true a b f = f refl
-ready-case false a b f = refl
-
--- What a setting tests of a port, in the set of those that are set up, is that the port is one of the eight and set up.
-pub ready-port : (r : Relay) (p : ℕ) → isReady p (readySet r) ≡ portSetUp r p
-unfolding portSetUp readySet
-ready-port r p =
-    ready-case (ltb p 8) (inSet p (readySet r)) (isSetUp (portIn r p)) (λ h. in-gathered (λ (q : ℕ). isSetUp (portIn r q)) p 8 (ltb-true p 8 h))
-
-ready-below : (r : Relay) (n : ℕ) → portSet (λ (q : ℕ). isSetUp (portIn r q)) n ≡ portSet (λ (p : ℕ). isSetUp (getD (r .ports) p freshPort)) n
-ready-below r n = refl
-
 ready-list : (r : Relay) → readySet r ≡ portSet (λ (p : ℕ). isSetUp (getD (r .ports) p freshPort)) 8
 unfolding readySet
-ready-list r = ready-below r 8
+ready-list r = refl
 
 ready-same : (r s : Relay) → s .ports ≡ r .ports → readySet s ≡ readySet r
 ready-same r s e =
@@ -114,11 +103,6 @@ same-grows : (a b : ℕ) → b ≡ a → Grows a b
 same-grows a b e p h = ap (isReady p) e ∙ h
 
 -- ---- what one part says, and how it is kept where ports only grow
-abbrev PortsGood : Relay → Type 0
-PortsGood r = (p : ℕ) → p < 8 → isSetUp (portIn r p) ≡ true
-    → (portClassRefused (portIn r p .address) ≡ false)
-    × ((portMaskRefused (portIn r p .address) (portIn r p .mask) ≡ false) × (mtuRefused (portIn r p .mtu) ≡ false))
-
 abbrev RouteGood : ℕ → Route → Type 0
 RouteGood ready x = isFilled x ≡ true → firstOf (recordChecks ready x) ≡ 0
 
@@ -146,8 +130,8 @@ module _ {A : Type 0} (P : A → Type 0) (d : A) (n : ℕ) where
       rw (ap (λ (k : ℕ). getD (set l i x) k d) same ∙ getD-set-same l i x d (rw (long, sym same) h)) new
   place-case l i x long new old j h false e = rw (getD-set-other l i j x d (eqb-false j i e)) (old j h)
 
-  written : (l : List A) (i : ℕ) (x : A) → length l ≡ n → P x → ((j : ℕ) → j < n → P (getD l j d)) → (j : ℕ) → j < n → P (getD (set l i x) j d)
-  written l i x long new old j h = place-case l i x long new old j h (eqb j i) refl
+  place-written : (l : List A) (i : ℕ) (x : A) → length l ≡ n → P x → ((j : ℕ) → j < n → P (getD l j d)) → (j : ℕ) → j < n → P (getD (set l i x) j d)
+  place-written l i x long new old j h = place-case l i x long new old j h (eqb j i) refl
 
 abbrev PortGood : Port → Type 0
 PortGood x = isSetUp x ≡ true
@@ -182,23 +166,9 @@ module _ (r s : Relay) (k : Kept r)
       }
 
 -- ---- settings
-pub numbered-five : (a b c d e : Bool) (l m n o q : ℕ) → (l ≡ 0 → ⊥) → (m ≡ 0 → ⊥) → (n ≡ 0 → ⊥) → (o ≡ 0 → ⊥) → (q ≡ 0 → ⊥)
-    → firstOf ((a, l) ∷ (b, m) ∷ (c, n) ∷ (d, o) ∷ (e, q) ∷ []) ≡ 0
-    → (a ≡ false) × ((b ≡ false) × ((c ≡ false) × ((d ≡ false) × (e ≡ false))))
-numbered-five a b c d e l m n o q zl zm zn zo zq h =
-    let none = zero-none ((a, l) ∷ (b, m) ∷ (c, n) ∷ (d, o) ∷ (e, q) ∷ []) (zl, (zm, (zn, (zo, (zq, tt))))) h in
-    (none .0, (none .1 .0, (none .1 .1 .0, (none .1 .1 .1 .0, none .1 .1 .1 .1 .0))))
-
-place-in : (p n : ℕ) → not (ltb p n) ≡ false → p < n
-place-in p n h = ltb-true p n (not-false-true (ltb p n) h)
-
 module _ (r : Relay) (k : Kept r) where
   -- a port written
   module _ (p : ℕ) (a : Address) (m : Mask) (u : ℕ) (taken : firstOf (portChecks r p a m u) ≡ 0) where
-    port-none : (placeRefused p 8 ≡ false) × ((portClassRefused a ≡ false) × ((portMaskRefused a m ≡ false) × ((mtuRefused u ≡ false) × (entriesWait r p ≡ false))))
-    port-none =
-        numbered-five _ _ _ _ _ 21 25 22 24 35 (λ z. omega arith) (λ z. omega arith) (λ z. omega arith) (λ z. omega arith) (λ z. omega arith) taken
-
     set-up-case : (q : ℕ) → q < 8 → isSetUp (portIn r q) ≡ true → (t : Bool) → eqb q p ≡ t → isSetUp (portIn (withPort r p (newPort a m u)) q) ≡ true
     set-up-case q h z true e =
         let same = eqb-true q p e in
@@ -217,7 +187,7 @@ module _ (r : Relay) (k : Kept r) where
     port-kept : Kept (withPort r p (newPort a m u))
     port-kept =
         let s = withPort r p (newPort a m u) in
-        let none = port-none in
+        let none = decided (portChecks r p a m u) refl .0 .0 taken in
         let new : PortGood (newPort a m u) = λ z. (none .1 .0, (none .1 .1 .0, none .1 .1 .1 .0)) in
         record {
           eight = length-set (r .ports) p (newPort a m u) ∙ k .eight;
@@ -226,7 +196,7 @@ module _ (r : Relay) (k : Kept r) where
           routes = k .routes;
           good =
               record {
-                ports = written PortGood freshPort 8 (r .ports) p (newPort a m u) (k .eight) new (k .good .ports);
+                ports = place-written PortGood freshPort 8 (r .ports) p (newPort a m u) (k .eight) new (k .good .ports);
                 routes = λ i h. route-kept (readySet r) (readySet s) port-grows (routeIn r i) (k .good .routes i h);
                 groups = λ i h. group-kept (readySet r) (readySet s) port-grows (groupIn r i) (k .good .groups i h);
                 paths = λ i h. path-kept (readySet r) (readySet s) port-grows (pathIn r i) (k .good .paths i h);
@@ -238,7 +208,7 @@ module _ (r : Relay) (k : Kept r) where
   route-written i x new =
       let s = withRoute r i x in
       let g = same-grows (readySet r) (readySet s) (ready-same r s refl) in
-      let all = written (RouteGood (readySet r)) emptyRoute 64 (r .routes) i x (k .routes) new (k .good .routes) in
+      let all = place-written (RouteGood (readySet r)) emptyRoute 64 (r .routes) i x (k .routes) new (k .good .routes) in
       record {
         eight = k .eight;
         groups = k .groups;
@@ -257,7 +227,7 @@ module _ (r : Relay) (k : Kept r) where
   group-written i x new =
       let s = withGroup r i x in
       let g = same-grows (readySet r) (readySet s) (ready-same r s refl) in
-      let all = written (GroupGood (readySet r)) freshGroup 16 (r .mission .groups) i x (k .groups) new (k .good .groups) in
+      let all = place-written (GroupGood (readySet r)) freshGroup 16 (r .mission .groups) i x (k .groups) new (k .good .groups) in
       record {
         eight = k .eight;
         groups = length-set (r .mission .groups) i x ∙ k .groups;
@@ -276,7 +246,7 @@ module _ (r : Relay) (k : Kept r) where
   path-written i x new =
       let s = withPath r i x in
       let g = same-grows (readySet r) (readySet s) (ready-same r s refl) in
-      let all = written (PathGood (readySet r)) freshPath 16 (r .mission .paths) i x (k .paths) new (k .good .paths) in
+      let all = place-written (PathGood (readySet r)) freshPath 16 (r .mission .paths) i x (k .paths) new (k .good .paths) in
       record {
         eight = k .eight;
         groups = k .groups;
@@ -294,30 +264,19 @@ module _ (r : Relay) (k : Kept r) where
   -- what the tests showed of a record that was taken
   route-new : (i : ℕ) (x : Route) → firstOf (routeChecks r i x) ≡ 0 → RouteGood (readySet r) x
   route-new i x taken z =
-      let none =
-      numbered-five _ _ _ _ _ 21 21 22 24 23 (λ z. omega arith) (λ z. omega arith) (λ z. omega arith) (λ z. omega arith) (λ z. omega arith) taken in
+      let none = decided (routeChecks r i x) refl .0 .0 taken in
       none-zero (recordChecks (readySet r) x) (none .1 .0, (none .1 .1 .0, (none .1 .1 .1 .0, tt)))
 
   group-new : (i : ℕ) (a : Address) (send subscribed : ℕ) → firstOf (groupChecks r i a send subscribed) ≡ 0
       → GroupGood (readySet r) (newGroup a send subscribed)
   group-new i a send subscribed taken z =
-      let none =
-      numbered-five _ _ _ _ _ 21 21 21 25 23 (λ z. omega arith) (λ z. omega arith) (λ z. omega arith) (λ z. omega arith) (λ z. omega arith) taken in
+      let none = decided (groupChecks r i a send subscribed) refl .0 .0 taken in
       (none .1 .1 .1 .0, (none .1 .0, none .1 .1 .0))
 
   path-new : (i : ℕ) (p : PathAddress) (send here : ℕ) → firstOf (pathChecks r i p send here) ≡ 0 → PathGood (readySet r) (newPath p send here)
   path-new i p send here taken z =
-      let none =
-      numbered-five _ _ _ _ _ 21 21 25 24 23 (λ z. omega arith) (λ z. omega arith) (λ z. omega arith) (λ z. omega arith) (λ z. omega arith) taken in
+      let none = decided (pathChecks r i p send here) refl .0 .0 taken in
       (none .1 .1 .0, none .1 .0)
-
-  -- taken, or refused and left as it was
-  settled-case : (t : Bool) (n : ℕ) (s : Relay) → eqb n 0 ≡ t → (n ≡ 0 → Kept s) → Kept (pick t s r)
-  settled-case true n s e f = f (eqb-true n 0 e)
-  settled-case false n s e f = k
-
-  settled-kept : (n : ℕ) (s : Relay) → (n ≡ 0 → Kept s) → Kept (settled n s r)
-  settled-kept n s f = settled-case (eqb n 0) n s refl f
 
 -- ---- datagrams leave the settings
 abbrev pub settingsOf : Relay → List Port × (List Group × (List PathPlace × List Route))
@@ -330,70 +289,55 @@ by-settings r s k e = same-kept r s k (ap (λ x. x .0) e) (ap (λ x. x .1 .0) e)
 abbrev pub madeOf : Relay → ℕ × (List Port × (List Group × (List PathPlace × List Route)))
 madeOf r = (r .router, settingsOf r)
 
-counted-case : (r : Relay) (c : Counter) (n : ℕ) → madeOf (countedAt r c n) ≡ madeOf r
-unfolding countedAt
-counted-case r (counter.At place) n = refl
-counted-case r counter.Nothing n = refl
-
-counted-made : (moves : List Move) (r : Relay) → madeOf (countedAll r moves) ≡ madeOf r
-counted-made [] r = refl
-counted-made (move ∷ moves) r = counted-made moves (countedAt r (move .0) (move .1)) ∙ counted-case r (move .0) (move .1)
-
-entered-case : (t : Bool) (r : Relay) (p : ℕ) (e : Entry) → madeOf (pick t r (entered r p e)) ≡ madeOf r
-entered-case true r p e = refl
-entered-case false r p e = refl
-
 entered-made : (took : ℕ) (e : Entry) (n : ℕ) (r : Relay) → madeOf (enteredAll r took e n) ≡ madeOf r
 unfolding enteredAll enteredIf
 entered-made took e zero r = refl
 entered-made took e (suc p) r =
-    entered-case (eqb (bitAnd took (onlyPort p)) 0) (enteredAll r took e p) p e ∙ entered-made took e p r
+    either (λ (s : Relay). madeOf s ≡ madeOf r) (eqb (bitAnd took (onlyPort p)) 0) (entered-made took e p r) (entered-made took e p r)
 
-pub received-made : (r : Relay) (slot : Slot) (e : Ending) → madeOf (receivedState r slot e) ≡ madeOf r
-unfolding receivedState
-received-made r slot e = entered-made (e .ruling .took) (newEntry slot e) 8 (countedAll r (movesOf e)) ∙ counted-made (movesOf e) r
+pub received-made : (r : Relay) (slot : Slot) (e : Ending) → madeOf (receivedRelay r slot e) ≡ madeOf r
+unfolding receivedRelay
+received-made r slot e = entered-made (e .ruling .took) (newEntry slot e) 8 r
 
-taken-case : (t : Bool) (r : Relay) (port : ℕ) (q : Queue) (h : Head) → madeOf (pick t r (without r port q h)) ≡ madeOf r
-taken-case true r port q h = refl
-taken-case false r port q (First e) = refl
-taken-case false r port q Nothing = refl
+without-made : (r : Relay) (port : ℕ) (q : Queue) (h : Head) → madeOf (without r port q h) ≡ madeOf r
+without-made r port q (First e) = refl
+without-made r port q Nothing = refl
 
-pub taken-made : (r : Relay) (port : ℕ) → madeOf (takenState r port) ≡ madeOf r
-unfolding takenState
-taken-made r port = taken-case (not (portSetUp r port)) r port (takeOf (queueIn r port) .queue) (takeOf (queueIn r port) .head)
+pub taken-made : (r : Relay) (port : ℕ) → madeOf (takenRelay r port) ≡ madeOf r
+unfolding takenRelay
+taken-made r port =
+    either (λ (s : Relay). madeOf s ≡ madeOf r) (not (portSetUp r port)) refl (without-made r port (takeOf (queueIn r port) .queue) (takeOf (queueIn r port) .head))
 
-pub received-settings : (r : Relay) (slot : Slot) (e : Ending) → settingsOf (receivedState r slot e) ≡ settingsOf r
+pub received-settings : (r : Relay) (slot : Slot) (e : Ending) → settingsOf (receivedRelay r slot e) ≡ settingsOf r
 received-settings r slot e = ap (λ x. x .1) (received-made r slot e)
 
-pub taken-settings : (r : Relay) (port : ℕ) → settingsOf (takenState r port) ≡ settingsOf r
+pub taken-settings : (r : Relay) (port : ℕ) → settingsOf (takenRelay r port) ≡ settingsOf r
 taken-settings r port = ap (λ x. x .1) (taken-made r port)
 
 -- ---- each call, and then all
-pub one-kept : (r : Relay) (c : Call) → Kept r → Kept (done r c)
-one-kept r (setRouter x) k = settled-kept r k (firstOf (routerChecks x)) (withRouter r x) (λ z. same-kept r (withRouter r x) k refl refl refl refl)
-one-kept r (setPort p a m u) k = settled-kept r k (firstOf (portChecks r p a m u)) (withPort r p (newPort a m u)) (port-kept r k p a m u)
-one-kept r (setRoute i prefix mask port availability capabilities) k =
+taken-kept : (r : Relay) (k : Kept r) (s : Setting) → firstOf (checksOf r s) ≡ 0 → Kept (written r s)
+taken-kept r k (setRouter x) z = same-kept r (withRouter r x) k refl refl refl refl
+taken-kept r k (setPort p a m u) z = port-kept r k p a m u z
+taken-kept r k (setRoute i prefix mask port availability capabilities) z =
     let x = newRoute prefix mask port availability capabilities in
-    settled-kept r k (firstOf (routeChecks r i x)) (withRoute r i x) (λ z. route-written r k i x (route-new r k i x z))
-one-kept r (setGroup i a send subscribed) k =
-    settled-kept r k (firstOf (groupChecks r i a send subscribed)) (withGroup r i (newGroup a send subscribed))
-    (λ z. group-written r k i (newGroup a send subscribed) (group-new r k i a send subscribed z))
-one-kept r (setPath i p send here) k =
-    settled-kept r k (firstOf (pathChecks r i p send here)) (withPath r i (newPath p send here))
-    (λ z. path-written r k i (newPath p send here) (path-new r k i p send here z))
-one-kept r (clearRoute i) k =
-    settled-kept r k (firstOf (clearChecks i 64)) (withRoute r i emptyRoute) (λ z. route-written r k i emptyRoute (λ h. true-false (sym h)))
-one-kept r (clearGroup i) k =
-    settled-kept r k (firstOf (clearChecks i 16)) (withGroup r i freshGroup) (λ z. group-written r k i freshGroup (λ h. true-false (sym h)))
-one-kept r (clearPath i) k =
-    settled-kept r k (firstOf (clearChecks i 16)) (withPath r i freshPath) (λ z. path-written r k i freshPath (λ h. true-false (sym h)))
-one-kept r (receives port slot octets output) k =
-    by-settings r (done r (receives port slot octets output)) k (received-settings r slot (endingOf r port octets (length output)))
-one-kept r (takes port) k = by-settings r (done r (takes port)) k (taken-settings r port)
+    route-written r k i x (route-new r k i x z)
+taken-kept r k (setGroup i a send subscribed) z = group-written r k i (newGroup a send subscribed) (group-new r k i a send subscribed z)
+taken-kept r k (setPath i p send here) z = path-written r k i (newPath p send here) (path-new r k i p send here z)
+taken-kept r k (clearRoute i) z = route-written r k i emptyRoute (λ h. true-false (sym h))
+taken-kept r k (clearGroup i) z = group-written r k i freshGroup (λ h. true-false (sym h))
+taken-kept r k (clearPath i) z = path-written r k i freshPath (λ h. true-false (sym h))
+
+pub one-kept : (r : Relay) (c : Call) → Kept r → Kept (next r c)
+one-kept r (sets s) k = settle-keeps Kept r s k (taken-kept r k s)
+one-kept r (hears port slot octets output) k =
+    let e = endingOf r port octets (length output) in
+    by-settings r (receivedRelay r slot e) k (received-settings r slot e)
+one-kept r (takes port) k = by-settings r (takenRelay r port) k (taken-settings r port)
+one-kept r (looks l) k = k
 
 all-kept : (cs : List Call) (r : Relay) → Kept r → Kept (runFrom r cs)
 all-kept [] r k = k
-all-kept (c ∷ cs) r k = all-kept cs (done r c) (one-kept r c k)
+all-kept (c ∷ cs) r k = all-kept cs (next r c) (one-kept r c k)
 
 pub fresh-kept : Kept freshRelay
 unfolding freshRelay

@@ -23,9 +23,10 @@ use Rattle.judge.specs.declared.ruling.Arrival.{Arrival}
 use Rattle.meaning.specs.Arrival.{arrivalChecks}
 use Rattle.judge.specs.Ending.{callChecks, headerEnding, octetsEnding, arrivalAt, endingOf}
 use Rattle.judge.specs.declared.Ending.{Ending}
-use Rattle.answers.specs.Answers.{partsOf, receiveNumber}
-use Rattle.answers.proofs.Digits.{partAt, six}
-use Rattle.history.specs.Answers.{Row, numbers, endings, entries, ended, receiveRows, listed, suits, stands}
+use Rattle.answers.specs.Answers.{partAt, partsOf, receiveNumber}
+use Rattle.answers.proofs.Digits.{six}
+use Rattle.history.specs.Answers.{Row, numbers, below, endings, entries, endingRows, listed, suits, stands}
+use Rattle.history.specs.Outcome.{ended}
 use Rattle.history.proofs.Refusals.{refused-grants-nothing}
 use Rattle.history.proofs.Listed.{every-ending-is-listed}
 use Rattle.history.proofs.Small.{sets-small}
@@ -59,6 +60,7 @@ listed-low (x ∷ xs) n h k =
 
 abbrev lowRow : Row → Bool
 lowRow (numbers ns) = true
+lowRow (below k) = true
 lowRow (endings refusals locals onwards sent) = allLow refusals && (allLow locals && allLow onwards)
 lowRow entries = true
 
@@ -72,6 +74,7 @@ module _ (refusal local onward took : ℕ) where
 
   row-low : (row : Row) → lowRow row ≡ true → suits row (ended refusal local onward took) ≡ true → Low
   row-low (numbers ns) h k = true-false cc
+  row-low (below m) h k = true-false cc
   row-low (endings refusals locals onwards sent) h k =
       let low = and-true (allLow refusals) (allLow locals && allLow onwards) h in
       let lows = and-true (allLow locals) (allLow onwards) (low .1) in
@@ -123,7 +126,7 @@ read-back r port octets room =
     let e = endingOf r port octets room in
     let x = e .ruling in
     let t = eqb (x .took) 0 in
-    let low = rows-low (e .refusal) (localNumber (x .local)) (onwardNumber (x .onward)) (x .took) receiveRows refl (every-ending-is-listed r port octets room) in
+    let low = rows-low (e .refusal) (localNumber (x .local)) (onwardNumber (x .onward)) (x .took) endingRows refl (every-ending-is-listed r port octets room) in
     let small = sets-small r port octets room in
     let short = ending-short r port octets room in
     let is : receiveNumber e ≡ partsOf (e .refusal) (localNumber (x .local)) (onwardNumber (x .onward)) (x .took) (x .dropped) (pick t 0 (e .size)) =

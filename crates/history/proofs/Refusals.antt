@@ -2,7 +2,7 @@
 use Prim.Native.Nat.{ℕ, zero, suc}
 use mathlib.Core.Path.{_≡_, refl, sym, ap, _∙_}
 use mathlib.Core.Bool.{Bool, true, false, not}
-use mathlib.Core.List.{List, []}
+use mathlib.Core.List.{List}
 use lib.ListN.{length}
 use lib.Bits.{bitAnd, and-zero-l}
 use lib.Dec.{eqb}
@@ -12,7 +12,6 @@ use Rattle.checks.proofs.Bools.{true-false}
 use Rattle.sets.specs.Sets.{onlyPort}
 use Rattle.address.specs.declared.Slot.{Slot}
 use Rattle.header.specs.Read.{readOf}
-use Rattle.header.specs.declared.Header.{Header}
 use Rattle.header.specs.declared.Read.{Read}
 use Rattle.header.specs.declared.Read.the-variants as read
 use Rattle.queue.specs.Queue.{takeOf}
@@ -23,17 +22,14 @@ use Rattle.queue.specs.declared.Queue.{Queue}
 use Rattle.state.specs.Relay.{Relay, queueIn, portSetUp}
 use Rattle.judge.specs.declared.ruling.Arrival.{Arrival}
 use Rattle.meaning.specs.Arrival.{arrivalChecks}
-use Rattle.taking.specs.Taking.{handsOut, without, takeOutcome, takenState}
+use Rattle.taking.specs.Taking.{handsOut, without, takeOutcome, takenRelay}
 use Rattle.judge.specs.Ending.{noRuling, refusedBy, ruledEnding, callChecks, headerEnding, octetsEnding, arrivalAt, endingOf}
 use Rattle.judge.specs.declared.Ending.{Ending}
-use Rattle.tally.specs.Tally.{movesOf, countedAll, counterFor}
+use Rattle.tally.specs.Tally.{movesOf, counterFor}
 use Rattle.relay.specs.Outgoing.{entered, enteredIf, enteredAll, sentOutput}
-use Rattle.relay.specs.Received.{newEntry, receivedState}
-use Rattle.taking.specs.declared.Taking.{Taking}
-use Rattle.taking.specs.declared.Taking.the-variants.{Handed, Refused}
-use Rattle.history.specs.Board.{boardOf}
-use Rattle.history.specs.Tally.{given}
-use Rattle.history.proofs.Boards.{counted-board}
+use Rattle.relay.specs.Received.{newEntry, receivedRelay}
+use Rattle.taking.specs.declared.Taking.the-variants.{Refused}
+use Rattle.history.specs.Tally.{sumAt}
 
 -- ---- a refusal has no ruling
 abbrev Bare : Ending → Type 0
@@ -73,12 +69,10 @@ nobody-enters e (suc p) r =
     nobody-case (eqb (bitAnd 0 (onlyPort p)) 0) s (entered s p e) (eq-eqb (bitAnd 0 (onlyPort p)) 0 (and-zero-l (onlyPort p)))
     ∙ nobody-enters e p r
 
-pub nobody-took : (r : Relay) (slot : Slot) (e : Ending) → e .ruling .took ≡ 0 → boardOf (receivedState r slot e) ≡ boardOf r
-unfolding receivedState
+pub nobody-took : (r : Relay) (slot : Slot) (e : Ending) → e .ruling .took ≡ 0 → receivedRelay r slot e ≡ r
+unfolding receivedRelay
 nobody-took r slot e h =
-    ap (λ (took : ℕ). boardOf (enteredAll (countedAll r (movesOf e)) took (newEntry slot e) 8)) h
-    ∙ ap boardOf (nobody-enters (newEntry slot e) 8 (countedAll r (movesOf e)))
-    ∙ counted-board (movesOf e) r
+    ap (λ (took : ℕ). enteredAll r took (newEntry slot e) 8) h ∙ nobody-enters (newEntry slot e) 8 r
 
 pub output-as-lent : (e : Ending) (octets lent : List ℕ) → e .ruling .took ≡ 0 → sentOutput (e .ruling .took) octets lent ≡ lent
 unfolding sentOutput
@@ -88,7 +82,7 @@ output-as-lent e octets lent h = rw h refl
 pub refused-leaves :
     (r : Relay) (port : ℕ) (slot : Slot) (octets output : List ℕ)
     → (endingOf r port octets (length output) .refusal ≡ 0 → ⊥)
-    → (boardOf (receivedState r slot (endingOf r port octets (length output))) ≡ boardOf r)
+    → (receivedRelay r slot (endingOf r port octets (length output)) ≡ r)
     × (sentOutput (endingOf r port octets (length output) .ruling .took) octets output ≡ output)
 refused-leaves r port slot octets output h =
     let e = endingOf r port octets (length output) in
@@ -96,7 +90,7 @@ refused-leaves r port slot octets output h =
     (nobody-took r slot e z, output-as-lent e octets output z)
 
 -- 16 and 17 move no counter.
-pub counts-nothing : (i : ℕ) → (given (refusedBy 16) i ≡ 0) × (given (refusedBy 17) i ≡ 0)
+pub counts-nothing : (i : ℕ) → (sumAt (movesOf (refusedBy 16)) i ≡ 0) × (sumAt (movesOf (refusedBy 17)) i ≡ 0)
 unfolding counterFor
 counts-nothing i = (refl, refl)
 
@@ -107,6 +101,6 @@ take-case true r port q h n e = refl
 take-case false r port q (First x) n e = true-false cc
 take-case false r port q Nothing n e = refl
 
-pub refused-take-leaves : (r : Relay) (port n : ℕ) → takeOutcome r port ≡ Refused n → takenState r port ≡ r
-unfolding takeOutcome takenState
+pub refused-take-leaves : (r : Relay) (port n : ℕ) → takeOutcome r port ≡ Refused n → takenRelay r port ≡ r
+unfolding takeOutcome takenRelay
 refused-take-leaves r port n e = take-case (not (portSetUp r port)) r port (takeOf (queueIn r port) .queue) (takeOf (queueIn r port) .head) n e

@@ -13,17 +13,18 @@ use lib.ListN.{length, getD}
 use borrow.Author.Tests.{eqb-true, eqb-false}
 use Rattle.checks.specs.Order.{noneHolds}
 use Rattle.checks.proofs.Bools.{true-false, and-true}
-use Rattle.checks.proofs.Laws.{zero-none}
 use Rattle.address.specs.Mask.{onesOf}
 use Rattle.address.specs.declared.Address.{Address}
-use Rattle.routes.specs.Routes.{emptyRoute, routeAt, isFilled, candidate, sameEntry}
+use Rattle.routes.specs.Routes.{emptyRoute, routeAt, isFilled, sameEntry}
 use Rattle.routes.specs.Search.{searchOf}
 use Rattle.routes.specs.declared.Route.{Route}
 use Rattle.routes.specs.declared.Found.the-variants.{At}
 use Rattle.routes.proofs.Longest.{Contiguous, Distinct, maskAt, CandidateAt, taken-contiguous, search-most-ones, search-only}
 use Rattle.refusals.specs.Ready.{readySet}
 use Rattle.refusals.specs.Record.{recordChecks}
-use Rattle.history.specs.Calls.{Call, relayAfter}
+use Rattle.refusals.proofs.Chains.{decided}
+use Rattle.history.specs.Calls.{Call}
+use Rattle.history.specs.Outcome.{relayAfter}
 use Rattle.history.proofs.Reach.{kept-after}
 use Rattle.history.proofs.Keys.{keys-unique}
 
@@ -50,8 +51,7 @@ module _ (cs : List Call) where
       → noneHolds (recordChecks (readySet (relayAfter cs)) (routeAt (relayAfter cs .routes) q)))
       64
       (λ q l h.
-      zero-none (recordChecks (readySet (relayAfter cs)) (routeAt (relayAfter cs .routes) q)) ((λ z. omega arith), ((λ z. omega arith), ((λ z. omega arith), tt)))
-      (kept-after cs .good .routes q l h))
+      decided (recordChecks (readySet (relayAfter cs)) (routeAt (relayAfter cs .routes) q)) refl .0 .0 (kept-after cs .good .routes q l h))
       (λ q g h. true-false (sym h ∙ ap isFilled (beyond q g)))
 
   pub masks-contiguous : Contiguous (relayAfter cs .routes)

@@ -1,16 +1,18 @@
--- What C reads of the answer of hj_search: page 02, W-202 ("the place number and its count of mask ones as well, and for no match a plain no"). Of any relay,
--- found is 0 exactly where the search says no. After any history nothing is cut: the parts are the place, the ones and the port of the entry taken, which is
--- the one with most ones among those that are up and match. Assumes nothing.
+-- What C reads of the answer of hj_search: page 02, W-202 ("the place number and its count of mask ones as well, and for no match a plain no"). The theorem
+-- is `search-names-the-longest`: after any history the answer is 0 exactly where no route that is up matches, and else names the one with most ones; of no
+-- other number is that so (`one-answer-only`). Beside it: of any relay, found is 0 exactly where the search says no; after any history nothing is cut, since
+-- the parts are the place, the ones and the port of the entry taken. Assumes nothing.
 use native.Mathlib.Omega.{arith}
-use native.Mathlib.Nat.{div-eq-of-lt, mod-eq-of-lt}
+use native.Mathlib.Nat.{div-eq-of-lt, mod-eq-of-lt, le-antisymm, div-div-eq-div-mul}
 use Prim.Native.Nat.{ℕ, _+_, _*_, _/_, _%_, _^_, _≤_, _<_}
 use mathlib.Core.Path.{_≡_, refl, sym, ap, subst, _∙_}
 use mathlib.Core.Logic.{_↔_}
-use mathlib.Core.Bool.{true}
+use mathlib.Core.Bool.{Bool, true, false}
 use mathlib.Core.List.{List}
 use lib.Bits.{bitAnd, and-zero-r}
-use borrow.Author.Tests.{ltb-true}
-use Rattle.checks.proofs.Bools.{true-false, and-true}
+use lib.Dec.{eqb}
+use borrow.Author.Tests.{eqb-true, eqb-false, ltb-true}
+use Rattle.checks.proofs.Bools.{true-false, and-true, not-false}
 use Rattle.address.specs.Mask.{onesOf}
 use Rattle.address.proofs.Ones.{ones-at-most}
 use Rattle.address.proofs.Masks.{mask-ones}
@@ -22,45 +24,16 @@ use Rattle.routes.specs.declared.Found.{Found}
 use Rattle.routes.specs.declared.Found.the-variants.{At, No}
 use Rattle.routes.proofs.Candidates.{candidate-is}
 use Rattle.routes.proofs.Prefixes.{prefix-form}
-use Rattle.routes.proofs.Longest.{CandidateAt, maskAt, search-found, search-is}
-use Rattle.state.specs.Relay.{Relay}
+use Rattle.routes.proofs.Longest.{CandidateAt, maskAt, search-found, search-no, search-is}
+use Rattle.state.specs.Relay.{Relay, routeIn}
 use Rattle.settings.specs.Sets.{isReady}
-use Rattle.answers.proofs.Digits.{digit, partAt}
+use Rattle.answers.proofs.Digits.{digit}
 use Rattle.harpjuniper_reads.specs.Search.{searchParts, foundNumber, searchAnswer}
-use Rattle.history.specs.Calls.{Call, relayAfter}
-use Rattle.history.proofs.Reach.{not-false-true, kept-after}
+use Rattle.history.specs.Calls.{Call}
+use Rattle.history.specs.Outcome.{relayAfter}
+use Rattle.history.specs.SearchBack.{isFound, foundPlace, foundOnes, foundPort, Named, Longest, LongestOrNo}
+use Rattle.history.proofs.Reach.{kept-after}
 use Rattle.history.proofs.Search.{good-record, taken-has-most-ones, taken-is-the-only}
-
--- ---- the accessors: hj_is_found, hj_found_place, hj_found_ones and hj_found_port; hj_found_refusal reads the part at 0
-abbrev pub isFound : ℕ → ℕ
-isFound n = partAt 8 n
-
-abbrev pub foundPlace : ℕ → ℕ
-foundPlace n = n / 2 ^ 16 % 2 ^ 16
-
-abbrev pub foundOnes : ℕ → ℕ
-foundOnes n = partAt 32 n
-
-abbrev pub foundPort : ℕ → ℕ
-foundPort n = partAt 40 n
-
--- an entry is named by its place, its ones and its port
-pub record Named (n place ones port : ℕ) : Type 0 where
-  pub refusal : partAt 0 n ≡ 0
-  pub found : isFound n ≡ 1
-  pub place-read : foundPlace n ≡ place
-  pub ones-read : foundOnes n ≡ ones
-  pub port-read : foundPort n ≡ port
-  -- the sixteen bits above are 0
-  pub above : n / 2 ^ 48 ≡ 0
-
--- of the routes that are up and match an address, the one that an answer names is the longest
-pub record Longest (a : Address) (rs : List Route) (n : ℕ) : Type 0 where
-  pub matches : CandidateAt a rs (foundPlace n)
-  pub ones : foundOnes n ≡ onesOf (maskAt rs (foundPlace n))
-  pub port : foundPort n ≡ routeAt rs (foundPlace n) .port
-  pub most : (q : ℕ) → CandidateAt a rs q → onesOf (maskAt rs q) ≤ foundOnes n
-  pub only : (q : ℕ) → CandidateAt a rs q → onesOf (maskAt rs q) ≡ foundOnes n → q ≡ foundPlace n
 
 -- Each part is read modulo its width, whatever the route is.
 pub named-cut : (place ones port : ℕ) → Named (searchParts 1 place ones port) (place % 2 ^ 16) (ones % 2 ^ 8) (port % 2 ^ 8)
@@ -110,6 +83,17 @@ pub no-is-zero : (r : Relay) (a : Address) → searchOf a (r .routes) ≡ No →
 unfolding searchAnswer
 no-is-zero r a e = ap foundNumber e
 
+-- The answer is 0 exactly where no place holds a route that is filled, up and a match.
+zero-is-no : (r : Relay) (a : Address) → (searchAnswer r a ≡ 0) ↔ ((q : ℕ) → candidate (routeIn r q) a ≡ false)
+zero-is-no r a = (
+  λ e. search-no a (r .routes) .0 (found-is-no r a .0 (ap isFound e)),
+  λ none. no-is-zero r a (search-no a (r .routes) .1 none),
+)
+
+-- n names an entry by its own parts
+abbrev Told : ℕ → Type 0
+Told n = Named n (foundPlace n) (foundOnes n) (foundPort n)
+
 -- ---- the entry taken, after any history
 -- the port of a route that stands in a place is one of the eight
 port-low : (p : ℕ) (ready : ℕ) → isReady p ready ≡ true → p < 8
@@ -127,7 +111,7 @@ module _ (cs : List Call) (a : Address) where
       let filled = candidate-is r a .0 (taken .2) .0 in
       let good = good-record cs p (ap isFilled (sym (taken .1)) ∙ filled) .0 in
       let port : r .port < 8 =
-      subst (λ (x : Route). x .port < 8) (sym (taken .1)) (port-low _ _ (not-false-true _ good))
+      subst (λ (x : Route). x .port < 8) (sym (taken .1)) (port-low _ _ (not-false _ good))
       in
       let is : searchAnswer (relayAfter cs) a ≡ searchParts 1 p n (r .port) = ap foundNumber e in
       (rw is (named-whole p n (r .port) (omega arith) (omega arith) (omega arith)), (place, (ones, port)))
@@ -174,3 +158,47 @@ module _ (cs : List Call) (a : Address) where
       in
       let ones : onesOf (maskAt rs p) ≡ 0 = ap onesOf mask ∙ mask-ones 0 (omega arith) in
       subst (λ (n : ℕ). Named (searchAnswer (relayAfter cs) a) p n (routeAt rs p .port)) ones (search-read-back found .0)
+
+  -- All in one: 0 exactly where no route that is up matches, else the entry with most ones.
+  pub search-names-the-longest : LongestOrNo (relayAfter cs) a (searchAnswer (relayAfter cs) a)
+  search-names-the-longest = record { no = zero-is-no (relayAfter cs) a; named = told; longest = λ h. names-the-longest (told h .found) }
+    where
+      by-answer : (f : Found) → searchOf a (relayAfter cs .routes) ≡ f → (searchAnswer (relayAfter cs) a ≡ 0 → ⊥)
+          → Told (searchAnswer (relayAfter cs) a)
+      by-answer No e h = absurd (h (no-is-zero (relayAfter cs) a e))
+      by-answer (At p n r) e h =
+          let back = search-read-back e .0 in
+          record { refusal = back .refusal; found = back .found; place-read = refl; ones-read = refl; port-read = refl; above = back .above }
+
+      told : (searchAnswer (relayAfter cs) a ≡ 0 → ⊥) → Told (searchAnswer (relayAfter cs) a)
+      told = by-answer (searchOf a (relayAfter cs .routes)) refl
+
+-- ---- one number alone says that of a relay and an address
+-- a number that names an entry by its own parts is those parts put together
+told-whole : (n : ℕ) → Told n → n ≡ 2 ^ 8 + foundPlace n * 2 ^ 16 + foundOnes n * 2 ^ 32 + foundPort n * 2 ^ 40
+told-whole n t =
+    let after-refusal : n ≡ n / 2 ^ 8 * 2 ^ 8 = omega (arith, t .refusal) in
+    let after-found : n / 2 ^ 8 ≡ n / 2 ^ 16 * 2 ^ 8 + 1 = omega (arith, t .found, div-div-eq-div-mul n (2 ^ 8) (2 ^ 8)) in
+    let after-place : n / 2 ^ 16 ≡ n / 2 ^ 32 * 2 ^ 16 + foundPlace n = omega (arith, div-div-eq-div-mul n (2 ^ 16) (2 ^ 16)) in
+    let after-ones : n / 2 ^ 32 ≡ n / 2 ^ 40 * 2 ^ 8 + foundOnes n = omega (arith, div-div-eq-div-mul n (2 ^ 32) (2 ^ 8)) in
+    let after-port : n / 2 ^ 40 ≡ foundPort n = omega (arith, t .above, div-div-eq-div-mul n (2 ^ 40) (2 ^ 8)) in
+    omega (arith, after-refusal, after-found, after-place, after-ones, after-port)
+
+module _ (r : Relay) (a : Address) (m n : ℕ) (x : LongestOrNo r a m) (y : LongestOrNo r a n) where
+  both-named : (m ≡ 0 → ⊥) → (n ≡ 0 → ⊥) → m ≡ n
+  both-named some other =
+      let mine = x .longest some in
+      let its = y .longest other in
+      let ones : foundOnes m ≡ foundOnes n =
+      le-antisymm (rw (mine .ones) (its .most (foundPlace m) (mine .matches))) (rw (its .ones) (mine .most (foundPlace n) (its .matches))) in
+      let place : foundPlace m ≡ foundPlace n = its .only (foundPlace m) (mine .matches) (sym (mine .ones) ∙ ones) in
+      let port : foundPort m ≡ foundPort n = mine .port ∙ ap (λ (q : ℕ). routeIn r q .port) place ∙ sym (its .port) in
+      omega (arith, told-whole m (x .named some), told-whole n (y .named other), place, ones, port)
+
+  -- So the theorem leaves no choice of an answer.
+  pub one-answer-only : m ≡ n
+  one-answer-only = by (eqb m 0) refl
+    where
+      by : (t : Bool) → eqb m 0 ≡ t → m ≡ n
+      by true e = let none = eqb-true m 0 e in none ∙ sym (y .no .1 (x .no .0 none))
+      by false e = let some = eqb-false m 0 e in both-named some (λ none. some (x .no .1 (y .no .0 none)))

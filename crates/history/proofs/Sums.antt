@@ -1,77 +1,105 @@
--- Demand 3 for the counters that the customer names, over whole histories: each is a count of the history's datagrams or copies. Assumes nothing.
+-- Demand 3 for every counter in the customer's words, over whole histories: each is a count of the history's datagrams or copies. The refusal, the two
+-- halves and the dropped copies of an ending give to different counters, so each is compared with the page's table by itself. Assumes nothing.
 use native.Mathlib.Omega.{arith}
-use native.Mathlib.Nat.{div-eq-of-lt, mod-lt}
-use Prim.Native.Nat.{ℕ, zero, suc, _/_, _%_, _^_, _<_, _≤_}
+use native.Mathlib.Nat.{add-zero, zero-add, div-eq-of-lt, mod-lt}
+use Prim.Native.Nat.{ℕ, zero, suc, _+_, _/_, _%_, _^_, _<_, _≤_}
 use mathlib.Core.Path.{_≡_, refl, sym, ap, _∙_}
-use mathlib.Core.Bool.{Bool, true, false, not, _&&_, _||_}
+use mathlib.Core.Bool.{Bool, true, false, not, _||_, and-false}
 use mathlib.Core.List.{List, [], _∷_}
-use lib.ListN.{length}
+use lib.ListN.{length, getD}
 use lib.Dec.{eqb}
 use lib.Pow.{pow-mono}
 use borrow.Author.Tests.{eqb-true}
 use Rattle.checks.specs.Order.{pick}
 use Rattle.checks.proofs.Bools.{true-false}
 use Rattle.address.specs.Mask.{onesBelow, onesOf}
-use Rattle.state.specs.Relay.{Relay, counterIn}
+use Rattle.state.specs.Relay.{Relay, freshRelay, counterIn}
 use Rattle.verdict.specs.Numbers.{localNumber, onwardNumber}
+use Rattle.verdict.specs.declared.Local.{Local}
+use Rattle.verdict.specs.declared.Local.the-variants.{No, Delivered, Unknown}
+use Rattle.verdict.specs.declared.Onward.{Onward}
+use Rattle.verdict.specs.declared.Onward.the-variants as onward
 use Rattle.judge.specs.Ending.{endingOf}
-use Rattle.judge.specs.declared.Ending.{Ending}
-use Rattle.history.specs.Calls.{Call, setRouter, setPort, setRoute, setGroup, setPath, clearRoute, clearGroup, clearPath, receives, takes, relayAfter}
-use Rattle.history.specs.Board.{Board, onBoard, freshBoard, next}
-use Rattle.history.specs.Over.{byEnding, sumOver}
-use Rattle.history.specs.Tally.{given, givenBy, tallyFrom}
+use Rattle.taking.specs.Taking.{takeOutcome}
+use Rattle.taking.specs.declared.Taking.{Taking}
+use Rattle.taking.specs.declared.Taking.the-variants.{Handed, Refused}
+use Rattle.tally.specs.declared.Counter.the-variants.{At, Nothing}
+use Rattle.tally.specs.Tally.{Move, receiptCounter, counterFor, localCounter, onwardCounter, discardCounter, movesOf}
+use Rattle.history.specs.Calls.{Call, sets, hears, takes, looks}
+use Rattle.history.specs.Outcome.{ended, Outcome, ofEnding, ofTaking, outcome, next, sumFrom, sumOver}
+use Rattle.history.specs.Answers.{endingRows, listed, stands}
+use Rattle.history.specs.Tally.{sumAt, stateAfter}
 use Rattle.history.specs.Ledger.{one}
-use Rattle.history.specs.Sums.{receipt, delivery, forwarded, portsIn, drops, totalOver}
-use Rattle.history.specs.Answers.{ended, receiveRows, stands}
+use Rattle.history.specs.Sums.{portsIn, counted, givenBy}
 use Rattle.history.proofs.Counters.{counters}
-use Rattle.history.proofs.Named.{receives-counted, delivers-counted, forwards-counted, discards-counted}
-use Rattle.history.proofs.Listed.{every-ending-is-listed}
+use Rattle.history.proofs.Listed.{endNumbers, end-listed, each-obstacle, every-ending-is-listed}
 use Rattle.history.proofs.Small.{sets-small}
 
--- ---- a counter that each ending gives f of it is the total of f
-module _ (i : ℕ) (f : Ending → ℕ)
-    (each : (r : Relay) (port : ℕ) (octets output : List ℕ) → given (endingOf r port octets (length output)) i ≡ f (endingOf r port octets (length output))) where
-  one-call : (b : Board) (c : Call) → givenBy b c i ≡ byEnding f b c
-  one-call b (setRouter x) = refl
-  one-call b (setPort p address mask mtu) = refl
-  one-call b (setRoute place prefix mask port availability capabilities) = refl
-  one-call b (setGroup place address send subscribed) = refl
-  one-call b (setPath place path send here) = refl
-  one-call b (clearRoute place) = refl
-  one-call b (clearGroup place) = refl
-  one-call b (clearPath place) = refl
-  one-call b (receives port slot octets output) = each (onBoard b) port octets output
-  one-call b (takes port) = refl
+-- ---- fifteen numbers, one for each counter
+abbrev tabled : ℕ → (ℕ → ℕ) → List ℕ
+tabled zero f = []
+tabled (suc n) f = f 0 ∷ tabled n (λ i. f (suc i))
 
-  all-calls : (cs : List Call) (b : Board) → tallyFrom b cs i ≡ sumOver (byEnding f) b cs
-  all-calls [] b = refl
-  all-calls (c ∷ cs) b = rw (one-call b c, all-calls cs (next b c))
+tabled-at : (n : ℕ) (f : ℕ → ℕ) (i : ℕ) → i < n → getD (tabled n f) i 0 ≡ f i
+tabled-at zero f i h = absurd (omega arith)
+tabled-at (suc n) f zero h = refl
+tabled-at (suc n) f (suc i) h = tabled-at n (λ j. f (suc j)) i (omega arith)
 
-  totalled : i < 15 → (cs : List Call) → counterIn (relayAfter cs) i ≡ totalOver f cs % 2 ^ 32
-  totalled inside cs = counters i inside cs ∙ ap (λ (n : ℕ). n % 2 ^ 32) (all-calls cs freshBoard)
+-- what moves give the fifteen
+abbrev given : List Move → List ℕ
+given moves = tabled 15 (sumAt moves)
 
--- npInReceives is the number of receives that did not end in 16 or 17.
-receipt-case : (t : Bool) → _≡_ {A = ℕ} (pick t 0 1) (one (not t))
-receipt-case true = refl
-receipt-case false = refl
+-- ---- what is written of each part of an ending: of a half and of the copies with 16, which counts nothing
+abbrev ofRefusal : ℕ → List ℕ
+ofRefusal n = counted (ended n 0 0 0) 0
 
-receipts : (e : Ending) → given e 0 ≡ receipt e
-receipts e = receives-counted e ∙ receipt-case (eqb (e .refusal) 16 || eqb (e .refusal) 17)
+abbrev ofLocal : ℕ → List ℕ
+ofLocal local = counted (ended 16 local 0 0) 0
 
-pub receives-sum : (cs : List Call) → counterIn (relayAfter cs) 0 ≡ totalOver receipt cs % 2 ^ 32
-receives-sum = totalled 0 receipt (λ r port octets output. receipts (endingOf r port octets (length output))) (omega arith)
+abbrev ofOnward : ℕ → ℕ → List ℕ
+ofOnward onward took = counted (ended 16 0 onward took) 0
 
--- npInDelivers is the number of datagrams that were delivered.
-pub delivers-sum : (cs : List Call) → counterIn (relayAfter cs) 8 ≡ totalOver delivery cs % 2 ^ 32
-delivers-sum = totalled 8 delivery (λ r port octets output. delivers-counted (endingOf r port octets (length output))) (omega arith)
+abbrev ofDropped : ℕ → List ℕ
+ofDropped copies = counted (ended 16 0 0 0) copies
+
+abbrev together : ℕ → ℕ → ℕ → ℕ → ℕ → ℕ → ℕ
+together n local onward took copies i =
+    getD (ofRefusal n) i 0 + (getD (ofLocal local) i 0 + (getD (ofOnward onward took) i 0 + getD (ofDropped copies) i 0))
+
+-- the parts give to different counters
+parts : (n local onward took copies : ℕ) → tabled 15 (together n local onward took copies) ≡ counted (ended n local onward took) copies
+parts n local onward took copies = simp (add-zero, zero-add)
+
+-- ---- the refusal is one of the page's numbers
+-- what holds of each number of a list holds of one that is listed
+abbrev AllOf : (ℕ → Type 0) → List ℕ → Type 0
+AllOf P [] = Unit
+AllOf P (x ∷ xs) = P x × AllOf P xs
+
+first-or : (P : ℕ → Type 0) (x n : ℕ) (t u : Bool) → eqb n x ≡ t → P x → (u ≡ true → P n) → (t || u) ≡ true → P n
+first-or P x n true u e first others h = rw (eqb-true n x e) first
+first-or P x n false u e first others h = others h
+
+of-listed : (P : ℕ → Type 0) (xs : List ℕ) (n : ℕ) → AllOf P xs → listed xs n ≡ true → P n
+of-listed P [] n all h = true-false (sym h)
+of-listed P (x ∷ xs) n all h = first-or P x n (eqb n x) (listed xs n) refl (all .0) (of-listed P xs n (all .1)) h
+
+refusal-part : (n : ℕ) → listed endNumbers n ≡ true → given ((receiptCounter n, 1) ∷ (counterFor n, 1) ∷ []) ≡ ofRefusal n
+unfolding counterFor
+refusal-part n =
+    of-listed (λ (m : ℕ). given ((receiptCounter m, 1) ∷ (counterFor m, 1) ∷ []) ≡ ofRefusal m) endNumbers n
+    (refl, (refl, (refl, (refl, (refl, (refl, (refl, (refl, (refl, (refl, (refl, tt)))))))))))
+
+-- ---- the local half
+local-part : (l : Local) → given ((localCounter l, 1) ∷ []) ≡ ofLocal (localNumber l)
+unfolding counterFor
+local-part No = refl
+local-part Delivered = refl
+local-part Unknown = refl
 
 -- ---- 1 stands in the onward half where a port took an entry, and only there
-and-false : (t : Bool) → (t && false) ≡ false
-and-false true = refl
-and-false false = refl
-
 sent-case : (refusal local onward took : ℕ) (t u : Bool) → eqb took 0 ≡ t → eqb onward 1 ≡ u
-    → stands receiveRows (ended refusal local onward took) ≡ true → u ≡ not t
+    → stands endingRows (ended refusal local onward took) ≡ true → u ≡ not t
 sent-case refusal local onward took true true h k s =
     let z : onward ≡ 1 = eqb-true onward 1 k in
     true-false (sym (simp (z, h, and-false) at s))
@@ -79,17 +107,22 @@ sent-case refusal local onward took true false h k s = refl
 sent-case refusal local onward took false true h k s = refl
 sent-case refusal local onward took false false h k s = true-false (sym (simp (k, h, and-false) at s))
 
-forwards : (r : Relay) (port : ℕ) (octets output : List ℕ) → given (endingOf r port octets (length output)) 10 ≡ forwarded (endingOf r port octets (length output))
-forwards r port octets output =
-    let e = endingOf r port octets (length output) in
+pub sent-where-taken : (r : Relay) (port : ℕ) (octets : List ℕ) (room : ℕ)
+    → eqb (onwardNumber (endingOf r port octets room .ruling .onward)) 1 ≡ not (eqb (endingOf r port octets room .ruling .took) 0)
+sent-where-taken r port octets room =
+    let e = endingOf r port octets room in
     let x = e .ruling in
-    forwards-counted e
-    ∙ ap one (sent-case (e .refusal) (localNumber (x .local)) (onwardNumber (x .onward)) (x .took) (eqb (x .took) 0) (eqb (onwardNumber (x .onward)) 1) refl refl
-    (every-ending-is-listed r port octets (length output)))
+    sent-case (e .refusal) (localNumber (x .local)) (onwardNumber (x .onward)) (x .took) (eqb (x .took) 0) (eqb (onwardNumber (x .onward)) 1) refl refl
+    (every-ending-is-listed r port octets room)
 
--- npForwDatagrams is the number of datagrams that some port took, not of their copies.
-pub forwards-sum : (cs : List Call) → counterIn (relayAfter cs) 10 ≡ totalOver forwarded cs % 2 ^ 32
-forwards-sum = totalled 10 forwarded forwards (omega arith)
+-- ---- the onward half
+onward-part : (x : Onward) (took : ℕ) → eqb (onwardNumber x) 1 ≡ not (eqb took 0) → given ((onwardCounter x, 1) ∷ []) ≡ ofOnward (onwardNumber x) took
+unfolding counterFor
+onward-part onward.NotAsked took h = rw (← h)
+onward-part onward.SentOn took h = rw (← h)
+onward-part (onward.Refused o) took h =
+    each-obstacle (λ (n : ℕ). eqb n 1 ≡ not (eqb took 0) → given ((counterFor n, 1) ∷ []) ≡ ofOnward n took)
+    ((λ k. rw (← k)), ((λ k. rw (← k)), ((λ k. rw (← k)), ((λ k. rw (← k)), ((λ k. rw (← k)), (λ k. rw (← k))))))) o h
 
 -- ---- the ones of a set of the eight ports are its ports
 bit-case : (b : ℕ) → b < 2 → one (eqb b 1) ≡ b
@@ -122,11 +155,58 @@ module _ (set : ℕ) (small : set < 256) where
   unfolding onesOf
   ones-eight = all-more 24 8 (omega arith) (ones-ports 8 set)
 
-discards : (r : Relay) (port : ℕ) (octets output : List ℕ) → given (endingOf r port octets (length output)) 12 ≡ drops (endingOf r port octets (length output))
-discards r port octets output =
-    let e = endingOf r port octets (length output) in
-    discards-counted e ∙ ones-eight (e .ruling .dropped) (sets-small r port octets (length output) .dropped)
+discard-case : (t : Bool) (n : ℕ) → (t ≡ true → n ≡ 0) → given ((pick t Nothing (At 12), n) ∷ []) ≡ ofDropped n
+discard-case true n z = rw (z refl) refl
+discard-case false n z = simp (add-zero)
 
--- npOutDiscards is the number of copies that were dropped, each port's copy counted.
-pub discards-sum : (cs : List Call) → counterIn (relayAfter cs) 12 ≡ totalOver drops cs % 2 ^ 32
-discards-sum = totalled 12 drops discards (omega arith)
+discard-part : (set : ℕ) → set < 256 → given ((discardCounter set, onesOf set) ∷ []) ≡ ofDropped (portsIn 8 set)
+discard-part set small =
+    rw (ones-eight set small) (discard-case (eqb set 0) (portsIn 8 set) (λ z. ap (portsIn 8) (eqb-true set 0 z)))
+
+-- ---- one call
+module _ (i : ℕ) (inside : i < 15) where
+  part-at : (moves : List Move) (l : List ℕ) → given moves ≡ l → sumAt moves i ≡ getD l i 0
+  part-at moves l e = sym (tabled-at 15 (sumAt moves) i inside) ∙ ap (λ (x : List ℕ). getD x i 0) e
+
+  parts-at : (n local onward took copies : ℕ) → together n local onward took copies i ≡ getD (counted (ended n local onward took) copies) i 0
+  parts-at n local onward took copies =
+      sym (tabled-at 15 (together n local onward took copies) i inside)
+      ∙ ap (λ (x : List ℕ). getD x i 0) (parts n local onward took copies)
+
+  ending-gives : (r : Relay) (port : ℕ) (octets : List ℕ) (room : ℕ)
+      → sumAt (movesOf (endingOf r port octets room)) i ≡ givenBy i (ofEnding (endingOf r port octets room))
+  ending-gives r port octets room =
+      let e = endingOf r port octets room in
+      let x = e .ruling in
+      let n = localNumber (x .local) in
+      let m = onwardNumber (x .onward) in
+      omega (
+        arith,
+        part-at ((receiptCounter (e .refusal), 1) ∷ (counterFor (e .refusal), 1) ∷ []) _ (refusal-part (e .refusal) (end-listed r port octets room)),
+        part-at ((localCounter (x .local), 1) ∷ []) _ (local-part (x .local)),
+        part-at ((onwardCounter (x .onward), 1) ∷ []) _ (onward-part (x .onward) (x .took) (sent-where-taken r port octets room)),
+        part-at ((discardCounter (x .dropped), onesOf (x .dropped)) ∷ []) _ (discard-part (x .dropped) (sets-small r port octets room .dropped)),
+        parts-at (e .refusal) n m (x .took) (portsIn 8 (x .dropped)),
+      )
+
+  taking-gives : (p : ℕ) (x : Taking) → sumAt (ofTaking p x .moves) i ≡ givenBy i (ofTaking p x)
+  taking-gives p (Handed e) = refl
+  taking-gives p (Refused n) = refl
+
+  one-call : (r : Relay) (c : Call) → sumAt (outcome r c .moves) i ≡ givenBy i (outcome r c)
+  one-call r (sets s) = refl
+  one-call r (hears port slot octets output) = ending-gives r port octets (length output)
+  one-call r (takes port) = taking-gives port (takeOutcome r port)
+  one-call r (looks l) = refl
+
+  all-calls : (cs : List Call) (r : Relay) → sumFrom (λ (o : Outcome). sumAt (o .moves) i) r cs ≡ sumFrom (givenBy i) r cs
+  all-calls [] r = refl
+  all-calls (c ∷ cs) r = rw (one-call r c, all-calls cs (next r c))
+
+-- What a call moves counter i by is what the page's table says of its outcome.
+pub moves-as-written : (r : Relay) (c : Call) (i : ℕ) → i < 15 → sumAt (outcome r c .moves) i ≡ givenBy i (outcome r c)
+moves-as-written r c i inside = one-call i inside r c
+
+-- After any history counter i is the sum of what the page's table says of each outcome, modulo 2^32.
+pub counted-as-written : (i : ℕ) → i < 15 → (cs : List Call) → counterIn (stateAfter cs .counters) i ≡ sumOver (givenBy i) cs % 2 ^ 32
+counted-as-written i inside cs = counters i inside cs ∙ ap (λ (n : ℕ). n % 2 ^ 32) (all-calls i inside cs freshRelay)

@@ -3,16 +3,14 @@ use native.Mathlib.Omega.{arith}
 use native.Mathlib.Nat.{eq-or-lt-of-le}
 use Prim.Native.Nat.{ℕ, zero, suc, _≤_, _<_}
 use mathlib.Core.Path.{_≡_, refl, sym, ap, _∙_}
-use mathlib.Core.Bool.{Bool, true, false, not, _&&_, _||_}
-use mathlib.Core.Logic.{_⊎_, inl, inr, ⊎-elim}
+use mathlib.Core.Bool.{Bool, true, false, not, _&&_}
+use mathlib.Core.Logic.{⊎-elim}
 use mathlib.Core.List.{List}
 use lib.Dec.{eqb, ltb}
-use lib.ListN.{length}
-use borrow.Author.Tests.{eqb-true, eqb-false, ltb-true}
-use Rattle.checks.specs.Order.{pick, firstOf}
-use Rattle.checks.proofs.Bools.{true-false, and-true, or-false}
-use Rattle.checks.proofs.Laws.{zero-none}
-use Rattle.sets.specs.Sets.{inSet, onlyPort, firstBelow}
+use borrow.Author.Tests.{eqb-false, ltb-true}
+use Rattle.checks.specs.Order.{pick}
+use Rattle.checks.proofs.Bools.{true-false, and-true, or-false, not-false, and-not-false}
+use Rattle.sets.specs.Sets.{inSet, firstBelow}
 use Rattle.settings.specs.Sets.{isReady, namesOther, setRefused}
 use Rattle.address.specs.declared.Address.{Address}
 use Rattle.address.specs.declared.PathAddress.{PathAddress}
@@ -28,6 +26,7 @@ use Rattle.routes.proofs.Longest.{search-found}
 use Rattle.records.specs.SetUp.{isSetUp}
 use Rattle.refusals.specs.Ready.{readySet}
 use Rattle.refusals.specs.Record.{recordChecks}
+use Rattle.refusals.proofs.Chains.{decided}
 use Rattle.lookup.specs.ForTarget.{wayOf, placeFor, wayFor}
 use Rattle.state.specs.Relay.{Relay, portIn, routeIn, groupIn, pathIn}
 use Rattle.survey.specs.Survey.{surveyBelow, surveyOf}
@@ -45,9 +44,10 @@ use Rattle.verdict.specs.declared.Place.{Place}
 use Rattle.verdict.specs.declared.Place.the-variants.{Held, Missing}
 use Rattle.verdict.specs.declared.Way.{Way}
 use Rattle.verdict.specs.declared.Way.the-variants.{By, Lost}
-use Rattle.history.specs.Calls.{Call, relayAfter}
-use Rattle.history.proofs.Reach.{Kept, ready-is, not-false-true, kept-after}
-use Rattle.history.proofs.Bits.{in-except, in-gathered, only-that}
+use Rattle.history.specs.Calls.{Call}
+use Rattle.history.specs.Outcome.{relayAfter}
+use Rattle.history.proofs.Reach.{Kept, ready-is, kept-after}
+use Rattle.page.proofs.Bits.{in-except, in-gathered, only-that}
 
 -- ---- the first place that a test holds at
 first-case : (test : ℕ → Bool) (i : ℕ) (f : ℕ) (t u : Bool) → eqb f i ≡ t → test i ≡ u → f ≤ i → (f < i → test f ≡ true)
@@ -71,18 +71,13 @@ first-holds test (suc i) h =
     first-case test i (firstBelow test i) (eqb (firstBelow test i) i) (test i) refl refl (first-at-most test i) (first-holds test i) h
 
 -- ---- a set that is not refused names ports that are ready
-named-case : (s a : Bool) → (s && not a) ≡ false → s ≡ true → a ≡ true
-named-case true true h k = refl
-named-case true false h k = true-false h
-named-case false a h k = true-false (sym k)
-
 names-ready : (k s ready p : ℕ) → namesOther k s ready ≡ false → p < k → inSet p s ≡ true → isReady p ready ≡ true
 unfolding namesOther
 names-ready zero s ready p h l m = absurd (omega arith)
 names-ready (suc k) s ready p h l m =
     let both = or-false (inSet k s && not (isReady k ready)) (namesOther k s ready) h in
     ⊎-elim
-    (λ (e : p ≡ k). named-case (inSet p s) (isReady p ready) (rw e (both .0)) m)
+    (λ (e : p ≡ k). and-not-false (inSet p s) (isReady p ready) (rw e (both .0)) m)
     (λ (z : p < k). names-ready k s ready p (both .1) z m)
     (eq-or-lt-of-le (let e : p ≤ k = omega arith in e))
 
@@ -142,9 +137,9 @@ module _ (r : Relay) (k : Kept r) (p : ℕ) (inside : p < 8) where
       let held = found .1 in
       let filled = candidate-is x a .0 (found .2) .0 in
       let none =
-      zero-none (recordChecks (readySet r) (routeIn r place)) ((λ z. omega arith), ((λ z. omega arith), ((λ z. omega arith), tt)))
+      decided (recordChecks (readySet r) (routeIn r place)) refl .0 .0
       (k .good .routes place l (sym (ap isFilled held) ∙ filled)) in
-      let ready : isReady (x .port) (readySet r) ≡ true = ap (λ (y : Route). isReady (y .port) (readySet r)) held ∙ not-false-true _ (none .0) in
+      let ready : isReady (x .port) (readySet r) ≡ true = ap (λ (y : Route). isReady (y .port) (readySet r)) held ∙ not-false _ (none .0) in
       let port = ltb-true (x .port) 8 (and-true (ltb (x .port) 8) (inSet (x .port) (readySet r)) ready .0) in
       ready-set-up (ap (λ (q : ℕ). isReady q (readySet r)) (only-that p (x .port) port m) ∙ ready)
 

@@ -1,12 +1,14 @@
--- Page 01's tempting slips, each shown to be wrong at the definition that the code is proved against: what it would have to answer is not what the
--- definition gives. (Where one changed expression can make the slip, a must-fail edit tries that such code is refused.) Assumes nothing.
+-- Page 01's tempting slips and a few wrong rules more, each shown to be wrong at the definition that the code is proved against: what it would have to
+-- answer is not what the definition gives. (Where one changed expression can make the slip, a must-fail edit tries that such code is refused.) Assumes nothing.
 use native.Mathlib.Omega.{arith}
 use Prim.Native.Nat.{ℕ}
-use mathlib.Core.Path.{_≡_, refl}
-use mathlib.Core.Bool.{true, false}
+use mathlib.Core.Path.{_≡_, refl, sym}
+use mathlib.Core.Bool.{Bool, true, false, not}
 use mathlib.Core.List.{List, [], _∷_}
+use lib.Dec.{eqb, ltb}
 use borrow.Author.Tests.{le-ltb}
-use Rattle.checks.specs.Order.{firstOf}
+use Rattle.checks.specs.Order.{pick, firstOf}
+use Rattle.checks.proofs.Bools.{true-false}
 use Rattle.address.specs.Octets.{dotted}
 use Rattle.address.specs.Class.{familyOf, scpsClass, netClass, classIn, classOf}
 use Rattle.address.specs.Mask.{onesBelow, onesOf}
@@ -20,16 +22,23 @@ use Rattle.routes.specs.declared.Found.the-variants.{At, No}
 use Rattle.routes.specs.declared.Route.{Route}
 use Rattle.routes.proofs.Marked as marked
 use Rattle.state.specs.Relay.{Relay, portSetUp}
-use Rattle.survey.specs.Survey.{isFitting}
+use Rattle.survey.specs.Survey.{isFitting, isFull}
 use Rattle.survey.specs.declared.Sought.{Sought}
 use Rattle.records.specs.declared.Port.{Port}
 use Rattle.address.specs.declared.Address.{Address}
 use Rattle.address.specs.declared.Mask.{Mask}
 use Rattle.settings.specs.Refusals.{placeRefused, portClassRefused}
+use Rattle.verdict.specs.Rule.{afterHops, afterSize, grantedOf}
+use Rattle.verdict.specs.declared.Case.{Case}
+use Rattle.verdict.specs.declared.Obstacle.the-variants.{LeavesDomain}
+use Rattle.verdict.specs.declared.Survey.{Survey}
+use Rattle.verdict.specs.declared.Wish.{Wish}
+use Rattle.verdict.specs.declared.Wish.the-variants.{Refused, Wanted}
 use Rattle.judge.specs.Ending.{callChecks, endingOf}
 use Rattle.refusals.specs.Lists.{portChecks}
-use Rattle.tally.specs.Tally.{counterFor}
-use Rattle.tally.specs.declared.Counter.the-variants.{At, Nothing}
+use Rattle.tally.specs.Tally.{counterFor, receiptCounter}
+use Rattle.tally.specs.declared.Counter.{Counter}
+use Rattle.tally.specs.declared.Counter.the-variants as counter
 
 -- the multicast flag read as the top bit: z = 15 has it low, z = 130 has it high
 pub flag-is-low : (classOf (dotted 10 4 9 15) ≡ class.Multicast) × (classOf (dotted 10 4 9 130) ≡ class.Unicast)
@@ -69,13 +78,41 @@ pub hops-of-two : (spentOf (octet.Present 2) ≡ 0) × (spentOf (octet.Present 1
 hops-of-two = (refl, refl)
 
 -- a number counted by the wrong counter: 9 is npInAddrErrors, 13 left domain, and 15 has none
-pub numbers-counted : (counterFor 9 ≡ At 6) × ((counterFor 13 ≡ At 13) × (counterFor 15 ≡ Nothing))
+pub numbers-counted : (counterFor 9 ≡ counter.At 6) × ((counterFor 13 ≡ counter.At 13) × (counterFor 15 ≡ counter.Nothing))
 unfolding counterFor
 numbers-counted = (refl, (refl, refl))
 
 -- an MTU that is equal refused: it holds the datagram
 pub mtu-equal-holds : (p : Port) (q : Sought) → p .mtu ≡ q .length → isFitting p q ≡ true
 mtu-equal-holds p q h = simp (le-ltb (p .mtu) (q .length) (omega arith))
+
+-- a queue full with 31 waiting: it takes one more
+abbrev pub fullFrom31 : ℕ → Bool
+fullFrom31 waiting = not (ltb waiting 31)
+
+pub room-at-31 : ((waiting : ℕ) → isFull waiting ≡ fullFrom31 waiting) → ⊥
+room-at-31 same = true-false (sym (same 31))
+
+-- the domain test struck out: where addresses have one octet and the port wanted is in another domain, no copy is granted
+abbrev pub grantedAnywhere : Wish → Case → Survey → Wish
+grantedAnywhere w c s = afterSize (afterHops w (c .spent)) (s .fitting)
+
+abbrev oneOctet : Case
+oneOctet = record { arrival = 1; router = 1; intermediate = 0; assigned = 1; basic = 1; spent = 0 }
+
+abbrev port0InDomain : Survey
+port0InDomain = record { ready = 3; addressed = 0; broadcast = 0; domain = 1; fitting = 3; full = 0 }
+
+pub domain-is-tested : ((w : Wish) (c : Case) (s : Survey) → grantedOf w c s ≡ grantedAnywhere w c s) → ⊥
+unfolding grantedOf
+domain-is-tested same = true-false (let e : Refused LeavesDomain ≡ Wanted 2 = same (Wanted 2) oneOctet port0InDomain in cc)
+
+-- 17 counted as a receipt: it counts nothing
+abbrev pub receiptUnless16 : ℕ → Counter
+receiptUnless16 refusal = pick (eqb refusal 16) counter.Nothing (counter.At 0)
+
+pub no-receipt-at-17 : ((refusal : ℕ) → receiptCounter refusal ≡ receiptUnless16 refusal) → ⊥
+no-receipt-at-17 same = true-false (let e : counter.Nothing ≡ counter.At 0 = same 17 in cc)
 
 -- 17 before 16: a port that is not set up is 16, whatever the room
 pub sixteen-comes-first : (r : Relay) (port : ℕ) (octets : List ℕ) (room : ℕ)

@@ -1,90 +1,74 @@
--- The wrong relays of page 01, "What a promise has to shut out", and of page 02, W-204. A relay is told by what it does, and it keeps its promise where
--- that is what the rules give for every input; none that does so always refuses, always names port 0, copies its first answer, hides a route that is up
--- behind one that is not, does nothing, or has counts of its own. What shows it is page 01's marked cases a and b, as whole calls: the settings made from
--- a fresh relay on, then the octets received. Assumes nothing.
+-- The wrong relays of page 01, "What a promise has to shut out", of page 02, W-204, and three more. A relay is told by what its calls do after any history,
+-- and by the state that a history leaves; it keeps its promises where both are what the rules give. None that does so is one of these. What shows it are
+-- the marked cases (specs/Marked.antt) and a few histories beside them. Assumes nothing.
 use native.Mathlib.Omega.{arith}
 use Prim.Native.Nat.{ℕ, _+_, _*_, _%_, _^_, _<_}
 use mathlib.Core.Path.{_≡_, refl, sym, ap, _∙_}
 use mathlib.Core.Bool.{true, false}
 use mathlib.Core.List.{List, [], _∷_, _++_, map}
 use lib.ListN.{length, replicate}
-use Rattle.checks.specs.Order.{firstOf}
+use borrow.Author.Tests.{lt-ltb}
+use Rattle.checks.proofs.Bools.{true-false}
 use Rattle.sets.specs.Sets.{inSet}
-use Rattle.octets.specs.Octets.{number}
+use Rattle.address.specs.Mask.{maskOf}
 use Rattle.address.specs.Octets.{dotted}
-use Rattle.address.specs.Class.{familyOf, scpsClass, netClass, classIn, classOf}
-use Rattle.address.specs.Mask.{maskOf, maskForm, onesBelow, onesOf}
 use Rattle.address.specs.declared.Slot.{Slot}
-use Rattle.header.specs.Form.{controlOf, forbidden, addressSize, stampSize, layoutOf}
-use Rattle.header.specs.Read.{addressesOf, qosOf, octetOf, stampOf, lengthOf, fieldsOf, headerOf, readChecks, readOf}
-use Rattle.meaning.specs.Names.{aimOf, originOf}
-use Rattle.networks.specs.Networks.{subnetBroadcast, broadcastIn, classBroadcast}
-use Rattle.survey.specs.Survey.{ownBroadcast, surveyBelow}
-use Rattle.verdict.specs.Rule.{targetOf, localOf, routeLine, lineOf, grantedOf, copiesOf, rulingOf}
-use Rattle.judge.specs.Ruling.{ruledBy, ruleTarget, ruleOf}
-use Rattle.verdict.specs.declared.Local.the-variants.{No}
-use Rattle.verdict.specs.declared.Onward.the-variants.{SentOn}
-use Rattle.judge.specs.Ending.{callChecks, headerEnding, endingOf}
-use Rattle.judge.specs.declared.Ending.{Ending}
-use Rattle.settings.specs.Refusals.{otherClass, portMaskRefused, formRefused, onesRefused}
-use Rattle.refusals.specs.Ready.{readySet}
-use Rattle.refusals.specs.Elsewhere.{routeElsewhere}
-use Rattle.routes.specs.Refusals.{prefixRefused, codesRefused}
-use Rattle.routes.specs.Routes.{isUp, matched, candidate, sameEntry}
-use Rattle.routes.specs.Search.{beaten, betterOf, searchFrom, searchOf}
-use Rattle.routes.specs.declared.Route.{Route}
+use Rattle.header.specs.Form.{bitWeight}
+use Rattle.routes.specs.Routes.{isUp}
+use Rattle.routes.specs.Search.{searchOf}
 use Rattle.routes.specs.declared.Found.the-variants.{At}
+use Rattle.routes.specs.declared.Route.{Route}
 use Rattle.routes.proofs.Longest.{CandidateAt}
 use Rattle.routes.proofs.Marked as marked
-use Rattle.queue.specs.Queue.{fresh, putOf}
-use Rattle.state.specs.Relay.{Relay, freshRelay, routeIn, queueIn, counterIn, portSetUp}
-use Rattle.tally.specs.Tally.{counterFor, countedAt}
-use Rattle.relay.specs.Outgoing.{enteredIf, enteredAll}
-use Rattle.relay.specs.Received.{receivedState}
-use Rattle.history.specs.Calls.{Call, setRouter, setPort, setRoute, receives, done, relayAfter}
-use Rattle.history.specs.Tally.{tally}
+use Rattle.state.specs.Relay.{Relay, State, freshState, routeIn, queueIn, counterIn}
+use Rattle.verdict.specs.declared.Ruling.{Ruling}
+use Rattle.judge.specs.Ending.{noRuling, endingOf}
+use Rattle.judge.specs.declared.Ending.{Ending}
+use Rattle.taking.specs.Taking.{takeOutcome}
+use Rattle.taking.specs.declared.Taking.{Taking}
+use Rattle.taking.specs.declared.Taking.the-variants.{Handed, Refused}
+use Rattle.tally.specs.Tally.{receiptCounter, rulingMoves, movesOf, counterFor, countedAt}
+use Rattle.history.specs.Calls.{Setting, setRouter, setPort, clearRoute, Call, sets, hears, takes, looks}
+use Rattle.history.specs.Outcome.{Answer, number, ended, entry, Outcome, ofTaking, outcome, relayAfter}
+use Rattle.history.specs.Tally.{sumAt, tally, stateAfter}
+use Rattle.history.specs.Marked.{port, route, allRoutes, datagram, heard, sentBy, notSent}
 use Rattle.history.proofs.Counters.{counters}
+use Rattle.page.proofs.Bits.{in-none}
+use Rattle.history.proofs.Fair.{fair}
+use Rattle.history.proofs.Refusals.{refused-grants-nothing, counts-nothing}
+use Rattle.history.proofs.Marked.{opened, marked-cases}
 
--- ---- the calls of cases a and b: a router, four ports, and the routes A to D to them
-abbrev port : ℕ → Call
-port p = setPort p (record { 0 = dotted 192 0 2 (p * 16 + 1) }) (record { 0 = maskOf 28 }) 1500
+-- ---- the histories
+-- a datagram for D, one for C and one for A: cases a, b and d
+abbrev forD : Call
+forD = heard 1 (datagram 10 4 9 14 0)
 
-abbrev route : ℕ → ℕ → ℕ → Call
-route p prefix ones = setRoute p (record { 0 = prefix }) (record { 0 = maskOf ones }) p 1 0
+abbrev forC : Call
+forC = heard 1 (datagram 10 4 9 16 0)
 
-abbrev pub settings : List Call
-settings =
+abbrev forA : Call
+forA = heard 1 (datagram 192 0 2 1 0)
+
+-- the settings of the marked cases, and then D goes down
+abbrev pub dDown : List Setting
+dDown = allRoutes ++ route 3 (dotted 10 4 9 14) 32 2 ∷ []
+
+-- so many entries wait on D's port
+abbrev pub waitingForD : ℕ → List Call
+waitingForD n = map sets allRoutes ++ replicate n forD
+
+-- port 0 is in the domain 10.4.9, port 1 is not, and 10.4.9.14 is to go out by port 1
+abbrev pub twoDomains : List Setting
+twoDomains =
     setRouter 1
-    ∷ port 0
+    ∷ setPort 0 (record { 0 = dotted 10 4 9 2 }) (record { 0 = maskOf 24 }) 1500
     ∷ port 1
-    ∷ port 2
-    ∷ port 3
-    ∷ route 0 (dotted 0 0 0 0) 0
-    ∷ route 1 (dotted 10 0 0 0) 8
-    ∷ route 2 (dotted 10 4 9 0) 24
-    ∷ route 3 (dotted 10 4 9 14) 32
+    ∷ route 1 (dotted 10 4 9 14) 32 1
     ∷ []
 
--- and then D goes down
-abbrev pub without-d : List Call
-without-d = settings ++ (setRoute 3 (record { 0 = dotted 10 4 9 14 }) (record { 0 = maskOf 32 }) 3 2 0 ∷ [])
-
--- a header of twelve octets and no data: TP-ID 4, addresses of four octets, from 192.0.2.2
-abbrev pub toward : ℕ → ℕ → ℕ → ℕ → List ℕ
-toward a b c d = 32 ∷ 12 ∷ 74 ∷ 65 ∷ a ∷ b ∷ c ∷ d ∷ 192 ∷ 0 ∷ 2 ∷ 2 ∷ []
-
-abbrev pub received : List ℕ → Call
-received octets = receives 0 (record { 0 = 1 }) octets (replicate 50 0)
-
--- sent on to the one port of this set
-abbrev sentTo : ℕ → Ending
-sentTo set =
-    record {
-      refusal = 0;
-      ruling = record { local = No; onward = SentOn; granted = set; took = set; dropped = 0 };
-      precedence = 0;
-      size = 12;
-    }
+-- from 16 to 14, in one octet each (as `datagram`, with neither QOS nor addresses of four octets)
+abbrev pub basic : Call
+basic = hears 0 (record { 0 = 1 }) (32 ∷ 6 ∷ (4 * 16 + bitWeight 20 + bitWeight 22) ∷ bitWeight 25 ∷ 14 ∷ 16 ∷ []) (replicate 50 0)
 
 -- a route as if it were up, whatever its availability
 abbrev pub asIfUp : Route → Route
@@ -98,99 +82,199 @@ asIfUp r =
       capabilities = r .capabilities;
     }
 
--- Case a: 10.4.9.14 goes to port 3 alone, where one entry more waits, and one more is received. Case b after it: 10.4.9.16 goes to port 2 alone.
--- Case a with D down: D would be the longest, but C is taken, and port 2.
-abbrev then-a : List Call
-then-a = settings ++ (received (toward 10 4 9 14) ∷ [])
-
+-- what the rules give there
 pub record Cases : Type 0 where
-  pub a : endingOf (relayAfter settings) 0 (toward 10 4 9 14) 50 ≡ sentTo (2 ^ 3)
-  pub b : endingOf (relayAfter then-a) 0 (toward 10 4 9 16) 50 ≡ sentTo (2 ^ 2)
-  pub down : endingOf (relayAfter without-d) 0 (toward 10 4 9 14) 50 ≡ sentTo (2 ^ 2)
-  pub longest : searchOf (record { 0 = dotted 10 4 9 14 }) (map asIfUp (relayAfter without-d .routes)) ≡ At 3 32 marked.D
-  pub routes : CandidateAt (record { 0 = dotted 10 4 9 14 }) (relayAfter without-d .routes) 2 × (isUp (routeIn (relayAfter without-d) 3) ≡ false)
-  pub waiting : (queueIn (relayAfter settings) 3 .count ≡ 0) × (queueIn (relayAfter then-a) 3 .count ≡ 1)
-  pub receipts : (counterIn (relayAfter settings) 0 ≡ 0) × (counterIn (relayAfter then-a) 0 ≡ 1)
+  -- after the datagram of case a, that of case b goes to C's port
+  pub octets : outcome (relayAfter (map sets allRoutes ++ forD ∷ [])) forC .answer ≡ sentBy 2
+  -- after A is cleared, the octets that A's port took get 11
+  pub cleared : outcome (relayAfter (map sets allRoutes ++ forA ∷ sets (clearRoute 0) ∷ [])) forA .answer ≡ notSent 11
+  -- with D down, its datagram goes to C's port, though D would be the longest
+  pub down : outcome (relayAfter (map sets dDown)) forD .answer ≡ sentBy 2
+  pub longest : searchOf (record { 0 = dotted 10 4 9 14 }) (map asIfUp (relayAfter (map sets dDown) .routes)) ≡ At 3 32 marked.D
+  pub routes : CandidateAt (record { 0 = dotted 10 4 9 14 }) (relayAfter (map sets dDown) .routes) 2
+      × (isUp (routeIn (relayAfter (map sets dDown)) 3) ≡ false)
+  -- the datagram of case a enters D's port, and counts one receipt
+  pub waits : (queueIn (relayAfter (waitingForD 0)) 3 .count ≡ 0) × (queueIn (relayAfter (waitingForD 1)) 3 .count ≡ 1)
+  pub receipts : (counterIn (stateAfter (waitingForD 0) .counters) 0 ≡ 0) × (counterIn (stateAfter (waitingForD 1) .counters) 0 ≡ 1)
+  -- with 31 waiting it is granted and not dropped
+  pub thirtyOne : queueIn (relayAfter (waitingForD 31)) 3 .count ≡ 31
+  pub granted : inSet 3 (outcome (relayAfter (waitingForD 31)) forD .granted) ≡ true
+  pub kept : inSet 3 (outcome (relayAfter (waitingForD 31)) forD .dropped) ≡ false
+  -- one-octet addresses do not leave their domain
+  pub domain : outcome (relayAfter (map sets twoDomains)) basic .answer ≡ notSent 13
 
 pub cases : Cases
-unfolding firstOf classOf classIn familyOf scpsClass netClass otherClass portMaskRefused formRefused onesRefused maskForm onesOf onesBelow fresh freshRelay readySet routeElsewhere prefixRefused codesRefused sameEntry number controlOf forbidden addressSize stampSize layoutOf addressesOf qosOf octetOf stampOf lengthOf fieldsOf headerOf readChecks readOf aimOf originOf subnetBroadcast broadcastIn classBroadcast ownBroadcast surveyBelow targetOf localOf routeLine lineOf grantedOf copiesOf rulingOf ruledBy ruleTarget ruleOf portSetUp callChecks headerEnding endingOf receivedState countedAt counterFor enteredAll enteredIf putOf matched candidate beaten betterOf searchFrom searchOf
-cases = record { a = refl; b = refl; down = refl; longest = refl; routes = (refl, refl); waiting = (refl, refl); receipts = (refl, refl) }
+unfolding opened freshState countedAt counterFor
+cases =
+    record {
+      octets = refl;
+      cleared = refl;
+      down = refl;
+      longest = refl;
+      routes = (refl, refl);
+      waits = (refl, refl);
+      receipts = (refl, refl);
+      thirtyOne = refl;
+      granted = refl;
+      kept = refl;
+      domain = refl;
+    }
 
--- ---- verdicts
--- what a relay makes of octets that came in by a port, with so much room for output
-abbrev pub Verdict : Type 0
-Verdict = Relay → ℕ → List ℕ → ℕ → Ending
+-- the ports that took an entry
+abbrev portsOf : Answer → ℕ
+portsOf (number n) = 0
+portsOf (ended refusal local onward took) = took
+portsOf (entry e) = 0
 
-module _ (verdict : Verdict) (kept : (r : Relay) (port : ℕ) (octets : List ℕ) (room : ℕ) → verdict r port octets room ≡ endingOf r port octets room) where
-  in-case-a : verdict (relayAfter settings) 0 (toward 10 4 9 14) 50 ≡ sentTo (2 ^ 3)
-  in-case-a = kept (relayAfter settings) 0 (toward 10 4 9 14) 50 ∙ cases .a
+-- 17 ends a datagram with no ruling, and no counter is its own
+ended-by : {refusal local onward took refusal' local' onward' took' : ℕ} → ended refusal local onward took ≡ ended refusal' local' onward' took' → refusal ≡ refusal'
+ended-by e = cc
+
+unmoved-by-17 : (e : Ending) (i : ℕ) → e .refusal ≡ 17 → e .ruling ≡ noRuling → sumAt (movesOf e) i ≡ 0
+unmoved-by-17 e i is bare =
+    ap (λ (n : ℕ). sumAt ((receiptCounter n, 1) ∷ (counterFor n, 1) ∷ rulingMoves (e .ruling)) i) is
+    ∙ ap (λ (x : Ruling). sumAt ((receiptCounter 17, 1) ∷ (counterFor 17, 1) ∷ rulingMoves x) i) bare
+    ∙ counts-nothing i .1
+
+unmoved-taking : (p : ℕ) (t : Taking) (i : ℕ) → sumAt (ofTaking p t .moves) i ≡ 0
+unmoved-taking p (Handed e) i = refl
+unmoved-taking p (Refused n) i = refl
+
+unmoved-at-17 : (r : Relay) (c : Call) (i local onward took : ℕ) → outcome r c .answer ≡ ended 17 local onward took → sumAt (outcome r c .moves) i ≡ 0
+unmoved-at-17 r (sets s) i local onward took e = refl
+unmoved-at-17 r (hears p slot octets output) i local onward took e =
+    let is = ended-by e in
+    let bare = refused-grants-nothing r p octets (length output) (λ z. let no : _≡_ {A = ℕ} 17 0 = sym is ∙ z in omega arith) in
+    unmoved-by-17 (endingOf r p octets (length output)) i is bare
+unmoved-at-17 r (takes p) i local onward took e = unmoved-taking p (takeOutcome r p) i
+unmoved-at-17 r (looks l) i local onward took e = refl
+
+-- a port that drops a copy is full
+module _ (r : Relay) (p : ℕ) (inside : p < 8) (room : queueIn r p .count < 32) where
+  none-dropped : {A : Type 0} → inSet p 0 ≡ true → A
+  none-dropped drops = true-false (sym drops ∙ in-none p)
+
+  no-taking-drops : (q : ℕ) (t : Taking) → inSet p (ofTaking q t .dropped) ≡ true → ⊥
+  no-taking-drops q (Handed e) drops = none-dropped drops
+  no-taking-drops q (Refused n) drops = none-dropped drops
+
+  not-dropped : (c : Call) → inSet p (outcome r c .dropped) ≡ true → ⊥
+  not-dropped (sets s) drops = none-dropped drops
+  not-dropped (hears q slot octets output) drops =
+      true-false (sym (lt-ltb (queueIn r p .count) 32 room) ∙ fair r p inside q octets (length output) .full drops)
+  not-dropped (takes q) drops = no-taking-drops q (takeOutcome r q) drops
+  not-dropped (looks l) drops = none-dropped drops
+
+-- ---- what calls do
+module _ (does : List Call → Call → Outcome) (kept : (cs : List Call) (c : Call) → does cs c ≡ outcome (relayAfter cs) c) where
+  answers : (cs : List Call) (c : Call) → does cs c .answer ≡ outcome (relayAfter cs) c .answer
+  answers cs c = ap (λ o. o .answer) (kept cs c)
+
+  in-case-a : does (map sets allRoutes) forD .answer ≡ sentBy 3
+  in-case-a = answers (map sets allRoutes) forD ∙ marked-cases .0
+
+  in-case-d : does (map sets allRoutes) forA .answer ≡ sentBy 0
+  in-case-d = answers (map sets allRoutes) forA ∙ marked-cases .1 .1 .1 .0
 
   -- It does not refuse every datagram after every history.
-  pub always-refusing : ((cs : List Call) (port : ℕ) (octets : List ℕ) (room : ℕ) → verdict (relayAfter cs) port octets room .refusal ≡ 0 → ⊥) → ⊥
-  always-refusing wrong = wrong settings 0 (toward 10 4 9 14) 50 (ap (λ e. e .refusal) in-case-a)
+  pub always-refusing : ((cs : List Call) (c : Call) (local onward took : ℕ) → does cs c .answer ≡ ended 0 local onward took → ⊥) → ⊥
+  always-refusing wrong = wrong (map sets allRoutes) forD 0 1 (2 ^ 3) in-case-a
 
   -- Nor does it refuse the onward half of all that it judges.
-  pub never-sending-on : ((cs : List Call) (port : ℕ) (octets : List ℕ) (room : ℕ) → verdict (relayAfter cs) port octets room .ruling .onward ≡ SentOn → ⊥) → ⊥
-  never-sending-on wrong = wrong settings 0 (toward 10 4 9 14) 50 (ap (λ e. e .ruling .onward) in-case-a)
+  pub never-sending-on : ((cs : List Call) (c : Call) (local took : ℕ) → does cs c .answer ≡ ended 0 local 1 took → ⊥) → ⊥
+  never-sending-on wrong = wrong (map sets allRoutes) forD 0 (2 ^ 3) in-case-a
 
-  -- It does not name port 0 alone, whenever it grants a copy.
+  -- It does not name port 0 alone, whenever it names a port.
   pub always-port-0 :
-      ((cs : List Call) (port : ℕ) (octets : List ℕ) (room p : ℕ) → inSet p (verdict (relayAfter cs) port octets room .ruling .granted) ≡ true → p ≡ 0)
+      ((cs : List Call) (c : Call) (refusal local onward took p : ℕ) → does cs c .answer ≡ ended refusal local onward took → inSet p took ≡ true → p ≡ 0)
       → ⊥
-  always-port-0 wrong =
-      let three : _≡_ {A = ℕ} 3 0 = wrong settings 0 (toward 10 4 9 14) 50 3 (ap (λ e. inSet 3 (e .ruling .granted)) in-case-a) in omega arith
+  always-port-0 wrong = let three : _≡_ {A = ℕ} 3 0 = wrong (map sets allRoutes) forD 0 0 1 (2 ^ 3) 3 in-case-a refl in omega arith
 
-  -- It does not answer as it did to the datagram before.
+  -- It does not copy its first answer for other octets.
   pub copying-answers :
-      ((cs : List Call) (port : ℕ) (slot : Slot) (first second output : List ℕ)
-      → verdict (relayAfter (cs ++ (receives port slot first output ∷ []))) port second (length output) ≡ verdict (relayAfter cs) port first (length output))
+      ((settings : List Setting) (port : ℕ) (slot : Slot) (first second output : List ℕ)
+      → does (map sets settings ++ hears port slot first output ∷ []) (hears port slot second output) .answer
+      ≡ does (map sets settings) (hears port slot first output) .answer)
       → ⊥
   copying-answers wrong =
-      let same = wrong settings 0 (record { 0 = 1 }) (toward 10 4 9 14) (toward 10 4 9 16) (replicate 50 0) in
-      let b = kept (relayAfter then-a) 0 (toward 10 4 9 16) 50 ∙ cases .b in
-      let ports : _≡_ {A = ℕ} 4 8 = ap (λ e. e .ruling .granted) (sym b ∙ same ∙ in-case-a) in omega arith
+      let same = wrong allRoutes 4 (record { 0 = 1 }) (datagram 10 4 9 14 0) (datagram 10 4 9 16 0) (replicate 50 0) in
+      let later = answers (map sets allRoutes ++ forD ∷ []) forC ∙ cases .octets in
+      let ports : _≡_ {A = ℕ} 4 8 = ap portsOf (sym later ∙ same ∙ in-case-a) in omega arith
+
+  -- Nor for the same octets, once a setting is changed.
+  pub copying-over-settings :
+      ((settings : List Setting) (changed : Setting) (port : ℕ) (slot : Slot) (octets output : List ℕ)
+      → does (map sets settings ++ hears port slot octets output ∷ sets changed ∷ []) (hears port slot octets output) .answer
+      ≡ does (map sets settings) (hears port slot octets output) .answer)
+      → ⊥
+  copying-over-settings wrong =
+      let same = wrong allRoutes (clearRoute 0) 4 (record { 0 = 1 }) (datagram 192 0 2 1 0) (replicate 50 0) in
+      let later = answers (map sets allRoutes ++ forA ∷ sets (clearRoute 0) ∷ []) forA ∙ cases .cleared in
+      let ports : _≡_ {A = ℕ} 0 1 = ap portsOf (sym later ∙ same ∙ in-case-d) in omega arith
 
   -- It does not keep back a datagram for which a route is there that is up, where the longest of all that match is not up.
   pub hiding-a-live-route :
-      ((cs : List Call) (w x y z place ones live : ℕ) (r : Route)
+      ((cs : List Call) (w x y z place ones live took : ℕ) (r : Route)
       → searchOf (record { 0 = dotted w x y z }) (map asIfUp (relayAfter cs .routes)) ≡ At place ones r
       → isUp (routeIn (relayAfter cs) place) ≡ false
       → CandidateAt (record { 0 = dotted w x y z }) (relayAfter cs .routes) live
-      → verdict (relayAfter cs) 0 (toward w x y z) 50 .ruling .onward ≡ SentOn
+      → does cs (heard 1 (datagram w x y z 0)) .answer ≡ ended 0 0 1 took
       → ⊥)
       → ⊥
   hiding-a-live-route wrong =
-      wrong without-d 10 4 9 14 3 32 2 marked.D (cases .longest) (cases .routes .1) (cases .routes .0)
-      (ap (λ e. e .ruling .onward) (kept (relayAfter without-d) 0 (toward 10 4 9 14) 50 ∙ cases .down))
+      wrong (map sets dDown) 10 4 9 14 3 32 2 (2 ^ 2) marked.D (cases .longest) (cases .routes .1) (cases .routes .0)
+      (answers (map sets dDown) forD ∙ cases .down)
 
--- ---- states
--- what a relay leaves after a call
-module _ (leaves : Relay → Call → Relay) (kept : (r : Relay) (c : Call) → leaves r c ≡ done r c) where
-  -- It does not leave every queue as it was.
+  -- It does not drop what is granted to a port with 31 waiting.
+  pub dropping-at-31 :
+      ((cs : List Call) (c : Call) (p : ℕ) → inSet p (does cs c .granted) ≡ true → queueIn (relayAfter cs) p .count ≡ 31 → inSet p (does cs c .dropped) ≡ true)
+      → ⊥
+  dropping-at-31 wrong =
+      let same = kept (waitingForD 31) forD in
+      let drops = wrong (waitingForD 31) forD 3 (ap (λ o. inSet 3 (o .granted)) same ∙ cases .granted) (cases .thirtyOne) in
+      true-false (sym drops ∙ ap (λ o. inSet 3 (o .dropped)) same ∙ cases .kept)
+
+  -- Nor does it ever drop a copy where fewer than 32 wait.
+  pub dropping-below-32 : (cs : List Call) (c : Call) (p : ℕ) → p < 8 → queueIn (relayAfter cs) p .count < 32 → inSet p (does cs c .dropped) ≡ true → ⊥
+  dropping-below-32 cs c p inside room wrong = not-dropped (relayAfter cs) p inside room c (ap (λ o. inSet p (o .dropped)) (sym (kept cs c)) ∙ wrong)
+
+  -- It does not do without the domain test, and so never answer 13.
+  pub leaving-the-domain : ((cs : List Call) (c : Call) (local : ℕ) → does cs c .answer ≡ ended 0 local 13 0 → ⊥) → ⊥
+  leaving-the-domain wrong = wrong (map sets twoDomains) basic 0 (answers (map sets twoDomains) basic ∙ cases .domain)
+
+  -- No counter of it moves at 17.
+  pub counting-at-17 : (cs : List Call) (c : Call) (i local onward took : ℕ)
+      → does cs c .answer ≡ ended 17 local onward took → (sumAt (does cs c .moves) i ≡ 0 → ⊥) → ⊥
+  counting-at-17 cs c i local onward took e wrong =
+      wrong (ap (λ o. sumAt (o .moves) i) (kept cs c) ∙ unmoved-at-17 (relayAfter cs) c i local onward took (sym (answers cs c) ∙ e))
+
+-- ---- what histories leave
+module _ (leaves : List Call → State) (kept : (cs : List Call) → leaves cs ≡ stateAfter cs) where
+  -- It does not leave every queue as it was, whatever is heard first.
   pub entering-nothing :
-      ((cs : List Call) (port : ℕ) (slot : Slot) (octets output : List ℕ) (p : ℕ)
-      → queueIn (leaves (relayAfter cs) (receives port slot octets output)) p .count ≡ queueIn (relayAfter cs) p .count)
+      ((settings : List Setting) (port : ℕ) (slot : Slot) (octets output : List ℕ) (p : ℕ)
+      → queueIn (leaves (map sets settings ++ hears port slot octets output ∷ []) .relay) p .count ≡ queueIn (leaves (map sets settings) .relay) p .count)
       → ⊥
   entering-nothing wrong =
-      let same = wrong settings 0 (record { 0 = 1 }) (toward 10 4 9 14) (replicate 50 0) 3 in
-      let left = ap (λ r. queueIn r 3 .count) (kept (relayAfter settings) (received (toward 10 4 9 14))) in
-      let none : _≡_ {A = ℕ} 1 0 = sym (cases .waiting .1) ∙ sym left ∙ same ∙ cases .waiting .0 in omega arith
+      let same = wrong allRoutes 4 (record { 0 = 1 }) (datagram 10 4 9 14 0) (replicate 50 0) 3 in
+      let left : (cs : List Call) → queueIn (leaves cs .relay) 3 .count ≡ queueIn (relayAfter cs) 3 .count = λ cs. ap (λ s. queueIn (s .relay) 3 .count) (kept cs) in
+      let none : _≡_ {A = ℕ} 1 0 = sym (cases .waits .1) ∙ sym (left (waitingForD 1)) ∙ same ∙ left (waitingForD 0) ∙ cases .waits .0 in omega arith
 
   -- Nor every counter.
   pub counting-nothing :
-      ((cs : List Call) (port : ℕ) (slot : Slot) (octets output : List ℕ) (i : ℕ)
-      → counterIn (leaves (relayAfter cs) (receives port slot octets output)) i ≡ counterIn (relayAfter cs) i)
+      ((settings : List Setting) (port : ℕ) (slot : Slot) (octets output : List ℕ) (i : ℕ)
+      → counterIn (leaves (map sets settings ++ hears port slot octets output ∷ []) .counters) i ≡ counterIn (leaves (map sets settings) .counters) i)
       → ⊥
   counting-nothing wrong =
-      let same = wrong settings 0 (record { 0 = 1 }) (toward 10 4 9 14) (replicate 50 0) 0 in
-      let left = ap (λ r. counterIn r 0) (kept (relayAfter settings) (received (toward 10 4 9 14))) in
-      let none : _≡_ {A = ℕ} 1 0 = sym (cases .receipts .1) ∙ sym left ∙ same ∙ cases .receipts .0 in omega arith
+      let same = wrong allRoutes 4 (record { 0 = 1 }) (datagram 10 4 9 14 0) (replicate 50 0) 0 in
+      let left : (cs : List Call) → counterIn (leaves cs .counters) 0 ≡ counterIn (stateAfter cs .counters) 0 = λ cs. ap (λ s. counterIn (s .counters) 0) (kept cs) in
+      let none : _≡_ {A = ℕ} 1 0 = sym (cases .receipts .1) ∙ sym (left (waitingForD 1)) ∙ same ∙ left (waitingForD 0) ∙ cases .receipts .0 in omega arith
 
   -- So it does not do nothing.
-  pub doing-nothing : ((cs : List Call) (c : Call) → leaves (relayAfter cs) c ≡ relayAfter cs) → ⊥
-  doing-nothing wrong = counting-nothing (λ cs port slot octets output i. ap (λ r. counterIn r i) (wrong cs (receives port slot octets output)))
+  pub doing-nothing : ((cs : List Call) (c : Call) → leaves (cs ++ c ∷ []) ≡ leaves cs) → ⊥
+  doing-nothing wrong =
+      counting-nothing (λ settings port slot octets output i. ap (λ s. counterIn (s .counters) i) (wrong (map sets settings) (hears port slot octets output)))
 
--- Nor does it have counts other than those that the rules give over the history.
-pub inventing-counts : (left : List Call → Relay) → ((cs : List Call) → left cs ≡ relayAfter cs) → (cs : List Call) (i : ℕ) → i < 15
-    → (counterIn (left cs) i ≡ tally cs i % 2 ^ 32 → ⊥) → ⊥
-inventing-counts left kept cs i inside wrong = wrong (ap (λ r. counterIn r i) (kept cs) ∙ counters i inside cs)
+  -- Nor does it have counts other than those that the rules give over the history.
+  pub inventing-counts : (cs : List Call) (i : ℕ) → i < 15 → (counterIn (leaves cs .counters) i ≡ tally cs i % 2 ^ 32 → ⊥) → ⊥
+  inventing-counts cs i inside wrong = wrong (ap (λ s. counterIn (s .counters) i) (kept cs) ∙ counters i inside cs)

@@ -1,65 +1,85 @@
--- What each call answers, and the table of all that it may answer: page 01, "Settings", "One received datagram, step by step" and "Refusal
--- numbers". Assumes nothing.
+-- The table of all that each call may answer: page 01, "Settings", "One received datagram, step by step" and "Refusal numbers". Assumes nothing.
 use Prim.Native.Nat.{ℕ}
 use mathlib.Core.Bool.{Bool, true, false, not, _&&_, _||_}
 use mathlib.Core.List.{List, [], _∷_}
-use lib.ListN.{length}
-use lib.Dec.{eqb}
-use Rattle.checks.specs.Order.{firstOf}
-use Rattle.queue.specs.declared.Entry.{Entry}
-use Rattle.state.specs.Relay.{Relay}
-use Rattle.refusals.specs.Lists.{portChecks, routeChecks, groupChecks, pathChecks, routerChecks, clearChecks}
-use Rattle.adjust.specs.Settled.{newRoute}
-use Rattle.verdict.specs.Numbers.{localNumber, onwardNumber}
-use Rattle.judge.specs.Ending.{endingOf}
-use Rattle.judge.specs.declared.Ending.{Ending}
-use Rattle.taking.specs.Taking.{takeOutcome}
-use Rattle.taking.specs.declared.Taking.{Taking}
-use Rattle.taking.specs.declared.Taking.the-variants.{Handed, Refused}
-use Rattle.history.specs.Calls.{Call, setRouter, setPort, setRoute, setGroup, setPath, clearRoute, clearGroup, clearPath, receives, takes}
+use lib.Dec.{eqb, ltb}
+use Rattle.history.specs.Calls.{
+  Setting,
+  setRouter,
+  setPort,
+  setRoute,
+  setGroup,
+  setPath,
+  clearRoute,
+  clearGroup,
+  clearPath,
+  Part,
+  theRouter,
+  thePort,
+  theRoute,
+  theGroup,
+  thePath,
+  Look,
+  setting,
+  search,
+  counter,
+  waiting,
+  read,
+  build,
+  class,
+  form,
+  checksum,
+  stateWords,
+  Call,
+  sets,
+  hears,
+  takes,
+  looks,
+}
+use Rattle.history.specs.Outcome.{Answer, number, ended, entry}
 
--- ---- answers
-pub data Answer : Type 0 where
-  -- a number alone: of a setting, 0 where it is taken; of a take that is refused
-  number : ℕ → Answer
-  -- of a receive: the refusal, 0 where the datagram was judged; the local half; the onward half; the ports that took an entry
-  ended : ℕ → ℕ → ℕ → ℕ → Answer
-  -- of a take: what is handed out
-  entry : Entry → Answer
-
-abbrev pub endedBy : Ending → Answer
-endedBy e = ended (e .refusal) (localNumber (e .ruling .local)) (onwardNumber (e .ruling .onward)) (e .ruling .took)
-
-abbrev pub takenBy : Taking → Answer
-takenBy (Handed e) = entry e
-takenBy (Refused n) = number n
-
--- what a call answers: what its promise says
-abbrev pub answerOf : Relay → Call → Answer
-answerOf r (setRouter x) = number (firstOf (routerChecks x))
-answerOf r (setPort p address mask mtu) = number (firstOf (portChecks r p address mask mtu))
-answerOf r (setRoute i prefix mask port availability capabilities) =
-    number (firstOf (routeChecks r i (newRoute prefix mask port availability capabilities)))
-answerOf r (setGroup i address send subscribed) = number (firstOf (groupChecks r i address send subscribed))
-answerOf r (setPath i path send here) = number (firstOf (pathChecks r i path send here))
-answerOf r (clearRoute i) = number (firstOf (clearChecks i 64))
-answerOf r (clearGroup i) = number (firstOf (clearChecks i 16))
-answerOf r (clearPath i) = number (firstOf (clearChecks i 16))
-answerOf r (receives port slot octets output) = endedBy (endingOf r port octets (length output))
-answerOf r (takes port) = takenBy (takeOutcome r port)
-
--- ---- the table
 pub data Row : Type 0 where
   -- a number of this list
   numbers : List ℕ → Row
+  -- any number below this one
+  below : ℕ → Row
   -- a refusal, a local half and an onward half of these lists; and whether a port took an entry
   endings : List ℕ → List ℕ → List ℕ → Bool → Row
   -- any entry
   entries : Row
 
--- of a receive
-abbrev pub receiveRows : List Row
-receiveRows =
+-- the numbers of a setting, in the order in which they are tested
+abbrev pub settingNumbers : Setting → List ℕ
+settingNumbers (setRouter x) = 0 ∷ 24 ∷ []
+settingNumbers (setPort p address mask mtu) = 0 ∷ 21 ∷ 25 ∷ 22 ∷ 24 ∷ 35 ∷ []
+settingNumbers (setRoute i prefix mask port availability capabilities) = 0 ∷ 21 ∷ 22 ∷ 24 ∷ 23 ∷ []
+settingNumbers (setGroup i address send subscribed) = 0 ∷ 21 ∷ 25 ∷ 23 ∷ []
+settingNumbers (setPath i path send here) = 0 ∷ 21 ∷ 25 ∷ 24 ∷ 23 ∷ []
+settingNumbers (clearRoute i) = 0 ∷ 21 ∷ []
+settingNumbers (clearGroup i) = 0 ∷ 21 ∷ []
+settingNumbers (clearPath i) = 0 ∷ 21 ∷ []
+
+abbrev pub partNumbers : Part → List ℕ
+partNumbers theRouter = 0 ∷ []
+partNumbers (thePort p) = 0 ∷ 21 ∷ []
+partNumbers (theRoute i) = 0 ∷ 21 ∷ []
+partNumbers (theGroup i) = 0 ∷ 21 ∷ []
+partNumbers (thePath i) = 0 ∷ 21 ∷ []
+
+abbrev pub lookRow : Look → Row
+lookRow (setting part) = numbers (partNumbers part)
+lookRow (search a) = numbers (0 ∷ 256 ∷ [])
+lookRow (counter i) = numbers (0 ∷ 21 ∷ [])
+lookRow (waiting p) = numbers (0 ∷ 21 ∷ [])
+lookRow (read octets) = numbers (0 ∷ 1 ∷ 2 ∷ 4 ∷ 3 ∷ 5 ∷ [])
+lookRow (build fields size output) = numbers (0 ∷ 17 ∷ 19 ∷ 20 ∷ [])
+lookRow (class a) = numbers (0 ∷ 1 ∷ 2 ∷ 3 ∷ 4 ∷ 5 ∷ 6 ∷ [])
+lookRow (form p) = numbers (0 ∷ 1 ∷ [])
+lookRow (checksum octets) = below 65536
+lookRow stateWords = numbers (824 ∷ [])
+
+abbrev pub endingRows : List Row
+endingRows =
     -- refused: nothing is said of the halves, and no port took an entry
     endings (16 ∷ 17 ∷ 1 ∷ 2 ∷ 4 ∷ 3 ∷ 5 ∷ 8 ∷ 7 ∷ 6 ∷ []) (0 ∷ []) (0 ∷ []) false
     -- not delivered: refused onward, or sent on
@@ -70,18 +90,11 @@ receiveRows =
     ∷ endings (0 ∷ []) (1 ∷ 26 ∷ []) (1 ∷ []) true
     ∷ []
 
--- the numbers are in the order in which they are tested
 abbrev pub answersOf : Call → List Row
-answersOf (setRouter x) = numbers (0 ∷ 24 ∷ []) ∷ []
-answersOf (setPort p address mask mtu) = numbers (0 ∷ 21 ∷ 25 ∷ 22 ∷ 24 ∷ 35 ∷ []) ∷ []
-answersOf (setRoute i prefix mask port availability capabilities) = numbers (0 ∷ 21 ∷ 22 ∷ 24 ∷ 23 ∷ []) ∷ []
-answersOf (setGroup i address send subscribed) = numbers (0 ∷ 21 ∷ 25 ∷ 23 ∷ []) ∷ []
-answersOf (setPath i path send here) = numbers (0 ∷ 21 ∷ 25 ∷ 24 ∷ 23 ∷ []) ∷ []
-answersOf (clearRoute i) = numbers (0 ∷ 21 ∷ []) ∷ []
-answersOf (clearGroup i) = numbers (0 ∷ 21 ∷ []) ∷ []
-answersOf (clearPath i) = numbers (0 ∷ 21 ∷ []) ∷ []
-answersOf (receives port slot octets output) = receiveRows
+answersOf (sets s) = numbers (settingNumbers s) ∷ []
+answersOf (hears port slot octets output) = endingRows
 answersOf (takes port) = numbers (16 ∷ 18 ∷ []) ∷ entries ∷ []
+answersOf (looks l) = lookRow l ∷ []
 
 -- ---- an answer stands in the table
 abbrev pub listed : List ℕ → ℕ → Bool
@@ -97,6 +110,9 @@ abbrev pub suits : Row → Answer → Bool
 suits (numbers ns) (number n) = listed ns n
 suits (numbers ns) (ended refusal local onward took) = false
 suits (numbers ns) (entry e) = false
+suits (below k) (number n) = ltb n k
+suits (below k) (ended refusal local onward took) = false
+suits (below k) (entry e) = false
 suits (endings refusals locals onwards sent) (number n) = false
 suits (endings refusals locals onwards sent) (ended refusal local onward took) =
     listed refusals refusal && (listed locals local && (listed onwards onward && some sent took))

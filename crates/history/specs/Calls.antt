@@ -1,50 +1,86 @@
--- A history is a list of calls, and each leaves the relay that its contract says (page 01, "Settings": "a history is made of such calls").
--- Assumes nothing.
+-- The calls on a relay. Each is a setting, a datagram that is heard, a taking, or a look that changes nothing (page 01, "Settings": "a history is
+-- made of such calls"). Assumes nothing.
 use Prim.Native.Nat.{ℕ}
-use mathlib.Core.List.{List, [], _∷_}
-use lib.ListN.{length}
+use mathlib.Core.List.{List}
+use Rattle.checks.specs.Order.{Checks, firstOf}
 use Rattle.address.specs.declared.Address.{Address}
 use Rattle.address.specs.declared.Mask.{Mask}
 use Rattle.address.specs.declared.PathAddress.{PathAddress}
 use Rattle.address.specs.declared.Slot.{Slot}
-use Rattle.state.specs.Relay.{Relay, freshRelay}
-use Rattle.adjust.specs.Settled.{newRoute, settledRouter, settledPort, settledRoute, settledGroup, settledPath, clearedRoute, clearedGroup, clearedPath}
-use Rattle.judge.specs.Ending.{endingOf}
-use Rattle.taking.specs.Taking.{takenState}
-use Rattle.relay.specs.Received.{receivedState}
+use Rattle.numbers.specs.declared.Numbers.{Numbers}
+use Rattle.sets.specs.Limits.{routePlaces, groupPlaces, pathPlaces}
+use Rattle.records.specs.Fresh.{freshGroup, freshPath}
+use Rattle.routes.specs.Routes.{emptyRoute}
+use Rattle.state.specs.Relay.{Relay, withRouter, withPort, withRoute, withGroup, withPath}
+use Rattle.refusals.specs.Lists.{portChecks, routeChecks, groupChecks, pathChecks, routerChecks, clearChecks}
+use Rattle.adjust.specs.Settled.{newPort, newRoute, newGroup, newPath, settled}
+
+pub data Setting : Type 0 where
+  setRouter : ℕ → Setting
+  setPort : ℕ → Address → Mask → ℕ → Setting
+  setRoute : ℕ → Address → Mask → ℕ → ℕ → ℕ → Setting
+  setGroup : ℕ → Address → ℕ → ℕ → Setting
+  setPath : ℕ → PathAddress → ℕ → ℕ → Setting
+  clearRoute : ℕ → Setting
+  clearGroup : ℕ → Setting
+  clearPath : ℕ → Setting
+
+-- what a setting is about
+pub data Part : Type 0 where
+  theRouter : Part
+  thePort : ℕ → Part
+  theRoute : ℕ → Part
+  theGroup : ℕ → Part
+  thePath : ℕ → Part
+
+-- what is asked of a relay, and of none
+pub data Look : Type 0 where
+  -- a setting, as it stands
+  setting : Part → Look
+  -- the route that an address takes
+  search : Address → Look
+  -- a counter, and how many wait on a port
+  counter : ℕ → Look
+  waiting : ℕ → Look
+  -- a header read; one built, with so many octets of data, into the output as it is lent
+  read : List ℕ → Look
+  build : Numbers → ℕ → List ℕ → Look
+  -- the class of an address, the form of a path, a checksum, and how many words a state has
+  class : Address → Look
+  form : PathAddress → Look
+  checksum : List ℕ → Look
+  stateWords : Look
 
 pub data Call : Type 0 where
-  setRouter : ℕ → Call
-  setPort : ℕ → Address → Mask → ℕ → Call
-  setRoute : ℕ → Address → Mask → ℕ → ℕ → ℕ → Call
-  setGroup : ℕ → Address → ℕ → ℕ → Call
-  setPath : ℕ → PathAddress → ℕ → ℕ → Call
-  clearRoute : ℕ → Call
-  clearGroup : ℕ → Call
-  clearPath : ℕ → Call
+  sets : Setting → Call
   -- the port, the slot, the octets, and the output as it is lent
-  receives : ℕ → Slot → List ℕ → List ℕ → Call
+  hears : ℕ → Slot → List ℕ → List ℕ → Call
   takes : ℕ → Call
+  looks : Look → Call
 
--- what a call leaves
-abbrev pub done : Relay → Call → Relay
-done r (setRouter x) = settledRouter r x
-done r (setPort p address mask mtu) = settledPort r p address mask mtu
-done r (setRoute i prefix mask port availability capabilities) =
-    settledRoute r i (newRoute prefix mask port availability capabilities)
-done r (setGroup i address send subscribed) = settledGroup r i address send subscribed
-done r (setPath i path send here) = settledPath r i path send here
-done r (clearRoute i) = clearedRoute r i
-done r (clearGroup i) = clearedGroup r i
-done r (clearPath i) = clearedPath r i
-done r (receives port slot octets output) = receivedState r slot (endingOf r port octets (length output))
-done r (takes port) = takenState r port
+-- ---- settings
+-- what may refuse a setting, in the page's order
+abbrev pub checksOf : Relay → Setting → Checks
+checksOf r (setRouter x) = routerChecks x
+checksOf r (setPort p address mask mtu) = portChecks r p address mask mtu
+checksOf r (setRoute i prefix mask port availability capabilities) = routeChecks r i (newRoute prefix mask port availability capabilities)
+checksOf r (setGroup i address send subscribed) = groupChecks r i address send subscribed
+checksOf r (setPath i path send here) = pathChecks r i path send here
+checksOf r (clearRoute i) = clearChecks i routePlaces
+checksOf r (clearGroup i) = clearChecks i groupPlaces
+checksOf r (clearPath i) = clearChecks i pathPlaces
 
--- one call after the other
-abbrev pub runFrom : Relay → List Call → Relay
-runFrom r [] = r
-runFrom r (c ∷ cs) = runFrom (done r c) cs
+-- what it writes where nothing refuses it
+abbrev pub written : Relay → Setting → Relay
+written r (setRouter x) = withRouter r x
+written r (setPort p address mask mtu) = withPort r p (newPort address mask mtu)
+written r (setRoute i prefix mask port availability capabilities) = withRoute r i (newRoute prefix mask port availability capabilities)
+written r (setGroup i address send subscribed) = withGroup r i (newGroup address send subscribed)
+written r (setPath i path send here) = withPath r i (newPath path send here)
+written r (clearRoute i) = withRoute r i emptyRoute
+written r (clearGroup i) = withGroup r i freshGroup
+written r (clearPath i) = withPath r i freshPath
 
--- what a history leaves
-abbrev pub relayAfter : List Call → Relay
-relayAfter cs = runFrom freshRelay cs
+-- "A setting that no rule here refuses is taken"
+abbrev pub settle : Relay → Setting → Relay
+settle r s = settled (firstOf (checksOf r s)) (written r s) r

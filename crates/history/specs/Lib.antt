@@ -1,13 +1,16 @@
--- Histories, what calls leave, and what the rules give over a history.
+-- Histories, what calls do and leave, and what the rules give over a history.
 pub mod Calls
-pub mod Board
-pub mod Over
-pub mod Answers
 pub mod Looks
-pub mod Promised
+pub mod Outcome
+pub mod Answers
 pub mod Tally
-pub mod Ledger
 pub mod Sums
-pub mod Deeds
-pub mod Reach
+pub mod Ledger
+pub mod Line
+pub mod Foretold
 pub mod Parts
+pub mod Reach
+pub mod Ranges
+pub mod SearchBack
+pub mod Transport
+pub mod Marked

@@ -1,39 +1,63 @@
--- Counts over a history, from the calls and the boards alone: page 01, step 1 ("These two count nothing. All later ends count one in npInReceives")
--- and below its table of refusal numbers ("npOutDiscards counts dropped copies .. npInDelivers counts deliveries, npForwDatagrams datagrams with at
--- least one entry taken"). No counter and no table of counters is looked at here. Assumes nothing.
+-- The fifteen counters in the customer's words, one rule for all: page 01's table of refusal numbers read by counter, step 1 ("These two count nothing. All
+-- later ends count one in npInReceives") and what stands below the table ("npOutDiscards counts dropped copies .. npInDelivers counts deliveries,
+-- npForwDatagrams datagrams with at least one entry taken"). No counter and no list of moves is looked at here. Assumes nothing.
 use Prim.Native.Nat.{ℕ, zero, suc, _+_}
-use mathlib.Core.Bool.{not, _||_}
-use mathlib.Core.List.{List}
+use mathlib.Core.Bool.{not}
+use mathlib.Core.List.{List, [], _∷_}
 use lib.Dec.{eqb}
+use lib.ListN.{getD}
 use Rattle.sets.specs.Sets.{inSet}
-use Rattle.verdict.specs.Numbers.{localNumber}
-use Rattle.judge.specs.declared.Ending.{Ending}
-use Rattle.history.specs.Calls.{Call}
-use Rattle.history.specs.Board.{freshBoard}
-use Rattle.history.specs.Over.{byEnding, sumOver}
+use Rattle.sets.specs.Limits.{portCount}
+use Rattle.history.specs.Answers.{listed}
+use Rattle.history.specs.Outcome.{Answer, number, ended, entry, Outcome}
 use Rattle.history.specs.Ledger.{one}
-
--- ---- what is counted of one received datagram
--- it did not end in 16 or 17
-abbrev pub receipt : Ending → ℕ
-receipt e = one (not (eqb (e .refusal) 16 || eqb (e .refusal) 17))
-
-abbrev pub delivery : Ending → ℕ
-delivery e = one (eqb (localNumber (e .ruling .local)) 1)
-
--- at least one port took an entry
-abbrev pub forwarded : Ending → ℕ
-forwarded e = one (not (eqb (e .ruling .took) 0))
 
 -- how many of the first n ports are in a set
 abbrev pub portsIn : ℕ → ℕ → ℕ
 portsIn zero set = 0
 portsIn (suc p) set = portsIn p set + one (inSet p set)
 
--- the ports that dropped their copy
-abbrev pub drops : Ending → ℕ
-drops e = portsIn 8 (e .ruling .dropped)
+-- what an answer gives each counter, where so many copies were dropped; only a received datagram gives any
+abbrev pub counted : Answer → ℕ → List ℕ
+counted (number n) copies = []
+counted (ended refusal local onward took) copies =
+    -- npInReceives: every end but 16 and 17
+    one (not (listed (16 ∷ 17 ∷ []) refusal))
+    -- npInBadLength: 1, short; 3, length
+    ∷ one (listed (1 ∷ 3 ∷ []) refusal)
+    -- npInBadVersion: 2, version
+    ∷ one (eqb refusal 2)
+    -- npInBadAddress: 4, form; 6, address; 7, no domain to supply
+    ∷ one (listed (4 ∷ 6 ∷ 7 ∷ []) refusal)
+    -- npInBadChecksum: 5, checksum
+    ∷ one (eqb refusal 5)
+    -- unsupported: 8, service not carried
+    ∷ one (eqb refusal 8)
+    -- npInAddrErrors: 9, not for us
+    ∷ one (eqb onward 9)
+    -- npInUnknownProtos: 26, TP-ID unknown
+    ∷ one (eqb local 26)
+    -- npInDelivers: deliveries
+    ∷ one (eqb local 1)
+    -- npForwHopDiscard: 10, hops used up
+    ∷ one (eqb onward 10)
+    -- npForwDatagrams: datagrams with at least one entry taken
+    ∷ one (not (eqb took 0))
+    -- npOutNoRoutes: 11, no route; 12, not up
+    ∷ one (listed (11 ∷ 12 ∷ []) onward)
+    -- npOutDiscards: dropped copies, also when another port took its copy
+    ∷ copies
+    -- left domain: 13, would leave its domain
+    ∷ one (eqb onward 13)
+    -- too big: 14, too big for every port
+    ∷ one (eqb onward 14)
+    ∷ []
+counted (entry e) copies = []
 
--- ---- over the calls, from a fresh relay on
-abbrev pub totalOver : (Ending → ℕ) → List Call → ℕ
-totalOver f cs = sumOver (byEnding f) freshBoard cs
+-- what an outcome gives each counter; a copy is dropped for each of the eight ports that drops
+abbrev pub counts : Outcome → List ℕ
+counts o = counted (o .answer) (portsIn portCount (o .dropped))
+
+-- and what it gives counter i
+abbrev pub givenBy : ℕ → Outcome → ℕ
+givenBy i o = getD (counts o) i 0

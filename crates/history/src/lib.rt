@@ -1,9 +1,15 @@
 // Histories: any calls, from a fresh relay on.
 //
 // There is no code here. The contracts say what one call does; this crate says what all of them do, settings changed between them
-// included, and proves the customer's demands of the very definitions that the contracts cite. A history is a list of calls. What the
-// rules give over it, the settings in force, the entries that wait and the counts, is defined from the calls alone, on a board that has
-// no counters: so the theorem that each counter is what the rules give compares two things that know nothing of each other.
+// included, and proves it of the very definitions that the contracts cite. A history is a list of calls, each a setting, a hearing, a
+// taking or a look. Of each call `outcome` says what it answers, which counters move, and which copies are granted, taken, dropped and
+// handed out. What the rules give over a history, the counts, each port's ledger and what waits there, are sums and folds over outcomes.
+// They follow the settings and the queues, and a relay has no counters: so the theorem that each counter is what the rules give compares
+// two things that know nothing of each other.
 //
-// The awkward case is the counter that comes round to 0 relayAfter 2^32 - 1: the tally of the rules is a number without end, and a counter
+// What waits on a port is a line of copies in the order of entering, each with the number of the call that placed it, since slots may
+// repeat. How a queue keeps its entries is no part of it; that a take hands out the highest of the line, and at which take a copy goes
+// out, is proved.
+//
+// The awkward case is the counter that comes round to 0 after 2^32 - 1: the tally of the rules is a number without end, and a counter
 // is equal to it modulo 2^32.

@@ -60,7 +60,7 @@ fn refused(refusal: u32) -> Ending
 // port (6, by two checks), and the ruling.
 fn judge_header(state: &[u32], at: Arrival, h: Header) -> Ending
     requires { ⌜ (length (now state) ≡ stateWords) × (h .length < lengthLimit) ⌝ }
-    ensures { λ r. ⌜ r ≡ headerEnding (decode (now (state .entry))) at h ⌝ }
+    ensures { λ r. ⌜ r ≡ headerEnding (decode (now (state .entry)) .relay) at h ⌝ }
 {
     let f = h.fields;
     let port = at.address;
@@ -91,7 +91,7 @@ fn judge_header(state: &[u32], at: Arrival, h: Header) -> Ending
 // Steps 2 and 3, and what follows.
 fn judge_octets(state: &[u32], at: Arrival, octets: &[u8]) -> Ending
     requires { ⌜ length (now state) ≡ stateWords ⌝ }
-    ensures { λ r. ⌜ r ≡ octetsEnding (decode (now (state .entry))) at (readOf (now (octets .entry))) ⌝ }
+    ensures { λ r. ⌜ r ≡ octetsEnding (decode (now (state .entry)) .relay) at (readOf (now (octets .entry))) ⌝ }
 {
     match reader::read_header(octets) {
         Read::Good(h) => judge_header(state, at, h),
@@ -102,7 +102,7 @@ fn judge_octets(state: &[u32], at: Arrival, octets: &[u8]) -> Ending
 // The verdict on the octets that came in by a port, with so much room for output.
 pub fn judge(state: &[u32], port: u32, octets: &[u8], room: usize) -> Ending
     requires { ⌜ length (now state) ≡ stateWords ⌝ }
-    ensures { λ r. ⌜ r ≡ endingOf (decode (now (state .entry))) port (now (octets .entry)) room ⌝ }
+    ensures { λ r. ⌜ r ≡ endingOf (decode (now (state .entry)) .relay) port (now (octets .entry)) room ⌝ }
 {
     let Check::Passed = state_ports::check_port(state, port) else {
         return refused(16);

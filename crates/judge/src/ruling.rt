@@ -43,7 +43,7 @@ fn ruled_by(t: Target, p: Place, w: Way, c: Case, s: Survey) -> Ruling
 // The ruling where the destination is an end system's address or a group's.
 fn rule_node(state: &[u32], a: Address, c: Case, s: Survey) -> Ruling
     requires { ⌜ length (now state) ≡ stateWords ⌝ }
-    ensures { λ r. ⌜ r ≡ ruleNode (decode (now (state .entry))) a c s ⌝ }
+    ensures { λ r. ⌜ r ≡ ruleNode (decode (now (state .entry)) .relay) a c s ⌝ }
 {
     let t = verdict::local_half::target_of(address::class_of(a), s);
     let place = lookup::for_target::place_for(state, t, a, c.arrival);
@@ -93,7 +93,7 @@ fn sought_of(aim: Aim, domain: u32, length: u32) -> Sought
 // The ruling by what the destination names.
 fn rule_aim(state: &[u32], aim: Aim, c: Case, s: Survey) -> Ruling
     requires { ⌜ length (now state) ≡ stateWords ⌝ }
-    ensures { λ r. ⌜ r ≡ ruleAim (decode (now (state .entry))) aim c s ⌝ }
+    ensures { λ r. ⌜ r ≡ ruleAim (decode (now (state .entry)) .relay) aim c s ⌝ }
 {
     match aim {
         Aim::Node(a) => rule_node(state, a, c, s),
@@ -105,7 +105,7 @@ fn rule_aim(state: &[u32], aim: Aim, c: Case, s: Survey) -> Ruling
 // The ruling on a good header.
 pub fn rule(state: &[u32], at: Arrival, aim: Aim, h: Header) -> Ruling
     requires { ⌜ (length (now state) ≡ stateWords) × (h .length < lengthLimit) ⌝ }
-    ensures { λ r. ⌜ r ≡ ruleOf (decode (now (state .entry))) at aim h ⌝ }
+    ensures { λ r. ⌜ r ≡ ruleOf (decode (now (state .entry)) .relay) at aim h ⌝ }
 {
     let f = h.fields;
     let from = at.address;

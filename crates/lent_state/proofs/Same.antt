@@ -9,12 +9,12 @@ use lib.Dec.{eqb}
 use borrow.Author.Tests.{eqb-true}
 use Rattle.checks.specs.Order.{pick}
 use Rattle.checks.proofs.Bools.{true-false}
-use Rattle.state.specs.Relay.{Relay}
+use Rattle.state.specs.Relay.{State}
 use Rattle.state.specs.Layout.{stateWords, decode}
 use Rattle.state.proofs.Words.{decode-injective}
 use Rattle.lent_state.specs.View.{Lent, Held, Other, lent}
 
-held-same : (a b : Relay) → Held a ≡ Held b → a ≡ b
+held-same : (a b : State) → Held a ≡ Held b → a ≡ b
 held-same a b h = cc
 
 other-same : (v w : List ℕ) → Other v ≡ Other w → v ≡ w

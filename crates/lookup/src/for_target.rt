@@ -17,7 +17,7 @@ ghost use Rattle.lookup.specs.ForTarget.{wayOf, placeFor, wayFor};
 // What the place of a group says, for a group alone.
 pub fn place_for(state: &[u32], t: Target, a: Address, arrival: u32) -> Place
     requires { ⌜ length (now state) ≡ stateWords ⌝ }
-    ensures { λ r. ⌜ r ≡ placeFor (decode (now (state .entry))) t a arrival ⌝ }
+    ensures { λ r. ⌜ r ≡ placeFor (decode (now (state .entry)) .relay) t a arrival ⌝ }
 {
     match t {
         Target::Here => Place::Missing,
@@ -41,7 +41,7 @@ fn way_of(found: Found) -> Way
 // The route of an address, where the route line decides.
 pub fn way_for(state: &[u32], t: Target, a: Address) -> Way
     requires { ⌜ length (now state) ≡ stateWords ⌝ }
-    ensures { λ r. ⌜ r ≡ wayFor (decode (now (state .entry))) t a ⌝ }
+    ensures { λ r. ⌜ r ≡ wayFor (decode (now (state .entry)) .relay) t a ⌝ }
 {
     match t {
         Target::Here => Way::Lost,

@@ -18,7 +18,7 @@ ghost use Rattle.lookup.specs.Lookup.{groupPlace, pathPlace};
 // What the place of a group says; `arrival` is the arrival port as a set.
 pub fn group_place(state: &[u32], a: Address, arrival: u32) -> Place
     requires { ⌜ length (now state) ≡ stateWords ⌝ }
-    ensures { λ r. ⌜ r ≡ groupPlace (decode (now (state .entry))) a arrival ⌝ }
+    ensures { λ r. ⌜ r ≡ groupPlace (decode (now (state .entry)) .relay) a arrival ⌝ }
 {
     let mut i = 0;
     while i < GROUPS {
@@ -34,7 +34,7 @@ pub fn group_place(state: &[u32], a: Address, arrival: u32) -> Place
 // What the place of a path says.
 pub fn path_place(state: &[u32], p: PathAddress) -> Place
     requires { ⌜ length (now state) ≡ stateWords ⌝ }
-    ensures { λ r. ⌜ r ≡ pathPlace (decode (now (state .entry))) p ⌝ }
+    ensures { λ r. ⌜ r ≡ pathPlace (decode (now (state .entry)) .relay) p ⌝ }
 {
     let mut i = 0;
     while i < PATHS {

@@ -18,7 +18,7 @@ use Rattle.address.specs.declared.Class.the-variants.{Unicast, NetBroadcast, Sc
 use Rattle.address.specs.declared.Family.the-variants.{Net, Scps, Multicast, Invalid}
 use Rattle.address.proofs.Clash.{clash}
 use Rattle.address.proofs.Families
-use Rattle.address.proofs.Row.{Row, even, class-a, class-b, class-c, all-scps, class-a-last, class-b-last, class-c-last}
+use Rattle.address.specs.Row.{Row, even, class-a, class-b, class-c, all-scps, class-a-last, class-b-last, class-c-last}
 use Rattle.address.proofs.ClassTable.{class-one, class-row}
 use Rattle.networks.specs.Networks.{inNet10, lastOf, subnetBroadcast, broadcastIn, classBroadcast}
 use Rattle.networks.specs.declared.Broadcast.{Broadcast}

@@ -12,15 +12,19 @@ module _ {A : Type 0} where
   each-so [] f h = tt
   each-so (x ∷ l) f h = (f x (h .0), each-so l f (h .1))
 
-  pub each-later : (P : A → Type 0) (l : List A) → Each P l → Each P (drop 1 l)
-  each-later P [] h = tt
-  each-later P (x ∷ l) h = h .1
-
   pub order-later : (R : A → A → Type 0) (l : List A) → InOrder R l → InOrder R (drop 1 l)
   order-later R [] h = tt
   order-later R (x ∷ l) h = h .1
 
-  each-rest : (P : A → Type 0) (l r : List A) → Each P (l ++ r) → Each P r
+  pub each-append : (P : A → Type 0) (l r : List A) → Each P l → Each P r → Each P (l ++ r)
+  each-append P [] r h k = k
+  each-append P (x ∷ l) r h k = (h .0, each-append P l r (h .1) k)
+
+  pub each-front : (P : A → Type 0) (l r : List A) → Each P (l ++ r) → Each P l
+  each-front P [] r h = tt
+  each-front P (x ∷ l) r h = (h .0, each-front P l r (h .1))
+
+  pub each-rest : (P : A → Type 0) (l r : List A) → Each P (l ++ r) → Each P r
   each-rest P [] r h = h
   each-rest P (x ∷ l) r h = each-rest P l r (h .1)
 

@@ -1,4 +1,4 @@
--- The laws of the queue. To be read: Order, Cases, Waiting, Sound, Turns and Marked; the others serve these and the code's proofs.
+-- The laws of the queue. To be read: Order, Cases, Waiting, Sound, Waits, Foretold and Mistaken; the others serve these and the code's proofs.
 mod Compare
 pub mod Each
 pub mod Order
@@ -6,5 +6,6 @@ mod Steps
 pub mod Cases
 pub mod Waiting
 pub mod Sound
-pub mod Turns
-pub mod Marked
+pub mod Waits
+pub mod Foretold
+pub mod Mistaken

@@ -1,25 +1,22 @@
 -- Every queue that puts and takes make of a fresh one is sound: at most 32 wait, in order, and the places behind them are free. So two
--- such queues in which the same entries wait are equal, and what a take hands out is of the highest precedence. Assumes nothing.
-use Prim.Native.Nat.{ℕ, zero, suc, _+_, _-_, _≤_, _<_}
+-- such queues in which the same entries wait are equal. Assumes nothing.
+use Prim.Native.Nat.{ℕ, zero, suc, _+_, _-_, _<_}
 use mathlib.Core.Path.{_≡_, refl, sym, ap, _∙_}
 use mathlib.Core.List.{List, [], _∷_, _++_}
-use native.Mathlib.Nat.{le-refl}
 use native.Mathlib.Numerals.{sub-one}
 use native.Mathlib.Omega.{arith}
 use lib.ListN.{length, drop, replicate, replicate-append-replicate, take-append-drop}
 use borrow.Author.Tests.{lt-ltb}
-use Rattle.queue.specs.Order.{Each, Sorted}
-use Rattle.queue.specs.Queue.{free, fresh, waiting, precedenceOf, putOf, takeOf, headOf, Bounded, Sound}
+use Rattle.queue.specs.Queue.{free, fresh, waiting, precedenceOf, putOf, takeOf, Bounded, Sound}
 use Rattle.queue.specs.declared.Entry.{Entry}
 use Rattle.queue.specs.declared.Queue.{Queue}
 use Rattle.queue.specs.declared.Put.{Put}
-use Rattle.queue.specs.declared.Head.the-variants.{First}
 use Rattle.queue.specs.declared.Taken.{Taken}
 use Rattle.queue.proofs.Compare.{by-order}
 use Rattle.queue.proofs.Each.{order-later}
 use Rattle.queue.proofs.Order.{insert-sorted}
 use Rattle.queue.proofs.Cases.{put-room, put-full, take-none, take-first}
-use Rattle.queue.proofs.Waiting.{count-waiting, put-waiting, put-behind, put-bounded, take-head, take-waiting, take-behind, take-bounded}
+use Rattle.queue.proofs.Waiting.{count-waiting, put-waiting, put-behind, put-bounded, take-waiting, take-behind, take-bounded}
 
 pub fresh-sound : Sound fresh
 unfolding fresh
@@ -71,14 +68,6 @@ module _ (q : Queue) (sound : Sound q) where
             sorted = rw (take-waiting q bounded) (order-later _ (waiting q) (sound .sorted));
             clean = take-behind q bounded present ∙ rw (sound .clean, count, ← more) (free-more (32 - q .count));
           }
-
-  -- none that waits has a higher precedence than what is handed out
-  pub take-highest : (first : Entry) → takeOf q .head ≡ First first → Each (λ (x : Entry). x .precedence ≤ first .precedence) (waiting q)
-  take-highest first h = highest (waiting q) (sound .sorted) (sym (take-head q bounded) ∙ h)
-    where
-      highest : (l : List Entry) → Sorted precedenceOf l → headOf l ≡ First first → Each (λ (x : Entry). x .precedence ≤ first .precedence) l
-      highest [] sorted h = let z : _≡_ {A = ℕ} 0 1 = cc in absurd (omega arith)
-      highest (x ∷ l) sorted h = let e : x ≡ first = cc in rw (← e) (le-refl _, sorted .0)
 
   whole : q .entries ≡ filled (waiting q)
   unfolding filled

@@ -1,4 +1,5 @@
--- What the contracts cite, Order and Queue; and what the laws of a queue's history speak of, Turns.
+-- What the contracts cite, Order and Queue; and what the laws of a queue's history speak of, Waits and Foretold.
 pub mod Order
 pub mod Queue
-pub mod Turns
+pub mod Waits
+pub mod Foretold

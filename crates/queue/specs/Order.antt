@@ -1,6 +1,6 @@
 -- Where a newcomer goes among those that wait: page 01, "One received datagram, step by step" ("A newcomer goes just ahead of the first
--- entry with lower precedence, else last"). It is said of any kind of thing that has a rank, so that entries, and entries that bear the
--- number of their entering (`Turns`), are ordered by one definition. Assumes nothing.
+-- entry with lower precedence, else last"). It is said of any kind of thing that has a rank, so that entries, and copies that bear the
+-- turn of the call that placed them (crate history), are ordered by one definition. Assumes nothing.
 use Prim.Native.Nat.{ℕ, _≤_, _<_}
 use mathlib.Core.Path.{_≡_}
 use mathlib.Core.List.{List, [], _∷_, _++_}

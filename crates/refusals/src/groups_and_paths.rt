@@ -18,7 +18,7 @@ ghost use Rattle.refusals.specs.Lists.{groupChecks, pathChecks};
 // Refusal 21 of a group or a path: the place is one of so many, and the set to send to has ports that are set up.
 fn check_target(state: &[u32], place: u32, places: u32, send: u32) -> Check
     requires { ⌜ length (now state) ≡ stateWords ⌝ }
-    ensures { λ r. ⌜ r ≡ checkOf (placeRefused place places || setRefused send (readySet (decode (now (state .entry))))) ⌝ }
+    ensures { λ r. ⌜ r ≡ checkOf (placeRefused place places || setRefused send (readySet (decode (now (state .entry)) .relay))) ⌝ }
 {
     let Check::Passed = settings::check_place(place, places) else {
         return Check::Failed;
@@ -29,7 +29,7 @@ fn check_target(state: &[u32], place: u32, places: u32, send: u32) -> Check
 // Why this group may not stand in that place, or 0.
 pub fn group_refusal(state: &[u32], place: u32, address: Address, send: u32, subscribed: u32) -> u32
     requires { ⌜ length (now state) ≡ stateWords ⌝ }
-    ensures { λ r. ⌜ r ≡ firstOf (groupChecks (decode (now (state .entry))) place address send subscribed) ⌝ }
+    ensures { λ r. ⌜ r ≡ firstOf (groupChecks (decode (now (state .entry)) .relay) place address send subscribed) ⌝ }
 {
     let Check::Passed = check_target(state, place, sets::GROUPS, send) else {
         return 21;
@@ -49,7 +49,7 @@ pub fn group_refusal(state: &[u32], place: u32, address: Address, send: u32, sub
 // Why this path may not stand in that place, or 0.
 pub fn path_refusal(state: &[u32], place: u32, path: PathAddress, send: u32, here: u32) -> u32
     requires { ⌜ length (now state) ≡ stateWords ⌝ }
-    ensures { λ r. ⌜ r ≡ firstOf (pathChecks (decode (now (state .entry))) place path send here) ⌝ }
+    ensures { λ r. ⌜ r ≡ firstOf (pathChecks (decode (now (state .entry)) .relay) place path send here) ⌝ }
 {
     let Check::Passed = check_target(state, place, sets::PATHS, send) else {
         return 21;

@@ -25,7 +25,7 @@ ghost use Rattle.refusals.specs.Record.{recordChecks};
 // Refusal 35 of a port: nothing waits on it.
 fn check_idle(state: &[u32], p: usize) -> Check
     requires { ⌜ (length (now state) ≡ stateWords) × (p < portCount) ⌝ }
-    ensures { λ r. ⌜ r ≡ checkOf (entriesWait (decode (now (state .entry))) p) ⌝ }
+    ensures { λ r. ⌜ r ≡ checkOf (entriesWait (decode (now (state .entry)) .relay) p) ⌝ }
 {
     if state_queues::queue_of(state, p).count == 0 {
         return Check::Passed;
@@ -36,7 +36,7 @@ fn check_idle(state: &[u32], p: usize) -> Check
 // Why this port may not be set up so, or 0.
 pub fn port_refusal(state: &[u32], port: u32, address: Address, mask: Mask, mtu: u32) -> u32
     requires { ⌜ length (now state) ≡ stateWords ⌝ }
-    ensures { λ r. ⌜ r ≡ firstOf (portChecks (decode (now (state .entry))) port address mask mtu) ⌝ }
+    ensures { λ r. ⌜ r ≡ firstOf (portChecks (decode (now (state .entry)) .relay) port address mask mtu) ⌝ }
 {
     let Check::Passed = settings::check_place(port, sets::PORTS) else {
         return 21;
@@ -75,7 +75,7 @@ fn record_refusal(x: Route, ready: u32) -> u32
 // Why this route may not stand in that place, or 0. The record's own number is one of 21, 22 and 24.
 pub fn route_refusal(state: &[u32], place: u32, x: Route) -> u32
     requires { ⌜ length (now state) ≡ stateWords ⌝ }
-    ensures { λ r. ⌜ r ≡ firstOf (routeChecks (decode (now (state .entry))) place x) ⌝ }
+    ensures { λ r. ⌜ r ≡ firstOf (routeChecks (decode (now (state .entry)) .relay) place x) ⌝ }
 {
     let Check::Passed = settings::check_place(place, sets::ROUTES) else {
         return 21;

@@ -21,7 +21,7 @@ ghost use Rattle.refusals.specs.Elsewhere.{otherRoute, otherGroup, other
 // Place i is not the one that is written, and holds the route's prefix and mask.
 fn other_route(state: &[u32], place: usize, x: Route, i: usize) -> bool
     requires { ⌜ (length (now state) ≡ stateWords) × (i < routePlaces) ⌝ }
-    ensures { λ r. ⌜ r ≡ otherRoute (decode (now (state .entry))) place x i ⌝ }
+    ensures { λ r. ⌜ r ≡ otherRoute (decode (now (state .entry)) .relay) place x i ⌝ }
 {
     if i == place {
         return false;
@@ -32,7 +32,7 @@ fn other_route(state: &[u32], place: usize, x: Route, i: usize) -> bool
 // Refusal 23 of a route.
 pub fn check_other_routes(state: &[u32], place: usize, x: Route) -> Check
     requires { ⌜ length (now state) ≡ stateWords ⌝ }
-    ensures { λ r. ⌜ r ≡ checkOf (routeElsewhere (decode (now (state .entry))) place x) ⌝ }
+    ensures { λ r. ⌜ r ≡ checkOf (routeElsewhere (decode (now (state .entry)) .relay) place x) ⌝ }
 {
     let mut i = 0;
     while i < ROUTES {
@@ -47,7 +47,7 @@ pub fn check_other_routes(state: &[u32], place: usize, x: Route) -> Check
 // Place i is not the one that is written, and holds the group address.
 fn other_group(state: &[u32], place: usize, a: Address, i: usize) -> bool
     requires { ⌜ (length (now state) ≡ stateWords) × (i < groupPlaces) ⌝ }
-    ensures { λ r. ⌜ r ≡ otherGroup (decode (now (state .entry))) place a i ⌝ }
+    ensures { λ r. ⌜ r ≡ otherGroup (decode (now (state .entry)) .relay) place a i ⌝ }
 {
     if i == place {
         return false;
@@ -58,7 +58,7 @@ fn other_group(state: &[u32], place: usize, a: Address, i: usize) -> bool
 // Refusal 23 of a group.
 pub fn check_other_groups(state: &[u32], place: usize, a: Address) -> Check
     requires { ⌜ length (now state) ≡ stateWords ⌝ }
-    ensures { λ r. ⌜ r ≡ checkOf (groupElsewhere (decode (now (state .entry))) place a) ⌝ }
+    ensures { λ r. ⌜ r ≡ checkOf (groupElsewhere (decode (now (state .entry)) .relay) place a) ⌝ }
 {
     let mut i = 0;
     while i < GROUPS {
@@ -73,7 +73,7 @@ pub fn check_other_groups(state: &[u32], place: usize, a: Address) -> Check
 // Place i is not the one that is written, and holds the path address.
 fn other_path(state: &[u32], place: usize, p: PathAddress, i: usize) -> bool
     requires { ⌜ (length (now state) ≡ stateWords) × (i < pathPlaces) ⌝ }
-    ensures { λ r. ⌜ r ≡ otherPath (decode (now (state .entry))) place p i ⌝ }
+    ensures { λ r. ⌜ r ≡ otherPath (decode (now (state .entry)) .relay) place p i ⌝ }
 {
     if i == place {
         return false;
@@ -84,7 +84,7 @@ fn other_path(state: &[u32], place: usize, p: PathAddress, i: usize) -> bool
 // Refusal 23 of a path.
 pub fn check_other_paths(state: &[u32], place: usize, p: PathAddress) -> Check
     requires { ⌜ length (now state) ≡ stateWords ⌝ }
-    ensures { λ r. ⌜ r ≡ checkOf (pathElsewhere (decode (now (state .entry))) place p) ⌝ }
+    ensures { λ r. ⌜ r ≡ checkOf (pathElsewhere (decode (now (state .entry)) .relay) place p) ⌝ }
 {
     let mut i = 0;
     while i < PATHS {

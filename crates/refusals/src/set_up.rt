@@ -17,7 +17,7 @@ ghost use Rattle.refusals.specs.Ready.{readySet};
 // Port p as a set of its own where it is set up, else the empty set.
 fn ready_bit(state: &[u32], p: usize) -> u32
     requires { ⌜ (length (now state) ≡ stateWords) × (p < portCount) ⌝ }
-    ensures { λ r. ⌜ r ≡ pick (isSetUp (portIn (decode (now (state .entry))) p)) (2 ^ p) 0 ⌝ }
+    ensures { λ r. ⌜ r ≡ pick (isSetUp (portIn (decode (now (state .entry)) .relay) p)) (2 ^ p) 0 ⌝ }
 {
     if state_ports::port_of(state, p).ready == 0 {
         return 0;
@@ -28,7 +28,7 @@ fn ready_bit(state: &[u32], p: usize) -> u32
 // The set of the ports that are set up.
 pub fn ready_ports(state: &[u32]) -> u32
     requires { ⌜ length (now state) ≡ stateWords ⌝ }
-    ensures { λ r. ⌜ r ≡ readySet (decode (now (state .entry))) ⌝ }
+    ensures { λ r. ⌜ r ≡ readySet (decode (now (state .entry)) .relay) ⌝ }
 {
     let mut set: u32 = 0;
     let mut p: usize = 0;

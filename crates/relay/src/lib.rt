@@ -20,7 +20,7 @@ ghost use Rattle.relay.specs.Received.{receivedState};
 // What becomes of the octets that came in by a port; they are known to the caller by the slot.
 pub fn receive(state: &mut [u32], port: u32, slot: Slot, octets: &[u8], output: &mut [u8]) -> Ending
     requires { ⌜ length (now state) ≡ stateWords ⌝ }
-    ensures { λ r. ⌜ r ≡ endingOf (decode (now (state .entry))) port (now (octets .entry)) (length (now (output .entry))) ⌝ }
+    ensures { λ r. ⌜ r ≡ endingOf (decode (now (state .entry)) .relay) port (now (octets .entry)) (length (now (output .entry))) ⌝ }
     ensures { λ r. ⌜ decode (now (state .exit)) ≡ receivedState (decode (now (state .entry))) slot r ⌝ }
     ensures { λ r. ⌜ now (output .exit) ≡ sentOutput (r .ruling .took) (now (octets .entry)) (now (output .entry)) ⌝ }
 {

@@ -11,13 +11,14 @@ ghost use lib.ListN.{length};
 ghost use Rattle.header.specs.Form.{placesOf};
 ghost use Rattle.header.specs.Limits.{longestHeader};
 ghost use Rattle.sets.specs.Limits.{portCount};
+ghost use Rattle.state.specs.Relay.{onRelay};
 ghost use Rattle.state.specs.Layout.{stateWords, decode};
 ghost use Rattle.relay.specs.Outgoing.{entered, enteredIf, enteredAll, sentOutput};
 
 // The entry in the queue of a port.
 fn enter(state: &mut [u32], p: usize, e: Entry)
     requires { ⌜ (length (now state) ≡ stateWords) × (p < portCount) ⌝ }
-    ensures { λ _. ⌜ decode (now (state .exit)) ≡ entered (decode (now (state .entry))) p e ⌝ }
+    ensures { λ _. ⌜ decode (now (state .exit)) ≡ onRelay (λ r. entered r p e) (decode (now (state .entry))) ⌝ }
 {
     let q = state_queues::queue_of(state, p);
     let put = q.put(e);
@@ -28,7 +29,7 @@ fn enter(state: &mut [u32], p: usize, e: Entry)
 // The entry in the queue of a port, where the port is in the set.
 fn enter_if(state: &mut [u32], p: usize, took: u32, e: Entry)
     requires { ⌜ (length (now state) ≡ stateWords) × (p < portCount) ⌝ }
-    ensures { λ _. ⌜ decode (now (state .exit)) ≡ enteredIf (decode (now (state .entry))) took e p ⌝ }
+    ensures { λ _. ⌜ decode (now (state .exit)) ≡ onRelay (λ r. enteredIf r took e p) (decode (now (state .entry))) ⌝ }
 {
     if took & sets::only_port(p as u32) == 0 {
         return;
@@ -39,7 +40,7 @@ fn enter_if(state: &mut [u32], p: usize, took: u32, e: Entry)
 // The entry in the queue of each port of the set.
 pub fn enter_all(state: &mut [u32], took: u32, e: Entry)
     requires { ⌜ length (now state) ≡ stateWords ⌝ }
-    ensures { λ _. ⌜ decode (now (state .exit)) ≡ enteredAll (decode (now (state .entry))) took e portCount ⌝ }
+    ensures { λ _. ⌜ decode (now (state .exit)) ≡ onRelay (λ r. enteredAll r took e portCount) (decode (now (state .entry))) ⌝ }
 {
     let mut p = 0;
     while p < PORTS {

@@ -18,7 +18,7 @@ use Rattle.address.specs.declared.Class.{Class}
 use Rattle.address.specs.declared.Class.the-variants.{Invalid, Unicast, Multicast, NetBroadcast, DomainBroadcast, ScpsBroadcast, LimitedBroadcast}
 use Rattle.address.specs.declared.PathForm.{PathForm}
 use Rattle.address.specs.declared.PathForm.the-variants.{Invalid as Bad, Valid}
-use Rattle.address.proofs.Row.{Row}
+use Rattle.address.specs.Row.{Row}
 use Rattle.address.proofs.ClassTable.{class-one, class-row}
 use Rattle.address.proofs.Paths.{path-valid}
 use Rattle.settings.proofs.Answers.{both-true, either-true}

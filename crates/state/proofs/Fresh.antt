@@ -4,11 +4,11 @@ use mathlib.Core.Path.{_≡_, refl}
 use lib.ListN.{length, getD, length-replicate, getD-replicate}
 use Rattle.queue.specs.Queue.{fresh as freshQueue}
 use Rattle.words.specs.Cut.{pieces}
-use Rattle.state.specs.Relay.{freshRelay}
-use Rattle.state.specs.Layout.{stateWords, relayOf, decode, freshWords, queueOf}
+use Rattle.state.specs.Relay.{freshRelay, freshState}
+use Rattle.state.specs.Layout.{stateWords, stateOf, decode, freshWords, queueOf}
 
-pub fresh : decode freshWords ≡ freshRelay
-unfolding decode relayOf freshWords freshRelay freshQueue pieces queueOf
+pub fresh : decode freshWords ≡ freshState
+unfolding decode stateOf freshWords freshState freshRelay freshQueue pieces queueOf
 fresh = refl
 
 pub fresh-length : length freshWords ≡ stateWords

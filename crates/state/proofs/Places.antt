@@ -5,14 +5,14 @@ use native.Mathlib.Nat.{add-assoc, mod-add-mod, mod-eq-of-lt}
 use mathlib.Core.Path.{_≡_, ap, _∙_}
 use mathlib.Core.Logic.{_≢_}
 use mathlib.Core.List.{List}
-use lib.ListN.{set}
+use lib.ListN.{length, set}
 use lib.Seq.{getD-set-same, getD-set-other, set-set}
 use Rattle.queue.specs.declared.Queue.{Queue}
 use Rattle.routes.specs.declared.Route.{Route}
 use Rattle.records.specs.declared.Port.{Port}
 use Rattle.records.specs.declared.Group.{Group}
 use Rattle.records.specs.declared.PathPlace.{PathPlace}
-use Rattle.state.specs.Relay.{Relay, withMission, allCounters, portIn, groupIn, pathIn, queueIn, counterIn, routeIn}
+use Rattle.state.specs.Relay.{Relay, portIn, groupIn, pathIn, queueIn, counterIn, routeIn}
 use Rattle.state.specs.Relay.{withPort, withGroup, withPath, withQueue, withCounter, withRoute, added}
 use Rattle.state.proofs.Sizes.{Sized, many}
 
@@ -30,30 +30,28 @@ module _ (r : Relay) (s : Sized r) (i : ℕ) where
   pub queue-back : (x : Queue) → i < 8 → queueIn (withQueue r i x) i ≡ x
   queue-back x h = getD-set-same (r .mission .queues) i x _ (rw (many r s 3) h)
 
-  pub counter-back : (x : ℕ) → i < 15 → counterIn (withCounter r i x) i ≡ x
-  counter-back x h = getD-set-same (r .mission .counters) i x _ (rw (many r s 4) h)
-
   pub route-back : (x : Route) → i < 64 → routeIn (withRoute r i x) i ≡ x
-  route-back x h = getD-set-same (r .routes) i x _ (rw (many r s 5) h)
+  route-back x h = getD-set-same (r .routes) i x _ (rw (many r s 4) h)
+
+module _ (cs : List ℕ) (s : length cs ≡ 15) (i : ℕ) where
+  pub counter-back : (x : ℕ) → i < 15 → counterIn (withCounter cs i x) i ≡ x
+  counter-back x h = getD-set-same cs i x 0 (rw s h)
 
   -- A counter counts modulo 2^32: n more is n more, and comes round to 0 after 2^32 - 1.
-  pub counted : (n : ℕ) → i < 15 → counterIn (added r i n) i ≡ (counterIn r i + n) % 2 ^ 32
+  pub counted : (n : ℕ) → i < 15 → counterIn (added cs i n) i ≡ (counterIn cs i + n) % 2 ^ 32
   counted n h = counter-back _ h
 
-  pub counted-below : (n : ℕ) → i < 15 → counterIn r i + n < 2 ^ 32 → counterIn (added r i n) i ≡ counterIn r i + n
+  pub counted-below : (n : ℕ) → i < 15 → counterIn cs i + n < 2 ^ 32 → counterIn (added cs i n) i ≡ counterIn cs i + n
   counted-below n h b = counted n h ∙ mod-eq-of-lt b
 
   -- One count after the other is the sum of both.
-  pub counted-twice : (m n : ℕ) → i < 15 → added (added r i m) i n ≡ added r i (m + n)
+  pub counted-twice : (m n : ℕ) → i < 15 → added (added cs i m) i n ≡ added cs i (m + n)
   counted-twice m n h =
-      let cs = r .mission .counters in
-      let sum = counterIn r i + m in
-      ap (λ (l : List ℕ). withMission r (allCounters (r .mission) l))
-      (set-set cs i _ _
+      set-set cs i _ _
       ∙ ap (set cs i)
       (ap (λ (t : ℕ). (t + n) % 2 ^ 32) (counted m h)
-      ∙ mod-add-mod sum (2 ^ 32) n
-      ∙ ap (λ (t : ℕ). t % 2 ^ 32) (add-assoc (counterIn r i) m n)))
+      ∙ mod-add-mod (counterIn cs i + m) (2 ^ 32) n
+      ∙ ap (λ (t : ℕ). t % 2 ^ 32) (add-assoc (counterIn cs i) m n))
 
 -- ---- another place of the same kind stays
 module _ (r : Relay) (i j : ℕ) (other : j ≢ i) where
@@ -69,8 +67,8 @@ module _ (r : Relay) (i j : ℕ) (other : j ≢ i) where
   pub queue-left : (x : Queue) → queueIn (withQueue r i x) j ≡ queueIn r j
   queue-left x = getD-set-other (r .mission .queues) i j x _ other
 
-  pub counter-left : (x : ℕ) → counterIn (withCounter r i x) j ≡ counterIn r j
-  counter-left x = getD-set-other (r .mission .counters) i j x _ other
-
   pub route-left : (x : Route) → routeIn (withRoute r i x) j ≡ routeIn r j
   route-left x = getD-set-other (r .routes) i j x _ other
+
+pub counter-left : (cs : List ℕ) (i j : ℕ) → j ≢ i → (x : ℕ) → counterIn (withCounter cs i x) j ≡ counterIn cs j
+counter-left cs i j other x = getD-set-other cs i j x 0 other

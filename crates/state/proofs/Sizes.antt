@@ -13,22 +13,21 @@ use Rattle.records.specs.declared.PathPlace.{PathPlace}
 use Rattle.words.specs.Cut.{cut}
 use Rattle.words.proofs.Pieces.{rows-length}
 use Rattle.state.specs.Relay.{Relay, withRouter, withPort, withGroup, withPath, withQueue, withCounter, withRoute}
-use Rattle.state.specs.Layout.{sections, stateWords, relayOf, decode, portOf, groupOf, pathOf, queueOf, routeOf}
+use Rattle.state.specs.Layout.{sections, stateWords, stateOf, decode, portOf, groupOf, pathOf, queueOf, routeOf}
 use Rattle.state.proofs.Words.{section-length}
 
--- ports, groups, paths, queues, counters, routes
+-- ports, groups, paths, queues, routes
 abbrev pub sizes : Relay → List ℕ
 sizes r =
     length (r .ports)
     ∷ length (r .mission .groups)
     ∷ length (r .mission .paths)
     ∷ length (r .mission .queues)
-    ∷ length (r .mission .counters)
     ∷ length (r .routes)
     ∷ []
 
 abbrev pub numbers : List ℕ
-numbers = 8 ∷ 16 ∷ 16 ∷ 8 ∷ 15 ∷ 64 ∷ []
+numbers = 8 ∷ 16 ∷ 16 ∷ 8 ∷ 64 ∷ []
 
 abbrev pub Sized : Relay → Type 0
 Sized r = sizes r ≡ numbers
@@ -39,19 +38,22 @@ many r s kind = ap (λ (l : List ℕ). getD l kind 0) s
 
 -- ---- any words
 module _ (w : List ℕ) where
-  pub routes-length : length (decode w .routes) ≡ 64
-  unfolding decode relayOf
+  pub routes-length : length (decode w .relay .routes) ≡ 64
+  unfolding decode stateOf
   routes-length = rows-length routeOf 6 64 (cut sections w 6)
 
-  pub decode-sized : length w ≡ stateWords → Sized (decode w)
-  unfolding decode relayOf
-  decode-sized l =
+  pub counters-length : length w ≡ stateWords → length (decode w .counters) ≡ 15
+  unfolding decode stateOf
+  counters-length l = section-length w l 5 (omega arith) (omega arith)
+
+  pub decode-sized : Sized (decode w .relay)
+  unfolding decode stateOf
+  decode-sized =
       rw (
         rows-length portOf 4 8 (cut sections w 1),
         rows-length groupOf 4 16 (cut sections w 2),
         rows-length pathOf 4 16 (cut sections w 3),
         rows-length queueOf 33 8 (cut sections w 4),
-        section-length w l 5 (omega arith) (omega arith),
         rows-length routeOf 6 64 (cut sections w 6),
       )
 
@@ -72,8 +74,8 @@ module _ (r : Relay) where
   pub queue-sizes : (i : ℕ) (x : Queue) → sizes (withQueue r i x) ≡ sizes r
   queue-sizes i x = rw length-set
 
-  pub counter-sizes : (i x : ℕ) → sizes (withCounter r i x) ≡ sizes r
-  counter-sizes i x = rw length-set
-
   pub route-sizes : (i : ℕ) (x : Route) → sizes (withRoute r i x) ≡ sizes r
   route-sizes i x = rw length-set
+
+pub counter-sizes : (cs : List ℕ) (i x : ℕ) → length (withCounter cs i x) ≡ length cs
+counter-sizes cs i x = rw length-set

@@ -9,7 +9,7 @@ use Rattle.words.specs.Cut.{total, start, cut, joined}
 use Rattle.words.proofs.Parts.{spelled-whole}
 use Rattle.words.proofs.Pieces.{flat-rows}
 use Rattle.words.proofs.Cuts.{cuts-joined, cut-length}
-use Rattle.state.specs.Layout.{sections, stateWords, relayOf, decode, encode}
+use Rattle.state.specs.Layout.{sections, stateWords, stateOf, decode, encode}
 use Rattle.state.specs.Layout.{portOf, portWords, groupOf, groupWords, pathOf, pathWords, queueOf, queueWords, routeOf, routeWords}
 use Rattle.state.proofs.Records.{port-words, group-words, path-words, queue-words, route-words}
 
@@ -23,7 +23,7 @@ same-joined : (f a b c d e g a′ b′ c′ d′ e′ g′ : List ℕ) → a ≡
 same-joined f a b c d e g a′ b′ c′ d′ e′ g′ p q r s t u = rw (p, q, r, s, t, u)
 
 pub encode-decode : (w : List ℕ) → length w ≡ stateWords → encode (decode w) ≡ w
-unfolding encode decode relayOf total
+unfolding encode decode stateOf total
 encode-decode w h =
     let long = section-length w h in
     same-joined (cut sections w 5) _ _ _ _ _ _ _ _ _ _ _ _

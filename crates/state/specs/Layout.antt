@@ -11,7 +11,7 @@ use Rattle.records.specs.declared.Port.{Port}
 use Rattle.records.specs.declared.Group.{Group}
 use Rattle.records.specs.declared.PathPlace.{PathPlace}
 use Rattle.words.specs.Cut.{cuts, joined, rows, flat}
-use Rattle.state.specs.Relay.{Relay}
+use Rattle.state.specs.Relay.{State}
 
 -- ---- the words of one record, and the record of such words
 abbrev pub portOf : List ℕ → Port
@@ -68,33 +68,37 @@ sections = 1 ∷ portCount * 4 ∷ groupPlaces * 4 ∷ pathPlaces * 4 ∷ portCo
 abbrev pub stateWords : ℕ
 stateWords = 824
 
-unfoldable pub relayOf : List (List ℕ) → Relay
-relayOf s =
+unfoldable pub stateOf : List (List ℕ) → State
+stateOf s =
     record {
-      router = getD (getD s 0 []) 0 0;
-      ports = rows portOf 4 portCount (getD s 1 []);
-      mission =
+      relay =
           record {
-            groups = rows groupOf 4 groupPlaces (getD s 2 []);
-            paths = rows pathOf 4 pathPlaces (getD s 3 []);
-            queues = rows queueOf 33 portCount (getD s 4 []);
-            counters = getD s 5 [];
+            router = getD (getD s 0 []) 0 0;
+            ports = rows portOf 4 portCount (getD s 1 []);
+            mission =
+                record {
+                  groups = rows groupOf 4 groupPlaces (getD s 2 []);
+                  paths = rows pathOf 4 pathPlaces (getD s 3 []);
+                  queues = rows queueOf 33 portCount (getD s 4 []);
+                };
+            routes = rows routeOf 6 routePlaces (getD s 6 []);
           };
-      routes = rows routeOf 6 routePlaces (getD s 6 []);
+      counters = getD s 5 [];
     }
 
-unfoldable pub decode : List ℕ → Relay
-decode w = relayOf (cuts sections w)
+unfoldable pub decode : List ℕ → State
+decode w = stateOf (cuts sections w)
 
-unfoldable pub encode : Relay → List ℕ
-encode r =
+unfoldable pub encode : State → List ℕ
+encode s =
+    let r = s .relay in
     joined
     ((r .router ∷ [])
     ∷ flat portWords (r .ports)
     ∷ flat groupWords (r .mission .groups)
     ∷ flat pathWords (r .mission .paths)
     ∷ flat queueWords (r .mission .queues)
-    ∷ r .mission .counters
+    ∷ s .counters
     ∷ flat routeWords (r .routes)
     ∷ [])
 

@@ -1,4 +1,5 @@
--- The state of the relay: page 01, "Numbers that hold everywhere" and "Settings". Each view reads one part, each update changes one.
+-- The state of the relay: page 01, "Numbers that hold everywhere" and "Settings". The settings and the queues are one record, which the
+-- rules read, and the counters stand beside it. Each view reads one part, each update changes one.
 -- The counters are fifteen, modulo 2^32, in this order: npInReceives, npInBadLength, npInBadVersion, npInBadAddress, npInBadChecksum,
 -- unsupported, npInAddrErrors, npInUnknownProtos, npInDelivers, npForwHopDiscard, npForwDatagrams, npOutNoRoutes, npOutDiscards,
 -- left domain, too big (page 01, "Refusal numbers"). Assumes nothing.
@@ -18,21 +19,25 @@ use Rattle.records.specs.declared.PathPlace.{PathPlace}
 use Rattle.records.specs.Fresh.{freshPort, freshGroup, freshPath}
 use Rattle.records.specs.SetUp.{isSetUp}
 
--- what will be one mission's
+-- what will be one mission's, its counters aside
 pub record Mission : Type 0 where
   pub groups : List Group
   pub paths : List PathPlace
   pub queues : List Queue
-  pub counters : List ℕ
 
--- `router` is 0 for a host
+-- what the rules read: settings and queues; `router` is 0 for a host
 pub record Relay : Type 0 where
   pub router : ℕ
   pub ports : List Port
   pub mission : Mission
   pub routes : List Route
 
--- page 01, "Settings": no port, all places empty, a host, queues empty, counters 0
+-- all that the words hold. The rules read the relay alone: page 01 gives no rule that reads a counter
+pub record State : Type 0 where
+  pub relay : Relay
+  pub counters : List ℕ
+
+-- page 01, "Settings": no port, all places empty, a host, queues empty
 unfoldable pub freshRelay : Relay
 freshRelay =
     record {
@@ -43,10 +48,13 @@ freshRelay =
             groups = replicate groupPlaces freshGroup;
             paths = replicate pathPlaces freshPath;
             queues = replicate portCount freshQueue;
-            counters = replicate counterCount 0;
           };
       routes = replicate routePlaces emptyRoute;
     }
+
+-- and counters 0
+unfoldable pub freshState : State
+freshState = record { relay = freshRelay; counters = replicate counterCount 0 }
 
 -- ---- views
 abbrev pub portIn : Relay → ℕ → Port
@@ -61,8 +69,8 @@ pathIn r i = getD (r .mission .paths) i freshPath
 abbrev pub queueIn : Relay → ℕ → Queue
 queueIn r p = getD (r .mission .queues) p freshQueue
 
-abbrev pub counterIn : Relay → ℕ → ℕ
-counterIn r i = getD (r .mission .counters) i 0
+abbrev pub counterIn : List ℕ → ℕ → ℕ
+counterIn l i = getD l i 0
 
 abbrev pub routeIn : Relay → ℕ → Route
 routeIn r i = getD (r .routes) i emptyRoute
@@ -82,16 +90,13 @@ abbrev pub withMission : Relay → Mission → Relay
 withMission r x = record { router = r .router; ports = r .ports; mission = x; routes = r .routes }
 
 abbrev pub allGroups : Mission → List Group → Mission
-allGroups m x = record { groups = x; paths = m .paths; queues = m .queues; counters = m .counters }
+allGroups m x = record { groups = x; paths = m .paths; queues = m .queues }
 
 abbrev pub allPaths : Mission → List PathPlace → Mission
-allPaths m x = record { groups = m .groups; paths = x; queues = m .queues; counters = m .counters }
+allPaths m x = record { groups = m .groups; paths = x; queues = m .queues }
 
 abbrev pub allQueues : Mission → List Queue → Mission
-allQueues m x = record { groups = m .groups; paths = m .paths; queues = x; counters = m .counters }
-
-abbrev pub allCounters : Mission → List ℕ → Mission
-allCounters m x = record { groups = m .groups; paths = m .paths; queues = m .queues; counters = x }
+allQueues m x = record { groups = m .groups; paths = m .paths; queues = x }
 
 -- ---- updates: one place of a field anew
 abbrev pub withRouter : Relay → ℕ → Relay
@@ -109,12 +114,19 @@ withPath r i x = withMission r (allPaths (r .mission) (set (r .mission .paths) i
 abbrev pub withQueue : Relay → ℕ → Queue → Relay
 withQueue r p x = withMission r (allQueues (r .mission) (set (r .mission .queues) p x))
 
-abbrev pub withCounter : Relay → ℕ → ℕ → Relay
-withCounter r i x = withMission r (allCounters (r .mission) (set (r .mission .counters) i x))
-
 abbrev pub withRoute : Relay → ℕ → Route → Relay
 withRoute r i x = allRoutes r (set (r .routes) i x)
 
+abbrev pub withCounter : List ℕ → ℕ → ℕ → List ℕ
+withCounter l i x = set l i x
+
 -- n more at counter i, modulo 2^32
-abbrev pub added : Relay → ℕ → ℕ → Relay
-added r i n = withCounter r i ((counterIn r i + n) % 2 ^ 32)
+abbrev pub added : List ℕ → ℕ → ℕ → List ℕ
+added l i n = withCounter l i ((counterIn l i + n) % 2 ^ 32)
+
+-- ---- one half of the state changed, and the other left
+abbrev pub onRelay : (Relay → Relay) → State → State
+onRelay f s = record { relay = f (s .relay); counters = s .counters }
+
+abbrev pub onCounters : (List ℕ → List ℕ) → State → State
+onCounters f s = record { relay = s .relay; counters = f (s .counters) }

@@ -7,7 +7,7 @@ ghost use Prim.Native.Nat.{_<_};
 ghost use lib.ListN.{length};
 ghost use Rattle.sets.specs.Limits.{groupPlaces, pathPlaces};
 ghost use Rattle.state.specs.Layout.{stateWords, decode, groupOf, groupWords, pathOf, pathWords};
-ghost use Rattle.state.specs.Relay.{groupIn, pathIn, withGroup, withPath};
+ghost use Rattle.state.specs.Relay.{groupIn, pathIn, withGroup, withPath, onRelay};
 use address::Address;
 use address::PathAddress;
 use records::Group;
@@ -46,7 +46,7 @@ fn write_group(s: &mut [u32], x: Group)
 
 pub fn group_of(state: &[u32], i: usize) -> Group
     requires { ⌜ (length (now state) ≡ stateWords) × (i < groupPlaces) ⌝ }
-    ensures { λ r. ⌜ r ≡ groupIn (decode (now (state .entry))) i ⌝ }
+    ensures { λ r. ⌜ r ≡ groupIn (decode (now (state .entry)) .relay) i ⌝ }
 {
     let from = GROUPS_AT + i * GROUP_WORDS;
     let to = from + GROUP_WORDS;
@@ -55,7 +55,7 @@ pub fn group_of(state: &[u32], i: usize) -> Group
 
 pub fn put_group(state: &mut [u32], i: usize, x: Group)
     requires { ⌜ (length (now state) ≡ stateWords) × (i < groupPlaces) ⌝ }
-    ensures { λ _. ⌜ decode (now (state .exit)) ≡ withGroup (decode (now (state .entry))) i x ⌝ }
+    ensures { λ _. ⌜ decode (now (state .exit)) ≡ onRelay (λ r. withGroup r i x) (decode (now (state .entry))) ⌝ }
 {
     let start = GROUPS_AT + i * GROUP_WORDS;
     let end = start + GROUP_WORDS;
@@ -86,7 +86,7 @@ fn write_path(s: &mut [u32], x: PathPlace)
 
 pub fn path_of(state: &[u32], i: usize) -> PathPlace
     requires { ⌜ (length (now state) ≡ stateWords) × (i < pathPlaces) ⌝ }
-    ensures { λ r. ⌜ r ≡ pathIn (decode (now (state .entry))) i ⌝ }
+    ensures { λ r. ⌜ r ≡ pathIn (decode (now (state .entry)) .relay) i ⌝ }
 {
     let from = PATHS_AT + i * PATH_WORDS;
     let to = from + PATH_WORDS;
@@ -95,7 +95,7 @@ pub fn path_of(state: &[u32], i: usize) -> PathPlace
 
 pub fn put_path(state: &mut [u32], i: usize, x: PathPlace)
     requires { ⌜ (length (now state) ≡ stateWords) × (i < pathPlaces) ⌝ }
-    ensures { λ _. ⌜ decode (now (state .exit)) ≡ withPath (decode (now (state .entry))) i x ⌝ }
+    ensures { λ _. ⌜ decode (now (state .exit)) ≡ onRelay (λ r. withPath r i x) (decode (now (state .entry))) ⌝ }
 {
     let start = PATHS_AT + i * PATH_WORDS;
     let end = start + PATH_WORDS;

@@ -11,7 +11,7 @@ ghost use Rattle.sets.specs.Limits.{portCount, counterCount};
 ghost use Rattle.state.specs.Layout.{stateWords, decode, portOf, portWords};
 ghost use mathlib.Core.Bool.{not};
 ghost use Rattle.checks.specs.Order.{checkOf};
-ghost use Rattle.state.specs.Relay.{portIn, portSetUp, counterIn, withRouter, withPort, added, freshRelay};
+ghost use Rattle.state.specs.Relay.{portIn, portSetUp, counterIn, withRouter, withPort, added, freshState, onRelay, onCounters};
 use address::Address;
 use address::Mask;
 use checks::Check;
@@ -32,14 +32,14 @@ const PORT_WORDS: usize = 4;
 // 0 for a host.
 pub fn router_of(state: &[u32]) -> u32
     requires { ⌜ length (now state) ≡ stateWords ⌝ }
-    ensures { λ r. ⌜ r ≡ decode (now (state .entry)) .router ⌝ }
+    ensures { λ r. ⌜ r ≡ decode (now (state .entry)) .relay .router ⌝ }
 {
     state[ROUTER_AT]
 }
 
 pub fn put_router(state: &mut [u32], x: u32)
     requires { ⌜ length (now state) ≡ stateWords ⌝ }
-    ensures { λ _. ⌜ decode (now (state .exit)) ≡ withRouter (decode (now (state .entry))) x ⌝ }
+    ensures { λ _. ⌜ decode (now (state .exit)) ≡ onRelay (λ r. withRouter r x) (decode (now (state .entry))) ⌝ }
 {
     let at = ROUTER_AT;
     state[at] = x;
@@ -69,7 +69,7 @@ fn write_port(s: &mut [u32], x: Port)
 
 pub fn port_of(state: &[u32], p: usize) -> Port
     requires { ⌜ (length (now state) ≡ stateWords) × (p < portCount) ⌝ }
-    ensures { λ r. ⌜ r ≡ portIn (decode (now (state .entry))) p ⌝ }
+    ensures { λ r. ⌜ r ≡ portIn (decode (now (state .entry)) .relay) p ⌝ }
 {
     let from = PORTS_AT + p * PORT_WORDS;
     let to = from + PORT_WORDS;
@@ -79,7 +79,7 @@ pub fn port_of(state: &[u32], p: usize) -> Port
 // The port is one of the eight, and set up: what receiving asks of the port that a datagram came in by, and taking of its own.
 pub fn check_port(state: &[u32], port: u32) -> Check
     requires { ⌜ length (now state) ≡ stateWords ⌝ }
-    ensures { λ r. ⌜ r ≡ checkOf (not (portSetUp (decode (now (state .entry))) port)) ⌝ }
+    ensures { λ r. ⌜ r ≡ checkOf (not (portSetUp (decode (now (state .entry)) .relay) port)) ⌝ }
 {
     if sets::PORTS <= port {
         return Check::Failed;
@@ -93,7 +93,7 @@ pub fn check_port(state: &[u32], port: u32) -> Check
 
 pub fn put_port(state: &mut [u32], p: usize, x: Port)
     requires { ⌜ (length (now state) ≡ stateWords) × (p < portCount) ⌝ }
-    ensures { λ _. ⌜ decode (now (state .exit)) ≡ withPort (decode (now (state .entry))) p x ⌝ }
+    ensures { λ _. ⌜ decode (now (state .exit)) ≡ onRelay (λ r. withPort r p x) (decode (now (state .entry))) ⌝ }
 {
     let start = PORTS_AT + p * PORT_WORDS;
     let end = start + PORT_WORDS;
@@ -103,7 +103,7 @@ pub fn put_port(state: &mut [u32], p: usize, x: Port)
 // The counters in their order, npInReceives first.
 pub fn counter_of(state: &[u32], i: usize) -> u32
     requires { ⌜ (length (now state) ≡ stateWords) × (i < counterCount) ⌝ }
-    ensures { λ r. ⌜ r ≡ counterIn (decode (now (state .entry))) i ⌝ }
+    ensures { λ r. ⌜ r ≡ counterIn (decode (now (state .entry)) .counters) i ⌝ }
 {
     let from = COUNTERS_AT + i;
     state[from]
@@ -112,7 +112,7 @@ pub fn counter_of(state: &[u32], i: usize) -> u32
 // n more at counter i, modulo 2^32.
 pub fn add_count(state: &mut [u32], i: usize, n: u32)
     requires { ⌜ (length (now state) ≡ stateWords) × (i < counterCount) ⌝ }
-    ensures { λ _. ⌜ decode (now (state .exit)) ≡ added (decode (now (state .entry))) i n ⌝ }
+    ensures { λ _. ⌜ decode (now (state .exit)) ≡ onCounters (λ l. added l i n) (decode (now (state .entry))) ⌝ }
 {
     let at = COUNTERS_AT + i;
     state[at] = std::num::wrapping_add_u32(state[at], n);
@@ -121,7 +121,7 @@ pub fn add_count(state: &mut [u32], i: usize, n: u32)
 // The state of a fresh relay, whatever stood there.
 pub fn clear_all(state: &mut [u32])
     requires { ⌜ length (now state) ≡ stateWords ⌝ }
-    ensures { λ _. ⌜ decode (now (state .exit)) ≡ freshRelay ⌝ }
+    ensures { λ _. ⌜ decode (now (state .exit)) ≡ freshState ⌝ }
 {
     let mut i = 0;
     while i < STATE_WORDS {

@@ -8,7 +8,7 @@ ghost use Prim.Native.Nat.{_<_};
 ghost use lib.ListN.{length};
 ghost use Rattle.sets.specs.Limits.{portCount};
 ghost use Rattle.state.specs.Layout.{stateWords, decode, entryOfWord, entryWord, queueOf, queueWords};
-ghost use Rattle.state.specs.Relay.{queueIn, withQueue};
+ghost use Rattle.state.specs.Relay.{queueIn, withQueue, onRelay};
 use address::Slot;
 use queue::Entry;
 use queue::Queue;
@@ -73,7 +73,7 @@ fn write_queue(s: &mut [u32], q: Queue)
 
 pub fn queue_of(state: &[u32], p: usize) -> Queue
     requires { ⌜ (length (now state) ≡ stateWords) × (p < portCount) ⌝ }
-    ensures { λ r. ⌜ r ≡ queueIn (decode (now (state .entry))) p ⌝ }
+    ensures { λ r. ⌜ r ≡ queueIn (decode (now (state .entry)) .relay) p ⌝ }
 {
     let from = QUEUES_AT + p * QUEUE_WORDS;
     let to = from + QUEUE_WORDS;
@@ -90,7 +90,7 @@ fn read_count(s: &[u32]) -> u32
 // How many wait on a port, as its queue says.
 pub fn count_of(state: &[u32], p: usize) -> u32
     requires { ⌜ (length (now state) ≡ stateWords) × (p < portCount) ⌝ }
-    ensures { λ r. ⌜ r ≡ queueIn (decode (now (state .entry))) p .count ⌝ }
+    ensures { λ r. ⌜ r ≡ queueIn (decode (now (state .entry)) .relay) p .count ⌝ }
 {
     let from = QUEUES_AT + p * QUEUE_WORDS;
     let to = from + QUEUE_WORDS;
@@ -99,7 +99,7 @@ pub fn count_of(state: &[u32], p: usize) -> u32
 
 pub fn put_queue(state: &mut [u32], p: usize, q: Queue)
     requires { ⌜ (length (now state) ≡ stateWords) × (p < portCount) ⌝ }
-    ensures { λ _. ⌜ decode (now (state .exit)) ≡ withQueue (decode (now (state .entry))) p q ⌝ }
+    ensures { λ _. ⌜ decode (now (state .exit)) ≡ onRelay (λ r. withQueue r p q) (decode (now (state .entry))) ⌝ }
 {
     let start = QUEUES_AT + p * QUEUE_WORDS;
     let end = start + QUEUE_WORDS;

@@ -12,7 +12,7 @@ ghost use lib.ListN.{length};
 ghost use Rattle.routes.specs.Search.{searchOf};
 ghost use Rattle.sets.specs.Limits.{routePlaces};
 ghost use Rattle.state.specs.Layout.{stateWords, decode, routeOf, routeWords};
-ghost use Rattle.state.specs.Relay.{routeIn, withRoute};
+ghost use Rattle.state.specs.Relay.{routeIn, withRoute, onRelay};
 ghost use Rattle.state_routes.specs.Best.{NextCandidate, betterPlace};
 use address::Address;
 use address::Mask;
@@ -53,7 +53,7 @@ fn write_route(s: &mut [u32], x: Route)
 
 pub fn route_of(state: &[u32], i: usize) -> Route
     requires { ⌜ (length (now state) ≡ stateWords) × (i < routePlaces) ⌝ }
-    ensures { λ r. ⌜ r ≡ routeIn (decode (now (state .entry))) i ⌝ }
+    ensures { λ r. ⌜ r ≡ routeIn (decode (now (state .entry)) .relay) i ⌝ }
 {
     let from = ROUTES_AT + i * ROUTE_WORDS;
     let to = from + ROUTE_WORDS;
@@ -62,7 +62,7 @@ pub fn route_of(state: &[u32], i: usize) -> Route
 
 pub fn put_route(state: &mut [u32], i: usize, x: Route)
     requires { ⌜ (length (now state) ≡ stateWords) × (i < routePlaces) ⌝ }
-    ensures { λ _. ⌜ decode (now (state .exit)) ≡ withRoute (decode (now (state .entry))) i x ⌝ }
+    ensures { λ _. ⌜ decode (now (state .exit)) ≡ onRelay (λ r. withRoute r i x) (decode (now (state .entry))) ⌝ }
 {
     let start = ROUTES_AT + i * ROUTE_WORDS;
     let end = start + ROUTE_WORDS;
@@ -72,7 +72,7 @@ pub fn put_route(state: &mut [u32], i: usize, x: Route)
 // The first candidate from place i on; the number of places where there is none.
 fn next_candidate(state: &[u32], a: Address, from: usize) -> usize
     requires { ⌜ (length (now state) ≡ stateWords) × (from ≤ routePlaces) ⌝ }
-    ensures { λ r. ⌜ NextCandidate a (decode (now (state .entry)) .routes) from r ⌝ }
+    ensures { λ r. ⌜ NextCandidate a (decode (now (state .entry)) .relay .routes) from r ⌝ }
 {
     let mut i = from;
     while i < ROUTES {
@@ -88,7 +88,7 @@ fn next_candidate(state: &[u32], a: Address, from: usize) -> usize
 // The better of the best place so far and place i.
 fn better_place(state: &[u32], best: usize, i: usize) -> usize
     requires { ⌜ (length (now state) ≡ stateWords) × ((best < routePlaces) × (i < routePlaces)) ⌝ }
-    ensures { λ r. ⌜ r ≡ betterPlace (decode (now (state .entry)) .routes) best i ⌝ }
+    ensures { λ r. ⌜ r ≡ betterPlace (decode (now (state .entry)) .relay .routes) best i ⌝ }
 {
     let held = route_of(state, best);
     let r = route_of(state, i);
@@ -101,7 +101,7 @@ fn better_place(state: &[u32], best: usize, i: usize) -> usize
 // The route that an address takes.
 pub fn search(state: &[u32], a: Address) -> Found
     requires { ⌜ length (now state) ≡ stateWords ⌝ }
-    ensures { λ r. ⌜ r ≡ searchOf a (decode (now (state .entry)) .routes) ⌝ }
+    ensures { λ r. ⌜ r ≡ searchOf a (decode (now (state .entry)) .relay .routes) ⌝ }
 {
     let first = next_candidate(state, a, 0);
     if first == ROUTES {

@@ -104,7 +104,7 @@ fn see(s: Survey, port: u32, p: Port, waiting: u32, q: Sought) -> Survey
 // The survey of all ports.
 pub fn survey(state: &[u32], q: Sought) -> Survey
     requires { ⌜ length (now state) ≡ stateWords ⌝ }
-    ensures { λ r. ⌜ r ≡ surveyOf (decode (now (state .entry))) q ⌝ }
+    ensures { λ r. ⌜ r ≡ surveyOf (decode (now (state .entry)) .relay) q ⌝ }
 {
     let mut s = Survey {
         ready: 0,

@@ -27,5 +27,5 @@ without r port rest Nothing = r
 abbrev pub afterTaking : Relay → ℕ → Taken → Relay
 afterTaking r port t = without r port (t .queue) (t .head)
 
-unfoldable pub takenState : Relay → ℕ → Relay
-takenState r port = pick (not (portSetUp r port)) r (afterTaking r port (takeOf (queueIn r port)))
+unfoldable pub takenRelay : Relay → ℕ → Relay
+takenRelay r port = pick (not (portSetUp r port)) r (afterTaking r port (takeOf (queueIn r port)))

@@ -8,8 +8,9 @@ use queue::Entry;
 use queue::Head;
 ghost use mathlib.Core.Path.{_≡_};
 ghost use lib.ListN.{length};
+ghost use Rattle.state.specs.Relay.{onRelay};
 ghost use Rattle.state.specs.Layout.{stateWords, decode};
-ghost use Rattle.taking.specs.Taking.{takeOutcome, takenState};
+ghost use Rattle.taking.specs.Taking.{takeOutcome, takenRelay};
 
 // What taking from a port answers.
 pub enum Taking {
@@ -20,8 +21,8 @@ pub enum Taking {
 // The first entry that waits on a port, removed.
 pub fn take(state: &mut [u32], port: u32) -> Taking
     requires { ⌜ length (now state) ≡ stateWords ⌝ }
-    ensures { λ r. ⌜ r ≡ takeOutcome (decode (now (state .entry))) port ⌝ }
-    ensures { λ _. ⌜ decode (now (state .exit)) ≡ takenState (decode (now (state .entry))) port ⌝ }
+    ensures { λ r. ⌜ r ≡ takeOutcome (decode (now (state .entry)) .relay) port ⌝ }
+    ensures { λ _. ⌜ decode (now (state .exit)) ≡ onRelay (λ r. takenRelay r port) (decode (now (state .entry))) ⌝ }
 {
     let Check::Passed = state_ports::check_port(state, port) else {
         return Taking::Refused(16);

@@ -8,7 +8,7 @@ use lib.Dec.{eqb, ltb}
 use borrow.Author.Tests.{ltb-true}
 use Rattle.checks.proofs.Bools.{and-true}
 use Rattle.checks.proofs.Laws.{either}
-use Rattle.state.specs.Relay.{Relay, added}
+use Rattle.state.specs.Relay.{State, added, onCounters}
 use Rattle.address.specs.Mask.{onesOf}
 use Rattle.verdict.specs.Numbers.{obstacleNumber}
 use Rattle.verdict.specs.declared.Local.{Local}
@@ -64,36 +64,37 @@ module _ {c : Counter} where
   discard-told dropped e = rw e (either Inside (eqb dropped 0) tt (omega arith))
 
 -- ---- one counter moved, or none
-pub none-moved : (r : Relay) (n : ℕ) {c : Counter} → c ≡ Nothing → r ≡ countedAt r c n
+pub none-moved : (s : State) (n : ℕ) {c : Counter} → c ≡ Nothing → s ≡ onCounters (λ l. countedAt l c n) s
 unfolding countedAt
-none-moved r n e = rw e
+none-moved s n e = rw e
 
-pub one-moved : (r : Relay) (place n : ℕ) {c : Counter} {s : Relay} → c ≡ At place → s ≡ added r place n → s ≡ countedAt r c n
+pub one-moved : (s : State) (place n : ℕ) {c : Counter} {a : State}
+    → c ≡ At place → a ≡ onCounters (λ l. added l place n) s → a ≡ onCounters (λ l. countedAt l c n) s
 unfolding countedAt
-one-moved r place n e is = rw e is
+one-moved s place n e is = rw e is
 
 pub place-inside : (place : ℕ) {c : Counter} → c ≡ At place → Inside c → place < 15
 place-inside place e h = rw e at h
 
 -- one after the other
 pub ruling-moved :
-    (r : Relay) (x : Ruling) {a b c : Relay} {local onward discard : Counter} {dropped : ℕ}
+    (s : State) (x : Ruling) {a b c : State} {local onward discard : Counter} {dropped : ℕ}
     → dropped ≡ onesOf (x .dropped)
     → local ≡ localCounter (x .local)
-    → a ≡ countedAt r local 1
+    → a ≡ onCounters (λ l. countedAt l local 1) s
     → onward ≡ onwardCounter (x .onward)
-    → b ≡ countedAt a onward 1
+    → b ≡ onCounters (λ l. countedAt l onward 1) a
     → discard ≡ discardCounter (x .dropped)
-    → c ≡ countedAt b discard dropped
-    → c ≡ countedAll r (rulingMoves x)
-ruling-moved r x e1 e2 e3 e4 e5 e6 e7 = cc
+    → c ≡ onCounters (λ l. countedAt l discard dropped) b
+    → c ≡ onCounters (λ l. countedAll l (rulingMoves x)) s
+ruling-moved s x e1 e2 e3 e4 e5 e6 e7 = cc
 
 pub ending-moved :
-    (r : Relay) (e : Ending) {a b c : Relay} {receipt refusal : Counter}
+    (s : State) (e : Ending) {a b c : State} {receipt refusal : Counter}
     → receipt ≡ receiptCounter (e .refusal)
-    → a ≡ countedAt r receipt 1
+    → a ≡ onCounters (λ l. countedAt l receipt 1) s
     → refusal ≡ counterFor (e .refusal)
-    → b ≡ countedAt a refusal 1
-    → c ≡ countedAll b (rulingMoves (e .ruling))
-    → c ≡ countedAll r (movesOf e)
-ending-moved r e e1 e2 e3 e4 e5 = cc
+    → b ≡ onCounters (λ l. countedAt l refusal 1) a
+    → c ≡ onCounters (λ l. countedAll l (rulingMoves (e .ruling))) b
+    → c ≡ onCounters (λ l. countedAll l (movesOf e)) s
+ending-moved s e e1 e2 e3 e4 e5 = cc

@@ -6,7 +6,7 @@ use mathlib.Core.List.{List, [], _∷_}
 use lib.Dec.{eqb}
 use Rattle.checks.specs.Order.{pick}
 use Rattle.address.specs.Mask.{onesOf}
-use Rattle.state.specs.Relay.{Relay, added}
+use Rattle.state.specs.Relay.{added}
 use Rattle.verdict.specs.Numbers.{localNumber, obstacleNumber}
 use Rattle.verdict.specs.declared.Local.{Local}
 use Rattle.verdict.specs.declared.Local.the-variants.{No, Delivered, Unknown}
@@ -90,10 +90,10 @@ Inside (At place) = place < 15
 Inside Nothing = Unit
 
 -- n more at a counter, where there is one
-unfoldable pub countedAt : Relay → Counter → ℕ → Relay
-countedAt r (At place) n = added r place n
-countedAt r Nothing n = r
+unfoldable pub countedAt : List ℕ → Counter → ℕ → List ℕ
+countedAt l (At place) n = added l place n
+countedAt l Nothing n = l
 
-abbrev pub countedAll : Relay → List Move → Relay
-countedAll r [] = r
-countedAll r (move ∷ moves) = countedAll (countedAt r (move .0) (move .1)) moves
+abbrev pub countedAll : List ℕ → List Move → List ℕ
+countedAll l [] = l
+countedAll l (move ∷ moves) = countedAll (countedAt l (move .0) (move .1)) moves

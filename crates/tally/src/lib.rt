@@ -12,6 +12,7 @@ use verdict::Ruling;
 ghost use mathlib.Core.Path.{_≡_};
 ghost use lib.ListN.{length};
 ghost use Rattle.address.specs.Mask.{onesOf};
+ghost use Rattle.state.specs.Relay.{onCounters};
 ghost use Rattle.state.specs.Layout.{stateWords, decode};
 ghost use Rattle.tally.specs.Tally.{
   counterFor,
@@ -111,7 +112,7 @@ fn ports_in(set: u32) -> u32
 // n more at a counter, where there is one.
 fn count_at(state: &mut [u32], counter: Counter, n: u32)
     requires { ⌜ (length (now state) ≡ stateWords) × Inside counter ⌝ }
-    ensures { λ _. ⌜ decode (now (state .exit)) ≡ countedAt (decode (now (state .entry))) counter n ⌝ }
+    ensures { λ _. ⌜ decode (now (state .exit)) ≡ onCounters (λ l. countedAt l counter n) (decode (now (state .entry))) ⌝ }
 {
     let Counter::At(place) = counter else {
         return;
@@ -122,7 +123,7 @@ fn count_at(state: &mut [u32], counter: Counter, n: u32)
 // What a ruling counts.
 fn count_ruling(state: &mut [u32], ruling: Ruling)
     requires { ⌜ length (now state) ≡ stateWords ⌝ }
-    ensures { λ _. ⌜ decode (now (state .exit)) ≡ countedAll (decode (now (state .entry))) (rulingMoves ruling) ⌝ }
+    ensures { λ _. ⌜ decode (now (state .exit)) ≡ onCounters (λ l. countedAll l (rulingMoves ruling)) (decode (now (state .entry))) ⌝ }
 {
     let local = ruling.local;
     let onward = ruling.onward;
@@ -135,7 +136,7 @@ fn count_ruling(state: &mut [u32], ruling: Ruling)
 // All that an ending counts.
 pub fn count(state: &mut [u32], e: Ending)
     requires { ⌜ length (now state) ≡ stateWords ⌝ }
-    ensures { λ _. ⌜ decode (now (state .exit)) ≡ countedAll (decode (now (state .entry))) (movesOf e) ⌝ }
+    ensures { λ _. ⌜ decode (now (state .exit)) ≡ onCounters (λ l. countedAll l (movesOf e)) (decode (now (state .entry))) ⌝ }
 {
     let ruling = e.ruling;
     count_at(state, receipt_counter(e.refusal), 1);

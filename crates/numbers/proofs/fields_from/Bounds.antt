@@ -1,18 +1,11 @@
 -- The fields that numbers stand for are within the bounds of their types. Assumes nothing.
 use native.Mathlib.Omega.{arith}
-use Prim.Native.Nat.{_^_, _<_}
 use lib.Dec.{eqb}
 use Rattle.checks.proofs.Laws.{either}
-use Rattle.header.specs.Range.{addressesFit, octetFits}
-use Rattle.header.proofs.BuiltLaws.{Typed, qosTyped, stampTyped}
+use Rattle.header.specs.Range.{addressesFit, octetFits, qosTyped, stampTyped, Typed}
 use Rattle.numbers.specs.declared.Numbers.{Numbers}
+use Rattle.numbers.specs.Words.{Words}
 use Rattle.numbers.specs.Fields.{addressesFrom, qosFrom, octetFrom, stampFrom, fieldsFrom}
-
--- what C's types say of the numbers that the fields keep whole; the others are cut to an octet, or to four
-pub record Words (n : Numbers) : Type 0 where
-  pub destination : (n .destination .high < 256 ^ 8) × (n .destination .low < 256 ^ 8)
-  pub source : (n .source .high < 256 ^ 8) × (n .source .low < 256 ^ 8)
-  pub time : n .time < 256 ^ 8
 
 addresses-typed : (n : Numbers) → Words n → addressesFit (addressesFrom n)
 unfolding addressesFrom

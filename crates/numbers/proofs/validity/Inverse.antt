@@ -10,7 +10,7 @@ use borrow.Author.Tests.{eqb-true, leb-false, lt-leb}
 use Rattle.checks.specs.Order.{pick}
 use Rattle.checks.proofs.Bools.{true-false, or-false, not-false}
 use Rattle.header.specs.Build.{sourceFlag, extendedFlag, ipv6Flag, qosFlag, octetFlag, formatOf}
-use Rattle.header.specs.Range.{addressesFit, octetFits}
+use Rattle.header.specs.Range.{addressesFit, octetFits, qosTyped, stampTyped, Typed}
 use Rattle.header.specs.declared.Addresses.{Addresses}
 use Rattle.header.specs.declared.Addresses.the-variants.{BasicPath, ExtendedPath, BasicEndSystem, ExtendedEndSystem, Ipv6}
 use Rattle.header.specs.declared.Qos.{Qos}
@@ -20,7 +20,6 @@ use Rattle.header.specs.declared.Octet.the-variants as octet
 use Rattle.header.specs.declared.Timestamp.{Timestamp}
 use Rattle.header.specs.declared.Timestamp.the-variants as stamp
 use Rattle.header.specs.declared.Fields.{Fields}
-use Rattle.header.proofs.BuiltLaws.{Typed, qosTyped, stampTyped}
 use Rattle.numbers.specs.Numbers.{narrow, destinationNumber, sourceNumber, precedenceNumber, routingNumber, programNumber, octetNumber, timeNumber, pfieldNumber, numbersOf}
 use Rattle.numbers.specs.declared.Wide.{Wide}
 use Rattle.numbers.specs.declared.Numbers.{Numbers}

@@ -13,7 +13,7 @@ use Rattle.refusals.proofs.port_refusal.Tie as tie
 -- ---- past the checks
 
 abbrev tests : tie.Start → Checks
-tests s = portChecks (decode (s .args .state .now)) (s .args .port) (s .args .address) (s .args .mask) (s .args .mtu)
+tests s = portChecks (decode (s .args .state .now) .relay) (s .args .port) (s .args .address) (s .args .mask) (s .args .mtu)
 
 past-place : (c : tie.After-enum-told) → Past 1 (tests (c .before .before .before .before))
 past-place c = passes _ _ _ (c .before .before .check-place .ensures) (c .enum-told .given .1) refl

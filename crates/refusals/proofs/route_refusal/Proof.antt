@@ -16,7 +16,7 @@ use Rattle.refusals.proofs.route_refusal.Tie as tie
 -- ---- past the checks
 
 abbrev tests : tie.Start → Checks
-tests s = routeChecks (decode (s .args .state .now)) (s .args .place) (s .args .x)
+tests s = routeChecks (decode (s .args .state .now) .relay) (s .args .place) (s .args .x)
 
 abbrev at-record : tie.After-record-refusal → tie.Start
 at-record c = c .before .before .before .before .before .before
@@ -26,7 +26,7 @@ past-place c = passes _ _ _ (c .before .before .check-place .ensures) (c .enum-t
 
 -- the record is tested against the ports that are set up
 tested : (c : tie.After-record-refusal)
-    → c .record-refusal .result ≡ firstOf (recordChecks (readySet (decode (at-record c .args .state .now))) (at-record c .args .x))
+    → c .record-refusal .result ≡ firstOf (recordChecks (readySet (decode (at-record c .args .state .now) .relay)) (at-record c .args .x))
 tested c =
     c .record-refusal .ensures
     ∙ ap (λ (s : ℕ). firstOf (recordChecks s (at-record c .args .x))) (c .before .ready-ports .ensures)
@@ -34,7 +34,7 @@ tested c =
 past-tested : (c : tie.Else1) → Past 4 (tests (at-record (c .before)))
 past-tested c =
     let s = at-record (c .before) in
-    past-record (readySet (decode (s .args .state .now))) (s .args .x) _ _ (tested (c .before)) (c .if1 .left)
+    past-record (readySet (decode (s .args .state .now) .relay)) (s .args .x) _ _ (tested (c .before)) (c .if1 .left)
     ∙ past-place (c .before .before .before)
 
 -- ---- the needs
@@ -60,7 +60,7 @@ record-refusal-requires c κs = search needs
 returns-2 : tie.Need-returns-2
 returns-2 c =
     let s = at-record (c .before) in
-    record-stops (readySet (decode (s .args .state .now))) (s .args .x) _ _ (tested (c .before)) (c .if1 .taken)
+    record-stops (readySet (decode (s .args .state .now) .relay)) (s .args .x) _ _ (tested (c .before)) (c .if1 .taken)
     ∙ past-place (c .before .before .before)
 
 check-other-routes-requires : tie.Need-check-other-routes-requires

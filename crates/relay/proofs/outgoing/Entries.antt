@@ -13,41 +13,52 @@ use Rattle.queue.specs.Queue.{putOf}
 use Rattle.queue.specs.declared.Entry.{Entry}
 use Rattle.queue.specs.declared.Queue.{Queue}
 use Rattle.queue.specs.declared.Put.{Put}
-use Rattle.state.specs.Relay.{Relay, queueIn, withQueue}
+use Rattle.state.specs.Relay.{State, queueIn, withQueue, onRelay}
 use Rattle.relay.specs.Outgoing.{entered, enteredIf, enteredAll, sentOutput}
 
 pub one-entered :
-    (r : Relay) (p : ℕ) (e : Entry) {s : Relay} {q : Queue} {put : Put}
-    → q ≡ queueIn r p
+    (s : State) (p : ℕ) (e : Entry) {t : State} {q : Queue} {put : Put}
+    → q ≡ queueIn (s .relay) p
     → put ≡ putOf q e
-    → s ≡ withQueue r p (put .queue)
-    → s ≡ entered r p e
-one-entered r p e eq ep es = es ∙ ap (λ (x : Queue). withQueue r p x) (ap (λ (x : Put). x .queue) (ep ∙ ap (λ (x : Queue). putOf x e) eq))
+    → t ≡ onRelay (λ r. withQueue r p (put .queue)) s
+    → t ≡ onRelay (λ r. entered r p e) s
+one-entered s p e eq ep et =
+    et
+    ∙ ap (λ (x : Queue). onRelay (λ r. withQueue r p x) s) (ap (λ (x : Put). x .queue) (ep ∙ ap (λ (x : Queue). putOf x e) eq))
 
-module _ (r : Relay) (took : ℕ) (e : Entry) (p : ℕ) {port : ℕ} (only : port ≡ onlyPort p) where
-  pub not-in : bitAnd took port ≡ 0 → r ≡ enteredIf r took e p
+module _ (s : State) (took : ℕ) (e : Entry) (p : ℕ) {port : ℕ} (only : port ≡ onlyPort p) where
+  pub not-in : bitAnd took port ≡ 0 → s ≡ onRelay (λ r. enteredIf r took e p) s
   unfolding enteredIf
   not-in h = rw (← only) (simp (eq-eqb _ 0 h))
 
-  pub is-in : {s : Relay} → (bitAnd took port ≡ 0 → ⊥) → s ≡ entered r p e → s ≡ enteredIf r took e p
+  pub is-in : {t : State} → (bitAnd took port ≡ 0 → ⊥) → t ≡ onRelay (λ r. entered r p e) s → t ≡ onRelay (λ r. enteredIf r took e p) s
   unfolding enteredIf
-  is-in h es = rw (← only) (simp (ne-eqb _ 0 h) es)
+  is-in h et = rw (← only) (simp (ne-eqb _ 0 h) et)
 
 -- ---- the walk
-pub nobody-yet : (r : Relay) (took : ℕ) (e : Entry) → r ≡ enteredAll r took e 0
+pub nobody-yet : (s : State) (took : ℕ) (e : Entry) → s ≡ onRelay (λ r. enteredAll r took e 0) s
 unfolding enteredAll
-nobody-yet r took e = refl
+nobody-yet s took e = refl
 
 pub one-further :
-    (r : Relay) (took : ℕ) (e : Entry) (p : ℕ) {s t : Relay}
-    → s ≡ enteredAll r took e p
-    → t ≡ enteredIf s took e p
-    → t ≡ enteredAll r took e (p + 1)
+    (s : State) (took : ℕ) (e : Entry) (p : ℕ) {t u : State}
+    → t ≡ onRelay (λ r. enteredAll r took e p) s
+    → u ≡ onRelay (λ r. enteredIf r took e p) t
+    → u ≡ onRelay (λ r. enteredAll r took e (p + 1)) s
 unfolding enteredAll
-one-further r took e p es et = et ∙ ap (λ (x : Relay). enteredIf x took e p) es ∙ sym (ap (enteredAll r took e) (add-one p))
+one-further s took e p et eu =
+    eu
+    ∙ ap (onRelay (λ r. enteredIf r took e p)) et
+    ∙ sym (ap (λ (n : ℕ). onRelay (λ r. enteredAll r took e n) s) (add-one p))
 
-pub all-entered : (r : Relay) (took : ℕ) (e : Entry) (p : ℕ) {s : Relay} → 8 ≤ p → p ≤ 8 → s ≡ enteredAll r took e p → s ≡ enteredAll r took e 8
-all-entered r took e p h l es = es ∙ ap (enteredAll r took e) (let z : p ≡ 8 = omega arith in z)
+pub all-entered :
+    (s : State) (took : ℕ) (e : Entry) (p : ℕ) {t : State}
+    → 8 ≤ p
+    → p ≤ 8
+    → t ≡ onRelay (λ r. enteredAll r took e p) s
+    → t ≡ onRelay (λ r. enteredAll r took e 8) s
+all-entered s took e p h l et =
+    et ∙ ap (λ (n : ℕ). onRelay (λ r. enteredAll r took e n) s) (let z : p ≡ 8 = omega arith in z)
 
 -- ---- the header
 pub not-sent : (took : ℕ) (octets lent : List ℕ) → took ≡ 0 → lent ≡ sentOutput took octets lent

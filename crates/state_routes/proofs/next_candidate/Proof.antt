@@ -15,7 +15,7 @@ use Rattle.state_routes.proofs.next_candidate.Tie as tie
 abbrev Inv-loop : tie.InvT-loop
 Inv-loop state a from i₀ i =
     (from ≤ i)
-    × ((i ≤ 64) × ((j : ℕ) → j < i → from ≤ j → candidate (routeAt (decode state .routes) j) a ≡ false))
+    × ((i ≤ 64) × ((j : ℕ) → j < i → from ≤ j → candidate (routeAt (decode state .relay .routes) j) a ≡ false))
 
 abbrev μ-loop : tie.MeasureT-loop
 μ-loop state a from i₀ i = 64 - i
@@ -31,13 +31,13 @@ is-candidate-requires c κs = search needs
 
 -- what was tested is the route of place i
 tested : (c : tie.After-is-candidate Inv-loop μ-loop) → let k = c .before .before .before in let s = k .before .before in
-    candidate (routeAt (decode (s .args .state .now) .routes) (k .loop .i)) (s .args .a) ≡ c .is-candidate .result
+    candidate (routeAt (decode (s .args .state .now) .relay .routes) (k .loop .i)) (s .args .a) ≡ c .is-candidate .result
 tested c =
     ap (λ (r : Route). candidate r (c .before .before .before .before .before .args .a)) (sym (c .before .route-of .ensures))
     ∙ sym (c .is-candidate .ensures)
 
 -- the search ends at place i
-ends : (k : tie.At-loop Inv-loop μ-loop) → let s = k .before .before in let rs = decode (s .args .state .now) .routes in
+ends : (k : tie.At-loop Inv-loop μ-loop) → let s = k .before .before in let rs = decode (s .args .state .now) .relay .routes in
     (k .loop .i < 64 → candidate (routeAt rs (k .loop .i)) (s .args .a) ≡ true) → NextCandidate (s .args .a) rs (s .args .from) (k .loop .i)
 ends k stands = record { onward = k .loop .inv .0; within = k .loop .inv .1 .0; passed = λ j p q. k .loop .inv .1 .1 j q p; stands = stands }
 

@@ -24,8 +24,8 @@ abbrev Inv-loop : tie.InvT-loop
 Inv-loop state a first best₀ i₀ best i =
     (i ≤ 64)
     × ((best < 64)
-    × ((i < 64 → candidate (routeAt (decode state .routes) i) a ≡ true)
-    × (searchOf a (decode state .routes) ≡ searchFrom a (foundAt (decode state .routes) best) i (drop i (decode state .routes)))))
+    × ((i < 64 → candidate (routeAt (decode state .relay .routes) i) a ≡ true)
+    × (searchOf a (decode state .relay .routes) ≡ searchFrom a (foundAt (decode state .relay .routes) best) i (drop i (decode state .relay .routes)))))
 
 abbrev μ-loop : tie.MeasureT-loop
 μ-loop state a first best₀ i₀ best i = 64 - i
@@ -54,7 +54,7 @@ loop-holds c =
     let found = c .before .before in
     let start = found .before .before in
     let a = start .args .a in
-    let rs = decode (start .args .state .now) .routes in
+    let rs = decode (start .args .state .now) .relay .routes in
     let l = routes-length (start .args .state .now) in
     let first = found .next-candidate .result in
     let next = c .next-candidate2 .ensures in
@@ -89,7 +89,7 @@ loop-again c =
     let start = k .before .before .before .before .before in
     let a = start .args .a in
     let w = start .args .state .now in
-    let rs = decode w .routes in
+    let rs = decode w .relay .routes in
     let i = k .loop .i in
     let turn = c .before .before .loop-test .taken in
     let better = c .before .better-place .ensures in
@@ -124,7 +124,7 @@ returns-2 c =
     let l = routes-length (start .args .state .now) in
     ap₂ (λ (n : ℕ) (r : Route). At (k .loop .best) n r)
     (c .count-ones .ensures ∙ ap (λ (r : Route). onesOf (r .mask .0)) (g .route-of .ensures)) (g .route-of .ensures)
-    ∙ search-end (start .args .a) (decode (start .args .state .now) .routes) (k .loop .i) _ _ (k .loop .inv .1 .1 .1) (omega arith)
+    ∙ search-end (start .args .a) (decode (start .args .state .now) .relay .routes) (k .loop .i) _ _ (k .loop .inv .1 .1 .1) (omega arith)
 
 pub search-spec : {M : Type 1} → statement M
 search-spec =

@@ -10,7 +10,7 @@ use Rattle.survey.proofs.survey.Statement.{statement}
 use Rattle.survey.proofs.survey.Tie as tie
 
 abbrev Inv-loop : tie.InvT-loop
-Inv-loop state q s₀ i₀ s i = (i ≤ 8) × (s ≡ surveyBelow (decode state) q i)
+Inv-loop state q s₀ i₀ s i = (i ≤ 8) × (s ≡ surveyBelow (decode state .relay) q i)
 
 abbrev μ-loop : tie.MeasureT-loop
 μ-loop state q s₀ i₀ s i = 8 - i

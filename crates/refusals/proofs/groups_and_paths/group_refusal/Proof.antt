@@ -13,7 +13,7 @@ use Rattle.refusals.proofs.groups_and_paths.group_refusal.Tie as tie
 -- ---- past the checks
 
 abbrev tests : tie.Start → Checks
-tests s = groupChecks (decode (s .args .state .now)) (s .args .place) (s .args .address) (s .args .send) (s .args .subscribed)
+tests s = groupChecks (decode (s .args .state .now) .relay) (s .args .place) (s .args .address) (s .args .send) (s .args .subscribed)
 
 past-target : (c : tie.After-enum-told) → Past 2 (tests (c .before .before .before .before))
 past-target c = passes _ _ _ (c .before .before .check-target .ensures) (c .enum-told .given .1) refl ∙ joined _ _ _ _

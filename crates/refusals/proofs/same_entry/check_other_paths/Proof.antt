@@ -8,7 +8,7 @@ use Rattle.refusals.proofs.same_entry.check_other_paths.Statement.{stat
 use Rattle.refusals.proofs.same_entry.check_other_paths.Tie as tie
 
 abbrev Inv-loop : tie.InvT-loop
-Inv-loop state place p i₀ i = (i ≤ 16) × NoneBelow (otherPath (decode state) place p) i
+Inv-loop state place p i₀ i = (i ≤ 16) × NoneBelow (otherPath (decode state .relay) place p) i
 
 abbrev μ-loop : tie.MeasureT-loop
 μ-loop state place p i₀ i = 16 - i

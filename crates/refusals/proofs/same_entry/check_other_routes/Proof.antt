@@ -8,7 +8,7 @@ use Rattle.refusals.proofs.same_entry.check_other_routes.Statement.{sta
 use Rattle.refusals.proofs.same_entry.check_other_routes.Tie as tie
 
 abbrev Inv-loop : tie.InvT-loop
-Inv-loop state place x i₀ i = (i ≤ 64) × NoneBelow (otherRoute (decode state) place x) i
+Inv-loop state place x i₀ i = (i ≤ 64) × NoneBelow (otherRoute (decode state .relay) place x) i
 
 abbrev μ-loop : tie.MeasureT-loop
 μ-loop state place x i₀ i = 64 - i

@@ -12,7 +12,7 @@ returns : tie.Need-returns
 returns c =
     let port = c .before .before in
     let start = port .before .before in
-    bit-out (decode (start .args .state .now)) (start .args .p) _ (port .port-of .ensures) (c .if1 .taken)
+    bit-out (decode (start .args .state .now) .relay) (start .args .p) _ (port .port-of .ensures) (c .if1 .taken)
 
 cast-result : tie.Need-cast-result
 cast-result c = search needs
@@ -24,7 +24,7 @@ returns-2 : tie.Need-returns-2
 returns-2 c =
     let port = c .before .before in
     let start = port .before .before in
-    bit-in (decode (start .args .state .now)) (start .args .p) _ _ (port .port-of .ensures) (c .if1 .left) (shifted _ (start .pre .1))
+    bit-in (decode (start .args .state .now) .relay) (start .args .p) _ _ (port .port-of .ensures) (c .if1 .left) (shifted _ (start .pre .1))
 
 pub ready-bit-spec : {M : Type 1} → statement M
 ready-bit-spec = tie.close (tie.spec port-of-requires returns cast-result shl-result returns-2)

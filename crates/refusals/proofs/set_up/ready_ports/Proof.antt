@@ -12,7 +12,7 @@ use Rattle.refusals.proofs.set_up.ready_ports.Statement.{statement}
 use Rattle.refusals.proofs.set_up.ready_ports.Tie as tie
 
 abbrev Inv-loop : tie.InvT-loop
-Inv-loop state set₀ p₀ set p = (p ≤ 8) × (set ≡ portSet (λ (q : ℕ). isSetUp (portIn (decode state) q)) p)
+Inv-loop state set₀ p₀ set p = (p ≤ 8) × (set ≡ portSet (λ (q : ℕ). isSetUp (portIn (decode state .relay) q)) p)
 
 abbrev μ-loop : tie.MeasureT-loop
 μ-loop state set₀ p₀ set p = 8 - p
@@ -27,7 +27,7 @@ add-set : tie.Need-add-set Inv-loop μ-loop
 add-set c =
     let k = c .before .before in
     let w = k .before .before .args .state .now in
-    omega (arith, room (decode w) _ (k .loop .p) (k .loop .inv .1) _ (c .before .loop-test .taken) (c .ready-bit .ensures))
+    omega (arith, room (decode w .relay) _ (k .loop .p) (k .loop .inv .1) _ (c .before .loop-test .taken) (c .ready-bit .ensures))
 
 add-p : tie.Need-add-p Inv-loop μ-loop
 add-p c = search needs
@@ -39,13 +39,13 @@ loop-again : tie.Need-loop-again Inv-loop μ-loop
 loop-again c =
     let k = c .before .before in
     let w = k .before .before .args .state .now in
-    (search needs, turn (decode w) _ (k .loop .p) (k .loop .inv .1) _ (c .ready-bit .ensures))
+    (search needs, turn (decode w .relay) _ (k .loop .p) (k .loop .inv .1) _ (c .ready-bit .ensures))
 
 returns : tie.Need-returns Inv-loop μ-loop
 returns c =
     let k = c .before in
     let w = k .before .before .args .state .now in
-    gathered (decode w) _ (k .loop .p) (k .loop .inv .1) (omega arith)
+    gathered (decode w .relay) _ (k .loop .p) (k .loop .inv .1) (omega arith)
 
 pub ready-ports-spec : {M : Type 1} → statement M
 ready-ports-spec =

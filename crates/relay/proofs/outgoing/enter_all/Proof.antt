@@ -3,6 +3,7 @@ use native.Mathlib.Omega.{arith}
 use Prim.Native.Nat.{_-_, _≤_}
 use mathlib.Core.Path.{_≡_}
 use lib.ListN.{length}
+use Rattle.state.specs.Relay.{onRelay}
 use Rattle.state.specs.Layout.{stateWords, decode}
 use Rattle.relay.specs.Outgoing.{enteredAll}
 use Rattle.relay.proofs.outgoing.Entries.{nobody-yet, one-further, all-entered}
@@ -11,7 +12,7 @@ use Rattle.relay.proofs.outgoing.enter_all.Statement.{statement}
 use Rattle.relay.proofs.outgoing.enter_all.Tie as tie
 
 abbrev Inv-loop : tie.InvT-loop
-Inv-loop state₀ took e p₀ state p = (p ≤ 8) × ((length state ≡ stateWords) × (decode state ≡ enteredAll (decode state₀) took e p))
+Inv-loop state₀ took e p₀ state p = (p ≤ 8) × ((length state ≡ stateWords) × (decode state ≡ onRelay (λ r. enteredAll r took e p) (decode state₀)))
 
 abbrev μ-loop : tie.MeasureT-loop
 μ-loop state₀ took e p₀ state p = 8 - p

@@ -1,0 +1,163 @@
+-- Demand 2: "Headers are read and built as CCSDS 713.0-B-1 lays them out; every verdict, setting and taking follows the written rules: where a route is
+-- sought, the one taken matches the destination under its mask, no matching entry has more mask bits, and 'no route' is said exactly when none matches.
+-- A one-octet address never goes out into another domain." Each sentence is a field, said of what C calls. Proved in proofs/Demand2.antt. Assumes nothing.
+use Prim.Native.Nat.{ℕ, _+_, _^_, _<_, _≤_}
+use mathlib.Core.Path.{_≡_}
+use mathlib.Core.Logic.{_↔_, _≢_}
+use mathlib.Core.Bool.{true, false, _||_}
+use mathlib.Core.List.{List, [], _++_, map}
+use lib.ListN.{length, take, drop}
+use lib.Dec.{eqb}
+use Rattle.history.specs.SearchBack.{LongestOrNo}
+use Rattle.address.specs.Row.{Row}
+use Rattle.address.specs.Class.{classNumber}
+use Rattle.address.specs.declared.Class.{Class}
+use Rattle.checks.specs.Order.{noneHolds, firstHolds, pick}
+use Rattle.checks.specs.Answer.{refusalNumber}
+use Rattle.sets.specs.Sets.{inSet}
+use Rattle.address.specs.declared.Address.{Address}
+use Rattle.address.specs.declared.Slot.{Slot}
+use Rattle.header.specs.Form.{controlOf}
+use Rattle.header.specs.Limits.{longestHeader, mostData}
+use Rattle.header.specs.Onward.{oneLess, withHops}
+use Rattle.header.specs.Read.{readChecks, lengthOf, readOf, headerOf}
+use Rattle.header.specs.Shortest.{unusedZero, noneShorter}
+use Rattle.header.specs.declared.Header.{Header}
+use Rattle.header.specs.declared.Read.the-variants.{Good}
+use Rattle.numbers.specs.Words.{Words}
+use Rattle.numbers.specs.declared.Numbers.{Numbers}
+use Rattle.networks.specs.Networks.{domainOf}
+use Rattle.meaning.specs.Names.{aimOf, originOf}
+use Rattle.queue.specs.Order.{Each}
+use Rattle.queue.specs.Waits.{one, chosen, rankBy}
+use Rattle.queue.specs.declared.Entry.{Entry}
+use Rattle.routes.specs.Routes.{candidate}
+use Rattle.state.specs.Relay.{portIn, routeIn, portSetUp, Relay}
+use Rattle.harpjuniper.specs.Face.{readingOf, dataRead, numbersChecks, buildAnswer, buildOutput}
+use Rattle.harpjuniper.specs.declared.Reading.{Reading}
+use Rattle.relay.specs.Outgoing.{sentOutput}
+use Rattle.page.specs.Table.{oneOctet, Verdict, verdictOf, GivenBy, Decides, GivesNumber, stepRows, localRows, onwardRows, wanted, bestPort, moreOnes, aimAt}
+use Rattle.page.specs.Sought.{RouteSought, RouteTaken}
+use Rattle.contracts.specs.Promised.{number, Result}
+use Rattle.history.specs.Calls.{Setting, Part, setting, Call, sets, hears, takes, looks, checksOf, settle, search, class}
+use Rattle.history.specs.Outcome as outcome
+use Rattle.history.specs.Parts.{About, settingIn}
+use Rattle.history.specs.Reach.{Reached, KeysUnique}
+use Rattle.history.specs.Ranges.{Octets, InRange, EntryFits}
+use Rattle.history.specs.Line.{Copy, entryOf, sentOf, lineAt}
+use Rattle.history.specs.Marked.{Marked, markedCases}
+use Rattle.demands.specs.Trace.{Step, calls, historyOf, relayOf, Gives}
+use Rattle.demands.specs.ReadOut.{readOut, endedBy, localIn, onwardIn, tookIn, droppedIn, relayIn, partTold, Reads, Builds, numberIn, headerIn, aboveIn}
+
+-- C is told this verdict of page 01, of these octets
+pub record ToldAs (octets : List ℕ) (x : Result) (v : Verdict) : Type 0 where
+  pub refusal : endedBy x ≡ v .refusal
+  pub local : localIn x ≡ v .local
+  pub onward : onwardIn x ≡ v .onward
+  pub took : (p : ℕ) → p < 8 → inSet p (tookIn x) ≡ v .took p
+  pub dropped : (p : ℕ) → p < 8 → inSet p (droppedIn x) ≡ v .dropped p
+  -- the octets of the header sent on, 0 where no port took an entry; nothing above; and with a refusal nothing else
+  pub header : headerIn x ≡ pick (eqb (tookIn x) 0) 0 (headerOf octets .size)
+  pub above : aboveIn x ≡ 0
+  pub alone : endedBy x ≢ 0 → numberIn (x .answer) ≡ endedBy x
+
+-- and each number exactly where its row of page 01's tables decides: at is the arrival port
+pub record ExactlyAs (r : Relay) (at : ℕ) (octets : List ℕ) (room : ℕ) (x : Result) : Type 0 where
+  pub refusal : GivenBy (stepRows r at octets room) (endedBy x)
+  pub local : noneHolds (stepRows r at octets room) → GivenBy (localRows r at (aimAt r at octets) (headerOf octets .fields)) (localIn x)
+  pub onward : noneHolds (stepRows r at octets room) → (n : ℕ)
+      → (onwardIn x ≡ n)
+      ↔ Decides (GivesNumber r at (headerOf octets) n) (onwardRows r at (aimAt r at octets) (headerOf octets .fields)) (wanted (bestPort moreOnes r (aimAt r at octets)))
+
+-- what goes out where hj_take hands out e: the copy that is asked for, and the octets that C sends for it, which read as a header
+pub record GoesOut (r : Relay) (p : ℕ) (line : List Copy) (e : Entry) : Type 0 where
+  pub copy : Copy
+  pub others : List Copy
+  pub first : chosen (rankBy entryOf) line ≡ one copy others
+  pub entry : copy .entry ≡ e
+  pub header : Header
+  pub reads : readOf (sentOf copy) ≡ Good header
+  -- with one-octet addresses the port's domain is that of the port by which it came in
+  pub domain : oneOctet (header .fields .addresses) ≡ true → domainOf (portIn r p .address) ≡ domainOf (copy .arrival)
+  -- and what it names, it named there
+  pub aim : aimOf (portIn r p .address .0) (header .fields .addresses) ≡ aimOf (copy .arrival .0) (header .fields .addresses)
+  pub origin : originOf (portIn r p .address .0) (header .fields .addresses) ≡ originOf (copy .arrival .0) (header .fields .addresses)
+
+-- C is told the answer of a marked case, however its calls were made
+abbrev pub Answered : Marked → Type 0
+Answered m =
+    (steps : List Step) (x : Result) → historyOf steps ≡ m .calls → Gives steps (calls (m .asked)) x → readOut (m .asked) (x .answer) ≡ m .answer
+
+pub record Demand2 : Type 0 where
+  -- "Headers are read .. as CCSDS 713.0-B-1 lays them out": hj_read answers what the layout gives, and refuses by n exactly where the condition of n
+  -- holds and none before it
+  pub reads : (s : List ℕ) → Reads s (readingOf (readOf s))
+  pub reads-refuses : (s : List ℕ) (r : Reading) → Reads s r → (n : ℕ) → n ≢ 0 → (r .refusal ≡ n) ↔ firstHolds (readChecks s) n
+  pub reads-no-further : (s t : List ℕ) (n : ℕ) (r : Reading) → lengthOf s ≤ n → controlOf s .end ≤ n → take n t ≡ take n s → Reads s r → Reads t r
+  -- ".. and built": hj_build answers and writes what the layout gives, and refuses likewise. "It writes the shortest control field and unused bits as
+  -- zero. Reading what it built gives the same fields; building what was read gives the same header octets where the control field was shortest, unused
+  -- bits zero and the data at most 8,141 octets."
+  pub builds : (fields : Numbers) (size : ℕ) (lent : List ℕ) → Builds fields size lent (buildAnswer fields size (length lent)) (buildOutput fields size lent)
+  pub builds-refuses : (fields : Numbers) (size : ℕ) (lent left : List ℕ) (answer n : ℕ) → Words fields → Builds fields size lent answer left → n ≢ 0
+      → (answer ≡ refusalNumber n) ↔ firstHolds (numbersChecks fields size (length lent)) n
+  pub builds-shortest : (fields : Numbers) (size : ℕ) (lent left : List ℕ) (answer : ℕ) → Words fields → Octets lent → Builds fields size lent answer left
+      → answer < 2 ^ 32 → noneShorter left × unusedZero (controlOf left)
+  pub build-then-read : (fields : Numbers) (size : ℕ) (lent left userData : List ℕ) (answer : ℕ) → Words fields → Builds fields size lent answer left
+      → answer < 2 ^ 32 → size ≤ length userData
+      → Reads (take answer left ++ userData) (record { refusal = 0; length = answer + size; header = answer; reserved = 0; fields = fields })
+  pub read-then-build : (s : List ℕ) (r : Reading) (lent : List ℕ) → Octets s → Reads s r → r .refusal ≡ 0 → dataRead r ≤ mostData
+      → longestHeader ≤ length lent → noneShorter s
+      → Builds (r .fields) (dataRead r) lent (r .header) (take (r .header) s ++ drop (r .header) lent)
+  -- "every verdict .. follows the written rules": what C is told of a datagram is what page 01's tables give, each number exactly where its row decides,
+  -- and the output is as the page says
+  pub verdict : (steps : List Step) (at : ℕ) (slot : Slot) (octets output : List ℕ) (x : Result) → Gives steps (calls (hears at slot octets output)) x
+      → ToldAs octets x (verdictOf (relayOf steps) at octets (length output))
+      × (ExactlyAs (relayOf steps) at octets (length output) x × (x .output ≡ sentOutput (tookIn x) octets output))
+  -- "Octets beyond the length field are ignored.": what comes after them changes neither the answer nor the words
+  pub hears-no-further : (steps : List Step) (at : ℕ) (slot : Slot) (s t output : List ℕ) (n : ℕ) (x y : Result) → lengthOf s ≤ n → controlOf s .end ≤ n
+      → take n t ≡ take n s → Gives steps (calls (hears at slot s output)) x → Gives steps (calls (hears at slot t output)) y
+      → (y .answer ≡ x .answer) × (y .words ≡ x .words)
+  -- "the header with hop count less one and checksum redone": where a port took an entry, the octets that C finds in the output, with the data behind them,
+  -- read as the header that came, its hop count, if it has one, one less
+  pub sent-on : (steps : List Step) (at : ℕ) (slot : Slot) (octets output : List ℕ) (x : Result) → Gives steps (calls (hears at slot octets output)) x
+      → tookIn x ≢ 0
+      → (h : Header) × ((readOf octets ≡ Good h)
+      × (readOf (take (headerIn x) (x .output) ++ drop (headerIn x) octets) ≡ Good (withHops (oneLess (h .fields .hops)) h)))
+  -- page 01's marked cases a to l
+  pub marked : Each Answered markedCases
+  -- "every .. setting .. follows the written rules": refused by n exactly where its test holds and none before it, else taken
+  pub settings : (steps : List Step) (s : Setting) (x : Result) → Gives steps (calls (sets s)) x
+      → ((n : ℕ) → n ≢ 0 → (x .answer ≡ number n) ↔ firstHolds (checksOf (relayOf steps) s) n)
+      × (((x .answer ≡ number 0) ↔ noneHolds (checksOf (relayOf steps) s)) × (relayIn (x .words) ≡ settle (relayOf steps) s))
+  -- what is taken "holds until it is changed", and is read back
+  pub settings-hold : (steps : List Step) (later : List Call) (part : Part) → Each (λ (c : Call). About c part → ⊥) later
+      → settingIn (relayOf (steps ++ map calls later)) part ≡ settingIn (relayOf steps) part
+  pub settings-back : (steps : List Step) (part : Part) (x : Result) → Gives steps (calls (looks (setting part))) x
+      → x .answer ≡ partTold (relayOf steps) part
+  -- the settings in force pass the tests that took them, no two places hold the same entry, and all is within the ranges that the C header promises
+  pub settings-good : (steps : List Step) → Reached (relayOf steps) × (KeysUnique (relayOf steps) × InRange (relayOf steps))
+  -- "every .. taking follows the written rules": 16 exactly where the port is not set up, 18 exactly where it is and nothing waits
+  pub takings : (steps : List Step) (p : ℕ) (x : Result) → Gives steps (calls (takes p)) x
+      → ((x .answer ≡ number (refusalNumber 16)) ↔ (portSetUp (relayOf steps) p ≡ false))
+      × ((x .answer ≡ number (refusalNumber 18)) ↔ ((portSetUp (relayOf steps) p ≡ true) × (lineAt p (historyOf steps) ≡ [])))
+  -- what is handed out has a precedence of 0 to 15 and a slot of 16 bits
+  pub takings-fit : (steps : List Step) (p : ℕ) (x : Result) (e : Entry) → Gives steps (calls (takes p)) x → readOut (takes p) (x .answer) ≡ outcome.entry e
+      → EntryFits e
+  -- "where a route is sought, the one taken matches the destination under its mask, no matching entry has more mask bits,": W-204 reads "no matching entry
+  -- that is up", and a candidate is filled, up and matches
+  pub route-taken : (steps : List Step) (at : ℕ) (slot : Slot) (octets output : List ℕ) (a : Address) (p : ℕ) (x : Result)
+      → Gives steps (calls (hears at slot octets output)) x → RouteSought (relayOf steps) at octets (length output) a → p < 8
+      → (inSet p (tookIn x) || inSet p (droppedIn x)) ≡ true → RouteTaken (relayOf steps) a p
+  -- "and 'no route' is said exactly when none matches.": none that is up
+  pub no-route : (steps : List Step) (at : ℕ) (slot : Slot) (octets output : List ℕ) (a : Address) (x : Result)
+      → Gives steps (calls (hears at slot octets output)) x → RouteSought (relayOf steps) at octets (length output) a
+      → (onwardIn x ≡ 11) ↔ ((q : ℕ) → candidate (routeIn (relayOf steps) q) a ≡ false)
+  -- W-202: hj_search says which route an address takes, or a plain no
+  pub search : (steps : List Step) (a : Address) (n : ℕ) (x : Result) → Gives steps (calls (looks (search a))) x → x .answer ≡ number n
+      → LongestOrNo (relayOf steps) a n
+  -- and hj_class says the class that page 01's table gives an address
+  pub class : (steps : List Step) (a : Address) (x : Result) → a .0 < 2 ^ 32 → Gives steps (calls (looks (class a))) x
+      → (c : Class) × ((x .answer ≡ number (classNumber c)) × Row c (a .0))
+  -- "A one-octet address never goes out into another domain.": of the octets that go out, when hj_take hands the copy out, by the port as it is then
+  pub domain : (steps : List Step) (p : ℕ) (x : Result) (e : Entry) → Gives steps (calls (takes p)) x → readOut (takes p) (x .answer) ≡ outcome.entry e
+      → GoesOut (relayOf steps) p (lineAt p (historyOf steps)) e

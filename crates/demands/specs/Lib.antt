@@ -1,0 +1,7 @@
+-- The customer's three demands, each a record with a field for every sentence: Demand1, Demand2, Demand3. They are said of traces of C calls (Trace), and
+-- of what C reads out of the results (ReadOut).
+pub mod Trace
+pub mod ReadOut
+pub mod Demand1
+pub mod Demand2
+pub mod Demand3

@@ -1,0 +1,152 @@
+-- Demand 1, the last sentence, of two datagrams: an unknown transport number refuses local delivery alone. The theorem is `transport-alone`, and with it
+-- `leaves-the-same`. Assumes nothing.
+use Prim.Native.Nat.{ℕ}
+use mathlib.Core.Path.{_≡_, refl, ap, ap₂, _∙_}
+use mathlib.Core.Bool.{Bool, true, false}
+use mathlib.Core.List.{List}
+use mathlib.Core.Logic.{_⊎_, inl, inr}
+use lib.Dec.{eqb}
+use Rattle.checks.specs.Order.{pick, firstOf}
+use Rattle.sets.specs.Limits.{portCount}
+use Rattle.address.specs.Class.{classOf}
+use Rattle.address.specs.declared.Slot.{Slot}
+use Rattle.header.specs.Read.{readOf}
+use Rattle.header.specs.declared.Header.{Header}
+use Rattle.header.specs.declared.Read.the-variants.{Good}
+use Rattle.networks.specs.Networks.{domainOf}
+use Rattle.meaning.specs.Arrival.{arrivalChecks}
+use Rattle.meaning.specs.Asked.{isAssigned, assignedOf}
+use Rattle.meaning.specs.Names.{aimOf}
+use Rattle.meaning.specs.declared.Aim.{Aim}
+use Rattle.meaning.specs.declared.Aim.the-variants.{Node, Path, Uncarried}
+use Rattle.state.specs.Relay.{Relay}
+use Rattle.survey.specs.Survey.{surveyOf}
+use Rattle.lookup.specs.Lookup.{pathPlace}
+use Rattle.lookup.specs.ForTarget.{placeFor, wayFor}
+use Rattle.verdict.specs.Rule.{targetOf, hereBy, oursBy, wantedHere, localOf, copiesOf, rulingOf}
+use Rattle.verdict.specs.declared.Target.{Target}
+use Rattle.verdict.specs.declared.Target.the-variants as target
+use Rattle.verdict.specs.declared.Place.{Place}
+use Rattle.verdict.specs.declared.Place.the-variants.{Missing}
+use Rattle.verdict.specs.declared.Way.{Way}
+use Rattle.verdict.specs.declared.Way.the-variants.{Lost}
+use Rattle.verdict.specs.declared.Case.{Case}
+use Rattle.verdict.specs.declared.Local.{Local}
+use Rattle.verdict.specs.declared.Local.the-variants.{No, Delivered, Unknown}
+use Rattle.verdict.specs.declared.Ruling.{Ruling}
+use Rattle.verdict.specs.declared.Survey.{Survey}
+use Rattle.verdict.specs.declared.Wish.{Wish}
+use Rattle.verdict.specs.declared.Wish.the-variants.{NotAsked, Refused, Wanted}
+use Rattle.judge.specs.Ruling.{caseOf, soughtOf, ruledBy, ruleTarget, ruleAim, ruleOf}
+use Rattle.judge.specs.declared.ruling.Arrival.{Arrival}
+use Rattle.judge.specs.Ending.{refusedBy, callChecks, ruledEnding, headerEnding, arrivalAt, endingOf}
+use Rattle.judge.specs.declared.Ending.{Ending}
+use Rattle.relay.specs.Outgoing.{enteredAll}
+use Rattle.relay.specs.Received.{receivedRelay}
+use Rattle.history.specs.Transport.{withTpid, SameButTpid, localBy, SameButLocal}
+use Rattle.history.proofs.Onward.{onwardHalf, withAssigned, onward-free-of-tpid}
+
+-- ---- one ruling
+-- both halves are no, or each is what its TP-ID makes it
+abbrev Halves : ℕ → ℕ → Local → Local → Type 0
+Halves a b x y = ((x ≡ No) × (y ≡ No)) ⊎ ((x ≡ localBy a) × (y ≡ localBy b))
+
+assigned-case : (t : Bool) → pick (eqb (pick t 1 0) 0) Unknown Delivered ≡ pick t Delivered Unknown
+assigned-case true = refl
+assigned-case false = refl
+
+halves-case : (t : Bool) (a b : ℕ)
+    → Halves a b (pick t No (pick (eqb (assignedOf a) 0) Unknown Delivered)) (pick t No (pick (eqb (assignedOf b) 0) Unknown Delivered))
+halves-case true a b = inl (refl, refl)
+halves-case false a b = inr (assigned-case (isAssigned a), assigned-case (isAssigned b))
+
+ruling-local : (local : Local) (l : Wish) (full : ℕ) → rulingOf local l full .local ≡ local
+unfolding rulingOf copiesOf
+ruling-local local NotAsked full = refl
+ruling-local local (Refused n) full = refl
+ruling-local local (Wanted set) full = refl
+
+abbrev Alike : ℕ → ℕ → Ruling → Ruling → Type 0
+Alike a b x y = (onwardHalf x ≡ onwardHalf y) × Halves a b (x .local) (y .local)
+
+module _ (a b : ℕ) where
+  local-alike : (t : Target) (p : Place) (c : Case) → Halves a b (localOf t p (withAssigned c (assignedOf a))) (localOf t p (withAssigned c (assignedOf b)))
+  unfolding localOf
+  local-alike t p c = halves-case (eqb (wantedHere (oursBy t (hereBy p)) (c .intermediate)) 0) a b
+
+  ruled-alike : (t : Target) (p : Place) (w : Way) (c : Case) (s : Survey)
+      → Alike a b (ruledBy t p w (withAssigned c (assignedOf a)) s) (ruledBy t p w (withAssigned c (assignedOf b)) s)
+  unfolding ruledBy
+  ruled-alike t p w c s =
+      let x = withAssigned c (assignedOf a) in
+      (onward-free-of-tpid t p w x (assignedOf b) s, rw (ruling-local (localOf t p x) _ (s .full), ruling-local _ _ (s .full)) (local-alike t p c))
+
+  aim-alike : (r : Relay) (x : Aim) (c : Case) (s : Survey)
+      → Alike a b (ruleAim r x (withAssigned c (assignedOf a)) s) (ruleAim r x (withAssigned c (assignedOf b)) s)
+  unfolding ruleTarget
+  aim-alike r (Node d) c s =
+      let t = targetOf (classOf (d .0)) s in
+      ruled-alike t (placeFor r t d (c .arrival)) (wayFor r t d) c s
+  aim-alike r (Path x) c s = ruled-alike target.Path (pathPlace r x) Lost c s
+  aim-alike r Uncarried c s = ruled-alike target.Route Missing Lost c s
+
+  -- ---- the endings
+  refused-alike : (n : ℕ) → SameButLocal a b (refusedBy n) (refusedBy n)
+  refused-alike n =
+      record {
+        refusal = refl;
+        onward = refl;
+        granted = refl;
+        took = refl;
+        dropped = refl;
+        precedence = refl;
+        size = refl;
+        local = inl (refl, refl);
+      }
+
+  else-alike : (t : Bool) (n : ℕ) (e f : Ending) → SameButLocal a b e f → SameButLocal a b (pick t e (refusedBy n)) (pick t f (refusedBy n))
+  else-alike true n e f same = same
+  else-alike false n e f same = refused-alike n
+
+-- of a header, and of the same with another TP-ID
+module _ (r : Relay) (at : Arrival) (h : Header) (b : ℕ) where
+  ruled-ending-alike : SameButLocal (h .fields .tpid) b (ruledEnding r at h) (ruledEnding r at (withTpid b h))
+  unfolding ruleOf
+  ruled-ending-alike =
+      let x = aimOf (at .address .0) (h .fields .addresses) in
+      let alike =
+      aim-alike (h .fields .tpid) b r x (caseOf (r .router) (at .set) (h .fields)) (surveyOf r (soughtOf x (domainOf (at .address)) (h .length))) in
+      record {
+        refusal = refl;
+        onward = ap (λ x. x .0) (alike .0);
+        granted = ap (λ x. x .1 .0) (alike .0);
+        took = ap (λ x. x .1 .1 .0) (alike .0);
+        dropped = ap (λ x. x .1 .1 .1) (alike .0);
+        precedence = refl;
+        size = refl;
+        local = alike .1;
+      }
+
+  header-alike : SameButLocal (h .fields .tpid) b (headerEnding r at h) (headerEnding r at (withTpid b h))
+  unfolding headerEnding
+  header-alike =
+      let n = firstOf (arrivalChecks (at .address) (h .fields)) in
+      else-alike (h .fields .tpid) b (eqb n 0) n (ruledEnding r at h) (ruledEnding r at (withTpid b h)) ruled-ending-alike
+
+module _ (r : Relay) (port : ℕ) (s t : List ℕ) (room : ℕ) (h k : Header) (hs : readOf s ≡ Good h) (kt : readOf t ≡ Good k) (same : SameButTpid h k) where
+  -- Two datagrams whose headers differ in the TP-ID alone end alike but for the local half.
+  pub transport-alone : SameButLocal (h .fields .tpid) (k .fields .tpid) (endingOf r port s room) (endingOf r port t room)
+  unfolding endingOf
+  transport-alone =
+      let n = firstOf (callChecks r port room) in
+      let at = arrivalAt r port in
+      rw (hs, kt ∙ ap Good same)
+      (else-alike (h .fields .tpid) (k .fields .tpid) (eqb n 0) n (headerEnding r at h) (headerEnding r at (withTpid (k .fields .tpid) h))
+      (header-alike r at h (k .fields .tpid)))
+
+  -- And they leave the same: the entries of both go to the same ports and have the same precedence.
+  pub leaves-the-same : (slot : Slot) → receivedRelay r slot (endingOf r port s room) ≡ receivedRelay r slot (endingOf r port t room)
+  unfolding receivedRelay
+  leaves-the-same slot =
+      ap₂ (λ (took precedence : ℕ). enteredAll r took (record { slot = slot; precedence = precedence }) portCount)
+      (transport-alone .took) (transport-alone .precedence)

@@ -1,0 +1,106 @@
+-- The copies that wait on a port, in the order in which they entered, from the calls alone: page 01, demand 3 ("Of the copies waiting on a port, the
+-- highest precedence is handed out first, the oldest within one"). Each copy bears the number of the call that placed it, since slots may repeat, and
+-- what it was: the address of the port that it came in by, the octets, and how many of them were the header. Assumes nothing.
+use Prim.Native.Nat.{ℕ, suc, _<_}
+use mathlib.Core.Bool.{Bool, true, false}
+use mathlib.Core.List.{List, [], _∷_, _++_}
+use lib.ListN.{length, drop}
+use lib.Dec.{eqb}
+use Rattle.checks.specs.Order.{pick}
+use Rattle.sets.specs.Sets.{inSet}
+use Rattle.address.specs.declared.Address.{Address}
+use Rattle.address.specs.declared.Slot.{Slot}
+use Rattle.header.specs.Onward.{headerSentOn}
+use Rattle.queue.specs.Order.{InOrder}
+use Rattle.queue.specs.Waits.{Chosen, nobody, one, chosen, rankBy}
+use Rattle.queue.specs.Foretold.{howMany}
+use Rattle.queue.specs.declared.Entry.{Entry}
+use Rattle.state.specs.Relay.{Relay, freshRelay, portIn}
+use Rattle.judge.specs.Ending.{endingOf}
+use Rattle.judge.specs.declared.Ending.{Ending}
+use Rattle.taking.specs.declared.Taking.{Taking}
+use Rattle.taking.specs.declared.Taking.the-variants.{Handed, Refused}
+use Rattle.relay.specs.Received.{newEntry}
+use Rattle.history.specs.Calls.{Call, sets, hears, takes, looks}
+use Rattle.history.specs.Outcome.{Out, nothing, from, outcome, next}
+
+pub record Copy : Type 0 where
+  -- which call placed it: the first of a history is 0
+  pub turn : ℕ
+  pub arrival : Address
+  pub octets : List ℕ
+  pub size : ℕ
+  pub entry : Entry
+
+abbrev pub entryOf : Copy → Entry
+entryOf c = c .entry
+
+-- the copy of a datagram, heard in turn n
+abbrev pub copyOf : ℕ → Relay → ℕ → Slot → List ℕ → Ending → Copy
+copyOf n r port slot octets e =
+    record { turn = n; arrival = portIn r port .address; octets = octets; size = e .size; entry = newEntry slot e }
+
+-- the octets that go out by the port: the header that receiving wrote, and the data behind it as they came
+abbrev pub sentOf : Copy → List ℕ
+sentOf c = headerSentOn (c .octets) ++ drop (c .size) (c .octets)
+
+-- ---- one port
+module _ (p : ℕ) where
+  -- the copies that it takes of a call: one or none
+  abbrev pub takenBy : ℕ → Relay → Call → List Copy
+  takenBy n r (sets s) = []
+  takenBy n r (hears port slot octets output) =
+      pick (inSet p (endingOf r port octets (length output) .ruling .took)) (copyOf n r port slot octets (endingOf r port octets (length output)) ∷ []) []
+  takenBy n r (takes port) = []
+  takenBy n r (looks l) = []
+
+  -- those that it hands out, of those that wait: the oldest of the highest precedence, where it hands out at all
+  abbrev pub handedBy : Out → Chosen Copy → List Copy
+  handedBy nothing c = []
+  handedBy (from q e) nobody = []
+  handedBy (from q e) (one x others) = pick (eqb q p) (x ∷ []) []
+
+  abbrev pub leftBy : Out → List Copy → Chosen Copy → List Copy
+  leftBy nothing line c = line
+  leftBy (from q e) line nobody = line
+  leftBy (from q e) line (one x others) = pick (eqb q p) others line
+
+  -- ---- over the calls: those that wait, all that were taken, and all that were handed out
+  abbrev pub lineBy : ℕ → Relay → Call → List Copy → List Copy
+  lineBy n r c line = leftBy (outcome r c .out) line (chosen (rankBy entryOf) line) ++ takenBy n r c
+
+  abbrev pub lineFrom : ℕ → Relay → List Copy → List Call → List Copy
+  lineFrom n r line [] = line
+  lineFrom n r line (c ∷ cs) = lineFrom (suc n) (next r c) (lineBy n r c line) cs
+
+  abbrev pub takenFrom : ℕ → Relay → List Call → List Copy
+  takenFrom n r [] = []
+  takenFrom n r (c ∷ cs) = takenBy n r c ++ takenFrom (suc n) (next r c) cs
+
+  abbrev pub handedFrom : ℕ → Relay → List Copy → List Call → List Copy
+  handedFrom n r line [] = []
+  handedFrom n r line (c ∷ cs) =
+      handedBy (outcome r c .out) (chosen (rankBy entryOf) line) ++ handedFrom (suc n) (next r c) (lineBy n r c line) cs
+
+  abbrev pub lineAt : List Call → List Copy
+  lineAt cs = lineFrom 0 freshRelay [] cs
+
+  abbrev pub takenAt : List Call → List Copy
+  takenAt cs = takenFrom 0 freshRelay cs
+
+  abbrev pub handedAt : List Call → List Copy
+  handedAt cs = handedFrom 0 freshRelay [] cs
+
+-- "Taking from a port: 16 if not set up, 18 if nothing waits, else the first entry, removed": by whether the port is set up, and whom the line gives
+abbrev pub takingOf : Bool → Chosen Copy → Taking
+takingOf false c = Refused 16
+takingOf true nobody = Refused 18
+takingOf true (one x others) = Handed (x .entry)
+
+-- how often the copy of turn n is in a list
+abbrev pub times : ℕ → List Copy → ℕ
+times n = howMany (λ (c : Copy). eqb (c .turn) n)
+
+-- in the order of entering: each was placed by an earlier call than all behind it
+abbrev pub InTurn : List Copy → Type 0
+InTurn = InOrder (λ (c d : Copy). c .turn < d .turn)

@@ -1,0 +1,274 @@
+-- With ports wanted: what receiving strikes out, grants, takes and drops is what the table does. Assumes nothing.
+use native.Mathlib.Omega.{arith}
+use Prim.Native.Nat.{ℕ, _<_}
+use mathlib.Core.Path.{_≡_, refl, sym, ap, ap₂, subst, _∙_}
+use mathlib.Core.Bool.{Bool, true, false, not, _&&_, _||_, and-true}
+use mathlib.Core.List.{[], _∷_}
+use lib.Bits.{bitAnd, and-le-r}
+use lib.Dec.{eqb, ltb}
+use Rattle.checks.specs.Order.{pick, firstOf}
+use Rattle.checks.proofs.Bools.{true-false, refuted}
+use Rattle.sets.specs.Sets.{inSet, onlyPort}
+use Rattle.sets.proofs.Anywhere.{any-found}
+use Rattle.header.specs.declared.Addresses.{Addresses}
+use Rattle.header.specs.declared.Addresses.the-variants.{BasicPath, ExtendedPath, BasicEndSystem, ExtendedEndSystem, Ipv6}
+use Rattle.header.specs.declared.Header.{Header}
+use Rattle.header.specs.declared.Octet.{Octet}
+use Rattle.header.specs.declared.Octet.the-variants as octet
+use Rattle.networks.specs.Networks.{domainOf}
+use Rattle.meaning.specs.Names.{isBasic}
+use Rattle.meaning.specs.Asked.{spentOf}
+use Rattle.meaning.specs.declared.Aim.{Aim}
+use Rattle.state.specs.Relay.{Relay, portIn, portSetUp}
+use Rattle.survey.specs.Survey.{surveyOf}
+use Rattle.verdict.specs.Numbers.{localNumber, obstacleNumber, onwardNumber}
+use Rattle.verdict.specs.Rule.{exceptBy, sameDomain, largeEnough, afterDomain, afterSize, grantedOf, copiesOf, rulingOf}
+use Rattle.verdict.specs.declared.Case.{Case}
+use Rattle.verdict.specs.declared.Local.{Local}
+use Rattle.verdict.specs.declared.Obstacle.{Obstacle}
+use Rattle.verdict.specs.declared.Obstacle.the-variants.{HopsUsedUp, LeavesDomain, TooBig, QueuesFull}
+use Rattle.verdict.specs.declared.Onward.{Onward}
+use Rattle.verdict.specs.declared.Onward.the-variants as onward
+use Rattle.verdict.specs.declared.Wish.{Wish}
+use Rattle.verdict.specs.declared.Wish.the-variants.{NotAsked, Refused, Wanted}
+use Rattle.verdict.specs.declared.Survey.{Survey}
+use Rattle.judge.specs.Ruling.{caseOf, soughtOf}
+use Rattle.page.specs.Table.{Ports, somePort, Line, notAsked, refused, wanted, hopsUsedUp, oneOctet, hasRoom, takenBy, droppedBy, ofDomain, ofSize, grantedPorts, copyRows, Verdict, lineNumber, lineGrants, halves}
+use Rattle.page.specs.Ends.{Agrees}
+use Rattle.page.proofs.Bits.{in-none, in-and, in-except}
+use Rattle.page.proofs.Sets.{empty-is}
+use Rattle.page.proofs.Local.{pick-zero}
+use Rattle.page.proofs.Ports.{domain-in, fitting-in, domain-small, fitting-small, full-in}
+
+-- a line says what the table's line says
+abbrev pub Same : Wish → Line → Type 0
+Same NotAsked notAsked = Unit
+Same NotAsked (refused n) = ⊥
+Same NotAsked (wanted ports) = ⊥
+Same (Refused o) notAsked = ⊥
+Same (Refused o) (refused n) = obstacleNumber o ≡ n
+Same (Refused o) (wanted ports) = ⊥
+Same (Wanted set) notAsked = ⊥
+Same (Wanted set) (refused n) = ⊥
+Same (Wanted set) (wanted ports) = (p : ℕ) → p < 8 → inSet p set ≡ ports p
+
+-- where no port is granted a copy, the numbers are left
+pub empty-agrees : (local : Local) (onward : Onward) (v : Verdict) → localNumber local ≡ v .local → onwardNumber onward ≡ v .onward
+    → ((p : ℕ) → p < 8 → v .granted p ≡ false) → ((p : ℕ) → p < 8 → v .took p ≡ false) → ((p : ℕ) → p < 8 → v .dropped p ≡ false)
+    → Agrees (record { local = local; onward = onward; granted = 0; took = 0; dropped = 0 }) v
+empty-agrees local onward v here on granted took dropped = record {
+  local = here;
+  onward = on;
+  granted = λ p l. in-none p ∙ sym (granted p l);
+  took = λ p l. in-none p ∙ sym (took p l);
+  dropped = λ p l. in-none p ∙ sym (dropped p l);
+}
+
+-- ---- the tests
+spent-is : (n : Octet) → eqb (spentOf n) 0 ≡ not (hopsUsedUp n)
+spent-is octet.Absent = refl
+spent-is (octet.Present n) = pick-zero (ltb n 2)
+
+basic-is : (a : Addresses) → eqb (isBasic a) 0 ≡ not (oneOctet a)
+basic-is (BasicPath z) = refl
+basic-is (ExtendedPath p) = refl
+basic-is (BasicEndSystem d s) = refl
+basic-is (ExtendedEndSystem d s) = refl
+basic-is (Ipv6 d s) = refl
+
+none-passes : (ports : Ports) → somePort ports ≡ false → (p : ℕ) → p < 8 → ports p ≡ false
+unfolding somePort
+none-passes ports e p l = refuted (ports p) (λ h. true-false (sym (any-found ports p 8 l h) ∙ e))
+
+-- a port that is left is set up
+taken-case : (d u m room : Bool) → ((d && (u && m)) && not (u && not room)) ≡ ((d && (u && m)) && room)
+taken-case false u m room = refl
+taken-case true false m room = refl
+taken-case true true false room = refl
+taken-case true true true true = refl
+taken-case true true true false = refl
+
+dropped-case : (d u m room : Bool) → ((d && (u && m)) && (u && not room)) ≡ ((d && (u && m)) && not room)
+dropped-case false u m room = refl
+dropped-case true false m room = refl
+dropped-case true true m room = refl
+
+module _ (r : Relay) (at : ℕ) (x : Aim) (h : Header) (local : Local) where
+  abbrev asked : Case
+  asked = caseOf (r .router) (onlyPort at) (h .fields)
+
+  abbrev found : Survey
+  found = surveyOf r (soughtOf x (domainOf (portIn r at .address)) (h .length))
+
+  abbrev verdict : Line → Verdict
+  verdict line = halves r at h (localNumber local) line
+
+  -- no copy on either side
+  refused-agrees : (o : Obstacle) (line : Line) → obstacleNumber o ≡ lineNumber r at h line
+      → ((p : ℕ) → p < 8 → lineGrants r at h line p ≡ false) → Agrees (rulingOf local (Refused o) (found .full)) (verdict line)
+  unfolding rulingOf
+  refused-agrees o line number nobody =
+      empty-agrees local (onward.Refused o) (verdict line) refl number nobody (λ p l. rw (nobody p l)) (λ p l. rw (nobody p l))
+
+  -- ---- ports wanted
+  module _ (set : ℕ) (ports : Ports) (same : (p : ℕ) → p < 8 → inSet p set ≡ ports p) where
+    abbrev domain : Ports
+    domain = ofDomain r at h ports
+
+    abbrev size : Ports
+    size = ofSize r at h ports
+
+    abbrev inDomain : Ports
+    inDomain q = portSetUp r q && eqb (domainOf (portIn r q .address)) (domainOf (portIn r at .address))
+
+    -- what is left once ports of other domains are struck out
+    abbrev struck : ℕ
+    struck = bitAnd set (found .domain)
+
+    struck-same : oneOctet (h .fields .addresses) ≡ true → (p : ℕ) → p < 8 → inSet p struck ≡ domain p
+    struck-same e p l =
+        in-and p set (found .domain) ∙ ap₂ _&&_ (same p l) (domain-in r x _ _ p l)
+        ∙ ap (λ (t : Bool). ports p && (not t || inDomain p)) (sym e)
+
+    all-same : oneOctet (h .fields .addresses) ≡ false → (p : ℕ) → p < 8 → inSet p set ≡ domain p
+    all-same e p l = same p l ∙ sym (and-true (ports p)) ∙ ap (λ (t : Bool). ports p && (not t || inDomain p)) (sym e)
+
+    struck-none : oneOctet (h .fields .addresses) ≡ true → eqb struck 0 ≡ not (somePort domain)
+    struck-none e =
+        empty-is struck domain (omega (arith, and-le-r set (found .domain), domain-small r x (domainOf (portIn r at .address)) (h .length)))
+        (struck-same e)
+
+    -- the number, by the five tests
+    abbrev rows : Bool → Bool → Bool → Bool → Bool → ℕ
+    rows s o d z t = firstOf ((s, 10) ∷ (o && not d, 13) ∷ (not z, 14) ∷ (not t, 15) ∷ (true, 1) ∷ [])
+
+    abbrev number : ℕ
+    number = lineNumber r at h (wanted ports)
+
+    module _ (hops : hopsUsedUp (h .fields .hops) ≡ false) where
+      -- no hop is missing: what is left is granted
+      granted-is : (p : ℕ) → grantedPorts r at h ports p ≡ size p
+      granted-is p = rw hops
+
+      module _ (left : ℕ) (domain-is : (p : ℕ) → p < 8 → inSet p left ≡ domain p) where
+        abbrev fits : ℕ
+        fits = bitAnd left (found .fitting)
+
+        size-same : (p : ℕ) → p < 8 → inSet p fits ≡ size p
+        size-same p l = in-and p left (found .fitting) ∙ ap₂ _&&_ (domain-is p l) (fitting-in r x _ _ p l)
+
+        fits-small : fits < 256
+        fits-small = omega (arith, and-le-r left (found .fitting), fitting-small r x (domainOf (portIn r at .address)) (h .length))
+
+        size-none : eqb fits 0 ≡ not (somePort size)
+        size-none = empty-is fits size fits-small size-same
+
+        -- a port of full queue drops its copy, any other takes it
+        took-same : (p : ℕ) → p < 8 → inSet p (exceptBy fits (found .full)) ≡ takenBy r (grantedPorts r at h ports) p
+        took-same p l =
+            in-except p fits (found .full) ∙ ap₂ (λ (s t : Bool). s && not t) (size-same p l) (full-in r x _ _ p l)
+            ∙ taken-case (domain p) (portSetUp r p) _ (hasRoom r p)
+            ∙ ap (λ (t : Bool). t && hasRoom r p) (sym (granted-is p))
+
+        dropped-same : (p : ℕ) → p < 8 → inSet p (bitAnd fits (found .full)) ≡ droppedBy r (grantedPorts r at h ports) p
+        dropped-same p l =
+            in-and p fits (found .full) ∙ ap₂ _&&_ (size-same p l) (full-in r x _ _ p l)
+            ∙ dropped-case (domain p) (portSetUp r p) _ (hasRoom r p)
+            ∙ ap (λ (t : Bool). t && not (hasRoom r p)) (sym (granted-is p))
+
+        took-none : eqb (exceptBy fits (found .full)) 0 ≡ not (somePort (takenBy r (grantedPorts r at h ports)))
+        took-none = empty-is _ _ (omega (arith, fits-small)) took-same
+
+        abbrev agrees : Wish → Type 0
+        agrees w = Agrees (rulingOf local w (found .full)) (verdict (wanted ports))
+
+        copies-agree : (t : Bool) → somePort (takenBy r (grantedPorts r at h ports)) ≡ t → number ≡ rows false false true true t → agrees (Wanted fits)
+        unfolding rulingOf copiesOf firstOf
+        copies-agree t e n = record {
+          local = refl;
+          onward = ap (λ (u : Bool). onwardNumber (pick u (onward.Refused QueuesFull) onward.SentOn)) (took-none ∙ ap not e) ∙ last t ∙ sym n;
+          granted = λ p l. size-same p l ∙ sym (granted-is p);
+          took = took-same;
+          dropped = dropped-same;
+        }
+          where
+            last : (u : Bool) → onwardNumber (pick (not u) (onward.Refused QueuesFull) onward.SentOn) ≡ rows false false true true u
+            last true = refl
+            last false = refl
+
+        fits-agrees : (z t : Bool) → somePort size ≡ z → somePort (takenBy r (grantedPorts r at h ports)) ≡ t
+            → number ≡ rows false false true z t → agrees (largeEnough left (found .fitting))
+        unfolding firstOf
+        fits-agrees true t ez et n =
+            subst (λ (u : Bool). agrees (pick u (Refused TooBig) (Wanted fits))) (sym (size-none ∙ ap not ez)) (copies-agree t et n)
+        fits-agrees false t ez et n =
+            subst (λ (u : Bool). agrees (pick u (Refused TooBig) (Wanted fits))) (sym (size-none ∙ ap not ez))
+            (refused-agrees TooBig (wanted ports) (sym n) (λ p l. granted-is p ∙ none-passes size ez p l))
+
+    abbrev some-took : Bool
+    some-took = somePort (takenBy r (grantedPorts r at h ports))
+
+    number-is : number ≡ rows (hopsUsedUp (h .fields .hops)) (oneOctet (h .fields .addresses)) (somePort domain) (somePort size) some-took
+    unfolding copyRows
+    number-is = refl
+
+    -- ---- the stages, by whether hops are used up, addresses are one octet and a port of the domain is left
+    abbrev inTime : Bool → Wish
+    inTime s = pick (not s) (Wanted set) (Refused HopsUsedUp)
+
+    abbrev atHome : Bool → Bool → Wish
+    atHome o d = pick (not o) (Wanted set) (pick (not d) (Refused LeavesDomain) (Wanted struck))
+
+    hops-stage : (s : Bool) → hopsUsedUp (h .fields .hops) ≡ s
+        → grantedOf (Wanted set) asked found ≡ afterSize (afterDomain (inTime s) (asked .basic) (found .domain)) (found .fitting)
+    unfolding grantedOf
+    hops-stage s e =
+        ap (λ (t : Bool). afterSize (afterDomain (pick t (Wanted set) (Refused HopsUsedUp)) (asked .basic) (found .domain)) (found .fitting))
+        (spent-is (h .fields .hops) ∙ ap not e)
+
+    domain-stage : (o d : Bool) → oneOctet (h .fields .addresses) ≡ o → (o ≡ true → eqb struck 0 ≡ not d)
+        → sameDomain set (asked .basic) (found .domain) ≡ atHome o d
+    domain-stage true d e f =
+        ap (λ (t : Bool). pick t (Wanted set) (pick (eqb struck 0) (Refused LeavesDomain) (Wanted struck))) (basic-is (h .fields .addresses) ∙ ap not e)
+        ∙ ap (λ (t : Bool). pick t (Refused LeavesDomain) (Wanted struck)) (f refl)
+    domain-stage false d e f =
+        ap (λ (t : Bool). pick t (Wanted set) (pick (eqb struck 0) (Refused LeavesDomain) (Wanted struck))) (basic-is (h .fields .addresses) ∙ ap not e)
+
+    abbrev agree : Wish → Type 0
+    agree w = Agrees (rulingOf local w (found .full)) (verdict (wanted ports))
+
+    home-agrees : hopsUsedUp (h .fields .hops) ≡ false → (o d : Bool) → oneOctet (h .fields .addresses) ≡ o → somePort domain ≡ d
+        → number ≡ rows false o d (somePort size) some-took → agree (afterSize (atHome o d) (found .fitting))
+    unfolding firstOf
+    home-agrees hops true true eo ed n = fits-agrees hops struck (struck-same eo) _ _ refl refl n
+    home-agrees hops true false eo ed n =
+        refused-agrees LeavesDomain (wanted ports) (sym n)
+        (λ p l. granted-is hops p ∙ rw (none-passes domain ed p l))
+    home-agrees hops false d eo ed n = fits-agrees hops set (all-same eo) _ _ refl refl n
+
+    hops-agrees : (s o d : Bool) → hopsUsedUp (h .fields .hops) ≡ s → oneOctet (h .fields .addresses) ≡ o → somePort domain ≡ d
+        → number ≡ rows s o d (somePort size) some-took → agree (grantedOf (Wanted set) asked found)
+    unfolding firstOf
+    hops-agrees true o d es eo ed n =
+        subst agree (sym (hops-stage true es)) (refused-agrees HopsUsedUp (wanted ports) (sym n) (λ p l. rw es))
+    hops-agrees false o d es eo ed n =
+        subst agree (sym (hops-stage false es ∙ ap (λ (w : Wish). afterSize w (found .fitting)) (domain-stage o d eo (λ e. struck-none (eo ∙ e) ∙ ap not ed))))
+        (home-agrees es o d eo ed n)
+
+    wanted-agrees : agree (grantedOf (Wanted set) asked found)
+    wanted-agrees = hops-agrees _ _ _ refl refl refl number-is
+
+  -- Lines that are the same end the same.
+  pub line-agrees : (w : Wish) (line : Line) → Same w line
+      → Agrees (rulingOf local (grantedOf w asked found) (found .full)) (verdict line)
+  unfolding grantedOf rulingOf
+  line-agrees NotAsked notAsked e =
+      empty-agrees local onward.NotAsked (verdict notAsked) refl refl (λ p l. refl) (λ p l. refl) (λ p l. refl)
+  line-agrees NotAsked (refused n) e = absurd e
+  line-agrees NotAsked (wanted ports) e = absurd e
+  line-agrees (Refused o) notAsked e = absurd e
+  line-agrees (Refused o) (refused n) e = refused-agrees o (refused n) e (λ p l. refl)
+  line-agrees (Refused o) (wanted ports) e = absurd e
+  line-agrees (Wanted set) notAsked e = absurd e
+  line-agrees (Wanted set) (refused n) e = absurd e
+  line-agrees (Wanted set) (wanted ports) e = wanted-agrees set ports e

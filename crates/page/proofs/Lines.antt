@@ -1,0 +1,121 @@
+-- The lines of the onward half, one by one: receiving wants what the table's rows want. Assumes nothing.
+use Prim.Native.Nat.{ℕ, _<_}
+use mathlib.Core.Path.{_≡_, refl, sym, ap, ap₂, subst, _∙_}
+use mathlib.Core.Bool.{Bool, true, false, not, _&&_, _||_, Bool·not-not}
+use lib.Bits.{bitAnd}
+use lib.Dec.{eqb}
+use lib.ListN.{length}
+use Rattle.checks.specs.Order.{pick}
+use Rattle.sets.specs.Sets.{inSet, onlyPort}
+use Rattle.address.specs.declared.Address.{Address}
+use Rattle.address.specs.declared.PathAddress.{PathAddress}
+use Rattle.meaning.specs.declared.Aim.{Aim}
+use Rattle.meaning.specs.declared.Aim.the-variants.{Node, Path}
+use Rattle.state.specs.Relay.{Relay, groupIn, pathIn}
+use Rattle.records.specs.declared.Group.{Group}
+use Rattle.records.specs.declared.PathPlace.{PathPlace}
+use Rattle.survey.specs.Survey.{surveyOf}
+use Rattle.lookup.specs.Lookup.{groupFound, pathFound, groupSays, pathSays, groupPlace, pathPlace}
+use Rattle.verdict.specs.Numbers.{localNumber}
+use Rattle.verdict.specs.Rule.{exceptBy, broadcastLine, aloneBy, groupLine, pathLine, unheardBy}
+use Rattle.verdict.specs.declared.Place.the-variants.{Missing}
+use Rattle.verdict.specs.declared.Local.{Local}
+use Rattle.verdict.specs.declared.Local.the-variants.{No, Delivered, Unknown}
+use Rattle.verdict.specs.declared.Obstacle.the-variants.{NoRoute}
+use Rattle.verdict.specs.declared.Wish.{Wish}
+use Rattle.verdict.specs.declared.Wish.the-variants.{NotAsked, Refused, Wanted}
+use Rattle.judge.specs.Ruling.{soughtOf}
+use Rattle.page.specs.Table.{somePort, without, nothingBut, hasGroup, hasPath, isSubscribed, isHere, Line, notAsked, refused, wanted, otherPorts, groupSet, pathSet, groupPorts, pathPorts}
+use Rattle.page.proofs.Bits.{in-except, only-in}
+use Rattle.page.proofs.Sets.{only-is, nothing-is}
+use Rattle.page.proofs.Ports.{others-in, others-none}
+use Rattle.page.proofs.Copies.{Same}
+
+-- ---- tests
+pick-one : (t : Bool) → eqb (pick t 1 0) 1 ≡ t
+pick-one true = refl
+pick-one false = refl
+
+pick-same : (t u : Bool) (a b : Wish) (l m : Line) → t ≡ u → Same a l → Same b m → Same (pick t a b) (pick u l m)
+pick-same t u a b l m e s s' = subst (λ (v : Bool). Same (pick t a b) (pick v l m)) e (both t)
+  where
+    both : (v : Bool) → Same (pick v a b) (pick v l m)
+    both true = s
+    both false = s'
+
+-- ---- the lines
+module _ (r : Relay) (at : ℕ) (inside : at < 8) where
+  -- a host
+  pub host-same : (local : Local) (n : ℕ) → localNumber local ≡ n → Same (unheardBy local) (pick (not (eqb n 0)) notAsked (refused 9))
+  host-same local n e = subst (λ (m : ℕ). Same (unheardBy local) (pick (not (eqb m 0)) notAsked (refused 9))) e (by local)
+    where
+      by : (l : Local) → Same (unheardBy l) (pick (not (eqb (localNumber l) 0)) notAsked (refused 9))
+      by No = refl
+      by Delivered = tt
+      by Unknown = tt
+
+  -- what is left of a place's set
+  set-same : (set : ℕ) (p : ℕ) → p < 8 → inSet p (exceptBy set (onlyPort at)) ≡ (inSet p set && not (eqb p at))
+  set-same set p l = in-except p set (onlyPort at) ∙ ap (λ (t : Bool). inSet p set && not t) (only-is p at l)
+
+  module _ (x : Aim) (domain length : ℕ) where
+    abbrev others : ℕ
+    others = exceptBy (surveyOf r (soughtOf x domain length) .ready) (onlyPort at)
+
+    abbrev noOther : Bool
+    noOther = not (somePort (otherPorts r at))
+
+    -- a broadcast of ours
+    pub broadcast-same : Same (broadcastLine others) (pick noOther notAsked (wanted (otherPorts r at)))
+    broadcast-same = pick-same _ _ _ _ _ _ (others-none r x domain length at) tt (λ p l. others-in r x domain length p l at)
+
+    -- a group
+    module _ (a : Address) where
+      abbrev group : Group
+      group = groupIn r (groupFound r a)
+
+      pub group-same : Same (groupLine (groupPlace r a (onlyPort at)) (onlyPort at) others)
+          (pick (isSubscribed r at a && noOther) notAsked
+          (pick (not (hasGroup r a) || nothingBut at (groupSet r a)) (refused 11) (wanted (without at (groupPorts r (Node a))))))
+      unfolding groupPlace groupLine
+      group-same = by (hasGroup r a)
+        where
+          alone : eqb (aloneBy (bitAnd (group .subscribed) (onlyPort at)) others) 1 ≡ (inSet at (group .subscribed) && noOther)
+          alone =
+              pick-one _
+              ∙ ap₂ (λ (s t : Bool). not s && t) (only-in at (group .subscribed) inside) (others-none r x domain length at)
+              ∙ ap (λ (t : Bool). t && noOther) (Bool·not-not (inSet at (group .subscribed)))
+
+          by : (t : Bool) → Same (groupLine (pick t (groupSays group (onlyPort at)) Missing) (onlyPort at) others)
+              (pick ((t && inSet at (group .subscribed)) && noOther) notAsked
+              (pick (not t || nothingBut at (group .send)) (refused 11) (wanted (without at (groupPorts r (Node a))))))
+          by true = pick-same _ _ _ _ _ _ alone tt (pick-same _ _ _ _ _ _ (nothing-is at (group .send) inside) refl (set-same (group .send)))
+          by false = refl
+
+  -- a path
+  module _ (y : PathAddress) where
+    abbrev place : PathPlace
+    place = pathIn r (pathFound r y)
+
+    pub path-same : Same (pathLine (pathPlace r y) (onlyPort at))
+        (pick (not (hasPath r y) || (nothingBut at (pathSet r y) && not (isHere r y))) (refused 11)
+        (pick (nothingBut at (pathSet r y)) notAsked (wanted (without at (pathPorts r (Path y))))))
+    unfolding pathPlace pathLine
+    path-same = by (hasPath r y)
+      where
+        held : (e t : Bool) → Same (pick (not e) (Wanted (exceptBy (place .send) (onlyPort at))) (pick t NotAsked (Refused NoRoute)))
+            (pick (e && not t) (refused 11) (pick e notAsked (wanted (without at (pathPorts r (Path y))))))
+        held true true = tt
+        held true false = refl
+        held false t = set-same (place .send)
+
+        by : (t : Bool) → Same (pathLine (pick t (pathSays place) Missing) (onlyPort at))
+            (pick (not t || (nothingBut at (place .send) && not (t && not (eqb (place .here) 0)))) (refused 11)
+            (pick (nothingBut at (place .send)) notAsked (wanted (without at (pathPorts r (Path y))))))
+        by true =
+            subst (λ (e : Bool). Same (pick (not e) (Wanted (exceptBy (place .send) (onlyPort at))) (pick (not (eqb (place .here) 0)) NotAsked (Refused NoRoute)))
+            (pick (nothingBut at (place .send) && not (not (eqb (place .here) 0))) (refused 11)
+            (pick (nothingBut at (place .send)) notAsked (wanted (without at (pathPorts r (Path y)))))))
+            (sym (nothing-is at (place .send) inside))
+            (held (nothingBut at (place .send)) (not (eqb (place .here) 0)))
+        by false = refl

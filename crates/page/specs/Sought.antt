@@ -1,0 +1,30 @@
+-- Where a route is sought: the last line of page 01's onward half decides, since no step refuses and no line before it fits. Assumes nothing.
+use Prim.Native.Nat.{ℕ, _≤_}
+use mathlib.Core.Path.{_≡_}
+use mathlib.Core.Bool.{true, false, _||_}
+use mathlib.Core.List.{List}
+use Rattle.checks.specs.Order.{noneHolds}
+use Rattle.address.specs.Mask.{onesOf}
+use Rattle.address.specs.declared.Address.{Address}
+use Rattle.header.specs.Read.{headerOf}
+use Rattle.meaning.specs.Names.{aimOf}
+use Rattle.meaning.specs.declared.Aim.the-variants.{Node}
+use Rattle.routes.specs.Routes.{candidate}
+use Rattle.state.specs.Relay.{Relay, portIn, routeIn}
+use Rattle.page.specs.Table.{stepRows, isHost, equalsPort, isLimited, broadcastOfOurs, isMulticast}
+
+-- for a datagram that names the address a
+pub record RouteSought (r : Relay) (at : ℕ) (octets : List ℕ) (room : ℕ) (a : Address) : Type 0 where
+  pub judged : noneHolds (stepRows r at octets room)
+  pub named : aimOf (portIn r at .address .0) (headerOf octets .fields .addresses) ≡ Node a
+  pub router : isHost r ≡ false
+  pub not-own : (equalsPort r (Node a) || isLimited a) ≡ false
+  pub not-ours : broadcastOfOurs r (Node a) ≡ false
+  pub no-group : isMulticast a ≡ false
+
+-- "the one taken matches the destination under its mask, no matching entry has more mask bits": of the route that sends a copy to port p
+pub record RouteTaken (r : Relay) (a : Address) (p : ℕ) : Type 0 where
+  pub place : ℕ
+  pub matches : candidate (routeIn r place) a ≡ true
+  pub most : (q : ℕ) → candidate (routeIn r q) a ≡ true → onesOf (routeIn r q .mask .0) ≤ onesOf (routeIn r place .mask .0)
+  pub port : routeIn r place .port ≡ p
