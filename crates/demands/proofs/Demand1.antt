@@ -43,7 +43,7 @@ use Rattle.history.proofs.Untaken.{took-none}
 use Rattle.history.proofs.Refusals.{nobody-took, output-as-lent, refused-take-leaves}
 use Rattle.history.proofs.Sums.{moves-as-written}
 use Rattle.history.proofs.Transport as transport
-use Rattle.demands.specs.Trace.{Step, starts, calls, made, leftBy, historyOf, Gives}
+use Rattle.demands.specs.Trace.{Step, starts, calls, made, wordsAfter, historyOf, Gives}
 use Rattle.demands.proofs.Promised.{promisedOf}
 use Rattle.demands.specs.ReadOut.{numberIn, looksAtState, readOut, outputOf, relayIn, hearsNothing, tookIn, counterAt}
 use Rattle.demands.specs.Demand1.{LocalAlone, WithoutState, Demand1}
@@ -196,7 +196,7 @@ module _ (steps : List Step) (c : Call) (x : Result) (g : Gives steps (calls c) 
   refused-rules h = ap isRefusal (sym (read-out steps c x g)) ∙ h
 
   refusal-leaves : isRefusal (readOut c (x .answer)) ≡ true
-      → (relayIn (leftBy (g .before) (calls c) x) ≡ relayIn (g .before)) × (x .output ≡ outputOf c)
+      → (relayIn (wordsAfter (g .before) (calls c) x) ≡ relayIn (g .before)) × (x .output ≡ outputOf c)
   refusal-leaves h =
       let s = stateAfter (historyOf steps) in
       let before = ap (λ (s : State). s .relay) (gives-before steps (calls c) x g) in (
@@ -219,7 +219,7 @@ no-moves r (takes p) h = quiet-taking p (takeOutcome r p)
 no-moves r (looks l) h = refl
 
 counters-stay : (steps : List Step) (c : Call) (x : Result) (g : Gives steps (calls c) x) → hearsNothing c ≡ true
-    → layout.decode (leftBy (g .before) (calls c) x) .counters ≡ layout.decode (g .before) .counters
+    → layout.decode (wordsAfter (g .before) (calls c) x) .counters ≡ layout.decode (g .before) .counters
 counters-stay steps c x g none =
     let s = layout.decode (g .before) in
     ap (λ (t : State). t .counters) (gives-next steps (calls c) x g) ∙ ap (countedAll (s .counters)) (no-moves (s .relay) c none)

@@ -81,7 +81,7 @@ use Rattle.history.proofs.Reach.{reached}
 use Rattle.history.proofs.ReadBack.{ReadBack, read-back}
 use Rattle.history.proofs.Search.{masks-contiguous}
 use Rattle.history.proofs.Takes.{take-is, is-port}
-use Rattle.demands.specs.Trace.{Step, calls, heard, heardAll, historyOf, Gives}
+use Rattle.demands.specs.Trace.{Step, calls, withStep, withSteps, historyOf, Gives}
 use Rattle.demands.specs.ReadOut.{numberIn, tookIn, droppedIn, relayIn, Reads, Builds, readOut, headerIn}
 use Rattle.demands.specs.Demand2.{ToldAs, Answered, Demand2, ExactlyAs, GoesOut}
 use Rattle.demands.proofs.Lasts.{passable}
@@ -207,13 +207,13 @@ checks-decided r (clearRoute i) = decided (checksOf r (clearRoute i)) refl
 checks-decided r (clearGroup i) = decided (checksOf r (clearGroup i)) refl
 checks-decided r (clearPath i) = decided (checksOf r (clearPath i)) refl
 
-heard-later : (h later : List Call) → heardAll h (map calls later) ≡ h ++ later
+heard-later : (h later : List Call) → withSteps h (map calls later) ≡ h ++ later
 heard-later h [] = sym (append-nil h)
 heard-later h (c ∷ later) = heard-later (h ++ (c ∷ [])) later ∙ append-assoc h (c ∷ []) later
 
-heard-both : (xs ys : List Step) (h : List Call) → heardAll h (xs ++ ys) ≡ heardAll (heardAll h xs) ys
+heard-both : (xs ys : List Step) (h : List Call) → withSteps h (xs ++ ys) ≡ withSteps (withSteps h xs) ys
 heard-both [] ys h = refl
-heard-both (c ∷ xs) ys h = heard-both xs ys (heard h c)
+heard-both (c ∷ xs) ys h = heard-both xs ys (withStep h c)
 
 run-both : (cs ds : List Call) (r : Relay) → runFrom r (cs ++ ds) ≡ runFrom (runFrom r cs) ds
 run-both [] ds r = refl

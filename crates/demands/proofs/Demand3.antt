@@ -9,9 +9,7 @@ use lib.Dec.{ltb}
 use borrow.Author.Tests.{lt-ltb, ltb-false}
 use Rattle.checks.specs.Order.{pick}
 use Rattle.checks.proofs.Bools.{true-false}
-use Rattle.header.specs.Read.{headerOf}
 use Rattle.header.proofs.Refusals.{read-good}
-use Rattle.meaning.specs.Asked.{precedenceAsked}
 use Rattle.address.specs.declared.Slot.{Slot}
 use Rattle.judge.specs.declared.Ending.{Ending}
 use Rattle.history.proofs.Domain.{took-read}
@@ -22,7 +20,7 @@ use Rattle.sets.specs.Sets.{inSet}
 use Rattle.queue.specs.Waits.{rankBy}
 use Rattle.queue.proofs.Waits.{chosen-asked, waits-count, waits-fits}
 use Rattle.queue.specs.declared.Entry.{Entry}
-use Rattle.state.specs.Relay.{Relay, freshRelay, counterIn, queueIn, portIn}
+use Rattle.state.specs.Relay.{Relay, freshRelay, counterIn, queueIn}
 use Rattle.answers.specs.Answers.{partAt, takingNumber}
 use Rattle.judge.specs.Ending.{endingOf}
 use Rattle.harpjuniper_relay.specs.Face.{counterAnswer, waitingAnswer}
@@ -37,13 +35,13 @@ use Rattle.history.specs.Foretold.{andThen, answeredBy, answeredFrom, answeredS
 use Rattle.history.proofs.Sums.{counted-as-written}
 use Rattle.history.proofs.Ledger as ledgers
 use Rattle.history.proofs.Line.{queue-waits, out-or-waiting, taken-in-turn, line-in-turn}
-use Rattle.history.proofs.Foretold.{relay-then, foretold-over-histories, answers-are-handed, stands-behind, refused-idle, other-take-idle, idle-counts-nothing}
+use Rattle.history.proofs.Foretold.{relay-then, foretold-over-histories, answers-are-handed, stands-behind, refused-idle, other-take-idle, idle-counts-nothing, not-taken-idle, setting-idle, look-idle}
 use Rattle.history.proofs.Takes.{take-is}
 use Rattle.history.proofs.Fair.{fair}
 use Rattle.history.proofs.ReadBack.{read-back, ReadBack}
-use Rattle.demands.specs.Trace.{Step, calls, made, leftBy, Trace, Passes, AllPass, Begun, heard, heardAll, historyOf, Gives}
+use Rattle.demands.specs.Trace.{Step, calls, made, wordsAfter, Trace, Passes, AllPass, Begun, withStep, withSteps, historyOf, Gives}
 use Rattle.demands.specs.ReadOut.{numberIn, droppedIn, entriesIn, tookIn}
-use Rattle.demands.specs.Demand3.{Demand3}
+use Rattle.demands.specs.Demand3.{placedBy, Demand3}
 use Rattle.demands.proofs.Told.{receive-told, take-told, counter-told, waiting-told}
 use Rattle.demands.proofs.ReadOut.{read-out}
 
@@ -81,16 +79,16 @@ module _ (steps : List Step) where
 
 -- ---- what is handed out is told
 -- one step more
-trace-more : (xs : List Step) (c : Step) (w v : List ℕ) → Trace w xs v → (x : Result) → Says (made v c) x → Trace w (xs ++ (c ∷ [])) (leftBy v c x)
+trace-more : (xs : List Step) (c : Step) (w v : List ℕ) → Trace w xs v → (x : Result) → Says (made v c) x → Trace w (xs ++ (c ∷ [])) (wordsAfter v c x)
 trace-more [] c w v t x says = rw (← t) (x, (says, refl))
-trace-more (d ∷ xs) c w v t x says = (t .0, (t .1 .0, trace-more xs c (leftBy w d (t .0)) v (t .1 .1) x says))
+trace-more (d ∷ xs) c w v t x says = (t .0, (t .1 .0, trace-more xs c (wordsAfter w d (t .0)) v (t .1 .1) x says))
 
 pass-more : (xs : List Step) (c : Step) → AllPass xs → Passes c → AllPass (xs ++ (c ∷ []))
 pass-more [] c all p = (p, tt)
 pass-more (d ∷ xs) c all p = (all .0, pass-more xs c (all .1) p)
 
 begun-more : (w v : List ℕ) (steps : List Step) (c : Step) (x : Result) → Begun w steps v → Says (made v c) x → Passes c
-    → Begun w (steps ++ (c ∷ [])) (leftBy v c x)
+    → Begun w (steps ++ (c ∷ [])) (wordsAfter v c x)
 begun-more w v steps c x b says p =
     record {
       first = b .first;
@@ -100,9 +98,9 @@ begun-more w v steps c x b says p =
       passed = pass-more steps c (b .passed) p;
     }
 
-heard-more : (steps : List Step) (c : Call) (h : List Call) → heardAll h (steps ++ (calls c ∷ [])) ≡ andThen (heardAll h steps) c
+heard-more : (steps : List Step) (c : Call) (h : List Call) → withSteps h (steps ++ (calls c ∷ [])) ≡ andThen (withSteps h steps) c
 heard-more [] c h = refl
-heard-more (d ∷ steps) c h = heard-more steps c (heard h d)
+heard-more (d ∷ steps) c h = heard-more steps c (withStep h d)
 
 entries-told : (p : ℕ) (ds : List Call) (steps : List Step) (w v u : List ℕ) → Begun w steps v → (t : Trace v (map calls ds) u) → AllPass (map calls ds)
     → entriesIn p ds v u t ≡ answeredSince p (historyOf steps) ds
@@ -111,8 +109,8 @@ entries-told p (c ∷ ds) steps w v u b t all =
     let x = t .0 in
     let g : Gives steps (calls c) x = record { first = w; before = v; begun = b; says = t .1 .0; passes = all .0 } in
     let more = begun-more w v steps (calls c) x b (t .1 .0) (all .0) in
-    let rest = entries-told p ds (steps ++ (calls c ∷ [])) w (leftBy v (calls c) x) u more (t .1 .1) (all .1) in
-    ap (λ (a : Answer). answeredBy p c a ++ entriesIn p ds (leftBy v (calls c) x) u (t .1 .1)) (read-out steps c x g)
+    let rest = entries-told p ds (steps ++ (calls c ∷ [])) w (wordsAfter v (calls c) x) u more (t .1 .1) (all .1) in
+    ap (λ (a : Answer). answeredBy p c a ++ entriesIn p ds (wordsAfter v (calls c) x) u (t .1 .1)) (read-out steps c x g)
     ∙ ap (λ (l : List Entry). answeredBy p c (outcome (relayAfter (historyOf steps)) c .answer) ++ l)
     (rest ∙ ap (λ (cs : List Call). answeredFrom p (relayAfter cs) ds) (heard-more steps c []) ∙ ap (λ (r : Relay). answeredFrom p r ds) (relay-then (historyOf steps) freshRelay c))
 
@@ -127,15 +125,7 @@ module _ (steps : List Step) (p at : ℕ) (slot : Slot) (octets output : List �
   -- what a port took was read, and has the header's size and precedence
   placed-case : (t : Bool) → inSet p (e .ruling .took) ≡ t
       → pick t (copyOf (length (historyOf steps)) (relayAfter (historyOf steps)) at slot octets e ∷ []) []
-      ≡ pick t
-      (record {
-        turn = length (historyOf steps);
-        arrival = portIn (relayAfter (historyOf steps)) at .address;
-        octets = octets;
-        size = headerOf octets .size;
-        entry = record { slot = slot; precedence = precedenceAsked (headerOf octets .fields .qos) };
-      } ∷ [])
-      []
+      ≡ pick t (placedBy steps at slot octets ∷ []) []
   placed-case true took =
       let was = took-read (relayAfter (historyOf steps)) at octets (length output) (λ z. true-false (sym (sym (ap (inSet p) z) ∙ took) ∙ in-none p)) in
       let is = read-good octets (was .header) .0 (was .read) .1 in
@@ -143,15 +133,7 @@ module _ (steps : List Step) (p at : ℕ) (slot : Slot) (octets output : List �
   placed-case false took = refl
 
   placed : takenBy p (length (historyOf steps)) (relayAfter (historyOf steps)) (hears at slot octets output)
-      ≡ pick (inSet p (tookIn x))
-      (record {
-        turn = length (historyOf steps);
-        arrival = portIn (relayAfter (historyOf steps)) at .address;
-        octets = octets;
-        size = headerOf octets .size;
-        entry = record { slot = slot; precedence = precedenceAsked (headerOf octets .fields .qos) };
-      } ∷ [])
-      []
+      ≡ pick (inSet p (tookIn x)) (placedBy steps at slot octets ∷ []) []
   placed = placed-case (inSet p (e .ruling .took)) refl ∙ rw (parts .took)
 
 pub demand-3 : Demand3
@@ -181,9 +163,8 @@ demand-3 =
       );
       foretold = λ cs ds c p k x placed. foretold-over-histories p cs c x placed ds k;
       foretold-behind = λ cs c p x inside placed. stands-behind p cs c x placed inside;
-      foretold-idle = λ cs c p. (
-        refused-idle p cs c,
-        (λ q is other. rw is (other-take-idle p cs q other), λ ds x idle. idle-counts-nothing p x cs c ds idle),
-      );
+      foretold-idle = λ cs ds c p x idle. idle-counts-nothing p x cs c ds idle;
+      foretold-refused = λ cs c p. refused-idle p cs c;
+      foretold-others = λ cs p. (other-take-idle p cs, (not-taken-idle p cs, (setting-idle p cs, look-idle p cs)));
       handed-is-told = λ steps ds p w v u b t all. entries-told p ds steps w v u b t all ∙ sym (answers-are-handed p ds (historyOf steps));
     }

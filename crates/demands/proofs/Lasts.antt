@@ -10,7 +10,7 @@ use Rattle.contracts.specs.Promised.{Result, hj-fresh}
 use Rattle.contracts.specs.Contracts.{Passable}
 use Rattle.contracts.proofs.Answers.{each-call-answers}
 use Rattle.history.specs.Calls.{setRouter, setPort, setRoute, setGroup, setPath, clearRoute, clearGroup, clearPath, theRouter, thePort, theRoute, theGroup, thePath, setting, search, counter, waiting, read, build, class, form, checksum, stateWords, sets, hears, takes, looks}
-use Rattle.demands.specs.Trace.{Step, starts, calls, made, leftBy, Trace, Begun, Gives, Passes, AllPass}
+use Rattle.demands.specs.Trace.{Step, starts, calls, made, wordsAfter, Trace, Begun, Gives, Passes, AllPass}
 use Rattle.demands.proofs.Traced.{fresh-answers}
 
 -- only hj_receive is passed a slot
@@ -46,7 +46,7 @@ trace-lasts : (cs : List Step) → AllPass cs → (w : List ℕ) → (v : List �
 trace-lasts [] fit w = (w, refl)
 trace-lasts (c ∷ cs) fit w =
     let a = each-call-answers (made w c) (passable w c (fit .0)) in
-    let rest = trace-lasts cs (fit .1) (leftBy w c (a .0)) in
+    let rest = trace-lasts cs (fit .1) (wordsAfter w c (a .0)) in
     (rest .0, (a .0, (a .1, rest .1)))
 
 -- Any 824 words can be lent first, and any steps follow.

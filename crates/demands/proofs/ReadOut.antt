@@ -38,7 +38,7 @@ use Rattle.history.proofs.Counters.{counters-fit}
 use Rattle.history.proofs.Ranges.{in-range, waiting-fits}
 use Rattle.history.proofs.Takes.{take-is}
 use Rattle.history.proofs.ReadBack.{read-back}
-use Rattle.demands.specs.Trace.{Step, starts, calls, Passes, AllPass, heard, heardAll, historyOf, Gives}
+use Rattle.demands.specs.Trace.{Step, starts, calls, Passes, AllPass, withStep, withSteps, historyOf, Gives}
 use Rattle.demands.specs.ReadOut.{numberIn, takenOut, lookOut, readOut}
 use Rattle.demands.proofs.Told.{gives-row, setting-told, take-told, search-told, counter-told, waiting-told}
 
@@ -100,13 +100,13 @@ build-out fields size room words =
     (build-low (noRoom room) (fieldsOut fields) (tooMuchData size))
 
 -- ---- all calls that C can make were passed
-passed-one : (h : List Call) (c : Step) → Each Passed h → Passes c → Each Passed (heard h c)
+passed-one : (h : List Call) (c : Step) → Each Passed h → Passes c → Each Passed (withStep h c)
 passed-one h starts all p = tt
 passed-one h (calls c) all p = each-append Passed h (c ∷ []) all (p, tt)
 
-passed-all : (cs : List Step) (h : List Call) → Each Passed h → AllPass cs → Each Passed (heardAll h cs)
+passed-all : (cs : List Step) (h : List Call) → Each Passed h → AllPass cs → Each Passed (withSteps h cs)
 passed-all [] h all p = all
-passed-all (c ∷ cs) h all p = passed-all cs (heard h c) (passed-one h c all (p .0)) (p .1)
+passed-all (c ∷ cs) h all p = passed-all cs (withStep h c) (passed-one h c all (p .0)) (p .1)
 
 pub history-passed : (steps : List Step) → AllPass steps → Each Passed (historyOf steps)
 history-passed steps p = passed-all steps [] tt p

@@ -21,7 +21,7 @@ use Rattle.history.specs.Calls.{Setting, setRouter, setPort, setRoute, setGroup
 use Rattle.history.specs.Outcome.{outcome, relayAfter}
 use Rattle.history.specs.Tally.{sumAt, stateAfter}
 use Rattle.history.proofs.Counters.{moves-sum, counters-fit}
-use Rattle.demands.specs.Trace.{Step, starts, calls, made, leftBy, heard, historyOf, Gives}
+use Rattle.demands.specs.Trace.{Step, starts, calls, made, wordsAfter, withStep, historyOf, Gives}
 use Rattle.demands.specs.ReadOut.{partTold}
 use Rattle.demands.proofs.Promised.{stepped, promisedOf}
 use Rattle.demands.proofs.Traced.{told-held, changed-held, held-words, stepped-heard, taken-state, step-holds, words-hold}
@@ -85,18 +85,18 @@ module _ (cs : List Step) (c : Step) (x : Result) where
   pub gives-before : (g : Gives cs c x) → decode (g .before) ≡ after
   gives-before g = held-words (g .before) after (words-hold (g .first) cs (g .before) (g .begun)) .1
 
-  pub gives-next : (g : Gives cs c x) → decode (leftBy (g .before) c x) ≡ stepped (decode (g .before)) c
+  pub gives-next : (g : Gives cs c x) → decode (wordsAfter (g .before) c x) ≡ stepped (decode (g .before)) c
   gives-next g =
       let is = words-hold (g .first) cs (g .before) (g .begun) in
-      held-words (leftBy (g .before) c x) (stepped after c) (step-holds (g .before) x after is c (g .says)) .1
+      held-words (wordsAfter (g .before) c x) (stepped after c) (step-holds (g .before) x after is c (g .says)) .1
       ∙ ap (λ (s : State). stepped s c) (sym (gives-before g))
 
-  pub gives-after : (g : Gives cs c x) → decode (leftBy (g .before) c x) ≡ stateAfter (heard (historyOf cs) c)
+  pub gives-after : (g : Gives cs c x) → decode (wordsAfter (g .before) c x) ≡ stateAfter (withStep (historyOf cs) c)
   gives-after g = gives-next g ∙ ap (λ (s : State). stepped s c) (gives-before g) ∙ stepped-heard (historyOf cs) c
 
 -- Any call moves each counter by what page 01's table gives this call, which is nothing for all but a datagram.
 pub counters-move : (cs : List Step) (c : Call) (x : Result) (g : Gives cs (calls c) x) (i : ℕ) → i < counterCount
-    → counterIn (decode (leftBy (g .before) (calls c) x) .counters) i
+    → counterIn (decode (wordsAfter (g .before) (calls c) x) .counters) i
     ≡ (counterIn (decode (g .before) .counters) i + sumAt (outcome (decode (g .before) .relay) c .moves) i) % 2 ^ 32
 counters-move cs c x g i inside =
     ap (λ (s : State). counterIn (s .counters) i) (gives-next cs (calls c) x g)

@@ -23,7 +23,7 @@ use Rattle.contracts.proofs.Rows.{says-row}
 use Rattle.history.specs.Calls.{Setting, setRouter, setPort, setRoute, setGroup, setPath, clearRoute, clearGroup, clearPath, Part, theRouter, thePort, theRoute, theGroup, thePath, Look, setting, search, counter, waiting, read, build, class, form, checksum, stateWords, Call, sets, hears, takes, looks}
 use Rattle.history.specs.Outcome.{ofTaking, outcome, next, runFrom}
 use Rattle.history.specs.Tally.{countersFrom, stateAfter}
-use Rattle.demands.specs.Trace.{Step, starts, calls, made, leftBy, Trace, Begun, heard, heardAll, historyOf}
+use Rattle.demands.specs.Trace.{Step, starts, calls, made, wordsAfter, Trace, Begun, withStep, withSteps, historyOf}
 use Rattle.demands.proofs.Promised.{nextState, stepped}
 
 -- ---- words that hold a state
@@ -64,7 +64,7 @@ same-both : {r q : Relay} {l m : List ℕ} → r ≡ q → l ≡ m → both r l 
 same-both {r} {q} {l} {m} e f = ap (λ (z : Relay). both z l) e ∙ ap (both q) f
 
 -- what a step leaves of what a history left is what the history with this step leaves
-pub stepped-heard : (h : List Call) (c : Step) → stepped (stateAfter h) c ≡ stateAfter (heard h c)
+pub stepped-heard : (h : List Call) (c : Step) → stepped (stateAfter h) c ≡ stateAfter (withStep h c)
 unfolding freshState
 stepped-heard h starts = refl
 stepped-heard h (calls c) = sym (same-both (more-relay h freshRelay c) (more-counters h (freshState .counters) freshRelay c))
@@ -99,7 +99,7 @@ kept w = kept-view (lent w)
 -- ---- what a step leaves, of any words
 module _ (w : List ℕ) (x : Result) where
   abbrev Leaves : Step → Type 0
-  Leaves c = Allows (promised (made w c)) x → lent (leftBy w c x) ≡ changed (λ (s : State). stepped s c) w
+  Leaves c = Allows (promised (made w c)) x → lent (wordsAfter w c x) ≡ changed (λ (s : State). stepped s c) w
 
   setting-leaves : (s : Setting) → Leaves (calls (sets s))
   setting-leaves (setRouter y) k = k .1 .0
@@ -141,27 +141,27 @@ module _ (w : List ℕ) (x : Result) where
   step-leaves (calls c) k = call-leaves c k
 
   -- of words that hold a state
-  pub step-holds : (s : State) → lent w ≡ Held s → (c : Step) → Says (made w c) x → lent (leftBy w c x) ≡ Held (stepped s c)
+  pub step-holds : (s : State) → lent w ≡ Held s → (c : Step) → Says (made w c) x → lent (wordsAfter w c x) ≡ Held (stepped s c)
   step-holds s is c says = step-leaves c (says-row (made w c) x says) ∙ changed-held w s is (λ (z : State). stepped z c)
 
   -- of words that hold what a history leaves
-  step-heard : (h : List Call) → lent w ≡ Held (stateAfter h) → (c : Step) → Says (made w c) x → lent (leftBy w c x) ≡ Held (stateAfter (heard h c))
+  step-heard : (h : List Call) → lent w ≡ Held (stateAfter h) → (c : Step) → Says (made w c) x → lent (wordsAfter w c x) ≡ Held (stateAfter (withStep h c))
   step-heard h is c says = step-holds (stateAfter h) is c says ∙ ap Held (stepped-heard h c)
 
   -- of words that are not as many as the state has
-  pub step-stays : (length w ≡ layout.stateWords → ⊥) → (c : Step) → Says (made w c) x → leftBy w c x ≡ w
+  pub step-stays : (length w ≡ layout.stateWords → ⊥) → (c : Step) → Says (made w c) x → wordsAfter w c x ≡ w
   step-stays wrong c says =
-      lent-injective (leftBy w c x) w
+      lent-injective (wordsAfter w c x) w
       (step-leaves c (says-row (made w c) x says) ∙ sym (other-changed w wrong (λ (s : State). stepped s c)))
 
 -- ---- any steps
 -- From words that hold what a history leaves, any steps leave words that hold what the longer history leaves.
 pub trace-holds : (cs : List Step) (h : List Call) (w v : List ℕ)
-    → lent w ≡ Held (stateAfter h) → Trace w cs v → lent v ≡ Held (stateAfter (heardAll h cs))
+    → lent w ≡ Held (stateAfter h) → Trace w cs v → lent v ≡ Held (stateAfter (withSteps h cs))
 trace-holds [] h w v is t = ap lent t ∙ is
 trace-holds (c ∷ cs) h w v is t =
     let x = t .0 in
-    trace-holds cs (heard h c) (leftBy w c x) v (step-heard w x h is c (t .1 .0)) (t .1 .1)
+    trace-holds cs (withStep h c) (wordsAfter w c x) v (step-heard w x h is c (t .1 .0)) (t .1 .1)
 
 -- Words that are not as many as the state has are left as they are, whatever is called.
 pub trace-stays : (cs : List Step) (w v : List ℕ) → (length w ≡ layout.stateWords → ⊥) → Trace w cs v → v ≡ w
@@ -169,14 +169,14 @@ trace-stays [] w v wrong t = t
 trace-stays (c ∷ cs) w v wrong t =
     let x = t .0 in
     let same = step-stays w x wrong c (t .1 .0) in
-    trace-stays cs (leftBy w c x) v (λ e. wrong (sym (ap length same) ∙ e)) (t .1 .1) ∙ same
+    trace-stays cs (wordsAfter w c x) v (λ e. wrong (sym (ap length same) ∙ e)) (t .1 .1) ∙ same
 
 -- A trace can be cut anywhere: what is said at its end is said after each of its steps.
 pub trace-cut : (xs ys : List Step) (w v : List ℕ) → Trace w (xs ++ ys) v → (u : List ℕ) × (Trace w xs u × Trace u ys v)
 trace-cut [] ys w v t = (w, (refl, t))
 trace-cut (c ∷ xs) ys w v t =
     let x = t .0 in
-    let cut = trace-cut xs ys (leftBy w c x) v (t .1 .1) in
+    let cut = trace-cut xs ys (wordsAfter w c x) v (t .1 .1) in
     (cut .0, ((x, (t .1 .0, cut .1 .0)), cut .1 .1))
 
 -- ---- the beginning: hj_fresh answered 0, so the words hold a fresh relay

@@ -22,7 +22,7 @@ use Rattle.history.specs.Outcome as outcome
 use Rattle.history.specs.Answers.{answersOf, stands}
 use Rattle.history.specs.Sums.{givenBy}
 use Rattle.history.specs.Transport.{SameButTpid, localBy}
-use Rattle.demands.specs.Trace.{Step, starts, calls, made, leftBy, Passes, AllPass, relayOf, Gives}
+use Rattle.demands.specs.Trace.{Step, starts, calls, made, wordsAfter, Passes, AllPass, relayOf, Gives}
 use Rattle.demands.specs.ReadOut.{hearsNothing, looksAtState, readOut, endedBy, localIn, onwardIn, tookIn, droppedIn, outputOf, relayIn, counterAt}
 
 -- what two datagrams come to that have these TP-IDs and differ in nothing else
@@ -59,20 +59,20 @@ pub record Demand1 : Type 2 where
       → (readOut c (x .answer) ≡ outcome.outcome (relayOf steps) c .answer) × (stands (answersOf c) (readOut c (x .answer)) ≡ true)
   -- and where the words are not as many as a state has, it is 16 or 21, and they are left as they are.
   pub other-words : (w : List ℕ) → (length w ≡ stateWords → ⊥) → (c : Step) (x : Result) → Says (made w c) x
-      → (leftBy w c x ≡ w) × WithoutState c x
+      → (wordsAfter w c x ≡ w) × WithoutState c x
   -- "Nobody has to check first.": the code of each function, proved to do what its contract says, asks nothing of its caller.
   pub nobody-checks-first : (c : Exported) → Unchecked (functionOf c)
   -- "A refusal carries its number and leaves queues, settings and lent octets unchanged;": 9 to 15 of the onward half too
   pub refusal-leaves : (steps : List Step) (c : Call) (x : Result) (g : Gives steps (calls c) x) → outcome.isRefusal (readOut c (x .answer)) ≡ true
-      → (relayIn (leftBy (g .before) (calls c) x) ≡ relayIn (g .before)) × (x .output ≡ outputOf c)
+      → (relayIn (wordsAfter (g .before) (calls c) x) ≡ relayIn (g .before)) × (x .output ≡ outputOf c)
   -- and so does a datagram of which no port took an entry, whatever its local half
   pub untaken-leaves : (steps : List Step) (p : ℕ) (slot : Slot) (octets output : List ℕ) (x : Result) (g : Gives steps (calls (hears p slot octets output)) x)
       → tookIn x ≡ 0 → (relayIn (x .words) ≡ relayIn (g .before)) × (x .output ≡ output)
   -- "only the counters of the received datagram move.": each counter by what page 01's table gives this call, and none where no datagram is heard
   pub counters-move : (steps : List Step) (c : Call) (x : Result) (g : Gives steps (calls c) x) (i : ℕ) → i < 15
-      → counterAt (leftBy (g .before) (calls c) x) i ≡ (counterAt (g .before) i + givenBy i (outcome.outcome (relayIn (g .before)) c)) % 2 ^ 32
+      → counterAt (wordsAfter (g .before) (calls c) x) i ≡ (counterAt (g .before) i + givenBy i (outcome.outcome (relayIn (g .before)) c)) % 2 ^ 32
   pub counters-stay : (steps : List Step) (c : Call) (x : Result) (g : Gives steps (calls c) x) → hearsNothing c ≡ true
-      → decode (leftBy (g .before) (calls c) x) .counters ≡ decode (g .before) .counters
+      → decode (wordsAfter (g .before) (calls c) x) .counters ≡ decode (g .before) .counters
   -- "An unknown transport number refuses local delivery alone.": of two datagrams that differ in that number
   pub transport-alone : (steps : List Step) (p : ℕ) (slot : Slot) (s t output : List ℕ) (h k : Header) (x y : Result)
       → readOf s ≡ Good h → readOf t ≡ Good k → SameButTpid h k

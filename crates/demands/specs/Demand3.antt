@@ -3,7 +3,7 @@
 -- precedence is handed out first, the oldest within one." Each sentence is a field, said of what C calls. Proved in proofs/Demand3.antt. Assumes nothing.
 use Prim.Native.Nat.{ℕ, _+_, _%_, _^_, _<_, _≤_}
 use mathlib.Core.Path.{_≡_}
-use mathlib.Core.Bool.{Bool, true}
+use mathlib.Core.Bool.{Bool, true, false}
 use mathlib.Core.Logic.{_↔_, _≢_}
 use mathlib.Core.List.{List, [], _∷_, map}
 use lib.ListN.{length}
@@ -19,7 +19,7 @@ use Rattle.queue.specs.Waits.{chosen, rankBy, AsAsked}
 use Rattle.state.specs.Relay.{portSetUp, portIn, queueIn}
 use Rattle.answers.specs.Answers.{takingNumber}
 use Rattle.contracts.specs.Promised.{number, Result}
-use Rattle.history.specs.Calls.{counter, waiting, hears, takes, looks, Call}
+use Rattle.history.specs.Calls.{counter, waiting, hears, takes, looks, Call, Setting, Look, sets}
 use Rattle.history.specs.Outcome.{relayAfter, sumOver, isRefusal, outcome}
 use Rattle.history.specs.Sums.{givenBy}
 use Rattle.history.specs.Ledger.{granted, dropped, handedOut}
@@ -28,6 +28,17 @@ use Rattle.history.specs.Line.{Copy, entryOf, takenBy, takingOf, lineAt, takenA
 use Rattle.history.specs.Foretold.{andThen, handedSince, takesSince, before, higherEnter, Idle, CountsNothing}
 use Rattle.demands.specs.Trace.{Step, calls, Trace, AllPass, Begun, historyOf, relayOf, Gives}
 use Rattle.demands.specs.ReadOut.{droppedIn, entriesIn, tookIn}
+
+-- what a port has of a datagram that it took: the entry is "(slot, precedence)"
+abbrev pub placedBy : List Step → ℕ → Slot → List ℕ → Copy
+placedBy steps at slot octets =
+    record {
+      turn = length (historyOf steps);
+      arrival = portIn (relayOf steps) at .address;
+      octets = octets;
+      size = headerOf octets .size;
+      entry = record { slot = slot; precedence = precedenceAsked (headerOf octets .fields .qos) };
+    }
 
 pub record Demand3 : Type 0 where
   -- "From a fresh relay, after any calls, settings changed between them included, every counter equals, modulo 2^32, what the rules give over the
@@ -51,15 +62,7 @@ pub record Demand3 : Type 0 where
   -- "takes one entry (slot, precedence)": what a port has of a datagram that C is told it took
   pub placed : (steps : List Step) (p at : ℕ) (slot : Slot) (octets output : List ℕ) (x : Result) → Gives steps (calls (hears at slot octets output)) x
       → takenBy p (length (historyOf steps)) (relayOf steps) (hears at slot octets output)
-      ≡ pick (inSet p (tookIn x))
-      (record {
-        turn = length (historyOf steps);
-        arrival = portIn (relayOf steps) at .address;
-        octets = octets;
-        size = headerOf octets .size;
-        entry = record { slot = slot; precedence = precedenceAsked (headerOf octets .fields .qos) };
-      } ∷ [])
-      []
+      ≡ pick (inSet p (tookIn x)) (placedBy steps at slot octets ∷ []) []
   -- "Of the copies waiting on a port, ..": those taken and not yet handed out, whatever is asked of them; each was taken by one call, and they stand in the
   -- order of these; hj_waiting answers how many,
   pub waiting-are : (steps : List Step) (p : ℕ) (test : Copy → Bool)
@@ -82,10 +85,15 @@ pub record Demand3 : Type 0 where
   pub foretold-behind : (cs : List Call) (c : Call) (p : ℕ) (x : Copy) → p < 8 → takenBy p (length cs) (relayAfter cs) c ≡ x ∷ []
       → (at : Placed precedenceOf (entryOf x) (waitingIn (queueIn (relayAfter cs) p)) (waitingIn (queueIn (relayAfter (andThen cs c)) p)))
       × (length (at .before) ≡ before p x cs)
-  -- "Refused calls and other ports' traffic count nothing": nor do settings and looks, and datagrams of which the port took no entry
-  pub foretold-idle : (cs : List Call) (c : Call) (p : ℕ)
-      → (isRefusal (outcome (relayAfter cs) c .answer) ≡ true → Idle p cs c)
-      × (((q : ℕ) → c ≡ takes q → q ≢ p → Idle p cs c) × (((ds : List Call) (x : Copy) → Idle p cs c → CountsNothing p x cs c ds)))
+  -- "Refused calls and other ports' traffic count nothing": a call that is idle on the port counts nothing, and idle is what is refused,
+  pub foretold-idle : (cs ds : List Call) (c : Call) (p : ℕ) (x : Copy) → Idle p cs c → CountsNothing p x cs c ds
+  pub foretold-refused : (cs : List Call) (c : Call) (p : ℕ) → isRefusal (outcome (relayAfter cs) c .answer) ≡ true → Idle p cs c
+  -- a take of another port, a datagram of which this port took no entry, a setting and a look;
+  pub foretold-others : (cs : List Call) (p : ℕ)
+      → ((q : ℕ) → q ≢ p → Idle p cs (takes q))
+      × (((at : ℕ) (slot : Slot) (octets output : List ℕ) → inSet p (outcome (relayAfter cs) (hears at slot octets output) .took) ≡ false
+      → Idle p cs (hears at slot octets output))
+      × (((s : Setting) → Idle p cs (sets s)) × ((l : Look) → Idle p cs (looks l))))
   -- and what is handed out is what C reads out of the answers of hj_take, in that order.
   pub handed-is-told : (steps : List Step) (ds : List Call) (p : ℕ) (w v u : List ℕ) → Begun w steps v → (t : Trace v (map calls ds) u)
       → AllPass (map calls ds) → entriesIn p ds v u t ≡ map entryOf (handedSince p (historyOf steps) ds)

@@ -17,7 +17,7 @@ use Rattle.contracts.specs.Contracts.{Says}
 use Rattle.history.specs.Calls.{Part, theRouter, thePort, theRoute, theGroup, thePath, Look, setting, search, counter, waiting, read, build, class, form, checksum, stateWords, Call, sets, hears, takes, looks}
 use Rattle.history.specs.Foretold.{answeredBy}
 use Rattle.history.specs.Outcome as outcome
-use Rattle.demands.specs.Trace.{calls, leftBy, Trace}
+use Rattle.demands.specs.Trace.{calls, wordsAfter, Trace}
 
 -- ---- the answer
 -- the number that an answer is, or begins with
@@ -130,7 +130,7 @@ counterAt w i = counterIn (decode w .counters) i
 -- the entries that C reads out of the takes of port p, one call after the other
 abbrev pub entriesIn : (p : ℕ) (cs : List Call) (w v : List ℕ) → Trace w (map calls cs) v → List Entry
 entriesIn p [] w v t = []
-entriesIn p (c ∷ cs) w v t = answeredBy p c (readOut c (t .0 .answer)) ++ entriesIn p cs (leftBy w (calls c) (t .0)) v (t .1 .1)
+entriesIn p (c ∷ cs) w v t = answeredBy p c (readOut c (t .0 .answer)) ++ entriesIn p cs (wordsAfter w (calls c) (t .0)) v (t .1 .1)
 
 -- a setting, as it is read back
 abbrev pub partTold : Relay → Part → Told

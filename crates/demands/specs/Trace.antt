@@ -75,14 +75,14 @@ module _ (w : List ℕ) where
   callLeaves (takes p) x = x .words
   callLeaves (looks l) x = lookLeaves l x
 
-  abbrev pub leftBy : Step → Result → List ℕ
-  leftBy starts x = x .words
-  leftBy (calls c) x = callLeaves c x
+  abbrev pub wordsAfter : Step → Result → List ℕ
+  wordsAfter starts x = x .words
+  wordsAfter (calls c) x = callLeaves c x
 
 -- ---- the words v are left, where w are lent first
 abbrev pub Trace : List ℕ → List Step → List ℕ → Type 0
 Trace w [] v = v ≡ w
-Trace w (c ∷ cs) v = (x : Result) × (Says (made w c) x × Trace (leftBy w c x) cs v)
+Trace w (c ∷ cs) v = (x : Result) × (Says (made w c) x × Trace (wordsAfter w c x) cs v)
 
 -- ---- what C can pass
 abbrev pub Passes : Step → Type 0
@@ -102,16 +102,16 @@ pub record Begun (w : List ℕ) (cs : List Step) (v : List ℕ) : Type 0 where
   pub passed : AllPass cs
 
 -- ---- the history: the calls since the last fresh relay
-abbrev pub heard : List Call → Step → List Call
-heard h starts = []
-heard h (calls c) = h ++ (c ∷ [])
+abbrev pub withStep : List Call → Step → List Call
+withStep h starts = []
+withStep h (calls c) = h ++ (c ∷ [])
 
-abbrev pub heardAll : List Call → List Step → List Call
-heardAll h [] = h
-heardAll h (c ∷ cs) = heardAll (heard h c) cs
+abbrev pub withSteps : List Call → List Step → List Call
+withSteps h [] = h
+withSteps h (c ∷ cs) = withSteps (withStep h c) cs
 
 abbrev pub historyOf : List Step → List Call
-historyOf cs = heardAll [] cs
+historyOf cs = withSteps [] cs
 
 -- the settings and queues after these steps
 abbrev pub relayOf : List Step → Relay

@@ -14,14 +14,15 @@ use Rattle.checks.specs.Order.{pick}
 use Rattle.checks.proofs.Bools.{true-false}
 use Rattle.checks.proofs.Laws.{either}
 use Rattle.sets.specs.Sets.{inSet}
-use Rattle.queue.specs.Order.{Each, InOrder}
+use Rattle.queue.specs.Order.{Each}
 use Rattle.queue.specs.Queue.{fresh as freshQueue, putOf, takeOf}
 use Rattle.queue.specs.Waits.{Chosen, nobody, one, chosen, rankBy, Highest, Waits}
 use Rattle.queue.specs.Foretold.{howMany}
+use Rattle.queue.proofs.Foretold.{many-append}
 use Rattle.queue.specs.declared.Head.{Head}
 use Rattle.queue.specs.declared.Head.the-variants.{First, Nothing}
 use Rattle.queue.specs.declared.Queue.{Queue}
-use Rattle.queue.proofs.Each.{each-so, each-append, each-front, each-rest}
+use Rattle.queue.proofs.Each.{each-so, each-append, order-append, order-without}
 use Rattle.queue.proofs.Waits.{EachOf, chosen-each, chosen-asked, waits-fresh, waits-count, waits-put, waits-take, waits-nothing}
 use Rattle.state.specs.Relay.{Relay, freshRelay, queueIn, portSetUp}
 use Rattle.taking.specs.Taking.{handsOut, without, takeOutcome, takenRelay}
@@ -129,15 +130,11 @@ module _ (test : Copy → Bool) where
   abbrev many : List Copy → ℕ
   many = howMany test
 
-  many-both : (k l : List Copy) → many (k ++ l) ≡ many k + many l
-  many-both [] l = omega arith
-  many-both (c ∷ k) l = omega (arith, many-both k l)
-
   chosen-many : (line : List Copy) (x : Copy) (others : List Copy) → Highest (rankBy entryOf) line x others
       → many line ≡ many (x ∷ []) + many others
   chosen-many line x others h =
-      let front = many-both (h .before) (x ∷ h .after) in
-      let back = many-both (h .before) (h .after) in
+      let front = many-append test (h .before) (x ∷ h .after) in
+      let back = many-append test (h .before) (h .after) in
       omega (arith, ap many (h .was), ap many (h .leaves), front, back)
 
   module _ (p : ℕ) where
@@ -160,9 +157,9 @@ module _ (test : Copy → Bool) where
         omega (
           arith,
           out-case line o x refl,
-          many-both (leftBy p o line x) (takenBy p k r c),
-          many-both (takenBy p k r c) (takenFrom p (suc k) (next r c) cs),
-          many-both (handedBy p o x) (handedFrom p (suc k) (next r c) (lineBy p k r c line) cs),
+          many-append test (leftBy p o line x) (takenBy p k r c),
+          many-append test (takenBy p k r c) (takenFrom p (suc k) (next r c) cs),
+          many-append test (handedBy p o x) (handedFrom p (suc k) (next r c) (lineBy p k r c line) cs),
           all-many cs (suc k) (next r c) (lineBy p k r c line),
         )
 
@@ -177,16 +174,6 @@ module _ (p n : ℕ) where
   taken-out-or-waiting = out-or-waiting p (λ (c : Copy). eqb (c .turn) n)
 
 -- ---- the order of entering
-module _ {A : Type 0} (R : A → A → Type 0) where
-  order-append : (l r : List A) → InOrder R l → Each (λ (x : A). Each (R x) r) l → InOrder R r → InOrder R (l ++ r)
-  order-append [] r h across k = k
-  order-append (x ∷ l) r h across k = (each-append (R x) l r (h .0) (across .0), order-append l r (h .1) (across .1) k)
-
-  order-without : (l : List A) (x : A) (r : List A) → InOrder R (l ++ x ∷ r) → InOrder R (l ++ r)
-  order-without [] x r h = h .1
-  order-without (y ∷ l) x r h =
-      (each-append (R y) l r (each-front (R y) l (x ∷ r) (h .0)) (each-rest (R y) l (x ∷ r) (h .0) .1), order-without l x r (h .1))
-
 abbrev Before : Copy → Copy → Type 0
 Before c d = c .turn < d .turn
 

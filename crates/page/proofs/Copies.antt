@@ -33,7 +33,7 @@ use Rattle.verdict.specs.declared.Wish.{Wish}
 use Rattle.verdict.specs.declared.Wish.the-variants.{NotAsked, Refused, Wanted}
 use Rattle.verdict.specs.declared.Survey.{Survey}
 use Rattle.judge.specs.Ruling.{caseOf, soughtOf}
-use Rattle.page.specs.Table.{Ports, somePort, Line, notAsked, refused, wanted, hopsUsedUp, oneOctet, hasRoom, takenBy, droppedBy, ofDomain, ofSize, grantedPorts, copyRows, Verdict, lineNumber, lineGrants, halves}
+use Rattle.page.specs.Table.{Ports, somePort, Line, notAsked, refused, wanted, hopsUsedUp, oneOctet, hasRoom, withRoom, withoutRoom, ofDomain, ofSize, grantedPorts, copyRows, Verdict, lineNumber, lineGrants, halves}
 use Rattle.page.specs.Ends.{Agrees}
 use Rattle.page.proofs.Bits.{in-none, in-and, in-except}
 use Rattle.page.proofs.Sets.{empty-is}
@@ -164,25 +164,25 @@ module _ (r : Relay) (at : ℕ) (x : Aim) (h : Header) (local : Local) where
         size-none = empty-is fits size fits-small size-same
 
         -- a port of full queue drops its copy, any other takes it
-        took-same : (p : ℕ) → p < 8 → inSet p (exceptBy fits (found .full)) ≡ takenBy r (grantedPorts r at h ports) p
+        took-same : (p : ℕ) → p < 8 → inSet p (exceptBy fits (found .full)) ≡ withRoom r (grantedPorts r at h ports) p
         took-same p l =
             in-except p fits (found .full) ∙ ap₂ (λ (s t : Bool). s && not t) (size-same p l) (full-in r x _ _ p l)
             ∙ taken-case (domain p) (portSetUp r p) _ (hasRoom r p)
             ∙ ap (λ (t : Bool). t && hasRoom r p) (sym (granted-is p))
 
-        dropped-same : (p : ℕ) → p < 8 → inSet p (bitAnd fits (found .full)) ≡ droppedBy r (grantedPorts r at h ports) p
+        dropped-same : (p : ℕ) → p < 8 → inSet p (bitAnd fits (found .full)) ≡ withoutRoom r (grantedPorts r at h ports) p
         dropped-same p l =
             in-and p fits (found .full) ∙ ap₂ _&&_ (size-same p l) (full-in r x _ _ p l)
             ∙ dropped-case (domain p) (portSetUp r p) _ (hasRoom r p)
             ∙ ap (λ (t : Bool). t && not (hasRoom r p)) (sym (granted-is p))
 
-        took-none : eqb (exceptBy fits (found .full)) 0 ≡ not (somePort (takenBy r (grantedPorts r at h ports)))
+        took-none : eqb (exceptBy fits (found .full)) 0 ≡ not (somePort (withRoom r (grantedPorts r at h ports)))
         took-none = empty-is _ _ (omega (arith, fits-small)) took-same
 
         abbrev agrees : Wish → Type 0
         agrees w = Agrees (rulingOf local w (found .full)) (verdict (wanted ports))
 
-        copies-agree : (t : Bool) → somePort (takenBy r (grantedPorts r at h ports)) ≡ t → number ≡ rows false false true true t → agrees (Wanted fits)
+        copies-agree : (t : Bool) → somePort (withRoom r (grantedPorts r at h ports)) ≡ t → number ≡ rows false false true true t → agrees (Wanted fits)
         unfolding rulingOf copiesOf firstOf
         copies-agree t e n = record {
           local = refl;
@@ -196,7 +196,7 @@ module _ (r : Relay) (at : ℕ) (x : Aim) (h : Header) (local : Local) where
             last true = refl
             last false = refl
 
-        fits-agrees : (z t : Bool) → somePort size ≡ z → somePort (takenBy r (grantedPorts r at h ports)) ≡ t
+        fits-agrees : (z t : Bool) → somePort size ≡ z → somePort (withRoom r (grantedPorts r at h ports)) ≡ t
             → number ≡ rows false false true z t → agrees (largeEnough left (found .fitting))
         unfolding firstOf
         fits-agrees true t ez et n =
@@ -206,7 +206,7 @@ module _ (r : Relay) (at : ℕ) (x : Aim) (h : Header) (local : Local) where
             (refused-agrees TooBig (wanted ports) (sym n) (λ p l. granted-is p ∙ none-passes size ez p l))
 
     abbrev some-took : Bool
-    some-took = somePort (takenBy r (grantedPorts r at h ports))
+    some-took = somePort (withRoom r (grantedPorts r at h ports))
 
     number-is : number ≡ rows (hopsUsedUp (h .fields .hops)) (oneOctet (h .fields .addresses)) (somePort domain) (somePort size) some-took
     unfolding copyRows

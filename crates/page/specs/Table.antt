@@ -288,11 +288,11 @@ oneOctet a = eqb (isBasic a) 1
 abbrev pub hasRoom : Relay → ℕ → Bool
 hasRoom r p = ltb (queueIn r p .count) entryPlaces
 
-abbrev pub takenBy : Relay → Ports → Ports
-takenBy r ports p = ports p && hasRoom r p
+abbrev pub withRoom : Relay → Ports → Ports
+withRoom r ports p = ports p && hasRoom r p
 
-abbrev pub droppedBy : Relay → Ports → Ports
-droppedBy r ports p = ports p && not (hasRoom r p)
+abbrev pub withoutRoom : Relay → Ports → Ports
+withoutRoom r ports p = ports p && not (hasRoom r p)
 
 -- what is left of the wanted ports. A port that is not set up has no address and no MTU; no history leaves one that is wanted.
 module _ (r : Relay) (at : ℕ) (h : Header) (ports : Ports) where
@@ -320,7 +320,7 @@ module _ (r : Relay) (at : ℕ) (h : Header) (ports : Ports) where
       -- "none left: 14."
       ∷ (noPort ofSize, 14)
       -- "all dropped: 15"
-      ∷ (noPort (takenBy r grantedPorts), 15)
+      ∷ (noPort (withRoom r grantedPorts), 15)
       -- else "the ports that took an entry"
       ∷ (true, 1)
       ∷ []
@@ -361,8 +361,8 @@ halves r at h local line =
       local = local;
       onward = lineNumber r at h line;
       granted = lineGrants r at h line;
-      took = takenBy r (lineGrants r at h line);
-      dropped = droppedBy r (lineGrants r at h line);
+      took = withRoom r (lineGrants r at h line);
+      dropped = withoutRoom r (lineGrants r at h line);
     }
 
 -- the two halves, by what the destination names

@@ -36,3 +36,12 @@ module _ {A : Type 0} where
     pub order-front : (l : List A) (y : A) (r : List A) → InOrder R (l ++ y ∷ r) → Each (λ (x : A). R x y) l
     order-front [] y r h = tt
     order-front (x ∷ l) y r h = (each-rest (R x) l (y ∷ r) (h .0) .0, order-front l y r (h .1))
+
+    pub order-append : (l r : List A) → InOrder R l → Each (λ (x : A). Each (R x) r) l → InOrder R r → InOrder R (l ++ r)
+    order-append [] r h across k = k
+    order-append (x ∷ l) r h across k = (each-append (R x) l r (h .0) (across .0), order-append l r (h .1) (across .1) k)
+
+    pub order-without : (l : List A) (x : A) (r : List A) → InOrder R (l ++ x ∷ r) → InOrder R (l ++ r)
+    order-without [] x r h = h .1
+    order-without (y ∷ l) x r h =
+        (each-append (R y) l r (each-front (R y) l (x ∷ r) (h .0)) (each-rest (R y) l (x ∷ r) (h .0) .1), order-without l x r (h .1))

@@ -24,7 +24,7 @@ use Rattle.queue.proofs.Waits.{ordered-enters, ordered-each, each-of-or
 -- ---- counting
 
 module _ {A : Type 0} (test : A → Bool) where
-  many-append : (l r : List A) → howMany test (l ++ r) ≡ howMany test l + howMany test r
+  pub many-append : (l r : List A) → howMany test (l ++ r) ≡ howMany test l + howMany test r
   many-append [] r = omega arith
   many-append (x ∷ l) r = omega (arith, many-append l r)
 
