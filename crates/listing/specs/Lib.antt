@@ -1,0 +1,2 @@
+-- What the contracts cite: which records of the lent list count, and the relay that a mission sees with that list.
+pub mod Listed

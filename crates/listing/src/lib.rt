@@ -1,0 +1,1 @@
+// The list of routes as a mission sees it.
