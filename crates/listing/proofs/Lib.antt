@@ -2,3 +2,4 @@
 pub mod Turns
 pub mod Standing
 pub mod Counting
+pub mod Fitting
