@@ -3,3 +3,6 @@ pub mod Turns
 pub mod Standing
 pub mod Counting
 pub mod Fitting
+pub mod Loop
+pub mod Seeing
+pub mod Searched
