@@ -3,34 +3,45 @@ use borrow.Author.Needs.{needs}
 use mathlib.Core.Path.{refl, _∙_}
 use Rattle.checks.specs.Order.{Checks}
 use Rattle.checks.proofs.Steps.{fails-here, passes, none-left, joined}
-use Rattle.state.specs.Layout.{decode}
+use Rattle.state.specs.Seen.{seated}
+use Rattle.state.specs.Layout.{decodeBoard, decode}
 use Rattle.refusals.proofs.Chains.{Past}
 use Rattle.refusals.specs.Lists.{groupChecks}
-use Rattle.refusals.proofs.Ready.{against}
+use Rattle.refusals.proofs.Ready.{against, target-against}
 use Rattle.refusals.proofs.groups_and_paths.group_refusal.Statement.{statement}
 use Rattle.refusals.proofs.groups_and_paths.group_refusal.Tie as tie
 
 -- ---- past the checks
 
 abbrev tests : tie.Start → Checks
-tests s = groupChecks (decode (s .args .state .now) .relay) (s .args .place) (s .args .address) (s .args .send) (s .args .subscribed)
+tests s =
+    groupChecks (seated (decodeBoard (s .args .board .now)) (decode (s .args .mission .now))) (s .args .place) (s .args .address)
+    (s .args .send) (s .args .subscribed)
 
-past-target : (c : tie.After-enum-told) → Past 2 (tests (c .before .before .before .before))
-past-target c = passes _ _ _ (c .before .before .check-target .ensures) (c .enum-told .given .1) refl ∙ joined _ _ _ _
+abbrev at-target : tie.After-check-target → tie.Start
+at-target c = c .before .before
 
-past-subscribed : (c : tie.After-enum-told3) → Past 3 (tests (c .before .before .before .before .before .before .before .before))
+past-target : (c : tie.After-enum-told) → Past 2 (tests (at-target (c .before .before)))
+past-target c =
+    let target = c .before .before in
+    passes _ _ _ (target-against _ _ _ _ (target .before .ready-here .ensures) _ _ (target .check-target .ensures)) (c .enum-told .given .1) refl
+    ∙ joined _ _ _ _
+
+past-subscribed : (c : tie.After-enum-told3) → Past 3 (tests (at-target (c .before .before .before .before .before)))
 past-subscribed c =
-    passes _ _ _
-    (against _ _ _ _ (c .before .before .before .ready-ports .ensures) (c .before .before .check-set .ensures))
-    (c .enum-told3 .given .1) refl
-    ∙ past-target (c .before .before .before .before)
+    let target = c .before .before .before .before .before in
+    passes _ _ _ (against _ _ _ _ (target .before .ready-here .ensures) (c .before .before .check-set .ensures)) (c .enum-told3 .given .1) refl
+    ∙ past-target (c .before .before .before)
 
-past-class : (c : tie.After-enum-told5) → Past 4 (tests (c .before .before .before .before .before .before .before .before .before .before .before))
+past-class : (c : tie.After-enum-told5) → Past 4 (tests (at-target (c .before .before .before .before .before .before .before .before)))
 past-class c =
     passes _ _ _ (c .before .before .check-group-class .ensures) (c .enum-told5 .given .1) refl
     ∙ past-subscribed (c .before .before .before)
 
 -- ---- the needs
+
+ready-here-requires : tie.Need-ready-here-requires
+ready-here-requires c κs = search needs
 
 check-target-requires : tie.Need-check-target-requires
 check-target-requires c κs = search needs
@@ -42,10 +53,10 @@ enum-told-2 : tie.Need-enum-told-2
 enum-told-2 c = search needs
 
 returns : tie.Need-returns
-returns c = fails-here _ _ _ (c .before .before .check-target .ensures) (c .enum-told2 .given .1) ∙ joined _ _ _ _
-
-ready-ports-requires : tie.Need-ready-ports-requires
-ready-ports-requires c κs = search needs
+returns c =
+    let target = c .before .before in
+    fails-here _ _ _ (target-against _ _ _ _ (target .before .ready-here .ensures) _ _ (target .check-target .ensures)) (c .enum-told2 .given .1)
+    ∙ joined _ _ _ _
 
 check-set-requires : tie.Need-check-set-requires
 check-set-requires c κs = search needs
@@ -58,10 +69,9 @@ enum-told-4 c = search needs
 
 returns-2 : tie.Need-returns-2
 returns-2 c =
-    fails-here _ _ _
-    (against _ _ _ _ (c .before .before .before .ready-ports .ensures) (c .before .before .check-set .ensures))
-    (c .enum-told4 .given .1)
-    ∙ past-target (c .before .before .before .before)
+    let target = c .before .before .before .before .before in
+    fails-here _ _ _ (against _ _ _ _ (target .before .ready-here .ensures) (c .before .before .check-set .ensures)) (c .enum-told4 .given .1)
+    ∙ past-target (c .before .before .before)
 
 check-group-class-requires : tie.Need-check-group-class-requires
 check-group-class-requires c κs = search needs
@@ -100,11 +110,11 @@ pub group-refusal-spec : {M : Type 1} → statement M
 group-refusal-spec =
     tie.close
     (tie.spec
+    ready-here-requires
     check-target-requires
     enum-told
     enum-told-2
     returns
-    ready-ports-requires
     check-set-requires
     enum-told-3
     enum-told-4

@@ -3,29 +3,42 @@ use borrow.Author.Needs.{needs}
 use mathlib.Core.Path.{refl, _∙_}
 use Rattle.checks.specs.Order.{Checks}
 use Rattle.checks.proofs.Steps.{fails-here, passes, none-left, joined}
-use Rattle.state.specs.Layout.{decode}
+use Rattle.state.specs.Seen.{seated}
+use Rattle.state.specs.Layout.{decodeBoard, decode}
 use Rattle.refusals.proofs.Chains.{Past}
 use Rattle.refusals.specs.Lists.{pathChecks}
+use Rattle.refusals.proofs.Ready.{target-against}
 use Rattle.refusals.proofs.groups_and_paths.path_refusal.Statement.{statement}
 use Rattle.refusals.proofs.groups_and_paths.path_refusal.Tie as tie
 
 -- ---- past the checks
 
 abbrev tests : tie.Start → Checks
-tests s = pathChecks (decode (s .args .state .now) .relay) (s .args .place) (s .args .path) (s .args .send) (s .args .here)
+tests s =
+    pathChecks (seated (decodeBoard (s .args .board .now)) (decode (s .args .mission .now))) (s .args .place) (s .args .path) (s .args .send)
+    (s .args .here)
 
-past-target : (c : tie.After-enum-told) → Past 2 (tests (c .before .before .before .before))
-past-target c = passes _ _ _ (c .before .before .check-target .ensures) (c .enum-told .given .1) refl ∙ joined _ _ _ _
+abbrev at-target : tie.After-check-target → tie.Start
+at-target c = c .before .before
 
-past-class : (c : tie.After-enum-told3) → Past 3 (tests (c .before .before .before .before .before .before .before))
+past-target : (c : tie.After-enum-told) → Past 2 (tests (at-target (c .before .before)))
+past-target c =
+    let target = c .before .before in
+    passes _ _ _ (target-against _ _ _ _ (target .before .ready-here .ensures) _ _ (target .check-target .ensures)) (c .enum-told .given .1) refl
+    ∙ joined _ _ _ _
+
+past-class : (c : tie.After-enum-told3) → Past 3 (tests (at-target (c .before .before .before .before .before)))
 past-class c =
     passes _ _ _ (c .before .before .check-path-class .ensures) (c .enum-told3 .given .1) refl
     ∙ past-target (c .before .before .before)
 
-past-flag : (c : tie.After-enum-told5) → Past 4 (tests (c .before .before .before .before .before .before .before .before .before .before))
+past-flag : (c : tie.After-enum-told5) → Past 4 (tests (at-target (c .before .before .before .before .before .before .before .before)))
 past-flag c = passes _ _ _ (c .before .before .check-flag .ensures) (c .enum-told5 .given .1) refl ∙ past-class (c .before .before .before)
 
 -- ---- the needs
+
+ready-here-requires : tie.Need-ready-here-requires
+ready-here-requires c κs = search needs
 
 check-target-requires : tie.Need-check-target-requires
 check-target-requires c κs = search needs
@@ -37,7 +50,10 @@ enum-told-2 : tie.Need-enum-told-2
 enum-told-2 c = search needs
 
 returns : tie.Need-returns
-returns c = fails-here _ _ _ (c .before .before .check-target .ensures) (c .enum-told2 .given .1) ∙ joined _ _ _ _
+returns c =
+    let target = c .before .before in
+    fails-here _ _ _ (target-against _ _ _ _ (target .before .ready-here .ensures) _ _ (target .check-target .ensures)) (c .enum-told2 .given .1)
+    ∙ joined _ _ _ _
 
 check-path-class-requires : tie.Need-check-path-class-requires
 check-path-class-requires c κs = search needs
@@ -88,6 +104,7 @@ pub path-refusal-spec : {M : Type 1} → statement M
 path-refusal-spec =
     tie.close
     (tie.spec
+    ready-here-requires
     check-target-requires
     enum-told
     enum-told-2
