@@ -10,7 +10,7 @@ use Rattle.routes.specs.declared.Record.{Record}
 use Rattle.state.specs.Relay.{Relay}
 use Rattle.state.specs.Seen.{Board}
 use Rattle.refusals.proofs.Chains.{Decided, decided}
-use Rattle.refusals.specs.Lists.{portChecks, routeChecks, clearRouteChecks, groupChecks, pathChecks, routerChecks, clearChecks}
+use Rattle.refusals.specs.Lists.{portChecks, routeChecks, clearRouteChecks, groupChecks, pathChecks, routerChecks, missionChecks, clearChecks}
 
 module _ (b : Board) (i : ℕ) where
   pub port-decided : (address : Address) (mask : Mask) (mtu mission : ℕ) → Decided (portChecks b i address mask mtu mission)
@@ -28,6 +28,9 @@ module _ (r : Relay) (i : ℕ) where
 
 pub router-decided : (router : ℕ) → Decided (routerChecks router)
 router-decided router = decided (routerChecks router) refl
+
+pub mission-decided : (n : ℕ) → Decided (missionChecks n)
+mission-decided n = decided (missionChecks n) refl
 
 pub clear-decided : (place places : ℕ) → Decided (clearChecks place places)
 clear-decided place places = decided (clearChecks place places) refl

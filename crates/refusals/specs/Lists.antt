@@ -63,6 +63,10 @@ pathChecks r i path send here =
 abbrev pub routerChecks : ℕ → Checks
 routerChecks router = (flagRefused router, 24) ∷ []
 
+-- a mission's number, where it is made fresh (docs/DECISIONS.md)
+abbrev pub missionChecks : ℕ → Checks
+missionChecks n = (not (isMission n), 24) ∷ []
+
 -- a place that is emptied, among so many: empty ones too
 abbrev pub clearChecks : ℕ → ℕ → Checks
 clearChecks place places = (placeRefused place places, 21) ∷ []
