@@ -75,14 +75,7 @@ pub fn set_path(
         ≡ onSeated (decodeBoard (now (board .entry))) (λ r. settledPath r place path send here) (decode (now (mission .entry)))
         ⌝ }
 {
-    let refusal = refusals::groups_and_paths::path_refusal(
-        board,
-        mission,
-        place,
-        path,
-        send,
-        here,
-    );
+    let refusal = refusals::groups_and_paths::path_refusal(board, mission, place, path, send, here);
     if refusal != 0 {
         return refusal;
     }

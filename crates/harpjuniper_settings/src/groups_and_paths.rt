@@ -28,12 +28,12 @@ pub extern "C" fn hj_set_group(
     ensures { λ r. ⌜
         r
         ≡ toldRelay
-          (λ (x : Relay). firstOf (groupChecks x place (record { 0 = address }) send subscribed)) 21 (now (board .entry)) (now (mission .entry))
+        (λ (x : Relay). firstOf (groupChecks x place (record { 0 = address }) send subscribed)) 21 (now (board .entry)) (now (mission .entry))
         ⌝ }
     ensures { λ _. ⌜
         lent (now (mission .exit))
         ≡ changedRelay
-          (λ (x : Relay). settledGroup x place (record { 0 = address }) send subscribed) (now (board .entry)) (now (mission .entry))
+        (λ (x : Relay). settledGroup x place (record { 0 = address }) send subscribed) (now (board .entry)) (now (mission .entry))
         ⌝ }
 {
     if board.len() != state_board::BOARD_WORDS {

@@ -59,7 +59,8 @@ pub fn group_refusal(
     let Check::Passed = settings::check_group_class(address) else {
         return 25;
     };
-    let Check::Passed = crate::same_entry::check_other_groups(mission, place as usize, address) else {
+    let Check::Passed = crate::same_entry::check_other_groups(mission, place as usize, address)
+    else {
         return 23;
     };
     0

@@ -20,7 +20,7 @@ enum-told-2 : tie.Need-enum-told-2
 enum-told-2 c = search needs
 
 returns : tie.Need-returns
-returns c = or-fails (outside (c .before .before .before .before)) _ (c .before .before .check-place .ensures) (c .enum-told2 .given .1)
+returns c = or-fails (outside (c .before .before .before)) _ (c .before .before .check-place .ensures) (c .enum-told2 .given .1)
 
 check-set-requires : tie.Need-check-set-requires
 check-set-requires c κs = search needs
@@ -29,7 +29,7 @@ returns-2 : tie.Need-returns-2
 returns-2 c =
     let place = c .before in
     c .check-set .ensures
-    ∙ or-passes (outside (place .before .before .before .before)) _ (place .before .before .check-place .ensures) (place .enum-told .given .1)
+    ∙ or-passes (outside (place .before .before .before)) _ (place .before .before .check-place .ensures) (place .enum-told .given .1)
 
 pub check-target-spec : {M : Type 1} → statement M
 check-target-spec = tie.close (tie.spec check-place-requires enum-told enum-told-2 returns check-set-requires returns-2)

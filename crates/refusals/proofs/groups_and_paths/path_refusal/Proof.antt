@@ -1,11 +1,17 @@
 -- `refusals::groups_and_paths::path_refusal` meets its contract: past each check the rest of the list decides. Assumes nothing.
 use borrow.Author.Needs.{needs}
-use mathlib.Core.Path.{refl, _∙_}
-use Rattle.checks.specs.Order.{Checks}
+use Prim.Native.Nat.{ℕ}
+use mathlib.Core.Path.{_≡_, refl, _∙_}
+use mathlib.Core.Bool.{Bool, _||_}
+use Rattle.checks.specs.Order.{Checks, checkOf}
 use Rattle.checks.proofs.Steps.{fails-here, passes, none-left, joined}
+use Rattle.sets.specs.Limits.{pathPlaces}
+use Rattle.settings.specs.Refusals.{placeRefused}
+use Rattle.settings.specs.Sets.{setRefused}
 use Rattle.state.specs.Seen.{seated}
 use Rattle.state.specs.Layout.{decodeBoard, decode}
 use Rattle.refusals.proofs.Chains.{Past}
+use Rattle.refusals.specs.Ready.{readySet}
 use Rattle.refusals.specs.Lists.{pathChecks}
 use Rattle.refusals.proofs.Ready.{target-against}
 use Rattle.refusals.proofs.groups_and_paths.path_refusal.Statement.{statement}
@@ -18,14 +24,23 @@ tests s =
     pathChecks (seated (decodeBoard (s .args .board .now)) (decode (s .args .mission .now))) (s .args .place) (s .args .path) (s .args .send)
     (s .args .here)
 
+abbrev ports : tie.Start → ℕ
+ports s = readySet (seated (decodeBoard (s .args .board .now)) (decode (s .args .mission .now)))
+
+abbrev outside : tie.Start → Bool
+outside s = placeRefused (s .args .place) pathPlaces
+
 abbrev at-target : tie.After-check-target → tie.Start
-at-target c = c .before .before
+at-target c = c .before .before .before .before
+
+-- the place and the set to send to are tested against the ports that the mission sees
+targeted : (c : tie.After-check-target) → c .check-target .result ≡ checkOf (outside (at-target c) || setRefused (at-target c .args .send) (ports (at-target c)))
+targeted c =
+    let start = at-target c in
+    target-against (start .args .send) _ (ports start) _ (c .before .ready-here .ensures) (start .args .place) pathPlaces (c .check-target .ensures)
 
 past-target : (c : tie.After-enum-told) → Past 2 (tests (at-target (c .before .before)))
-past-target c =
-    let target = c .before .before in
-    passes _ _ _ (target-against _ _ _ _ (target .before .ready-here .ensures) _ _ (target .check-target .ensures)) (c .enum-told .given .1) refl
-    ∙ joined _ _ _ _
+past-target c = passes _ _ _ (targeted (c .before .before)) (c .enum-told .given .1) refl ∙ joined _ _ _ _
 
 past-class : (c : tie.After-enum-told3) → Past 3 (tests (at-target (c .before .before .before .before .before)))
 past-class c =
@@ -50,10 +65,7 @@ enum-told-2 : tie.Need-enum-told-2
 enum-told-2 c = search needs
 
 returns : tie.Need-returns
-returns c =
-    let target = c .before .before in
-    fails-here _ _ _ (target-against _ _ _ _ (target .before .ready-here .ensures) _ _ (target .check-target .ensures)) (c .enum-told2 .given .1)
-    ∙ joined _ _ _ _
+returns c = fails-here _ _ _ (targeted (c .before .before)) (c .enum-told2 .given .1) ∙ joined _ _ _ _
 
 check-path-class-requires : tie.Need-check-path-class-requires
 check-path-class-requires c κs = search needs

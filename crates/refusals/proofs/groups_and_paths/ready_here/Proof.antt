@@ -16,7 +16,7 @@ ready-ports-requires c κs = search needs
 
 returns : tie.Need-returns
 returns c =
-    let start = c .before .before in
+    let start = c .before .before .before .before in
     c .ready-ports .ensures ∙ ap (λ (n : ℕ). readyOf (portsSeen n (decodeBoard (start .args .board .now)))) (c .before .number-of .ensures)
 
 pub ready-here-spec : {M : Type 1} → statement M
