@@ -32,7 +32,8 @@ returns-3 : tie.Need-returns-3
 unfolding groupAnswer
 returns-3 c =
     let read = c .before in
-    held-told _ (read .before .before .if1 .left) _ _ (read-here groupWords _ _ _ (read .before .if2 .left) (c .group-word .ensures) (read .group-of .ensures))
+    held-told _ (read .before .before .if1 .left) _ _
+    (read-here groupWords _ _ _ (read .before .if2 .left) (c .group-word .ensures) (read .group-of .ensures))
 
 pub hj-group-word-spec : {M : Type 1} → statement M
 hj-group-word-spec =

@@ -32,7 +32,8 @@ returns-3 : tie.Need-returns-3
 unfolding pathAnswer
 returns-3 c =
     let read = c .before in
-    held-told _ (read .before .before .if1 .left) _ _ (read-here pathWords _ _ _ (read .before .if2 .left) (c .path-word .ensures) (read .path-of .ensures))
+    held-told _ (read .before .before .if1 .left) _ _
+    (read-here pathWords _ _ _ (read .before .if2 .left) (c .path-word .ensures) (read .path-of .ensures))
 
 pub hj-path-word-spec : {M : Type 1} → statement M
 hj-path-word-spec =

@@ -32,7 +32,8 @@ returns-3 : tie.Need-returns-3
 unfolding portAnswer
 returns-3 c =
     let read = c .before in
-    board-held-told _ (read .before .before .if1 .left) _ _ (read-here ownedWords _ _ _ (read .before .if2 .left) (c .owned-word .ensures) (read .owned-of .ensures))
+    board-held-told _ (read .before .before .if1 .left) _ _
+    (read-here ownedWords _ _ _ (read .before .if2 .left) (c .owned-word .ensures) (read .owned-of .ensures))
 
 pub hj-port-word-spec : {M : Type 1} → statement M
 hj-port-word-spec =

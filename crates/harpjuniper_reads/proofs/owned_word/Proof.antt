@@ -44,7 +44,8 @@ returns-6 c =
     let tested = c .before in
     c .refusal-number .ensures
     ∙ no-word _ _
-    (beyond-5 _ (tested .before .before .before .before .if1 .left) (tested .before .before .before .if2 .left) (tested .before .before .if3 .left) (tested .before .if4 .left) (tested .if5 .left))
+    (beyond-5 _
+    (tested .before .before .before .before .if1 .left) (tested .before .before .before .if2 .left) (tested .before .before .if3 .left) (tested .before .if4 .left) (tested .if5 .left))
 
 pub owned-word-spec : {M : Type 1} → statement M
 owned-word-spec =
