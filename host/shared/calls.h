@@ -69,7 +69,7 @@ struct call_facts {
     const char *word;      /* null where traces have none */
     const char *arguments; /* likewise */
     uint8_t answers;
-    uint8_t ends[12]; /* a second 0 ends them */
+    uint8_t ends[13]; /* a second 0 ends them */
 };
 
 extern const struct call_facts call_facts[LINES];
