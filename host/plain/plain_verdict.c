@@ -169,13 +169,17 @@ static plain_refusal wanted_ports(const plain_view *view, const datagram *d,
     return wanted_by_route(view, d, wanted);
 }
 
+/* A port that is not the mission's has no address and no MTU for it. A group or
+ * a path names such a port only where the board was made fresh alone. */
 static plain_set inside_domain(const plain_view *view, plain_set set,
                                uint32_t arrival)
 {
     uint32_t domain = domain_of(view->board->ports[arrival].address);
+    plain_set own = plain_own_ports(view);
 
     for (uint32_t port = 0; port < PLAIN_PORTS; port++)
-        if (domain_of(view->board->ports[port].address) != domain)
+        if (!plain_set_has(own, port) ||
+            domain_of(view->board->ports[port].address) != domain)
             set = without(set, port);
     return set;
 }
@@ -183,8 +187,11 @@ static plain_set inside_domain(const plain_view *view, plain_set set,
 static plain_set large_enough(const plain_view *view, plain_set set,
                               uint32_t length)
 {
+    plain_set own = plain_own_ports(view);
+
     for (uint32_t port = 0; port < PLAIN_PORTS; port++)
-        if (view->board->ports[port].mtu < length)
+        if (!plain_set_has(own, port) ||
+            view->board->ports[port].mtu < length)
             set = without(set, port);
     return set;
 }
