@@ -1,131 +1,149 @@
-// The relay's state in lent words: router or host, the ports, the counters, and a fresh state.
+// The operator's board in lent words: router or host, the ports and whose they are, and a fresh board.
 //
-// The caller lends the whole state, 824 words, and each function works on the words of one part, so that nothing is copied that is
-// not asked for. The crates `state_places`, `state_queues` and `state_routes` do the same for groups and paths, queues, and routes. Each promise is over
-// `decode` alone: above these four nobody sees a word, and the layout can change without a proof above them. What is required is the
-// length and a number in range, which the calls of the relay have tested. No state is bad: any 824 words hold some record in each place.
+// The caller lends the whole board, 41 words, and each function works on the words of one part, so that nothing is copied that is
+// not asked for. The crates `state_mission`, `state_places` and `state_queues` do the same for a mission's words. Each promise is over
+// `decodeBoard` alone: above this crate nobody sees a word, and the layout can change without a proof above it. What is required is the
+// length and a number in range, which the calls from C have tested. No board is bad: any 41 words hold some port in each place.
+// A mission sees a port as it stands where it is its own, and else one that is not set up; a number over 1, which only words that no call
+// wrote can have, owns none. So the rules above, which ask a port whether it is set up, need not ask whose it is.
+pub mod ready;
+
 ghost use mathlib.Core.Path.{_≡_};
-ghost use Prim.Native.Nat.{_<_};
-ghost use lib.ListN.{length};
-ghost use Rattle.sets.specs.Limits.{portCount, counterCount};
-ghost use Rattle.state.specs.Layout.{stateWords, decode, portOf, portWords};
 ghost use mathlib.Core.Bool.{not};
+ghost use Prim.Native.Nat.{_<_};
+ghost use lib.ListN.{length, getD};
 ghost use Rattle.checks.specs.Order.{checkOf};
-ghost use Rattle.state.specs.Relay.{portIn, portSetUp, counterIn, withRouter, withPort, added, freshState, onRelay, onCounters};
+ghost use Rattle.sets.specs.Limits.{portCount};
+ghost use Rattle.records.specs.Fresh.{freshPort};
+ghost use Rattle.records.specs.Owned.{seenPort};
+ghost use Rattle.state.specs.Layout.{boardWords, decodeBoard, ownedOf, ownedWords};
+ghost use Rattle.state.specs.Relay.{amongPorts};
+ghost use Rattle.state.specs.Seen.{ownedAt, putRouter, putOwned, freshBoard, portsSeen};
 use address::Address;
 use address::Mask;
 use checks::Check;
+use records::OwnedPort;
 use records::Port;
 
-// How many words the state has.
-pub const STATE_WORDS: usize = 824;
+// How many words the board has.
+pub const BOARD_WORDS: usize = 41;
 
 // Where the sections begin.
 const ROUTER_AT: usize = 0;
 
 const PORTS_AT: usize = 1;
 
-const COUNTERS_AT: usize = 425;
-
-const PORT_WORDS: usize = 4;
+const PORT_WORDS: usize = 5;
 
 // 0 for a host.
-pub fn router_of(state: &[u32]) -> u32
-    requires { ⌜ length (now state) ≡ stateWords ⌝ }
-    ensures { λ r. ⌜ r ≡ decode (now (state .entry)) .relay .router ⌝ }
+pub fn router_of(board: &[u32]) -> u32
+    requires { ⌜ length (now board) ≡ boardWords ⌝ }
+    ensures { λ r. ⌜ r ≡ decodeBoard (now (board .entry)) .router ⌝ }
 {
-    state[ROUTER_AT]
+    board[ROUTER_AT]
 }
 
-pub fn put_router(state: &mut [u32], x: u32)
-    requires { ⌜ length (now state) ≡ stateWords ⌝ }
-    ensures { λ _. ⌜ decode (now (state .exit)) ≡ onRelay (λ r. withRouter r x) (decode (now (state .entry))) ⌝ }
+pub fn put_router(board: &mut [u32], x: u32)
+    requires { ⌜ length (now board) ≡ boardWords ⌝ }
+    ensures { λ _. ⌜ decodeBoard (now (board .exit)) ≡ putRouter (decodeBoard (now (board .entry))) x ⌝ }
 {
     let at = ROUTER_AT;
-    state[at] = x;
+    board[at] = x;
 }
 
-fn read_port(s: &[u32]) -> Port
-    requires { ⌜ length (now s) ≡ 4 ⌝ }
-    ensures { λ r. ⌜ r ≡ portOf (now (s .entry)) ⌝ }
+fn read_owned(s: &[u32]) -> OwnedPort
+    requires { ⌜ length (now s) ≡ 5 ⌝ }
+    ensures { λ r. ⌜ r ≡ ownedOf (now (s .entry)) ⌝ }
 {
-    Port {
-        ready: s[0],
-        address: Address(s[1]),
-        mask: Mask(s[2]),
-        mtu: s[3],
+    OwnedPort {
+        port: Port {
+            ready: s[0],
+            address: Address(s[1]),
+            mask: Mask(s[2]),
+            mtu: s[3],
+        },
+        mission: s[4],
     }
 }
 
-fn write_port(s: &mut [u32], x: Port)
-    requires { ⌜ length (now s) ≡ 4 ⌝ }
-    ensures { λ _. ⌜ now (s .exit) ≡ portWords x ⌝ }
+fn write_owned(s: &mut [u32], x: OwnedPort)
+    requires { ⌜ length (now s) ≡ 5 ⌝ }
+    ensures { λ _. ⌜ now (s .exit) ≡ ownedWords x ⌝ }
 {
-    s[0] = x.ready;
-    s[1] = x.address.0;
-    s[2] = x.mask.0;
-    s[3] = x.mtu;
+    s[0] = x.port.ready;
+    s[1] = x.port.address.0;
+    s[2] = x.port.mask.0;
+    s[3] = x.port.mtu;
+    s[4] = x.mission;
 }
 
-pub fn port_of(state: &[u32], p: usize) -> Port
-    requires { ⌜ (length (now state) ≡ stateWords) × (p < portCount) ⌝ }
-    ensures { λ r. ⌜ r ≡ portIn (decode (now (state .entry)) .relay) p ⌝ }
+pub fn owned_of(board: &[u32], p: usize) -> OwnedPort
+    requires { ⌜ (length (now board) ≡ boardWords) × (p < portCount) ⌝ }
+    ensures { λ r. ⌜ r ≡ ownedAt (decodeBoard (now (board .entry))) p ⌝ }
 {
     let from = PORTS_AT + p * PORT_WORDS;
     let to = from + PORT_WORDS;
-    read_port(&state[from..to])
+    read_owned(&board[from..to])
 }
 
-// The port is one of the eight, and set up: what receiving asks of the port that a datagram came in by, and taking of its own.
-pub fn check_port(state: &[u32], port: u32) -> Check
-    requires { ⌜ length (now state) ≡ stateWords ⌝ }
-    ensures { λ r. ⌜ r ≡ checkOf (not (portSetUp (decode (now (state .entry)) .relay) port)) ⌝ }
+pub fn put_owned(board: &mut [u32], p: usize, x: OwnedPort)
+    requires { ⌜ (length (now board) ≡ boardWords) × (p < portCount) ⌝ }
+    ensures { λ _. ⌜ decodeBoard (now (board .exit)) ≡ putOwned (decodeBoard (now (board .entry))) p x ⌝ }
+{
+    let start = PORTS_AT + p * PORT_WORDS;
+    let end = start + PORT_WORDS;
+    write_owned(&mut board[start..end], x);
+}
+
+// The port as a mission sees it.
+fn seen(x: OwnedPort, number: u32) -> Port
+    ensures { λ r. ⌜ r ≡ seenPort number x ⌝ }
+{
+    if number < sets::MISSIONS {
+        if x.mission == number {
+            return x.port;
+        }
+    }
+    Port {
+        ready: 0,
+        address: Address(0),
+        mask: Mask(0),
+        mtu: 0,
+    }
+}
+
+// Port p as the mission of this number sees it.
+pub fn seen_port(board: &[u32], number: u32, p: usize) -> Port
+    requires { ⌜ (length (now board) ≡ boardWords) × (p < portCount) ⌝ }
+    ensures { λ r. ⌜ r ≡ getD (portsSeen number (decodeBoard (now (board .entry)))) p freshPort ⌝ }
+{
+    let x = owned_of(board, p);
+    seen(x, number)
+}
+
+// The port is one of the eight, set up, and the mission's: what receiving asks of the port that a datagram came in by, and taking of its own.
+pub fn check_port(board: &[u32], number: u32, port: u32) -> Check
+    requires { ⌜ length (now board) ≡ boardWords ⌝ }
+    ensures { λ r. ⌜ r ≡ checkOf (not (amongPorts (portsSeen number (decodeBoard (now (board .entry)))) port)) ⌝ }
 {
     if sets::PORTS <= port {
         return Check::Failed;
     }
-    let p = port_of(state, port as usize);
+    let p = seen_port(board, number, port as usize);
     if p.ready == 0 {
         return Check::Failed;
     }
     Check::Passed
 }
 
-pub fn put_port(state: &mut [u32], p: usize, x: Port)
-    requires { ⌜ (length (now state) ≡ stateWords) × (p < portCount) ⌝ }
-    ensures { λ _. ⌜ decode (now (state .exit)) ≡ onRelay (λ r. withPort r p x) (decode (now (state .entry))) ⌝ }
-{
-    let start = PORTS_AT + p * PORT_WORDS;
-    let end = start + PORT_WORDS;
-    write_port(&mut state[start..end], x);
-}
-
-// The counters in their order, npInReceives first.
-pub fn counter_of(state: &[u32], i: usize) -> u32
-    requires { ⌜ (length (now state) ≡ stateWords) × (i < counterCount) ⌝ }
-    ensures { λ r. ⌜ r ≡ counterIn (decode (now (state .entry)) .counters) i ⌝ }
-{
-    let from = COUNTERS_AT + i;
-    state[from]
-}
-
-// n more at counter i, modulo 2^32.
-pub fn add_count(state: &mut [u32], i: usize, n: u32)
-    requires { ⌜ (length (now state) ≡ stateWords) × (i < counterCount) ⌝ }
-    ensures { λ _. ⌜ decode (now (state .exit)) ≡ onCounters (λ l. added l i n) (decode (now (state .entry))) ⌝ }
-{
-    let at = COUNTERS_AT + i;
-    state[at] = std::num::wrapping_add_u32(state[at], n);
-}
-
-// The state of a fresh relay, whatever stood there.
-pub fn clear_all(state: &mut [u32])
-    requires { ⌜ length (now state) ≡ stateWords ⌝ }
-    ensures { λ _. ⌜ decode (now (state .exit)) ≡ freshState ⌝ }
+// A fresh board, whatever stood there.
+pub fn clear_board(board: &mut [u32])
+    requires { ⌜ length (now board) ≡ boardWords ⌝ }
+    ensures { λ _. ⌜ decodeBoard (now (board .exit)) ≡ freshBoard ⌝ }
 {
     let mut i = 0;
-    while i < STATE_WORDS {
-        state[i] = 0;
+    while i < BOARD_WORDS {
+        board[i] = 0;
         i += 1;
     }
 }

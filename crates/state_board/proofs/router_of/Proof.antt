@@ -1,8 +1,8 @@
--- `state_ports::router_of` reads its part of the state. Assumes nothing.
+-- `state_board::router_of` reads its part of the board. Assumes nothing.
 use Rattle.state.proofs.Reading.{router-read}
 use borrow.Author.Needs.{needs}
-use Rattle.state_ports.proofs.router_of.Statement.{statement}
-use Rattle.state_ports.proofs.router_of.Tie as tie
+use Rattle.state_board.proofs.router_of.Statement.{statement}
+use Rattle.state_board.proofs.router_of.Tie as tie
 
 shared-slice-read-result : tie.Need-shared-slice-read-result
 shared-slice-read-result c = search needs

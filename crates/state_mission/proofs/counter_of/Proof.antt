@@ -1,8 +1,8 @@
--- `state_ports::counter_of` reads its part of the state. Assumes nothing.
+-- `state_mission::counter_of` reads its part of the state. Assumes nothing.
 use Rattle.state.proofs.Reading.{counter-read}
 use borrow.Author.Needs.{needs}
-use Rattle.state_ports.proofs.counter_of.Statement.{statement}
-use Rattle.state_ports.proofs.counter_of.Tie as tie
+use Rattle.state_mission.proofs.counter_of.Statement.{statement}
+use Rattle.state_mission.proofs.counter_of.Tie as tie
 
 add-from : tie.Need-add-from
 add-from c = search needs
