@@ -1,0 +1,2 @@
+-- The laws of the list as a mission sees it. Turns is what the functions' proofs ask of a scan's definition.
+pub mod Turns
