@@ -1,7 +1,8 @@
 -- Words that are all 0 are a fresh board; so, but for the first, which is its number, are those of a fresh mission. Assumes nothing.
-use Prim.Native.Nat.{ℕ, suc, _<_}
+use native.Mathlib.Nat.{le-of-suc-le-suc}
+use Prim.Native.Nat.{ℕ, zero, suc, _<_}
 use mathlib.Core.Path.{_≡_, refl, ap}
-use lib.ListN.{length, getD, length-replicate, getD-replicate}
+use lib.ListN.{length, getD, set, length-replicate, getD-replicate}
 use Rattle.queue.specs.Queue.{fresh as freshQueue}
 use Rattle.words.specs.Cut.{pieces}
 use Rattle.state.specs.Seen.{freshBoard, freshMission, freshState}
@@ -30,10 +31,12 @@ module _ (n : ℕ) where
   unfolding freshWords
   fresh-length = ap suc (length-replicate {A = ℕ} 407 0)
 
-  pub fresh-number : getD (freshWords n) 0 0 ≡ n
+  -- words that are all 0, and then the number
+  pub fresh-numbered : set (freshWords 0) 0 n ≡ freshWords n
   unfolding freshWords
-  fresh-number = refl
+  fresh-numbered = refl
 
-  pub fresh-word : (i : ℕ) → i < 407 → getD (freshWords n) (suc i) 0 ≡ 0
-  unfolding freshWords
-  fresh-word i h = getD-replicate {A = ℕ} 407 i 0 0 h
+pub fresh-zero : (i : ℕ) → i < missionWords → getD (freshWords 0) i 0 ≡ 0
+unfolding freshWords
+fresh-zero zero h = refl
+fresh-zero (suc i) h = getD-replicate {A = ℕ} 407 i 0 0 (le-of-suc-le-suc h)
