@@ -25,9 +25,9 @@ abbrev pub firstPlace : Query → ℕ → ℕ
 firstPlace q n = pick (eqb (q .sought) 0) n 0
 
 -- ---- one record
--- filled, the address under its mask is its prefix, and of this mission
+-- the address under its mask is its prefix, it is filled, and of this mission
 unfoldable pub matches : Query → Record → Bool
-matches q r = isRecord r && (eqb (bitAnd (q .address) (r .mask)) (r .prefix) && eqb (r .mission) (q .mission))
+matches q r = eqb (bitAnd (q .address) (r .mask)) (r .prefix) && (isRecord r && eqb (r .mission) (q .mission))
 
 -- refused by nothing that a match leaves open
 unfoldable pub unrefused : Query → Record → Bool

@@ -139,10 +139,10 @@ fn judged(s: Scan, place: usize, r: Record, q: Query) -> Scan
 pub fn step(s: Scan, place: usize, r: Record, q: Query) -> Scan
     ensures { λ t. ⌜ t ≡ stepOf q s place r ⌝ }
 {
-    if r.filled == 0 {
+    if q.address & r.mask != r.prefix {
         return s;
     }
-    if q.address & r.mask != r.prefix {
+    if r.filled == 0 {
         return s;
     }
     if r.mission != q.mission {
