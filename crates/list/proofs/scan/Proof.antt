@@ -67,7 +67,7 @@ use Rattle.listing.proofs.step as step
 use Rattle.listing.proofs.step.Symbol as step-def
 use Rattle.listing.proofs.step.Symbol.{name as #listing·step}
 use Rattle.listing.proofs.step.Met as step-thm
-use Rattle.list.proofs.Turns.{starts, starts-within, turned, ended}
+use Rattle.listing.proofs.Loop.{starts, starts-within, turned, ended}
 use Rattle.list.proofs.record_at as rec
 use Rattle.list.proofs.record_at.Symbol as rec-def
 use Rattle.list.proofs.record_at.Symbol.{name as #list·record-at}
