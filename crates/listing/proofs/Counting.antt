@@ -2,21 +2,20 @@
 -- no two places that count hold the same entry. Assumes nothing.
 use native.Mathlib.Omega.{arith}
 use native.Mathlib.Decide.{decLe, ℕ-discrete}
-use native.Mathlib.Nat.{lt-of-not-le, add-zero}
+use native.Mathlib.Nat.{lt-of-not-le}
 use native.Mathlib.Numerals.{add-one}
 use Prim.Native.Nat.{ℕ, zero, suc, _+_, _≤_, _<_}
 use mathlib.Core.Path.{_≡_, refl, sym, ap, subst, _∙_}
 use mathlib.Core.Logic.{_↔_, by-cases}
-use mathlib.Core.Bool.{Bool, true, false, not, _&&_}
-use mathlib.Core.List.{List, [], _∷_, _++_}
+use mathlib.Core.Bool.{Bool, true, false, _&&_}
+use mathlib.Core.List.{List, [], _∷_}
 use lib.Dec.{eqb}
 use lib.ListN.{length, getD, length-append, List·getD-append, List·getD-eq-default}
 use lib.Seq.{getD-at}
 use borrow.Author.Tests.{eq-eqb, eqb-true, not-true}
 use Rattle.checks.specs.Order.{pick}
 use Rattle.checks.proofs.Bools.{true-false, refuted, and-true}
-use Rattle.sets.specs.Sets.{anyBelow}
-use Rattle.sets.proofs.Anywhere.{any-is, any-found}
+use Rattle.sets.proofs.Anywhere.{any-found}
 use Rattle.routes.specs.declared.Record.{Record}
 use Rattle.routes.specs.declared.Route.{Route}
 use Rattle.routes.specs.Records.{emptyRecord, recordAt, routeOf, sameKey}
@@ -55,6 +54,13 @@ same-key-is x y = (
 
 pub same-key-sym : (x y : Record) → sameKey x y ≡ true → sameKey y x ≡ true
 same-key-sym x y h = let e = same-key-is x y .0 h in same-key-is y x .1 (sym (e .0), sym (e .1), sym (e .2))
+
+-- a route that the rules take for mission n: its port is one of the mission's, and neither 22 nor 24 refuses it
+abbrev pub Taken : Board → ℕ → Route → Type 0
+Taken b n r =
+    (isReady (r .port) (ownOf b n) ≡ true)
+    × (prefixRefused (r .prefix) (r .mask) ≡ false)
+    × (codesRefused (r .availability) (r .capabilities) ≡ false)
 
 module _ (b : Board) (rs : List Record) where
   -- ---- what counts
@@ -125,19 +131,14 @@ module _ (b : Board) (rs : List Record) where
     unfolding seenRoute
     counted-seen i h e = route-seen i ∙ rw (h, eq-eqb _ _ e)
 
-    -- What is seen is a setting that the rules take: its port is one of the mission's, and neither 22 nor 24 refuses it.
-    pub seen-taken : (i : ℕ) → isFilled (routeAt (routesSeen b n rs) i) ≡ true
-        → (isReady (routeAt (routesSeen b n rs) i .port) (ownOf b n) ≡ true)
-        × (prefixRefused (routeAt (routesSeen b n rs) i .prefix) (routeAt (routesSeen b n rs) i .mask) ≡ false)
-        × (codesRefused (routeAt (routesSeen b n rs) i .availability) (routeAt (routesSeen b n rs) i .capabilities) ≡ false)
+    -- What is seen is a setting that the rules take.
+    pub seen-taken : (i : ℕ) → isFilled (routeAt (routesSeen b n rs) i) ≡ true → Taken b n (routeAt (routesSeen b n rs) i)
     seen-taken i h =
         let at = seen-filled i h in
         let ok = stands-is b (recordAt rs i) .0 (counts-stands i (at .0)) in
-        let own : isReady (recordAt rs i .port) (ownOf b n) ≡ true = subst (λ (k : ℕ). isReady (recordAt rs i .port) (ownOf b k) ≡ true) (at .1) (ok .1) in
-        subst
-        (λ (r : Route).
-        (isReady (r .port) (ownOf b n) ≡ true) × (prefixRefused (r .prefix) (r .mask) ≡ false) × (codesRefused (r .availability) (r .capabilities) ≡ false))
-        (sym (at .2)) (own, ok .2, ok .3)
+        let own : isReady (recordAt rs i .port) (ownOf b n) ≡ true =
+        subst (λ (k : ℕ). isReady (recordAt rs i .port) (ownOf b k) ≡ true) (at .1) (ok .1) in
+        subst (Taken b n) (sym (at .2)) (own, ok .2, ok .3)
 
     -- Every mask is ones and then zeros.
     pub seen-contiguous : Contiguous (routesSeen b n rs)

@@ -2,7 +2,7 @@
 -- entry, so that the scan's set of counts says what lower places hide. Assumes nothing.
 use native.Mathlib.Omega.{arith}
 use native.Mathlib.Nat.{lt-of-le-of-lt}
-use Prim.Native.Nat.{ℕ, zero, suc, _^_, _≤_, _<_}
+use Prim.Native.Nat.{ℕ, zero, suc, _^_, _<_}
 use mathlib.Core.Path.{_≡_, refl, sym, ap, subst, _∙_}
 use mathlib.Core.Logic.{_↔_}
 use mathlib.Core.Bool.{Bool, true, false, not, _&&_}
@@ -11,7 +11,7 @@ use lib.Dec.{eqb}
 use lib.Bits.{bitAnd, and-le-r}
 use borrow.Author.Tests.{eq-eqb, eqb-true, not-true}
 use Rattle.checks.proofs.Bools.{true-false, and-true, or-false}
-use Rattle.networks.proofs.Bits.{bit, and-bit, same-bits}
+use Rattle.networks.proofs.Bits.{and-bit, same-bits}
 use Rattle.address.specs.Mask.{maskOf, onesOf, maskForm}
 use Rattle.address.specs.declared.MaskForm.{MaskForm}
 use Rattle.address.specs.declared.MaskForm.the-variants.{Ones, Mixed}
@@ -132,23 +132,30 @@ module _ (b : Board) (q : Query) (own : q .own ≡ ownOf b (q .mission)) where
           let fy : fits q y ≡ true = fits-is y .1 (both .0, match, key .2 ∙ one .2) in
           rw fy (eq-eqb _ _ (ap onesOf (key .1)))
 
+  -- place i counts, the address matches it, and it is of the query's mission
+  abbrev pub CountsFor : List Record → ℕ → Type 0
+  CountsFor rs i =
+      (counts b rs i ≡ true)
+      × (bitAnd (q .address) (recordAt rs i .mask) ≡ recordAt rs i .prefix)
+      × (recordAt rs i .mission ≡ q .mission)
+
   -- So what a scan shows of a list are the places that count, of its mission, that the address matches.
-  pub shown-is : (rs : List Record) (i : ℕ)
-      → (shown q rs i ≡ true) ↔ ((counts b rs i ≡ true) × (bitAnd (q .address) (recordAt rs i .mask) ≡ recordAt rs i .prefix) × (recordAt rs i .mission ≡ q .mission))
+  pub shown-is : (rs : List Record) (i : ℕ) → (shown q rs i ≡ true) ↔ CountsFor rs i
   unfolding counts
   shown-is rs i = (there, back)
     where
-      hidden : fits q (recordAt rs i) ≡ true → anyBelow (hiddenBy q rs (onesOf (recordAt rs i .mask))) i ≡ anyBelow (standsAs b rs (recordAt rs i)) i
+      hidden : fits q (recordAt rs i) ≡ true
+          → anyBelow (hiddenBy q rs (onesOf (recordAt rs i .mask))) i ≡ anyBelow (standsAs b rs (recordAt rs i)) i
       hidden f = any-same _ _ i (λ j. ones-key (recordAt rs i) (recordAt rs j) f)
 
-      there : shown q rs i ≡ true → (counts b rs i ≡ true) × (bitAnd (q .address) (recordAt rs i .mask) ≡ recordAt rs i .prefix) × (recordAt rs i .mission ≡ q .mission)
+      there : shown q rs i ≡ true → CountsFor rs i
       there h =
           let both = and-true (fits q (recordAt rs i)) _ h in
           let f = fits-is (recordAt rs i) .0 (both .0) in
           let none : anyBelow (standsAs b rs (recordAt rs i)) i ≡ false = sym (hidden (both .0)) ∙ not-true _ (both .1) in
           (rw (f .0) (ap not none), f .1, f .2)
 
-      back : (counts b rs i ≡ true) × (bitAnd (q .address) (recordAt rs i .mask) ≡ recordAt rs i .prefix) × (recordAt rs i .mission ≡ q .mission) → shown q rs i ≡ true
+      back : CountsFor rs i → shown q rs i ≡ true
       back h =
           let both = and-true (stands b (recordAt rs i)) _ (h .0) in
           let f : fits q (recordAt rs i) ≡ true = fits-is (recordAt rs i) .1 (both .0, h .1, h .2) in

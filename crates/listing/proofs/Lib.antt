@@ -6,3 +6,4 @@ pub mod Fitting
 pub mod Loop
 pub mod Seeing
 pub mod Searched
+pub mod Same

@@ -2,12 +2,12 @@
 -- W-208. Assumes nothing.
 use native.Mathlib.Omega.{arith}
 use native.Mathlib.Numerals.{add-one}
-use Prim.Native.Nat.{ℕ, zero, suc, _+_, _^_, _≤_}
+use Prim.Native.Nat.{ℕ, zero, suc, _^_, _≤_}
 use mathlib.Core.Path.{_≡_, refl, sym, ap, ap₂, subst, _∙_}
 use mathlib.Core.Logic.{_↔_, _≢_}
 use mathlib.Core.Bool.{Bool, true, false, _&&_}
 use mathlib.Core.List.{List}
-use lib.Dec.{eqb, ltb}
+use lib.Dec.{eqb}
 use lib.ListN.{length, drop}
 use borrow.Author.Tests.{eq-eqb, eqb-true}
 use Rattle.checks.specs.Order.{pick}
@@ -28,7 +28,7 @@ use Rattle.state.specs.Seen.{Board}
 use Rattle.listing.specs.declared.Query.{Query}
 use Rattle.listing.specs.declared.Scan.{Scan}
 use Rattle.listing.specs.Listed.{routesSeen}
-use Rattle.listing.specs.Scan.{begunScan, isWanted, isLonger, noted, foundAt, takenOf, stepOf, scanOf}
+use Rattle.listing.specs.Scan.{isWanted, isLonger, noted, foundAt, takenOf, scanOf}
 use Rattle.listing.proofs.Standing.{ownOf, stands-is}
 use Rattle.listing.proofs.Counting.{length-seen, seen-filled, counted-seen, counts-stands}
 use Rattle.listing.proofs.Fitting.{same-truth, shown, shown-is}

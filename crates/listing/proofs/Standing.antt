@@ -13,7 +13,6 @@ use Rattle.checks.proofs.Bools.{and-true, not-false}
 use Rattle.checks.proofs.Laws.{zero-none, none-zero}
 use Rattle.sets.specs.Sets.{inSet}
 use Rattle.records.specs.declared.Port.{Port}
-use Rattle.records.specs.Fresh.{freshPort}
 use Rattle.records.specs.Owned.{isMission}
 use Rattle.records.specs.SetUp.{isSetUp}
 use Rattle.routes.specs.declared.Record.{Record}

@@ -25,7 +25,7 @@ use contract.Running.{givenOf, tables, tablesOf}
 use types.Kit.{rewrite, Given, Item, Sq, runs, anyQ, atRet, ‵, raw, _⊛_, ⋆, some, later, _$_, _∵_, !, qed, by, move, keep, drop as drops, use0, use1, use2, split, join, pick, fsplit, fjoin, suffices, frame, await, done}
 use types.Run.{look, init, store, forget, stop, fld, from, load, lit, of-opd, bin, and-then, no-more, land, assigns, assigns-last, first, skips, jumps, blocks, branches, returns, exec, enter, alloc1, alloc0, params1, pass1, pass0, free1, free0, Below, again, loops}
 use types.Part.{whole, sub, look-in}
-use sound.WpLaws.{FmC, fmOf, WpFn-mono}
+use sound.WpLaws.{fmOf, WpFn-mono}
 use denote.RattleType.{owns}
 use denote.Laws.{Is, shows}
 use denote.Memory.{pointee}
@@ -136,8 +136,10 @@ module _ {M : Type 1} (𝓤 : URA M) (H : Heap 𝓤) (A : Atoms 𝓤) (W : Given
   exits : (r : Scan) (u : Val) → Is F.the-row r (u ∷ []) → r ≡ scanOf ask ys → ent 𝓤 (⋆ 𝓤 H A ((‵ (flft κ q) ⊛ ‵ ftrue) ∷ ‵ Own ∷ [])) (Post u)
   exits r u is e =
       qed W ((‵ (flft κ q) ⊛ ‵ ftrue) ∷ ‵ Own ∷ []) ∵
-      suffices ! _ (ends-at 𝓤 H A f.ended stayed (f.clauses 𝓤 H A mem run) W (((κ, tt), (q, tt), tt, args, at), tt) u r (tt, (tt, tt)) (tt, (tt, tt))) $ says ! e $
-      frame ! $ nothing ! $ owned ! Q.the-row (Is Q.the-row) (LL.makes Q.the-type Q′.the-plain 𝓤 H A) ask _ asks $ fjoin ! $ move ! (1 ∷ 0 ∷ []) $ fjoin ! $ frame ! $
+      suffices ! _ (ends-at 𝓤 H A f.ended stayed (f.clauses 𝓤 H A mem run) W (((κ, tt), (q, tt), tt, args, at), tt) u r (tt, (tt, tt)) (tt, (tt, tt))) $
+      says ! e $
+      frame ! $ nothing ! $ owned ! Q.the-row (Is Q.the-row) (LL.makes Q.the-type Q′.the-plain 𝓤 H A) ask _ asks $ fjoin ! $ move ! (1 ∷ 0 ∷ []) $
+      fjoin ! $ frame ! $
       owned ! F.the-row (Is F.the-row) (LL.makes F.the-type F′.the-plain 𝓤 H A) r _ is $ done !
 
   -- the call of `begun`, which is passed nothing
@@ -171,7 +173,8 @@ module _ {M : Type 1} (𝓤 : URA M) (H : Heap 𝓤) (A : Atoms 𝓤) (W : Given
       qed W ((‵ (flft κ q) ⊛ ‵ ftrue) ∷ ‵ Own ∷ []) ∵
       move ! (1 ∷ []) $ use1 W (‵ Own ⊛ ‵ Own) (shr-slice-copy 𝓤 H A W (named 0) κ T.the-row .twice x (s ∷ [])) $ split ! $
       nothing ! $ owned ! usize (Is usize) (uint-makes 𝓤 H A W w64) i _ (refl, fits) $ fjoin ! $ move ! (1 ∷ 0 ∷ []) $ fjoin ! $ move ! (2 ∷ 0 ∷ []) $
-      use2 W (raw (RecordAt 𝓤 H A mem run .pre (to-rec i))) (qed W ((‵ (flft κ q) ⊛ ‵ ftrue) ∷ ‵ (owns (ShrSlice (named 0) κ T.the-row ∷ usize ∷ []) (x, (i, tt)) (s ∷ [], (vint w64 i ∷ [], tt))) ∷ []) ∵ join ! $ frame ! $ done !) $ frame ! $ done !
+      use2 W (raw (RecordAt 𝓤 H A mem run .pre (to-rec i))) (qed W ((‵ (flft κ q) ⊛ ‵ ftrue) ∷ ‵ (owns (ShrSlice (named 0) κ T.the-row ∷ usize ∷ []) (x, (i, tt)) (s ∷ [], (vint w64 i ∷ [], tt))) ∷ []) ∵ join ! $
+      frame ! $ done !) $ frame ! $ done !
 
   rec-said : (i : ℕ) (r : Record) → ent 𝓤 (ensured 𝓤 H A rec.ended (rec.clauses 𝓤 H A mem run) (κ, tt) (x, (i, tt)) tt r) (fact 𝓤 (r ≡ recordAt ys i))
   rec-said i r = exE 𝓤 _ (λ ws. snd∗ 𝓤 (sem 𝓤 H A (lasts rec.ended (κ, tt) (x, (i, tt)) ws)) (fact 𝓤 (r ≡ recordAt ys i)))
@@ -183,7 +186,8 @@ module _ {M : Type 1} (𝓤 : URA M) (H : Heap 𝓤) (A : Atoms 𝓤) (W : Given
   goes-step : (t : Scan) (u : Val) (i : ℕ) (r : Record) (v : Val) → Is F.the-row t (u ∷ []) → i < 2 ^ 64 → Is T.the-row r (v ∷ []) → ent 𝓤 (emp 𝓤) (Step 𝓤 H A mem run .pre (to-step t u i r v))
   goes-step t u i r v is fits isr =
       qed W [] ∵ nothing ! $ owned ! Q.the-row (Is Q.the-row) (LL.makes Q.the-type Q′.the-plain 𝓤 H A) ask _ asks $ fjoin ! $
-      owned ! T.the-row (Is T.the-row) (LL.makes T.the-type T′.the-plain 𝓤 H A) r _ isr $ fjoin ! $ owned ! usize (Is usize) (uint-makes 𝓤 H A W w64) i _ (refl, fits) $ fjoin ! $
+      owned ! T.the-row (Is T.the-row) (LL.makes T.the-type T′.the-plain 𝓤 H A) r _ isr $ fjoin ! $
+      owned ! usize (Is usize) (uint-makes 𝓤 H A W w64) i _ (refl, fits) $ fjoin ! $
       owned ! F.the-row (Is F.the-row) (LL.makes F.the-type F′.the-plain 𝓤 H A) t _ is $ fjoin ! $ nothing ! $ join ! $ frame ! $ done !
 
   step-said : (t : Scan) (i : ℕ) (r : Record) (w : Scan) → ent 𝓤 (ensured 𝓤 H A step.ended (step.clauses 𝓤 H A mem run) tt (t, (i, (r, (ask, tt)))) tt w) (fact 𝓤 (w ≡ stepOf ask t i r))
@@ -236,8 +240,10 @@ module _ {M : Type 1} (𝓤 : URA M) (H : Heap 𝓤) (A : Atoms 𝓤) (W : Given
         skips ! $ exec ! C Λ En more (anyQ (Turned z)) $
         move ! (18 ∷ 19 ∷ []) $ use2 W (raw (RecordAt 𝓤 H A mem run .pre (to-rec (z .i))) ⊛ ‵ Own) (goes-rec (z .i) fits) $ split ! $
         calls-at ! (fmOf 𝓤 H (W .laws) 𝓣) (RecordAt 𝓤 H A mem run) known-rec (to-rec (z .i)) (and-then ! (load ! (from ! (stop !)) (look ! 16 refl)) (and-then ! (load ! (from ! (stop !)) (look ! 10 refl)) (no-more !))) (λ v.
-        use1 W (later (some (λ (r : Record). ((‵ (flft κ q) ⊛ ‵ ftrue) ⊛ ‵ (T.the-row .own r (v ∷ []))) ⊛ raw (ensured 𝓤 H A rec.ended (rec.clauses 𝓤 H A mem run) (κ, tt) (x, (z .i, tt)) tt r)))) (id⊢ 𝓤 _) $ await ! tt $ pick ! (λ r.
-        split ! $ move ! (1 ∷ []) $ use1 W (raw (fact 𝓤 (r ≡ recordAt ys (z .i)))) (rec-said (z .i) r) $ heard ! (r ≡ recordAt ys (z .i)) (λ e. split ! $ move ! (1 ∷ []) $
+        use1 W (later (some (λ (r : Record). ((‵ (flft κ q) ⊛ ‵ ftrue) ⊛ ‵ (T.the-row .own r (v ∷ []))) ⊛ raw (ensured 𝓤 H A rec.ended (rec.clauses 𝓤 H A mem run) (κ, tt) (x, (z .i, tt)) tt r)))) (id⊢ 𝓤 _) $
+        await ! tt $ pick ! (λ r.
+        split ! $ move ! (1 ∷ []) $ use1 W (raw (fact 𝓤 (r ≡ recordAt ys (z .i)))) (rec-said (z .i) r) $
+        heard ! (r ≡ recordAt ys (z .i)) (λ e. split ! $ move ! (1 ∷ []) $
         -- [the record; the token; what list owns; _8; …]
         peeks ! T.the-row (Is T.the-row) (shows 𝓤 H A T.the-row) r (v ∷ []) (λ isr.
         land ! (from ! (stop !)) (init ! 9 refl (LL.lawful T.the-type T′.the-laws 𝓤 H A W .typed r _ isr .0)) $ drops ! $
@@ -245,8 +251,10 @@ module _ {M : Type 1} (𝓤 : URA M) (H : Heap 𝓤) (A : Atoms 𝓤) (W : Given
         -- [what `step` asks; the token; what list owns; _8; …]
         calls-at ! (fmOf 𝓤 H (W .laws) 𝓣) (Step 𝓤 H A mem run) known-step (to-step (z .best) (z .val) (z .i) r v)
         (and-then ! (load ! (from ! (stop !)) (look ! 13 refl)) (and-then ! (load ! (from ! (stop !)) (look ! 11 refl)) (and-then ! (load ! (from ! (stop !)) (look ! 9 refl)) (and-then ! (load ! (from ! (stop !)) (look ! 15 refl)) (no-more !))))) (λ u.
-        use1 W (later (some (λ (w : Scan). (‵ ftrue ⊛ ‵ (F.the-row .own w (u ∷ []))) ⊛ raw (ensured 𝓤 H A step.ended (step.clauses 𝓤 H A mem run) tt (z .best, (z .i, (r, (ask, tt)))) tt w)))) (id⊢ 𝓤 _) $ await ! tt $ pick ! (λ w.
-        split ! $ move ! (1 ∷ []) $ use1 W (raw (fact 𝓤 (w ≡ stepOf ask (z .best) (z .i) r))) (step-said (z .best) (z .i) r w) $ heard ! (w ≡ stepOf ask (z .best) (z .i) r) (λ e′. split ! $ move ! (1 ∷ []) $
+        use1 W (later (some (λ (w : Scan). (‵ ftrue ⊛ ‵ (F.the-row .own w (u ∷ []))) ⊛ raw (ensured 𝓤 H A step.ended (step.clauses 𝓤 H A mem run) tt (z .best, (z .i, (r, (ask, tt)))) tt w)))) (id⊢ 𝓤 _) $
+        await ! tt $ pick ! (λ w.
+        split ! $ move ! (1 ∷ []) $ use1 W (raw (fact 𝓤 (w ≡ stepOf ask (z .best) (z .i) r))) (step-said (z .best) (z .i) r w) $
+        heard ! (w ≡ stepOf ask (z .best) (z .i) r) (λ e′. split ! $ move ! (1 ∷ []) $
         -- [the scan; true; the token; what list owns; _8; …; _7; …; _6; …; _5; …; _4; …; _3; …]
         peeks ! F.the-row (Is F.the-row) (shows 𝓤 H A F.the-row) w (u ∷ []) (λ isw.
         land ! (from ! (stop !)) (store ! 14 refl (LL.lawful F.the-type F′.the-laws 𝓤 H A W .typed w _ isw .0)) $
@@ -258,8 +266,11 @@ module _ {M : Type 1} (𝓤 : URA M) (H : Heap 𝓤) (A : Atoms 𝓤) (W : Given
         (add-one-dec n (z .i) inside))))))))))
         (λ over. jumps ! $ exec ! C Λ En mir.t-5 (atRet En Post) $
         assigns ! (of-opd ! (load ! (from ! (stop !)) (look ! 10 refl))) (from ! (stop !)) (init ! 16 refl (LL.lawful F.the-type F′.the-laws 𝓤 H A W .typed (z .best) _ (z .is) .0)) $
-        returns ! (look ! 16 refl) $ forget ! 0 refl $ forget ! 2 refl $ forget ! 8 refl $ forget ! 10 refl $ forget ! 12 refl $ forget ! 14 refl $ forget ! 16 refl $
-        move ! (16 ∷ 17 ∷ []) $ free1 ! $ move ! (14 ∷ 15 ∷ []) $ free1 ! $ move ! (12 ∷ 13 ∷ []) $ free1 ! $ move ! (10 ∷ 11 ∷ []) $ free1 ! $ move ! (8 ∷ 9 ∷ []) $ free1 ! $ move ! (6 ∷ 7 ∷ []) $ free1 ! $ move ! (4 ∷ 5 ∷ []) $ free1 ! $ move ! (2 ∷ 3 ∷ []) $ free1 ! $ free1 ! $ free0 ! $
+        returns ! (look ! 16 refl) $ forget ! 0 refl $ forget ! 2 refl $ forget ! 8 refl $ forget ! 10 refl $ forget ! 12 refl $ forget ! 14 refl $
+        forget ! 16 refl $
+        move ! (16 ∷ 17 ∷ []) $ free1 ! $ move ! (14 ∷ 15 ∷ []) $ free1 ! $ move ! (12 ∷ 13 ∷ []) $ free1 ! $ move ! (10 ∷ 11 ∷ []) $ free1 ! $
+        move ! (8 ∷ 9 ∷ []) $ free1 ! $ move ! (6 ∷ 7 ∷ []) $ free1 ! $ move ! (4 ∷ 5 ∷ []) $ free1 ! $ move ! (2 ∷ 3 ∷ []) $ free1 ! $ free1 ! $
+        free0 ! $
         by ! (exits (z .best) (z .val) (z .is) (ended ys ask (z .best) (z .i) (nltb→le (z .i) n over) ∙ z .left)))
       where
         fits : z .i < 2 ^ 64
@@ -278,12 +289,15 @@ module _ {M : Type 1} (𝓤 : URA M) (H : Heap 𝓤) (A : Atoms 𝓤) (W : Given
       → ent 𝓤 (onEntry 𝓤 H A f.signature (κ, tt) (q, tt) args at) (WpFn 𝓤 H (𝓣 .C) (𝓣 .Λ) code.function (s ∷ m ∷ []) Post)
   walk 𝓣 known-begun known-begins known-rec known-step =
       qed W ((‵ (flft κ q) ⊛ ‵ ftrue) ∷ ‵ (owns (ShrSlice (named 0) κ T.the-row ∷ Q.the-row ∷ []) args at) ∷ []) ∵ enter ! (𝓣 .C) (𝓣 .Λ) code.function (s ∷ m ∷ []) _ $
-      alloc1 ! (λ l₀. alloc1 ! (λ l₁. alloc1 ! (λ l₂. alloc1 ! (λ l₃. alloc1 ! (λ l₄. alloc1 ! (λ l₅. alloc1 ! (λ l₆. alloc1 ! (λ l₇. alloc1 ! (λ l₈. alloc0 ! $ params1 ! $
-      pass1 ! (init ! 14 refl (tt, (tt, (record { fits = room .0 }, tt)))) $ pass1 ! (init ! 12 refl (LL.lawful Q.the-type Q′.the-laws 𝓤 H A W .typed ask _ asks .0)) $ pass0 ! $
+      alloc1 ! (λ l₀. alloc1 ! (λ l₁. alloc1 ! (λ l₂. alloc1 ! (λ l₃. alloc1 ! (λ l₄. alloc1 ! (λ l₅. alloc1 ! (λ l₆. alloc1 ! (λ l₇. alloc1 ! (λ l₈. alloc0 ! $
+      params1 ! $
+      pass1 ! (init ! 14 refl (tt, (tt, (record { fits = room .0 }, tt)))) $
+      pass1 ! (init ! 12 refl (LL.lawful Q.the-type Q′.the-laws 𝓤 H A W .typed ask _ asks .0)) $ pass0 ! $
       use0 W (raw (Begun 𝓤 H A mem run .pre to-begun)) goes-begun $
       -- [what `begun` asks; _8; …]
       calls-at ! (fmOf 𝓤 H (W .laws) 𝓣) (Begun 𝓤 H A mem run) known-begun to-begun (no-more !) (λ u.
-      use1 W (later (some (λ (w : Scan). (‵ ftrue ⊛ ‵ (F.the-row .own w (u ∷ []))) ⊛ raw (ensured 𝓤 H A begun.ended (begun.clauses 𝓤 H A mem run) tt tt tt w)))) (id⊢ 𝓤 _) $ await ! tt $ pick ! (λ w.
+      use1 W (later (some (λ (w : Scan). (‵ ftrue ⊛ ‵ (F.the-row .own w (u ∷ []))) ⊛ raw (ensured 𝓤 H A begun.ended (begun.clauses 𝓤 H A mem run) tt tt tt w)))) (id⊢ 𝓤 _) $
+      await ! tt $ pick ! (λ w.
       split ! $ move ! (1 ∷ []) $ use1 W (raw (fact 𝓤 (w ≡ begunScan))) (begun-said w) $ heard ! (w ≡ begunScan) (λ e. split ! $ move ! (1 ∷ []) $
       -- [the scan; true; _8; …]
       peeks ! F.the-row (Is F.the-row) (shows 𝓤 H A F.the-row) w (u ∷ []) (λ isw.
@@ -292,8 +306,10 @@ module _ {M : Type 1} (𝓤 : URA M) (H : Heap 𝓤) (A : Atoms 𝓤) (W : Given
       use0 W (raw (Begins 𝓤 H A mem run .pre to-begins)) goes-begins $
       -- [what `first_place` asks; _8; …]
       calls-at ! (fmOf 𝓤 H (W .laws) 𝓣) (Begins 𝓤 H A mem run) known-begins to-begins (and-then ! (load ! (from ! (stop !)) (look ! 13 refl)) (and-then ! (load ! (from ! (stop !)) (look ! 5 refl)) (no-more !))) (λ v.
-      use1 W (later (some (λ (k : ℕ). (‵ ftrue ⊛ ‵ (usize .own k (v ∷ []))) ⊛ raw (ensured 𝓤 H A begins.ended (begins.clauses 𝓤 H A mem run) tt (ask, (n, tt)) tt k)))) (id⊢ 𝓤 _) $ await ! tt $ pick ! (λ k.
-      split ! $ move ! (1 ∷ []) $ use1 W (raw (fact 𝓤 (k ≡ firstPlace ask n))) (begins-said k) $ heard ! (k ≡ firstPlace ask n) (λ g. split ! $ move ! (1 ∷ []) $
+      use1 W (later (some (λ (k : ℕ). (‵ ftrue ⊛ ‵ (usize .own k (v ∷ []))) ⊛ raw (ensured 𝓤 H A begins.ended (begins.clauses 𝓤 H A mem run) tt (ask, (n, tt)) tt k)))) (id⊢ 𝓤 _) $
+      await ! tt $ pick ! (λ k.
+      split ! $ move ! (1 ∷ []) $ use1 W (raw (fact 𝓤 (k ≡ firstPlace ask n))) (begins-said k) $ heard ! (k ≡ firstPlace ask n) (λ g. split ! $
+      move ! (1 ∷ []) $
       -- [the place; true; _8; …]
       peeks ! usize (Is usize) (shows 𝓤 H A usize) k (v ∷ []) (λ isk.
       land ! (from ! (stop !)) (init ! 10 refl (uint-lawful 𝓤 H A W w64 .typed k _ isk .0)) $ drops ! $ drops ! $
