@@ -3,7 +3,7 @@
 -- definitions read no list, only the number of its records and what a scan found; the crate harpjuniper_routes has what they come to over a list.
 -- Assumes nothing.
 use Prim.Native.Nat.{ℕ}
-use mathlib.Core.Bool.{Bool, not, _||_}
+use mathlib.Core.Bool.{Bool, not, _&&_}
 use mathlib.Core.List.{List, [], _∷_}
 use lib.Dec.{eqb, ltb}
 use Rattle.checks.specs.Order.{pick, Checks, firstOf}
@@ -82,7 +82,7 @@ sameQuery o = pick (eqb (o .refusal) 0) (entryQuery o) (refusedQuery (o .refusal
 
 -- 23 where another place has the entry
 unfoldable pub orderAnswer : Order → Scan → ℕ
-orderAnswer o s = pick (eqb (o .refusal) 0) (pick (eqb (s .found) 0 || eqb (s .place) (o .place)) 0 23) (o .refusal)
+orderAnswer o s = pick (eqb (o .refusal) 0) (pick (not (eqb (s .found) 0) && not (eqb (s .place) (o .place))) 23 0) (o .refusal)
 
 -- the record that is stored: the old one again where the writing is refused
 unfoldable pub chosenRecord : Order → Scan → Record → Record
