@@ -4,8 +4,10 @@ use mathlib.Core.Path.{_≡_, refl, sym}
 use mathlib.Core.List.{List}
 use mathlib.Core.Bool.{Bool, true, false}
 use lib.Dec.{eqb}
-use Rattle.checks.specs.Order.{pick, firstOf}
+use borrow.Author.Tests.{ne-eqb}
+use Rattle.checks.specs.Order.{pick, firstOf, firstHolds, noneHolds}
 use Rattle.checks.proofs.Bools.{true-false}
+use Rattle.checks.proofs.Laws.{none-zero, first-number}
 use Rattle.header.specs.Read.{headerOf, readChecks, readOf}
 use Rattle.header.specs.Onward.{renewalOf, foundOf}
 use Rattle.header.specs.declared.Header.{Header}
@@ -39,3 +41,17 @@ pub found-good : (s : List ℕ) (h : Header) (r : Renewal) → foundOf s ≡ fou
 unfolding foundOf
 found-good s h r e =
     (rw e at (sym (found-read s)), good-case (eqb (firstOf (readChecks s)) 0) (firstOf (readChecks s)) (headerOf s) h (renewalOf s) r e)
+
+-- ---- what is found, by the checks
+
+pub found-first : (s : List ℕ) (n : ℕ) → (n ≡ 0 → ⊥) → firstHolds (readChecks s) n → foundOf s ≡ found.Refused n
+unfolding foundOf
+found-first s n some h =
+    let e : firstOf (readChecks s) ≡ n = first-number (readChecks s) n h in
+    rw (e, ne-eqb n 0 some)
+
+pub found-none : (s : List ℕ) → noneHolds (readChecks s) → foundOf s ≡ found.Good (headerOf s) (renewalOf s)
+unfolding foundOf
+found-none s h =
+    let e : firstOf (readChecks s) ≡ 0 = none-zero (readChecks s) h in
+    rw e
