@@ -18,7 +18,7 @@
 
 #define COUNTERS 15
 
-static struct view view;
+static struct view view = {.places = TRACE_RECORDS};
 
 static uint32_t number(struct trace_word word)
 {
