@@ -47,8 +47,8 @@ pub extern "C" fn hj_set_route(
     let q = route_calls::same_query(o);
     let s = list::scan(routes, q);
     let old = list::record_at(routes, o.place);
-    let r = route_calls::chosen(o, s, old);
-    list::set_at(routes, o.place, r);
+    let x = route_calls::chosen(o, s, old);
+    list::set_at(routes, o.place, x);
     route_calls::answer(o, s)
 }
 
@@ -57,11 +57,11 @@ pub extern "C" fn hj_set_route(
 pub extern "C" fn hj_clear_route(routes: &mut [Record], place: u32) -> u32
     ensures { λ r. ⌜ ClearsRoute (now (routes .entry)) place r (now (routes .exit)) ⌝ }
 {
-    let o = route_calls::clearing(routes.len(), place);
-    let old = list::record_at(routes, o.place);
-    let r = route_calls::cleared(o, old);
-    list::set_at(routes, o.place, r);
-    o.refusal
+    let e = route_calls::clearing(routes.len(), place);
+    let old = list::record_at(routes, e.place);
+    let x = route_calls::cleared(e, old);
+    list::set_at(routes, e.place, x);
+    e.refusal
 }
 
 // Word i of the record at a place, as it stands; the refusal 21 stands above 32 bits.

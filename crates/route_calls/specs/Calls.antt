@@ -93,7 +93,7 @@ abbrev pub emptyingOf : ℕ → ℕ → Emptying
 emptyingOf count place = record { refusal = firstOf ((tooMany count, 21) ∷ (placeRefused place count, 21) ∷ []); place = place }
 
 unfoldable pub clearedRecord : Emptying → Record → Record
-clearedRecord o old = pick (eqb (o .refusal) 0) emptyRecord old
+clearedRecord e old = pick (eqb (e .refusal) 0) emptyRecord old
 
 -- ---- a record as C reads it
 abbrev pub recordWords : Record → List ℕ

@@ -218,7 +218,7 @@ pub fn chosen(o: Order, s: Scan, old: Record) -> Record
 
 // What refuses that this place is emptied, or 0.
 pub fn clearing(count: usize, place: u32) -> Emptying
-    ensures { λ o. ⌜ o ≡ emptyingOf count place ⌝ }
+    ensures { λ e. ⌜ e ≡ emptyingOf count place ⌝ }
 {
     let at = place as usize;
     if sets::indexes::ROUTES < count {
@@ -240,10 +240,10 @@ pub fn clearing(count: usize, place: u32) -> Emptying
 }
 
 // The record to store: an empty one, or the old one again.
-pub fn cleared(o: Emptying, old: Record) -> Record
-    ensures { λ r. ⌜ r ≡ clearedRecord o old ⌝ }
+pub fn cleared(e: Emptying, old: Record) -> Record
+    ensures { λ r. ⌜ r ≡ clearedRecord e old ⌝ }
 {
-    if o.refusal != 0 {
+    if e.refusal != 0 {
         return old;
     }
     routes::empty_record()

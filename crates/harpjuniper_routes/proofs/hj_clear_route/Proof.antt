@@ -120,8 +120,8 @@ module _ {M : Type 1} (𝓤 : URA M) (H : Heap 𝓤) (A : Atoms 𝓤) (W : Given
 
   module _ (room-r : Room T.the-row (length rs)) (g-place : place < 2 ^ 32) where
     -- what is returned is its fields
-    is-lowered-o : (o : Emptying) (x : Val) → Is E.the-row o (x ∷ []) → Is E.the-row o (E′.lowered o ∷ [])
-    is-lowered-o o x is = subst (Is E.the-row o) (E′.lowers .val-is o (x ∷ []) is) is
+    is-lowered-e : (e : Emptying) (x : Val) → Is E.the-row e (x ∷ []) → Is E.the-row e (E′.lowered e ∷ [])
+    is-lowered-e e x is = subst (Is E.the-row e) (E′.lowers .val-is e (x ∷ []) is) is
 
     -- the call of `clearing`
     abbrev asks-clearing : ℕ × (ℕ × Unit {0})
@@ -139,84 +139,84 @@ module _ {M : Type 1} (𝓤 : URA M) (H : Heap 𝓤) (A : Atoms 𝓤) (W : Given
         owned ! usize (Is usize) (uint-makes 𝓤 H A W w64) (length rs) _ (refl, room-r .0) $ fjoin ! $
         move ! (1 ∷ 0 ∷ []) $ join ! $ frame ! $ done !
 
-    clearing-said : (o : Emptying) → ent 𝓤 (ensured 𝓤 H A clearing.ended (clearing.clauses 𝓤 H A mem run) tt asks-clearing tt o)
-        (fact 𝓤 (o ≡ emptyingOf (length rs) place))
-    clearing-said o = exE 𝓤 _ (λ ws. snd∗ 𝓤 (sem 𝓤 H A (lasts clearing.ended tt asks-clearing ws)) (fact 𝓤 (o ≡ emptyingOf (length rs) place)))
+    clearing-said : (e : Emptying) → ent 𝓤 (ensured 𝓤 H A clearing.ended (clearing.clauses 𝓤 H A mem run) tt asks-clearing tt e)
+        (fact 𝓤 (e ≡ emptyingOf (length rs) place))
+    clearing-said e = exE 𝓤 _ (λ ws. snd∗ 𝓤 (sem 𝓤 H A (lasts clearing.ended tt asks-clearing ws)) (fact 𝓤 (e ≡ emptyingOf (length rs) place)))
 
     -- the call of `record_at`, with routes lent
-    abbrev asks-record-at : (o : Emptying) (is-o : Is E.the-row o (E′.lowered o ∷ [])) (νr : ℕ) (δr : GName) → RefT (List Record) × (ℕ × Unit {0})
-    asks-record-at o is-o νr δr = (xr δr, (o .place, tt))
+    abbrev asks-record-at : (e : Emptying) (is-e : Is E.the-row e (E′.lowered e ∷ [])) (νr : ℕ) (δr : GName) → RefT (List Record) × (ℕ × Unit {0})
+    asks-record-at e is-e νr δr = (xr δr, (e .place, tt))
 
-    abbrev to-record-at : (o : Emptying) (is-o : Is E.the-row o (E′.lowered o ∷ [])) (νr : ℕ) (δr : GName) → The-record-at 𝓤 H A mem run .Ghost
-    to-record-at o is-o νr δr = (((νr ∷ [], tt), (fullShare, tt), tt, (asks-record-at o is-o νr δr), (sr ∷ [], (vint w64 (o .place) ∷ [], tt))), tt)
+    abbrev to-record-at : (e : Emptying) (is-e : Is E.the-row e (E′.lowered e ∷ [])) (νr : ℕ) (δr : GName) → The-record-at 𝓤 H A mem run .Ghost
+    to-record-at e is-e νr δr = (((νr ∷ [], tt), (fullShare, tt), tt, (asks-record-at e is-e νr δr), (sr ∷ [], (vint w64 (e .place) ∷ [], tt))), tt)
 
     abbrev Gives-record-at : (νr : ℕ) (δr : GName) → List (Item 𝓤)
     Gives-record-at νr δr = ‵ (flft (νr ∷ []) fullShare) ∷ ‵ (LentR νr δr) ∷ []
 
-    goes-record-at : (o : Emptying) (is-o : Is E.the-row o (E′.lowered o ∷ [])) (νr : ℕ) (δr : GName) → ent 𝓤 (⋆ 𝓤 H A (Gives-record-at νr δr))
-        (The-record-at 𝓤 H A mem run .pre (to-record-at o is-o νr δr))
-    goes-record-at o is-o νr δr =
+    goes-record-at : (e : Emptying) (is-e : Is E.the-row e (E′.lowered e ∷ [])) (νr : ℕ) (δr : GName) → ent 𝓤 (⋆ 𝓤 H A (Gives-record-at νr δr))
+        (The-record-at 𝓤 H A mem run .pre (to-record-at e is-e νr δr))
+    goes-record-at e is-e νr δr =
         qed W (Gives-record-at νr δr) ∵
         nothing ! $
         move ! (1 ∷ 0 ∷ []) $ join ! $
         nothing ! $
-        owned ! usize (Is usize) (uint-makes 𝓤 H A W w64) (o .place) _ (refl, LL.owed E.the-type E′.the-laws o (E′.lowered o ∷ []) is-o .1 .0 .1) $
+        owned ! usize (Is usize) (uint-makes 𝓤 H A W w64) (e .place) _ (refl, LL.owed E.the-type E′.the-laws e (E′.lowered e ∷ []) is-e .1 .0 .1) $
         fjoin ! $
         move ! (2 ∷ 0 ∷ []) $ fjoin ! $
         move ! (1 ∷ 0 ∷ []) $ join ! $ frame ! $ done !
 
-    record-at-said : (o : Emptying) (is-o : Is E.the-row o (E′.lowered o ∷ [])) (νr : ℕ) (δr : GName) (old : Record) → ent 𝓤
-        (ensured 𝓤 H A record-at.ended (record-at.clauses 𝓤 H A mem run) (νr ∷ [], tt) (asks-record-at o is-o νr δr) tt old)
-        (fact 𝓤 (old ≡ recordAt rs (o .place)))
-    record-at-said o is-o νr δr old = exE 𝓤 _ (λ ws. snd∗ 𝓤 (sem 𝓤 H A (lasts record-at.ended (νr ∷ [], tt) (asks-record-at o is-o νr δr) ws))
-        (fact 𝓤 (old ≡ recordAt rs (o .place))))
+    record-at-said : (e : Emptying) (is-e : Is E.the-row e (E′.lowered e ∷ [])) (νr : ℕ) (δr : GName) (old : Record) → ent 𝓤
+        (ensured 𝓤 H A record-at.ended (record-at.clauses 𝓤 H A mem run) (νr ∷ [], tt) (asks-record-at e is-e νr δr) tt old)
+        (fact 𝓤 (old ≡ recordAt rs (e .place)))
+    record-at-said e is-e νr δr old = exE 𝓤 _ (λ ws. snd∗ 𝓤 (sem 𝓤 H A (lasts record-at.ended (νr ∷ [], tt) (asks-record-at e is-e νr δr) ws))
+        (fact 𝓤 (old ≡ recordAt rs (e .place))))
 
     -- the call of `cleared`
-    abbrev asks-cleared : (o : Emptying) (is-o : Is E.the-row o (E′.lowered o ∷ [])) (old : Record) (xold : Val)
+    abbrev asks-cleared : (e : Emptying) (is-e : Is E.the-row e (E′.lowered e ∷ [])) (old : Record) (xold : Val)
         (is-old : Is T.the-row old (xold ∷ [])) → Emptying × (Record × Unit {0})
-    asks-cleared o is-o old xold is-old = (o, (old, tt))
+    asks-cleared e is-e old xold is-old = (e, (old, tt))
 
-    abbrev to-cleared : (o : Emptying) (is-o : Is E.the-row o (E′.lowered o ∷ [])) (old : Record) (xold : Val)
+    abbrev to-cleared : (e : Emptying) (is-e : Is E.the-row e (E′.lowered e ∷ [])) (old : Record) (xold : Val)
         (is-old : Is T.the-row old (xold ∷ [])) → The-cleared 𝓤 H A mem run .Ghost
-    to-cleared o is-o old xold is-old = ((tt, tt, tt, (asks-cleared o is-o old xold is-old), (E′.lowered o ∷ [], (xold ∷ [], tt))), tt)
+    to-cleared e is-e old xold is-old = ((tt, tt, tt, (asks-cleared e is-e old xold is-old), (E′.lowered e ∷ [], (xold ∷ [], tt))), tt)
 
-    goes-cleared : (o : Emptying) (is-o : Is E.the-row o (E′.lowered o ∷ [])) (old : Record) (xold : Val) (is-old : Is T.the-row old (xold ∷ [])) →
-        ent 𝓤 (⋆ 𝓤 H A []) (The-cleared 𝓤 H A mem run .pre (to-cleared o is-o old xold is-old))
-    goes-cleared o is-o old xold is-old =
+    goes-cleared : (e : Emptying) (is-e : Is E.the-row e (E′.lowered e ∷ [])) (old : Record) (xold : Val) (is-old : Is T.the-row old (xold ∷ [])) →
+        ent 𝓤 (⋆ 𝓤 H A []) (The-cleared 𝓤 H A mem run .pre (to-cleared e is-e old xold is-old))
+    goes-cleared e is-e old xold is-old =
         qed W [] ∵
         nothing ! $
         nothing ! $
         owned ! T.the-row (Is T.the-row) (LL.makes T.the-type T′.the-plain 𝓤 H A) old _ is-old $ fjoin ! $
-        owned ! E.the-row (Is E.the-row) (LL.makes E.the-type E′.the-plain 𝓤 H A) o _ is-o $ fjoin ! $
+        owned ! E.the-row (Is E.the-row) (LL.makes E.the-type E′.the-plain 𝓤 H A) e _ is-e $ fjoin ! $
         move ! (1 ∷ 0 ∷ []) $ join ! $ frame ! $ done !
 
-    cleared-said : (o : Emptying) (is-o : Is E.the-row o (E′.lowered o ∷ [])) (old : Record) (xold : Val) (is-old : Is T.the-row old (xold ∷ []))
-        (x : Record) → ent 𝓤 (ensured 𝓤 H A cleared.ended (cleared.clauses 𝓤 H A mem run) tt (asks-cleared o is-o old xold is-old) tt x)
-        (fact 𝓤 (x ≡ clearedRecord o old))
-    cleared-said o is-o old xold is-old x = exE 𝓤 _ (λ ws. snd∗ 𝓤 (sem 𝓤 H A (lasts cleared.ended tt (asks-cleared o is-o old xold is-old) ws))
-        (fact 𝓤 (x ≡ clearedRecord o old)))
+    cleared-said : (e : Emptying) (is-e : Is E.the-row e (E′.lowered e ∷ [])) (old : Record) (xold : Val) (is-old : Is T.the-row old (xold ∷ []))
+        (x : Record) → ent 𝓤 (ensured 𝓤 H A cleared.ended (cleared.clauses 𝓤 H A mem run) tt (asks-cleared e is-e old xold is-old) tt x)
+        (fact 𝓤 (x ≡ clearedRecord e old))
+    cleared-said e is-e old xold is-old x = exE 𝓤 _ (λ ws. snd∗ 𝓤 (sem 𝓤 H A (lasts cleared.ended tt (asks-cleared e is-e old xold is-old) ws))
+        (fact 𝓤 (x ≡ clearedRecord e old)))
 
     -- the call of `set_at`
-    abbrev asks-set-at : (o : Emptying) (is-o : Is E.the-row o (E′.lowered o ∷ [])) (x : Record) (xx : Val) (is-x : Is T.the-row x (xx ∷ [])) → RefT
+    abbrev asks-set-at : (e : Emptying) (is-e : Is E.the-row e (E′.lowered e ∷ [])) (x : Record) (xx : Val) (is-x : Is T.the-row x (xx ∷ [])) → RefT
         (List Record) × (ℕ × (Record × Unit {0}))
-    asks-set-at o is-o x xx is-x = (xr γr, (o .place, (x, tt)))
+    asks-set-at e is-e x xx is-x = (xr γr, (e .place, (x, tt)))
 
-    abbrev to-set-at : (o : Emptying) (is-o : Is E.the-row o (E′.lowered o ∷ [])) (x : Record) (xx : Val) (is-x : Is T.the-row x (xx ∷ [])) →
+    abbrev to-set-at : (e : Emptying) (is-e : Is E.the-row e (E′.lowered e ∷ [])) (x : Record) (xx : Val) (is-x : Is T.the-row x (xx ∷ [])) →
         The-set-at 𝓤 H A mem run .Ghost
-    to-set-at o is-o x xx is-x = (((κr, tt), (qr, tt), tt, (asks-set-at o is-o x xx is-x), (sr ∷ [], (vint w64 (o .place) ∷ [], (xx ∷ [], tt)))), tt)
+    to-set-at e is-e x xx is-x = (((κr, tt), (qr, tt), tt, (asks-set-at e is-e x xx is-x), (sr ∷ [], (vint w64 (e .place) ∷ [], (xx ∷ [], tt)))), tt)
 
     abbrev Gives-set-at : List (Item 𝓤)
     Gives-set-at = ‵ (flft κr qr) ∷ ‵ MineR ∷ []
 
-    goes-set-at : (o : Emptying) (is-o : Is E.the-row o (E′.lowered o ∷ [])) (x : Record) (xx : Val) (is-x : Is T.the-row x (xx ∷ [])) → ent 𝓤
-        (⋆ 𝓤 H A Gives-set-at) (The-set-at 𝓤 H A mem run .pre (to-set-at o is-o x xx is-x))
-    goes-set-at o is-o x xx is-x =
+    goes-set-at : (e : Emptying) (is-e : Is E.the-row e (E′.lowered e ∷ [])) (x : Record) (xx : Val) (is-x : Is T.the-row x (xx ∷ [])) → ent 𝓤
+        (⋆ 𝓤 H A Gives-set-at) (The-set-at 𝓤 H A mem run .pre (to-set-at e is-e x xx is-x))
+    goes-set-at e is-e x xx is-x =
         qed W Gives-set-at ∵
         nothing ! $
         move ! (1 ∷ 0 ∷ []) $ join ! $
         nothing ! $
         owned ! T.the-row (Is T.the-row) (LL.makes T.the-type T′.the-plain 𝓤 H A) x _ is-x $ fjoin ! $
-        owned ! usize (Is usize) (uint-makes 𝓤 H A W w64) (o .place) _ (refl, LL.owed E.the-type E′.the-laws o (E′.lowered o ∷ []) is-o .1 .0 .1) $
+        owned ! usize (Is usize) (uint-makes 𝓤 H A W w64) (e .place) _ (refl, LL.owed E.the-type E′.the-laws e (E′.lowered e ∷ []) is-e .1 .0 .1) $
         fjoin ! $
         move ! (2 ∷ 0 ∷ []) $ fjoin ! $
         move ! (1 ∷ 0 ∷ []) $ join ! $ frame ! $ done !
@@ -251,14 +251,14 @@ module _ {M : Type 1} (𝓤 : URA M) (H : Heap 𝓤) (A : Atoms 𝓤) (W : Given
           use0 W (raw (The-clearing 𝓤 H A mem run .pre to-clearing)) goes-clearing $
           -- [what `clearing` asks; routes's token; routes; _11; …]
           calls-at ! fm (The-clearing 𝓤 H A mem run) known-clearing to-clearing
-          (and-then ! (load ! (from ! (stop !)) (look ! 13 refl)) (and-then ! (load ! (from ! (stop !)) (look ! 21 refl)) (no-more !))) (λ xo.
-          use1 W (later (some (λ (o : Emptying). (‵ ftrue ⊛ ‵ (E.the-row .own o (xo ∷ []))) ⊛ raw
-          (ensured 𝓤 H A clearing.ended (clearing.clauses 𝓤 H A mem run) tt asks-clearing tt o)))) (id⊢ 𝓤 _) $ await ! tt $ pick ! (λ o.
-          split ! $ move ! (1 ∷ []) $ use1 W (raw (fact 𝓤 (o ≡ emptyingOf (length rs) place))) (clearing-said o) $ heard !
-          (o ≡ emptyingOf (length rs) place) (λ e-o. split ! $
-          drop ! $ peeks ! E.the-row (Is E.the-row) (shows 𝓤 H A E.the-row) o (xo ∷ []) (λ is-o.
-          land ! (from ! (stop !)) (init ! 19 refl (LL.lawful E.the-type E′.the-laws 𝓤 H A W .typed o _ is-o .0)) $ drop ! $
-          rewrite ! 18 (λ (z : Val). ‵ (fat fullShare E′.mir l₃ 0 z)) (ap only (E′.lowers .val-is o (xo ∷ []) is-o)) refl $
+          (and-then ! (load ! (from ! (stop !)) (look ! 13 refl)) (and-then ! (load ! (from ! (stop !)) (look ! 21 refl)) (no-more !))) (λ xe.
+          use1 W (later (some (λ (e : Emptying). (‵ ftrue ⊛ ‵ (E.the-row .own e (xe ∷ []))) ⊛ raw
+          (ensured 𝓤 H A clearing.ended (clearing.clauses 𝓤 H A mem run) tt asks-clearing tt e)))) (id⊢ 𝓤 _) $ await ! tt $ pick ! (λ e.
+          split ! $ move ! (1 ∷ []) $ use1 W (raw (fact 𝓤 (e ≡ emptyingOf (length rs) place))) (clearing-said e) $ heard !
+          (e ≡ emptyingOf (length rs) place) (λ e-e. split ! $
+          drop ! $ peeks ! E.the-row (Is E.the-row) (shows 𝓤 H A E.the-row) e (xe ∷ []) (λ is-e.
+          land ! (from ! (stop !)) (init ! 19 refl (LL.lawful E.the-type E′.the-laws 𝓤 H A W .typed e _ is-e .0)) $ drop ! $
+          rewrite ! 18 (λ (z : Val). ‵ (fat fullShare E′.mir l₃ 0 z)) (ap only (E′.lowers .val-is e (xe ∷ []) is-e)) refl $
           assigns ! (addr ! (from ! (fld ! refl (hop ! (look-in ! 22 (sub ! 0 refl (whole !))) (stop !))))) (from ! (stop !))
           (init ! 10 refl (tt, tt)) $
           assigns ! (agg ! (and-then ! (load ! (from ! (stop !)) (look ! 10 refl))
@@ -269,33 +269,33 @@ module _ {M : Type 1} (𝓤 : URA M) (H : Heap 𝓤) (A : Atoms 𝓤) (W : Given
           use2 W (later (some (λ (δr : GName). ‵ (LentR νr δr) ⊛ ‵ (KeptR νr))))
           (lends-shared T.the-row κr (νr ∷ []) qr γr br or rs 𝓤 H A W (named 0) (named 0)) $ await ! tt $ pick ! (λ δr. split ! $
           move ! (2 ∷ 0 ∷ []) $
-          group ! 2 $ use1 W (raw (The-record-at 𝓤 H A mem run .pre (to-record-at o (is-lowered-o o xo is-o) νr δr)))
-          (goes-record-at o (is-lowered-o o xo is-o) νr δr) $
+          group ! 2 $ use1 W (raw (The-record-at 𝓤 H A mem run .pre (to-record-at e (is-lowered-e e xe is-e) νr δr)))
+          (goes-record-at e (is-lowered-e e xe is-e) νr δr) $
           -- [what `record_at` asks; routes's rest; _11; …]
-          calls-at ! fm (The-record-at 𝓤 H A mem run) known-record-at (to-record-at o (is-lowered-o o xo is-o) νr δr)
+          calls-at ! fm (The-record-at 𝓤 H A mem run) known-record-at (to-record-at e (is-lowered-e e xe is-e) νr δr)
           (and-then ! (load ! (from ! (stop !)) (look ! 8 refl))
           (and-then ! (load ! (from ! (fld ! refl (stop !))) (look-in ! 18 (sub ! 1 refl (whole !)))) (no-more !))) (λ xold.
           use1 W (later (some (λ (old : Record). ((‵ (flft (νr ∷ []) fullShare) ⊛ ‵ ftrue) ⊛ ‵ (T.the-row .own old (xold ∷ []))) ⊛ raw
-          (ensured 𝓤 H A record-at.ended (record-at.clauses 𝓤 H A mem run) (νr ∷ [], tt) (asks-record-at o (is-lowered-o o xo is-o) νr δr) tt
+          (ensured 𝓤 H A record-at.ended (record-at.clauses 𝓤 H A mem run) (νr ∷ [], tt) (asks-record-at e (is-lowered-e e xe is-e) νr δr) tt
           old)))) (id⊢ 𝓤 _) $ await ! tt $ pick ! (λ old.
-          split ! $ move ! (1 ∷ []) $ use1 W (raw (fact 𝓤 (old ≡ recordAt rs (o .place)))) (record-at-said o (is-lowered-o o xo is-o) νr δr old) $
-          heard ! (old ≡ recordAt rs (o .place)) (λ e-old. split ! $
+          split ! $ move ! (1 ∷ []) $ use1 W (raw (fact 𝓤 (old ≡ recordAt rs (e .place)))) (record-at-said e (is-lowered-e e xe is-e) νr δr old) $
+          heard ! (old ≡ recordAt rs (e .place)) (λ e-old. split ! $
           move ! (1 ∷ []) $ peeks ! T.the-row (Is T.the-row) (shows 𝓤 H A T.the-row) old (xold ∷ []) (λ is-old.
           land ! (from ! (stop !)) (init ! 17 refl (LL.lawful T.the-type T′.the-laws 𝓤 H A W .typed old _ is-old .0)) $ drop ! $ split ! $
           move ! (1 ∷ []) $ drop ! $ lft-end ! tt $
           use2 W (later (‵ MineR ⊛ ‵ (flft κr qr))) (shared-back T.the-row κr (νr ∷ []) qr γr br or rs 𝓤 H A W (named 0) (named 0) room-r) $ await !
           tt $ split ! $
           -- `cleared`
-          use0 W (raw (The-cleared 𝓤 H A mem run .pre (to-cleared o (is-lowered-o o xo is-o) old xold is-old)))
-          (goes-cleared o (is-lowered-o o xo is-o) old xold is-old) $
+          use0 W (raw (The-cleared 𝓤 H A mem run .pre (to-cleared e (is-lowered-e e xe is-e) old xold is-old)))
+          (goes-cleared e (is-lowered-e e xe is-e) old xold is-old) $
           -- [what `cleared` asks; routes; routes's token; _11; …]
-          calls-at ! fm (The-cleared 𝓤 H A mem run) known-cleared (to-cleared o (is-lowered-o o xo is-o) old xold is-old)
+          calls-at ! fm (The-cleared 𝓤 H A mem run) known-cleared (to-cleared e (is-lowered-e e xe is-e) old xold is-old)
           (and-then ! (load ! (from ! (stop !)) (look ! 19 refl)) (and-then ! (load ! (from ! (stop !)) (look ! 17 refl)) (no-more !))) (λ xx.
           use1 W (later (some (λ (x : Record). (‵ ftrue ⊛ ‵ (T.the-row .own x (xx ∷ []))) ⊛ raw
-          (ensured 𝓤 H A cleared.ended (cleared.clauses 𝓤 H A mem run) tt (asks-cleared o (is-lowered-o o xo is-o) old xold is-old) tt x))))
+          (ensured 𝓤 H A cleared.ended (cleared.clauses 𝓤 H A mem run) tt (asks-cleared e (is-lowered-e e xe is-e) old xold is-old) tt x))))
           (id⊢ 𝓤 _) $ await ! tt $ pick ! (λ x.
-          split ! $ move ! (1 ∷ []) $ use1 W (raw (fact 𝓤 (x ≡ clearedRecord o old))) (cleared-said o (is-lowered-o o xo is-o) old xold is-old x) $
-          heard ! (x ≡ clearedRecord o old) (λ e-x. split ! $
+          split ! $ move ! (1 ∷ []) $ use1 W (raw (fact 𝓤 (x ≡ clearedRecord e old))) (cleared-said e (is-lowered-e e xe is-e) old xold is-old x) $
+          heard ! (x ≡ clearedRecord e old) (λ e-x. split ! $
           drop ! $ peeks ! T.the-row (Is T.the-row) (shows 𝓤 H A T.the-row) x (xx ∷ []) (λ is-x.
           land ! (from ! (stop !)) (init ! 15 refl (LL.lawful T.the-type T′.the-laws 𝓤 H A W .typed x _ is-x .0)) $ drop ! $
           assigns ! (addr ! (from ! (fld ! refl (hop ! (look-in ! 22 (sub ! 0 refl (whole !))) (stop !))))) (from ! (stop !))
@@ -305,35 +305,35 @@ module _ {M : Type 1} (𝓤 : URA M) (H : Heap 𝓤) (A : Atoms 𝓤) (W : Given
           (init ! 2 refl (tt, (tt, (record { fits = room-r .0 }, tt)))) $
           -- `set_at`
           move ! (1 ∷ 0 ∷ []) $
-          group ! 2 $ use1 W (raw (The-set-at 𝓤 H A mem run .pre (to-set-at o (is-lowered-o o xo is-o) x xx is-x)))
-          (goes-set-at o (is-lowered-o o xo is-o) x xx is-x) $
+          group ! 2 $ use1 W (raw (The-set-at 𝓤 H A mem run .pre (to-set-at e (is-lowered-e e xe is-e) x xx is-x)))
+          (goes-set-at e (is-lowered-e e xe is-e) x xx is-x) $
           -- [what `set_at` asks; _11; …]
-          calls-at ! fm (The-set-at 𝓤 H A mem run) known-set-at (to-set-at o (is-lowered-o o xo is-o) x xx is-x)
+          calls-at ! fm (The-set-at 𝓤 H A mem run) known-set-at (to-set-at e (is-lowered-e e xe is-e) x xx is-x)
           (and-then ! (load ! (from ! (stop !)) (look ! 1 refl))
           (and-then ! (load ! (from ! (fld ! refl (stop !))) (look-in ! 17 (sub ! 1 refl (whole !))))
           (and-then ! (load ! (from ! (stop !)) (look ! 13 refl)) (no-more !)))) (λ xn.
           use1 W (later (some (λ (n : Unit {0}). ((‵ (flft κr qr) ⊛ ‵ ftrue) ⊛ ‵ (Nothing .own n (xn ∷ []))) ⊛ raw
-          (ensured 𝓤 H A set-at.ended (set-at.clauses 𝓤 H A mem run) (κr, tt) (asks-set-at o (is-lowered-o o xo is-o) x xx is-x) tt n))))
+          (ensured 𝓤 H A set-at.ended (set-at.clauses 𝓤 H A mem run) (κr, tt) (asks-set-at e (is-lowered-e e xe is-e) x xx is-x) tt n))))
           (id⊢ 𝓤 _) $ await ! tt $ pick ! (λ n.
           split ! $ move ! (1 ∷ []) $ use1 W (some (λ (z-n : List Record × (Unit {0} × (Unit {0} × Unit {0}))). ‵
-          (lasts set-at.ended (κr, tt) (asks-set-at o (is-lowered-o o xo is-o) x xx is-x) z-n) ⊛ raw (fact 𝓤 (z-n .0 ≡ set rs (o .place) x))))
+          (lasts set-at.ended (κr, tt) (asks-set-at e (is-lowered-e e xe is-e) x xx is-x) z-n) ⊛ raw (fact 𝓤 (z-n .0 ≡ set rs (e .place) x))))
           (id⊢ 𝓤 _) $ pick ! (λ z-n.
-          split ! $ move ! (1 ∷ []) $ heard ! (z-n .0 ≡ set rs (o .place) x) (λ e-n.
+          split ! $ move ! (1 ∷ []) $ heard ! (z-n .0 ≡ set rs (e .place) x) (λ e-n.
           fsplit ! $ fsplit ! $ move ! (1 ∷ []) $ feqL ! (λ len-r. move ! (1 ∷ []) $ drop ! $ move ! (1 ∷ []) $ split ! $ move ! (1 ∷ []) $
           peeks ! Nothing (Is Nothing) (shows 𝓤 H A Nothing) n (xn ∷ []) (λ is-n.
           land ! (from ! (stop !)) (init ! 7 refl (nothing-lawful 𝓤 H A W .typed n _ is-n .0)) $ drop ! $ split ! $ move ! (1 ∷ []) $ drop ! $
           assigns ! (of-opd ! (load ! (from ! (fld ! refl (stop !))) (look-in ! 18 (sub ! 0 refl (whole !))))) (from ! (stop !))
-          (init ! 24 refl (tt, record { fits = LL.owed E.the-type E′.the-laws o (E′.lowered o ∷ []) (is-lowered-o o xo is-o) .0 .1 })) $
+          (init ! 24 refl (tt, record { fits = LL.owed E.the-type E′.the-laws e (E′.lowered e ∷ []) (is-lowered-e e xe is-e) .0 .1 })) $
           returns ! (look ! 24 refl) $ forget ! 2 refl $ forget ! 4 refl $ forget ! 6 refl $ forget ! 8 refl $ forget ! 10 refl $ forget ! 12 refl $
           forget ! 14 refl $ forget ! 16 refl $ forget ! 18 refl $ forget ! 20 refl $ forget ! 22 refl $ forget ! 24 refl $
           move ! (24 ∷ 25 ∷ []) $ free1 ! $ move ! (22 ∷ 23 ∷ []) $ free1 ! $ move ! (20 ∷ 21 ∷ []) $ free1 ! $ move ! (18 ∷ 19 ∷ []) $ free1 ! $
           move ! (16 ∷ 17 ∷ []) $ free1 ! $ move ! (14 ∷ 15 ∷ []) $ free1 ! $ move ! (12 ∷ 13 ∷ []) $ free1 ! $ move ! (10 ∷ 11 ∷ []) $ free1 ! $
           move ! (8 ∷ 9 ∷ []) $ free1 ! $ move ! (6 ∷ 7 ∷ []) $ free1 ! $ move ! (4 ∷ 5 ∷ []) $ free1 ! $ move ! (2 ∷ 3 ∷ []) $ free1 ! $ free0 ! $
-          by ! (exits (o .refusal) (vint w32 (o .refusal)) (
+          by ! (exits (e .refusal) (vint w32 (e .refusal)) (
             refl,
-            LL.owed E.the-type E′.the-laws o (E′.lowered o ∷ []) (is-lowered-o o xo is-o) .0
+            LL.owed E.the-type E′.the-laws e (E′.lowered e ∷ []) (is-lowered-e e xe is-e) .0
                 .1,
-          ) (z-n .0) (clear-told rs place o old x (z-n .0) e-o e-old e-x e-n) len-r)))))))))))))))))))))))))))))))))
+          ) (z-n .0) (clear-told rs place e old x (z-n .0) e-e e-old e-x e-n) len-r)))))))))))))))))))))))))))))))))
 
 module _ {M : Type 1} (𝓤 : URA M) (H : Heap 𝓤) (A : Atoms 𝓤) (W : Given 𝓤 H A) (mem : Memory → SProp 𝓤) (run : Routine → Fun 𝓤) where
   walks-through : (C : Calls 𝓤 H) (Λ : Loops 𝓤 H) → FmC 𝓤 H (W .laws) C → Triple 𝓤 (C #route-calls·clearing) (The-clearing 𝓤 H A mem run) → Triple 𝓤
