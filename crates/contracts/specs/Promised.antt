@@ -11,6 +11,7 @@ use Rattle.checks.specs.Answer.{refusalNumber}
 use Rattle.address.specs.Class.{classOf, classNumber}
 use Rattle.address.specs.Path.{pathForm, pathNumber}
 use Rattle.checksum.specs.Sum.{checksumOf}
+use Rattle.header.specs.Read.{readOf}
 use Rattle.sets.specs.Limits.{groupPlaces, pathPlaces}
 use Rattle.routes.specs.declared.Record.{Record}
 use Rattle.state.specs.Relay.{Relay, Mission}
@@ -20,7 +21,7 @@ use Rattle.lent_state.specs.View.{Lent, lent, lentBoard, toldBoard, changedBoar
 use Rattle.refusals.specs.Lists.{portChecks, routeChecks, clearRouteChecks, groupChecks, pathChecks, routerChecks, clearChecks, missionChecks}
 use Rattle.adjust.specs.Settled.{newRecord, settledFresh, settledRouter, settledPort, settledRoute, clearedRoute, settledGroup, settledPath, clearedGroup, clearedPath}
 use Rattle.taking.specs.Taking.{takenRelay}
-use Rattle.harpjuniper.specs.Face.{readAnswer, readLeft, buildTold, buildLeft}
+use Rattle.harpjuniper.specs.Face.{readingOf, readAnswer, readLeft, buildWordsAnswer, buildWordsOutput}
 use Rattle.harpjuniper_reads.specs.Back.{portAnswer, groupAnswer, pathAnswer}
 use Rattle.harpjuniper_routes.specs.Face.{searchTold, routeWordTold}
 use Rattle.harpjuniper_receive.specs.Face.{receiveAnswer, receiveWords, receiveOutput}
@@ -177,10 +178,10 @@ onState c m answer change = missionLeft (looking (lentTo c) (told answer 21 m)) 
 abbrev pub promised : Exported → Promise
 promised (hj-read-words octets n) =
     let c = hj-read-words octets n in
-    numbersLeft (looking (lentTo c) (readAnswer octets n)) (readLeft octets n)
+    numbersLeft (looking (lentTo c) (readAnswer (length n) (readingOf (readOf octets)))) (readLeft (readingOf (readOf octets)) n)
 promised (hj-build-words n size o) =
     let c = hj-build-words n size o in
-    outputLeft (looking (lentTo c) (buildTold n size o)) (buildLeft n size o)
+    outputLeft (looking (lentTo c) (buildWordsAnswer n size (length o))) (buildWordsOutput n size o)
 promised (hj-class a) = looking nothing (classNumber (classOf a))
 promised (hj-path p) = looking nothing (pathNumber (pathForm p))
 promised (hj-checksum octets) = looking nothing (checksumOf octets)

@@ -1,7 +1,7 @@
 -- Traces: calls from C on a board and two missions, each with any result that its contract lets it give back, and each on the words that the calls before
 -- left (page 01, "Settings": "a history is made of such calls"; "What a promise has to shut out"; page 02, W-208). A list of routes is an argument of each
 -- call that is lent one: it may be another each time. Assumes nothing.
-use Prim.Native.Nat.{ℕ}
+use Prim.Native.Nat.{ℕ, _^_, _<_}
 use mathlib.Core.Path.{_≡_}
 use mathlib.Core.Bool.{Bool, true, false}
 use mathlib.Core.List.{List, [], _∷_}
@@ -41,10 +41,15 @@ use Rattle.contracts.specs.Promised.{
   hj-waiting,
 }
 use Rattle.contracts.specs.Contracts.{Says}
-use Rattle.harpjuniper.specs.Face.{readingWords}
-use Rattle.history.specs.Ranges.{Passed}
-use Rattle.history.specs.Seat.{Seat}
-use Rattle.history.specs.Outcome.{seatAfter}
+use Rattle.queue.specs.Order.{Each}
+use Rattle.routes.specs.declared.Record.{Record}
+use Rattle.route_calls.specs.Calls.{recordWords}
+use Rattle.state.specs.Relay.{Relay}
+use Rattle.state.specs.Seen.{Board, freshBoard}
+use Rattle.harpjuniper.specs.Face.{readingCount}
+use Rattle.history.specs.Ranges.{OwnPassed}
+use Rattle.history.specs.Seat.{Seat, relayIn, relayWith}
+use Rattle.history.specs.Outcome.{nextBoard, seatAfter}
 use Rattle.history.specs.Calls.{
   Order,
   setRouter,
@@ -100,6 +105,11 @@ pub data Step : Type 0 where
   operates : OperatorCall → Step
   flies : Customer → MissionCall → Step
 
+-- a call of the history that a customer has part in, as a step
+abbrev pub stepOf : Customer → Call → Step
+stepOf who (operator c) = operates c
+stepOf who (own c) = flies who c
+
 -- the words that C keeps
 pub record Words : Type 0 where
   pub board : List ℕ
@@ -124,7 +134,7 @@ module _ (b : List ℕ) where
   viewBy (portWord p word) = hj-port-word b p word
   viewBy (recordWord rs i word) = hj-route-word rs i word
 
-  abbrev operatorBy : OperatorCall → Exported
+  abbrev pub operatorBy : OperatorCall → Exported
   operatorBy (orders o) = orderBy o
   operatorBy (views v) = viewBy v
 
@@ -141,7 +151,7 @@ module _ (b : List ℕ) where
     lookBy (search rs a) = hj-search b m rs (a .0)
     lookBy (counter i) = hj-counter m i
     lookBy (waiting p) = hj-waiting m p
-    lookBy (read octets) = hj-read-words octets (replicate readingWords 0)
+    lookBy (read octets) = hj-read-words octets (replicate readingCount 0)
     lookBy (build fields size output) = hj-build-words (numbersWords fields) size output
     lookBy (class a) = hj-class (a .0)
     lookBy (form p) = hj-path (p .0)
@@ -149,7 +159,7 @@ module _ (b : List ℕ) where
     lookBy boardSize = hj-board-words
     lookBy missionSize = hj-mission-words
 
-    abbrev missionBy : MissionCall → Exported
+    abbrev pub missionBy : MissionCall → Exported
     missionBy (sets s) = setBy s
     missionBy (hears rs p slot octets output) = hj-receive-at b m rs p (slot .0) octets output
     missionBy (takes p) = hj-take b m p
@@ -173,7 +183,7 @@ module _ (b : List ℕ) where
   viewLeaves (portWord p word) y = y .left .board
   viewLeaves (recordWord rs i word) y = b
 
-  abbrev operatorLeaves : OperatorCall → Result → List ℕ
+  abbrev pub operatorLeaves : OperatorCall → Result → List ℕ
   operatorLeaves (orders o) y = orderLeaves o y
   operatorLeaves (views v) y = viewLeaves v y
 
@@ -192,7 +202,7 @@ module _ (m : List ℕ) where
   lookLeaves boardSize y = m
   lookLeaves missionSize y = m
 
-  abbrev missionLeaves : MissionCall → Result → List ℕ
+  abbrev pub missionLeaves : MissionCall → Result → List ℕ
   missionLeaves (sets s) y = y .left .mission
   missionLeaves (hears rs p slot octets output) y = y .left .mission
   missionLeaves (takes p) y = y .left .mission
@@ -208,10 +218,34 @@ abbrev pub Trace : Words → List Step → Words → Type 0
 Trace w [] v = v ≡ w
 Trace w (c ∷ cs) v = (x : Result) × (Says (made w c) x × Trace (wordsAfter w c x) cs v)
 
--- ---- what C can pass
+-- ---- what C can pass: beside octets, slots and the numbers of a header, a number of 32 bits wherever one is stored that can be read back
+abbrev pub Fit : List ℕ → Type 0
+Fit = Each (λ (n : ℕ). n < 2 ^ 32)
+
+abbrev pub OperatorPasses : OperatorCall → Type 0
+OperatorPasses (orders (setRouter x)) = Unit
+OperatorPasses (orders (setPort p address mask mtu mission)) = Fit (address .0 ∷ mask .0 ∷ mtu ∷ mission ∷ [])
+OperatorPasses (orders (setRoute rs i prefix mask p availability capabilities mission)) = Unit
+OperatorPasses (orders (clearRoute rs i)) = Unit
+OperatorPasses (views routerFlag) = Unit
+OperatorPasses (views (portWord p word)) = Unit
+OperatorPasses (views (recordWord rs i word)) = Each (λ (x : Record). Fit (recordWords x)) rs
+
+abbrev pub SettingPasses : Setting → Type 0
+SettingPasses (setGroup i address send subscribed) = Fit (address .0 ∷ send ∷ subscribed ∷ [])
+SettingPasses (setPath i to send here) = Fit (to .0 ∷ send ∷ here ∷ [])
+SettingPasses (clearGroup i) = Unit
+SettingPasses (clearPath i) = Unit
+
+abbrev pub MissionPasses : MissionCall → Type 0
+MissionPasses (sets s) = SettingPasses s
+MissionPasses (hears rs p slot octets output) = OwnPassed (hears rs p slot octets output)
+MissionPasses (takes p) = Unit
+MissionPasses (looks l) = OwnPassed (looks l)
+
 abbrev pub Passes : Step → Type 0
-Passes (operates c) = Unit
-Passes (flies who c) = Passed c
+Passes (operates c) = OperatorPasses c
+Passes (flies who c) = MissionPasses c
 
 abbrev pub AllPass : List Step → Type 0
 AllPass [] = Unit
@@ -246,9 +280,24 @@ ordersOf [] = []
 ordersOf (operates c ∷ cs) = c ∷ ordersOf cs
 ordersOf (flies x c ∷ cs) = ordersOf cs
 
--- the board, and the customer's settings and queues, after these steps
+-- the board after them
+abbrev pub boardAfter : Board → List OperatorCall → Board
+boardAfter b [] = b
+boardAfter b (c ∷ cs) = boardAfter (nextBoard b c) cs
+
+abbrev pub boardOf : List Step → Board
+boardOf cs = boardAfter freshBoard (ordersOf cs)
+
+-- ---- the board, and the customer's settings and queues, after these steps
 abbrev pub seatOf : Customer → List Step → Seat
 seatOf who cs = seatAfter (numberOf who) (historyOf who cs)
+
+-- page 01's relay as the customer sees it then: in a call that is lent no list, and in one that is lent this list
+abbrev pub relayOf : Customer → List Step → Relay
+relayOf who cs = relayIn (seatOf who cs)
+
+abbrev pub relayFor : Customer → List Step → List Record → Relay
+relayFor who cs rs = relayWith (seatOf who cs) rs
 
 -- ---- x is what a step may give back after these
 pub record Gives (cs : List Step) (c : Step) (x : Result) : Type 0 where
