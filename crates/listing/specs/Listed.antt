@@ -19,16 +19,20 @@ use Rattle.state.specs.Relay.{Relay, readyOf, allRoutes}
 use Rattle.state.specs.Seen.{Board, State, portsSeen, allPorts, seated}
 
 -- ---- one record
--- what refuses it, judged by the board's ports: "port number, or port not set up"; "mask or prefix bits"; "code out of range", a mission's number and
--- the other mission's port among these
-abbrev pub recordChecks : Board → Record → Checks
-recordChecks b x =
-    (not (isReady (x .port) (readyOf (allPorts b))), 21)
+-- what refuses it, by the sets of the ports that are set up and of those that its mission has: "port number, or port not set up"; "mask or prefix
+-- bits"; "code out of range", a mission's number and the other mission's port among these
+abbrev pub checksOf : Record → ℕ → ℕ → Checks
+checksOf x ready own =
+    (not (isReady (x .port) ready), 21)
     ∷ (prefixRefused (record { 0 = x .prefix }) (record { 0 = x .mask }), 22)
     ∷ (codesRefused (x .availability) (x .capabilities), 24)
     ∷ (not (isMission (x .mission)), 24)
-    ∷ (not (isReady (x .port) (readyOf (portsSeen (x .mission) b))), 24)
+    ∷ (not (isReady (x .port) own), 24)
     ∷ []
+
+-- judged by the board's ports
+abbrev pub recordChecks : Board → Record → Checks
+recordChecks b x = checksOf x (readyOf (allPorts b)) (readyOf (portsSeen (x .mission) b))
 
 -- filled, and refused by none of these
 unfoldable pub stands : Board → Record → Bool
