@@ -1,4 +1,4 @@
--- `harpjuniper::hj_build` meets its contract: the law of no room, of no fields, or of what the builder answers. Assumes nothing.
+-- `harpjuniper::build_numbers` meets its contract: the law of no room, of no fields, or of what the builder answers. Assumes nothing.
 use borrow.Author.Needs.{needs}
 use mathlib.Core.Path.{_≡_, sym, _∙_}
 use lib.ListN.{length}
@@ -6,8 +6,8 @@ use Rattle.checks.specs.Order.{checkOf}
 use Rattle.checks.specs.declared.Check.the-variants.{Passed}
 use Rattle.header.specs.Limits.{noRoom}
 use Rattle.harpjuniper.proofs.Laws.{no-room, no-fields, built}
-use Rattle.harpjuniper.proofs.hj_build.Statement.{statement}
-use Rattle.harpjuniper.proofs.hj_build.Tie as tie
+use Rattle.harpjuniper.proofs.build_numbers.Statement.{statement}
+use Rattle.harpjuniper.proofs.build_numbers.Tie as tie
 
 -- past the first check
 room : (c : tie.After-enum-told) → checkOf (noRoom (length (c .before .before .before .before .args .output .now))) ≡ Passed
@@ -72,8 +72,8 @@ returns-3 c =
     built (a .fields) (a .data-size) (a .output .now) (room roomed) (sym (checked .check-numbers .ensures) ∙ told .enum-told3 .given .1) _ _ _ _
     (made .before .before .fields-from .ensures) (made .build-header .ensures .0) (made .build-header .ensures .1) (c .built-answer .ensures)
 
-pub hj-build-spec : {M : Type 1} → statement M
-hj-build-spec =
+pub build-numbers-spec : {M : Type 1} → statement M
+build-numbers-spec =
     tie.close
     (tie.spec
     check-room-requires
