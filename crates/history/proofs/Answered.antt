@@ -25,7 +25,7 @@ use Rattle.routes.specs.declared.Found.{Found}
 use Rattle.routes.specs.declared.Found.the-variants as found
 use Rattle.lent_state.specs.View.{tooLong}
 use Rattle.harpjuniper.specs.Face.{readingOf, numbersChecks}
-use Rattle.harpjuniper_reads.specs.Search.{searchParts, foundNumber, searchAnswer}
+use Rattle.route_calls.specs.Search.{searchParts, foundNumber, searchAnswer}
 use Rattle.history.specs.Seat.{Seat, relayIn, relayWith}
 use Rattle.history.specs.Calls.{
   View,

@@ -19,6 +19,7 @@ use Rattle.records.specs.declared.Group.{Group}
 use Rattle.records.specs.declared.PathPlace.{PathPlace}
 use Rattle.state.specs.Relay.{Mission, Relay, groupIn, pathIn, putGroup, putPath}
 use Rattle.state.specs.Seen.{freshMission}
+use Rattle.listing.proofs.Counting.{seen-distinct}
 use Rattle.refusals.specs.Elsewhere.{otherGroup, otherPath, groupElsewhere, pathElsewhere}
 use Rattle.refusals.specs.Lists.{groupChecks, pathChecks}
 use Rattle.refusals.proofs.Chains.{decided}
@@ -44,7 +45,6 @@ use Rattle.history.specs.Calls.{
 use Rattle.history.specs.Outcome.{nextMission, next, runFrom, seatAfter}
 use Rattle.history.specs.Reach.{sameGroup, samePath, Unique, KeysUnique}
 use Rattle.history.proofs.Settled.{settle-keeps}
-use Rattle.history.proofs.Seen.{seen-unique}
 use Rattle.history.proofs.Reach.{OwnKept, Kept, settingsOf, received-settings, taken-settings, one-kept, fresh-kept}
 
 -- ---- the same either way round
@@ -101,13 +101,13 @@ module _ (r : Relay) where
       → (j : ℕ) → j < 16 → (j ≡ i → ⊥) → sameGroup (groupIn r j) (newGroup a send subscribed) ≡ false
   unfolding groupElsewhere
   group-new i a send subscribed taken j h ne =
-      not-here (eqb j i) (sameGroup (groupIn r j) (newGroup a send subscribed)) (ne-eqb j i ne) (none-of (otherGroup r i a) 16 (decided (groupChecks r i a send subscribed) refl .0 .0 taken .1 .1 .1 .1 .0) j h)
+      not-here (eqb j i) (sameGroup (groupIn r j) (newGroup a send subscribed)) (ne-eqb j i ne) (none-of (otherGroup (r .mission) i a) 16 (decided (groupChecks r i a send subscribed) refl .0 .0 taken .1 .1 .1 .1 .0) j h)
 
   path-new : (i : ℕ) (p : PathAddress) (send here : ℕ) → firstOf (pathChecks r i p send here) ≡ 0
       → (j : ℕ) → j < 16 → (j ≡ i → ⊥) → samePath (pathIn r j) (newPath p send here) ≡ false
   unfolding pathElsewhere
   path-new i p send here taken j h ne =
-      not-here (eqb j i) (samePath (pathIn r j) (newPath p send here)) (ne-eqb j i ne) (none-of (otherPath r i p) 16 (decided (pathChecks r i p send here) refl .0 .0 taken .1 .1 .1 .1 .0) j h)
+      not-here (eqb j i) (samePath (pathIn r j) (newPath p send here)) (ne-eqb j i ne) (none-of (otherPath (r .mission) i p) 16 (decided (pathChecks r i p send here) refl .0 .0 taken .1 .1 .1 .1 .0) j h)
 
 -- an empty place holds nothing
 empty-second : (f s : Bool) → (f && (false && s)) ≡ false
@@ -181,7 +181,7 @@ keys-unique m cs =
     let seat = seatAfter m cs in
     let u = all-unique cs (freshSeat m) (fresh-kept m) fresh-unique in
     record {
-      routes = λ rs i j hi hj ne. seen-unique (seat .board) (seat .number) rs i j ne;
+      routes = λ rs i j hi hj ne. refuted _ (λ same. ne (seen-distinct (seat .board) rs (seat .number) i j same));
       groups = u .groups;
       paths = u .paths;
     }

@@ -2,26 +2,19 @@
 -- `port-stays`, at the end. Assumes nothing.
 use Prim.Native.Nat.{ℕ, _<_}
 use mathlib.Core.Path.{_≡_, refl, sym, ap, _∙_}
-use mathlib.Core.Bool.{Bool, true, false}
+use mathlib.Core.Bool.{true}
 use mathlib.Core.List.{List, [], _∷_}
-use lib.Dec.{eqb, ltb}
-use lib.Seq.{getD-set-other}
-use borrow.Author.Tests.{eqb-true, eqb-false, lt-ltb}
-use Rattle.checks.specs.Order.{firstOf}
-use Rattle.checks.proofs.Bools.{true-false, and-true}
+use lib.Dec.{ltb}
+use borrow.Author.Tests.{lt-ltb}
+use Rattle.checks.proofs.Bools.{and-true}
 use Rattle.settings.specs.Sets.{isReady}
-use Rattle.address.specs.declared.Address.{Address}
-use Rattle.address.specs.declared.Mask.{Mask}
-use Rattle.records.specs.Fresh.{freshOwned}
 use Rattle.records.specs.SetUp.{isSetUp}
 use Rattle.records.specs.declared.OwnedPort.{OwnedPort}
 use Rattle.state.specs.Relay.{Relay, portIn, amongPorts, portSetUp}
-use Rattle.state.specs.Seen.{Board, ownedAt, putOwned}
+use Rattle.state.specs.Seen.{Board, ownedAt}
 use Rattle.state.proofs.Seen.{seen-at, seen-set-up, in-ready}
-use Rattle.refusals.specs.Lists.{portChecks}
 use Rattle.refusals.specs.Ready.{readySet}
-use Rattle.refusals.proofs.Chains.{decided}
-use Rattle.adjust.specs.Settled.{newPort}
+use Rattle.adjust.proofs.Taken.{port-stays as once}
 use Rattle.history.specs.Seat.{Seat, relayIn}
 use Rattle.history.specs.Calls.{
   Order,
@@ -34,8 +27,6 @@ use Rattle.history.specs.Calls.{
   Call,
   operator,
   own,
-  orderChecks,
-  boardWritten,
   boardLeft,
 }
 use Rattle.history.specs.Outcome.{next, runFrom}
@@ -46,22 +37,12 @@ module _ (b : Board) (q : ℕ) (up : isSetUp (ownedAt b q .port) ≡ true) where
   abbrev Stays : Board → Type 0
   Stays c = ownedAt c q ≡ ownedAt b q
 
-  other-port : (p : ℕ) (x : OwnedPort) → isSetUp (ownedAt b p .port) ≡ false → (t : Bool) → eqb q p ≡ t → Stays (putOwned b p x)
-  other-port p x free true e = true-false (sym up ∙ ap (λ (k : ℕ). isSetUp (ownedAt b k .port)) (eqb-true q p e) ∙ free)
-  other-port p x free false e = getD-set-other (b .ports) p q x freshOwned (eqb-false q p e)
-
-  port-written : (p : ℕ) (a : Address) (m : Mask) (u n : ℕ) → firstOf (portChecks b p a m u n) ≡ 0 → Stays (putOwned b p (newPort a m u n))
-  port-written p a m u n taken =
-      other-port p (newPort a m u n) (decided (portChecks b p a m u n) refl .0 .0 taken .1 .1 .1 .1 .1 .0) (eqb q p) refl
-
-  written-stays : (o : Order) → firstOf (orderChecks b o) ≡ 0 → Stays (boardWritten b o)
-  written-stays (setRouter x) taken = refl
-  written-stays (setPort p a m u n) taken = port-written p a m u n taken
-  written-stays (setRoute rs i prefix mask port availability capabilities n) taken = refl
-  written-stays (clearRoute rs i) taken = refl
-
   pub order-stays : (o : Order) → Stays (boardLeft b o)
-  order-stays o = order-keeps Stays b o refl (written-stays o)
+  order-stays (setRouter x) = order-keeps Stays b (setRouter x) refl (λ taken. refl)
+  order-stays (setPort p a m u n) = once b p a m u n q up
+  order-stays (setRoute rs i prefix mask port availability capabilities n) =
+      order-keeps Stays b (setRoute rs i prefix mask port availability capabilities n) refl (λ taken. refl)
+  order-stays (clearRoute rs i) = order-keeps Stays b (clearRoute rs i) refl (λ taken. refl)
 
 -- ---- each call, and then all
 pub one-stays : (seat : Seat) (c : Call) (q : ℕ) → isSetUp (ownedAt (seat .board) q .port) ≡ true → ownedAt (next seat c .board) q ≡ ownedAt (seat .board) q

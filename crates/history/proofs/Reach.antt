@@ -25,8 +25,9 @@ use Rattle.records.specs.SetUp.{isSetUp}
 use Rattle.records.specs.declared.OwnedPort.{OwnedPort}
 use Rattle.records.specs.declared.Group.{Group}
 use Rattle.records.specs.declared.PathPlace.{PathPlace}
-use Rattle.state.specs.Relay.{Mission, Relay, groupAt, pathAt, queueIn, putGroup, putPath, portSetUp}
+use Rattle.state.specs.Relay.{Mission, Relay, routeIn, groupAt, pathAt, queueIn, putGroup, putPath, portSetUp}
 use Rattle.state.specs.Seen.{Board, freshBoard, freshMission, ownedAt, putOwned}
+use Rattle.listing.proofs.Counting.{seen-taken}
 use Rattle.refusals.specs.Lists.{portChecks, groupChecks, pathChecks}
 use Rattle.refusals.specs.Ready.{readySet}
 use Rattle.refusals.proofs.Chains.{decided}
@@ -40,7 +41,9 @@ use Rattle.taking.specs.Taking.{without, takenRelay}
 use Rattle.judge.specs.declared.Ending.{Ending}
 use Rattle.relay.specs.Outgoing.{enteredIf, enteredAll}
 use Rattle.relay.specs.Received.{newEntry, receivedRelay}
-use Rattle.history.specs.Seat.{Seat, freshSeat, relayIn, heardBy}
+use Rattle.routes.specs.Routes.{isFilled}
+use Rattle.routes.specs.declared.Record.{Record}
+use Rattle.history.specs.Seat.{Seat, freshSeat, relayIn, relayWith, heardBy}
 use Rattle.history.specs.Calls.{
   Order,
   setRouter,
@@ -68,9 +71,8 @@ use Rattle.history.specs.Calls.{
   written,
 }
 use Rattle.history.specs.Outcome.{nextMission, next, runFrom, seatAfter}
-use Rattle.history.specs.Reach.{Reached}
+use Rattle.history.specs.Reach.{RouteGood, Reached}
 use Rattle.history.proofs.Settled.{order-keeps, settle-keeps}
-use Rattle.history.proofs.Seen.{seen-good}
 use Rattle.history.proofs.Ports.{ready-is, seen-stays}
 
 -- ---- which ports are set up only grows
@@ -291,14 +293,18 @@ fresh-kept m =
 pub kept-after : (m : ℕ) (cs : List Call) → Kept (seatAfter m cs)
 kept-after m cs = all-kept cs (freshSeat m) (fresh-kept m)
 
+-- whatever list is lent, a route that the mission sees is good
+route-good : (seat : Seat) (rs : List Record) (i : ℕ) → isFilled (routeIn (relayWith seat rs) i) ≡ true
+    → RouteGood (readySet (relayIn seat)) (routeIn (relayWith seat rs) i)
+route-good seat rs i h = let good = seen-taken (seat .board) rs (seat .number) i h in record { port = good .0; prefix = good .1; codes = good .2 }
+
 -- After any history the settings are good: each record stands by the tests that took it, and each route that the mission sees passes its tests.
 pub reached : (m : ℕ) (cs : List Call) → Reached (seatAfter m cs)
 reached m cs =
     let k = kept-after m cs in
-    let seat = seatAfter m cs in
     record {
       ports = k .board .good;
-      routes = λ rs i h. seen-good (seat .board) (seat .number) rs i h;
+      routes = route-good (seatAfter m cs);
       groups = k .mission .groups-good;
       paths = k .mission .paths-good;
     }

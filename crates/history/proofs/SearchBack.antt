@@ -33,11 +33,11 @@ use Rattle.settings.specs.Sets.{isReady}
 use Rattle.sets.specs.Limits.{routePlaces}
 use Rattle.lent_state.specs.View.{tooLong}
 use Rattle.listing.specs.Listed.{routesSeen}
+use Rattle.listing.proofs.Counting.{length-seen, seen-taken}
 use Rattle.answers.proofs.Digits.{digit}
-use Rattle.harpjuniper_reads.specs.Search.{searchParts, foundNumber, searchAnswer}
+use Rattle.route_calls.specs.Search.{searchParts, foundNumber, searchAnswer}
 use Rattle.history.specs.Seat.{Seat, relayWith}
 use Rattle.history.specs.SearchBack.{isFound, foundPlace, foundOnes, foundPort, Named, Longest, LongestOrNo}
-use Rattle.history.proofs.Seen.{seen-length, seen-good}
 use Rattle.history.proofs.Search.{taken-has-most-ones, taken-is-the-only}
 
 -- Each part is read modulo its width, whatever the route is.
@@ -118,12 +118,12 @@ module _ (seat : Seat) (rs : List Record) (short : tooLong rs ≡ false) (a : Ad
   unfolding searchAnswer
   search-read-back {p} {n} {r} e =
       let taken = search-found a routes e in
-      let inside : p < length rs = subst (λ (k : ℕ). p < k) (seen-length (seat .board) (seat .number) rs) (taken .0) in
+      let inside : p < length rs = subst (λ (k : ℕ). p < k) (length-seen (seat .board) rs (seat .number)) (taken .0) in
       let place : p < 512 = omega (arith, inside, ltb-false routePlaces (length rs) short) in
       let ones : n ≤ 32 = rw (taken .3) (ones-at-most _) in
       let filled = candidate-is r a .0 (taken .2) .0 in
-      let good = seen-good (seat .board) (seat .number) rs p (ap isFilled (sym (taken .1)) ∙ filled) in
-      let port : r .port < 8 = subst (λ (x : Route). x .port < 8) (sym (taken .1)) (port-low _ _ (good .port)) in
+      let good = seen-taken (seat .board) rs (seat .number) p (ap isFilled (sym (taken .1)) ∙ filled) in
+      let port : r .port < 8 = subst (λ (x : Route). x .port < 8) (sym (taken .1)) (port-low _ _ (good .0)) in
       let is : searchAnswer sees a ≡ searchParts 1 p n (r .port) = ap foundNumber e in
       (rw is (named-whole p n (r .port) (omega arith) (omega arith) (omega arith)), (place, (ones, port)))
 
@@ -142,8 +142,8 @@ module _ (seat : Seat) (rs : List Record) (short : tooLong rs ≡ false) (a : Ad
             matches = rw place (ap (λ (x : Route). candidate x a) (sym (taken .1)) ∙ taken .2);
             ones = ones ∙ taken .3 ∙ ap (λ (x : Route). onesOf (x .mask .0)) (taken .1) ∙ ap (λ (q : ℕ). onesOf (maskAt routes q)) (sym place);
             port = back .port-read ∙ ap (λ (x : Route). x .port) (taken .1) ∙ ap (λ (q : ℕ). routeAt routes q .port) (sym place);
-            most = λ q c. rw ones (taken-has-most-ones (seat .board) (seat .number) rs a e q c);
-            only = λ q c k. taken-is-the-only (seat .board) (seat .number) rs a e q c (k ∙ ones) ∙ sym place;
+            most = λ q c. rw ones (taken-has-most-ones (seat .board) rs (seat .number) a e q c);
+            only = λ q c k. taken-is-the-only (seat .board) rs (seat .number) a e q c (k ∙ ones) ∙ sym place;
           }
 
   -- a route with mask 0 has the prefix 0.0.0.0, and matches every address
@@ -152,7 +152,7 @@ module _ (seat : Seat) (rs : List Record) (short : tooLong rs ≡ false) (a : Ad
       → CandidateAt a routes p
   matches-all p filled up mask =
       let r = routeAt routes p in
-      let inside = prefix-form (r .prefix) (r .mask) .0 (seen-good (seat .board) (seat .number) rs p filled .prefix) .2 in
+      let inside = prefix-form (r .prefix) (r .mask) .0 (seen-taken (seat .board) rs (seat .number) p filled .1) .2 in
       let none : (x : ℕ) → bitAnd x (r .mask .0) ≡ 0 = λ x. ap (bitAnd x) mask ∙ and-zero-r x in
       candidate-is r a .1 (filled, up, none (a .0) ∙ sym (none (r .prefix .0)) ∙ inside)
 

@@ -25,6 +25,7 @@ use Rattle.routes.specs.declared.Record.{Record}
 use Rattle.routes.specs.declared.Route.{Route}
 use Rattle.routes.proofs.Longest.{search-found}
 use Rattle.records.specs.SetUp.{isSetUp}
+use Rattle.listing.proofs.Counting.{seen-taken}
 use Rattle.refusals.specs.Ready.{readySet}
 use Rattle.lookup.specs.ForTarget.{wayOf, placeFor, wayFor}
 use Rattle.state.specs.Relay.{Relay, portIn, groupIn, pathIn}
@@ -46,7 +47,6 @@ use Rattle.verdict.specs.declared.Way.the-variants.{By, Lost}
 use Rattle.history.specs.Seat.{Seat, relayWith}
 use Rattle.history.specs.Calls.{Call}
 use Rattle.history.specs.Outcome.{seatAfter}
-use Rattle.history.proofs.Seen.{seen-good}
 use Rattle.history.proofs.Ports.{ready-is}
 use Rattle.history.proofs.Reach.{Kept, kept-after}
 use Rattle.page.proofs.Bits.{in-except, in-gathered, only-that}
@@ -140,8 +140,8 @@ module _ (seat : Seat) (k : Kept seat) (rs : List Record) (p : ℕ) (inside : p 
       let found = search-found a (r .routes) e in
       let held = found .1 in
       let filled = candidate-is x a .0 (found .2) .0 in
-      let good = seen-good (seat .board) (seat .number) rs place (sym (ap isFilled held) ∙ filled) in
-      let ready : isReady (x .port) (readySet r) ≡ true = ap (λ (y : Route). isReady (y .port) (readySet r)) held ∙ good .port in
+      let good = seen-taken (seat .board) rs (seat .number) place (sym (ap isFilled held) ∙ filled) in
+      let ready : isReady (x .port) (readySet r) ≡ true = ap (λ (y : Route). isReady (y .port) (readySet r)) held ∙ good .0 in
       let port = ltb-true (x .port) 8 (and-true (ltb (x .port) 8) (inSet (x .port) (readySet r)) ready .0) in
       ready-set-up (ap (λ (q : ℕ). isReady q (readySet r)) (only-that p (x .port) port m) ∙ ready)
 

@@ -2,7 +2,7 @@
 -- answer is not what the definition gives. (Where one changed expression can make the slip, a must-fail edit tries that such code is refused.) Assumes nothing.
 use native.Mathlib.Omega.{arith}
 use Prim.Native.Nat.{ℕ}
-use mathlib.Core.Path.{_≡_, refl, sym, ap, _∙_}
+use mathlib.Core.Path.{_≡_, refl, sym, ap}
 use mathlib.Core.Bool.{Bool, true, false, not}
 use mathlib.Core.List.{List, [], _∷_}
 use lib.Dec.{eqb, ltb}
@@ -37,11 +37,9 @@ use Rattle.verdict.specs.declared.Wish.the-variants.{Refused, Wanted}
 use Rattle.judge.specs.Ending.{callChecks, endingOf}
 use Rattle.judge.specs.declared.Ending.{Ending}
 use Rattle.lent_state.specs.View.{tooLong}
-use Rattle.records.specs.SetUp.{isSetUp}
 use Rattle.routes.specs.declared.Record.{Record}
-use Rattle.state.specs.Seen.{Board, ownedAt}
+use Rattle.state.specs.Seen.{Board}
 use Rattle.refusals.specs.Lists.{portChecks}
-use Rattle.refusals.proofs.Chains.{decided}
 use Rattle.tally.specs.Tally.{counterFor, receiptCounter}
 use Rattle.tally.specs.declared.Counter.{Counter}
 use Rattle.tally.specs.declared.Counter.the-variants as counter
@@ -138,9 +136,3 @@ pub class-comes-before-mask : (b : Board) (p : ℕ) (a : Address) (m : Mask) (mt
     → placeRefused p 8 ≡ false → portClassRefused a ≡ true → firstOf (portChecks b p a m mtu mission) ≡ 25
 unfolding firstOf
 class-comes-before-mask b p a m mtu mission h k = simp (h, k)
-
--- a second writing of a port taken: it is 35, where nothing else refuses it (W-208: "A port is written once")
-pub second-writing-is-refused : (b : Board) (p : ℕ) (a : Address) (m : Mask) (mtu mission : ℕ)
-    → isSetUp (ownedAt b p .port) ≡ true → firstOf (portChecks b p a m mtu mission) ≡ 0 → ⊥
-second-writing-is-refused b p a m mtu mission up taken =
-    true-false (sym up ∙ decided (portChecks b p a m mtu mission) refl .0 .0 taken .1 .1 .1 .1 .1 .0)
