@@ -1,5 +1,5 @@
--- A port that is set up stands as it is for ever: page 02, W-208 ("A port is written once; a second writing is refused by 35"). The theorem is
--- `port-stays`, at the end. Assumes nothing.
+-- The board over a history: page 02, W-208. It is what the operator's calls alone make of it (`board-is-the-operators`), and a port that is set up stands
+-- as it is for ever (`port-stays`: "A port is written once; a second writing is refused by 35"). Assumes nothing.
 use Prim.Native.Nat.{ℕ, _<_}
 use mathlib.Core.Path.{_≡_, refl, sym, ap, _∙_}
 use mathlib.Core.Bool.{true}
@@ -29,8 +29,15 @@ use Rattle.history.specs.Calls.{
   own,
   boardLeft,
 }
-use Rattle.history.specs.Outcome.{next, runFrom}
+use Rattle.history.specs.Outcome.{next, runFrom, byOperator, boardFrom}
 use Rattle.history.proofs.Settled.{order-keeps}
+
+-- ---- whose the board is
+-- Whatever the mission calls, the board is what the operator's calls leave of it.
+pub board-is-the-operators : (cs : List Call) (seat : Seat) → runFrom seat cs .board ≡ boardFrom (seat .board) (byOperator cs)
+board-is-the-operators [] seat = refl
+board-is-the-operators (operator c ∷ cs) seat = board-is-the-operators cs (next seat (operator c))
+board-is-the-operators (own c ∷ cs) seat = board-is-the-operators cs (next seat (own c))
 
 -- ---- an order
 module _ (b : Board) (q : ℕ) (up : isSetUp (ownedAt b q .port) ≡ true) where
