@@ -40,6 +40,17 @@ module _ (p : ℕ) where
   answeredFrom x [] = []
   answeredFrom x (c ∷ cs) = answeredBy c (outcome x c .answer) ++ answeredFrom (next x c) cs
 
+  module _ (x : Copy) where
+    abbrev pub isHanded : List Copy → Bool
+    isHanded [] = false
+    isHanded (y ∷ l) = eqb (y .turn) (x .turn)
+
+    -- the calls while x waits: those before the call that hands it out, all where none does
+    abbrev pub waitsFrom : ℕ → Seat → List Copy → List Call → List Call
+    waitsFrom n at line [] = []
+    waitsFrom n at line (c ∷ cs) =
+        pick (isHanded (handedBy p (outcome at c .out) (chosen (rankBy entryOf) line))) [] (c ∷ waitsFrom (suc n) (next at c) (lineBy p n at c line) cs)
+
   -- ---- what calls ds do after a history cs of mission m
   module _ (m : ℕ) where
     -- the copies that the port takes, and those that it hands out, in turn
@@ -68,18 +79,8 @@ module _ (p : ℕ) where
       abbrev pub before : List Call → ℕ
       before cs = standingBefore (rankBy entryOf) x (lineAt p m cs)
 
-      abbrev pub isHanded : List Copy → Bool
-      isHanded [] = false
-      isHanded (y ∷ l) = eqb (y .turn) (x .turn)
-
-      -- the calls while x waits: those before the call that hands it out, all where none does
-      abbrev pub waitsFrom : ℕ → Seat → List Copy → List Call → List Call
-      waitsFrom n at line [] = []
-      waitsFrom n at line (c ∷ cs) =
-          pick (isHanded (handedBy p (outcome at c .out) (chosen (rankBy entryOf) line))) [] (c ∷ waitsFrom (suc n) (next at c) (lineBy p n at c line) cs)
-
       abbrev pub whileWaits : List Call → List Call → List Call
-      whileWaits cs ds = waitsFrom (length cs) (seatAfter m cs) (lineAt p m cs) ds
+      whileWaits cs ds = waitsFrom x (length cs) (seatAfter m cs) (lineAt p m cs) ds
 
       -- h: of those that enter while x waits, how many are of higher precedence
       abbrev pub higherEnter : List Call → List Call → ℕ

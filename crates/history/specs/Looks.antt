@@ -14,7 +14,7 @@ use Rattle.sets.specs.Limits.{portCount, groupPlaces, pathPlaces, counterCount}
 use Rattle.state.specs.Layout.{boardWords, missionWords}
 use Rattle.lent_state.specs.View.{tooLong}
 use Rattle.harpjuniper.specs.Face.{readingOf, numbersChecks}
-use Rattle.harpjuniper_reads.specs.Search.{searchAnswer}
+use Rattle.route_calls.specs.Search.{searchAnswer}
 use Rattle.history.specs.Seat.{Seat, relayWith}
 use Rattle.history.specs.Calls.{
   View,

@@ -16,14 +16,18 @@ use Rattle.adjust.specs.Settled.{newRecord}
 use Rattle.history.specs.Calls.{Order, setRouter, setPort, orders, class, hears, takes, looks, Call, operator, own}
 use Rattle.history.specs.Outcome.{Answer, number, ended, entry}
 
+-- a history of orders
+abbrev pub ordered : List Order → List Call
+ordered = map (λ (o : Order). operator (orders o))
+
 -- ---- the settings, of mission m: a router, and ports of its own that no destination of the table is an address or a broadcast of
 module _ (m : ℕ) where
   -- port p is 172.16.p.1
   abbrev pub port : ℕ → Order
   port p = setPort p (record { 0 = dotted 172 16 p 1 }) (record { 0 = maskOf 24 }) 1500 m
 
-  abbrev pub routerWithPorts : List Call
-  routerWithPorts = map (λ (o : Order). operator (orders o)) (setRouter 1 ∷ port 0 ∷ port 1 ∷ port 2 ∷ port 3 ∷ port 4 ∷ [])
+  abbrev pub routerWithPorts : List Order
+  routerWithPorts = setRouter 1 ∷ port 0 ∷ port 1 ∷ port 2 ∷ port 3 ∷ port 4 ∷ []
 
   -- a route to port p that is up: its prefix, the ones of its mask
   abbrev pub route : ℕ → ℕ → ℕ → Record
@@ -91,14 +95,14 @@ isOfClass a b c d x = record { calls = []; asked = own (looks (class (record { 0
 module _ (m : ℕ) where
   -- what becomes of a datagram to a.b.c.d with these routes
   abbrev pub goes : List Record → ℕ → ℕ → ℕ → ℕ → Answer → Marked
-  goes rs a b c d answer = record { calls = routerWithPorts m; asked = heard rs 1 (datagram a b c d 0); answer = answer }
+  goes rs a b c d answer = record { calls = ordered (routerWithPorts m); asked = heard rs 1 (datagram a b c d 0); answer = answer }
 
   -- the entries of case l, put on D's port
   abbrev pub put : ℕ → ℕ → Call
   put slot precedence = heard (allRoutes m) slot (datagram 10 4 9 14 precedence)
 
   abbrev pub fourPut : List Call
-  fourPut = routerWithPorts m ++ put 1 3 ∷ put 2 5 ∷ put 3 3 ∷ put 4 5 ∷ []
+  fourPut = ordered (routerWithPorts m) ++ put 1 3 ∷ put 2 5 ∷ put 3 3 ∷ put 4 5 ∷ []
 
   -- what is handed out there next, after so many takes
   abbrev pub comesOut : ℕ → ℕ → ℕ → Marked

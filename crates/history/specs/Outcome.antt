@@ -125,6 +125,16 @@ runFrom x (c ∷ cs) = runFrom (next x c) cs
 abbrev pub seatAfter : ℕ → List Call → Seat
 seatAfter n cs = runFrom (freshSeat n) cs
 
+-- the operator's calls of a history, and what they leave of a board by themselves
+abbrev pub byOperator : List Call → List OperatorCall
+byOperator [] = []
+byOperator (operator c ∷ cs) = c ∷ byOperator cs
+byOperator (own c ∷ cs) = byOperator cs
+
+abbrev pub boardFrom : Board → List OperatorCall → Board
+boardFrom b [] = b
+boardFrom b (c ∷ cs) = boardFrom (nextBoard b c) cs
+
 -- what is counted of each outcome, over the calls
 abbrev pub sumFrom : (Outcome → ℕ) → Seat → List Call → ℕ
 sumFrom f x [] = 0

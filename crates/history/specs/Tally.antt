@@ -1,4 +1,5 @@
--- What the rules give each counter over a history: page 01, demand 3 and "Refusal numbers"; page 02, W-208 ("Demand 3 holds for each mission by itself"). No counter of any state is read here. Assumes nothing.
+-- What the rules give each counter over a history: page 01, demand 3 and "Refusal numbers"; page 02, W-208 ("Demand 3 holds for each mission by itself").
+-- No counter of any state is read here. Assumes nothing.
 use Prim.Native.Nat.{ℕ, _+_}
 use mathlib.Core.Bool.{Bool, false}
 use mathlib.Core.List.{List, [], _∷_}
