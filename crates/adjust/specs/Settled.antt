@@ -1,4 +1,4 @@
--- The state that a settings call leaves: page 01, "Settings" ("A setting that no rule here refuses is taken and holds until it is
+-- The board, the list and the state that a settings call leaves: page 01, "Settings" ("A setting that no rule here refuses is taken and holds until it is
 -- changed"). Assumes nothing.
 use Prim.Native.Nat.{ℕ}
 use mathlib.Core.List.{List}
@@ -15,9 +15,9 @@ use Rattle.records.specs.declared.Group.{Group}
 use Rattle.records.specs.declared.PathPlace.{PathPlace}
 use Rattle.records.specs.Fresh.{freshGroup, freshPath}
 use Rattle.sets.specs.Limits.{groupPlaces, pathPlaces}
-use Rattle.state.specs.Relay.{Relay, withGroup, withPath}
-use Rattle.state.specs.Seen.{Board, putRouter, putOwned}
-use Rattle.refusals.specs.Lists.{portChecks, routeChecks, clearRouteChecks, groupChecks, pathChecks, routerChecks, clearChecks}
+use Rattle.state.specs.Relay.{Mission, Relay, putGroup, putPath, withGroup, withPath}
+use Rattle.state.specs.Seen.{Board, State, putRouter, putOwned, freshState}
+use Rattle.refusals.specs.Lists.{portChecks, routeChecks, clearRouteChecks, groupChecks, pathChecks, routerChecks, missionChecks, clearChecks}
 
 -- a refused setting changes nothing
 abbrev pub settled : {A : Type 0} → ℕ → A → A → A
@@ -69,8 +69,13 @@ settledGroup r i address send subscribed =
 abbrev pub settledPath : Relay → ℕ → PathAddress → ℕ → ℕ → Relay
 settledPath r i path send here = settled (firstOf (pathChecks r i path send here)) (withPath r i (newPath path send here)) r
 
-abbrev pub clearedGroup : Relay → ℕ → Relay
-clearedGroup r i = settled (firstOf (clearChecks i groupPlaces)) (withGroup r i freshGroup) r
+-- an emptied place is a mission's own matter: no board is looked at
+abbrev pub clearedGroup : Mission → ℕ → Mission
+clearedGroup m i = settled (firstOf (clearChecks i groupPlaces)) (putGroup m i freshGroup) m
 
-abbrev pub clearedPath : Relay → ℕ → Relay
-clearedPath r i = settled (firstOf (clearChecks i pathPlaces)) (withPath r i freshPath) r
+abbrev pub clearedPath : Mission → ℕ → Mission
+clearedPath m i = settled (firstOf (clearChecks i pathPlaces)) (putPath m i freshPath) m
+
+-- its number is "given when it is made fresh" (docs/DECISIONS.md)
+abbrev pub settledFresh : State → ℕ → State
+settledFresh s n = settled (firstOf (missionChecks n)) (freshState n) s

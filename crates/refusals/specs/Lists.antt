@@ -47,7 +47,7 @@ groupChecks r i address send subscribed =
     ∷ (setRefused send (readySet r), 21)
     ∷ (setRefused subscribed (readySet r), 21)
     ∷ (groupClassRefused address, 25)
-    ∷ (groupElsewhere r i address, 23)
+    ∷ (groupElsewhere (r .mission) i address, 23)
     ∷ []
 
 abbrev pub pathChecks : Relay → ℕ → PathAddress → ℕ → ℕ → Checks
@@ -56,12 +56,16 @@ pathChecks r i path send here =
     ∷ (setRefused send (readySet r), 21)
     ∷ (pathClassRefused path, 25)
     ∷ (flagRefused here, 24)
-    ∷ (pathElsewhere r i path, 23)
+    ∷ (pathElsewhere (r .mission) i path, 23)
     ∷ []
 
 -- router or host
 abbrev pub routerChecks : ℕ → Checks
 routerChecks router = (flagRefused router, 24) ∷ []
+
+-- a mission's number, where it is made fresh (docs/DECISIONS.md)
+abbrev pub missionChecks : ℕ → Checks
+missionChecks n = (not (isMission n), 24) ∷ []
 
 -- a place that is emptied, among so many: empty ones too
 abbrev pub clearChecks : ℕ → ℕ → Checks

@@ -1,5 +1,4 @@
 -- `listing::first_place` meets its contract. Assumes nothing.
-use borrow.Author.Needs.{needs}
 use borrow.Author.Tests.{eq-eqb, ne-eqb}
 use Rattle.listing.proofs.first_place.Statement.{statement}
 use Rattle.listing.proofs.first_place.Tie as tie

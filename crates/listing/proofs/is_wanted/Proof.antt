@@ -1,5 +1,4 @@
 -- `listing::is_wanted` meets its contract. Assumes nothing.
-use borrow.Author.Needs.{needs}
 use borrow.Author.Tests.{eq-eqb, ne-eqb}
 use Rattle.listing.specs.Scan.{isWanted}
 use Rattle.listing.proofs.is_wanted.Statement.{statement}

@@ -29,7 +29,10 @@ enum-told-4 : tie.Need-enum-told-4
 enum-told-4 c = search needs
 
 returns-2 : tie.Need-returns-2
-returns-2 c = passes _ _ _ (c .before .before .before .before .before .check-ready .ensures) (c .before .before .before .enum-told .given .1) (fails-here _ _ _ (c .before .before .check-prefix .ensures) (c .enum-told4 .given .1))
+returns-2 c =
+    let p = c .before .before in
+    passes _ _ _ (p .before .before .before .check-ready .ensures) (p .before .enum-told .given .1)
+    (fails-here _ _ _ (p .check-prefix .ensures) (c .enum-told4 .given .1))
 
 check-codes-requires : tie.Need-check-codes-requires
 check-codes-requires c κs = search needs
@@ -41,10 +44,21 @@ enum-told-6 : tie.Need-enum-told-6
 enum-told-6 c = search needs
 
 returns-3 : tie.Need-returns-3
-returns-3 c = passes _ _ _ (c .before .before .before .before .before .before .before .before .check-ready .ensures) (c .before .before .before .before .before .before .enum-told .given .1) (passes _ _ _ (c .before .before .before .before .before .check-prefix .ensures) (c .before .before .before .enum-told3 .given .1) (fails-here _ _ _ (c .before .before .check-codes .ensures) (c .enum-told6 .given .1)))
+returns-3 c =
+    let k = c .before .before in
+    let p = k .before .before .before in
+    passes _ _ _ (p .before .before .before .check-ready .ensures) (p .before .enum-told .given .1)
+    (passes _ _ _ (p .check-prefix .ensures) (k .before .enum-told3 .given .1)
+    (fails-here _ _ _ (k .check-codes .ensures) (c .enum-told6 .given .1)))
 
 returns-4 : tie.Need-returns-4
-returns-4 c = passes _ _ _ (c .before .before .before .before .before .before .before .before .before .before .check-ready .ensures) (c .before .before .before .before .before .before .before .before .enum-told .given .1) (passes _ _ _ (c .before .before .before .before .before .before .before .check-prefix .ensures) (c .before .before .before .before .before .enum-told3 .given .1) (passes _ _ _ (c .before .before .before .before .check-codes .ensures) (c .before .before .enum-told5 .given .1) (holds-here _ _ _ (ap not (le-ltb _ _ (c .if1 .taken))))))
+returns-4 c =
+    let k = c .before .before .before .before in
+    let p = k .before .before .before in
+    passes _ _ _ (p .before .before .before .check-ready .ensures) (p .before .enum-told .given .1)
+    (passes _ _ _ (p .check-prefix .ensures) (k .before .enum-told3 .given .1)
+    (passes _ _ _ (k .check-codes .ensures) (c .before .before .enum-told5 .given .1)
+    (holds-here _ _ _ (ap not (le-ltb _ _ (c .if1 .taken))))))
 
 check-ready-requires-2 : tie.Need-check-ready-requires-2
 check-ready-requires-2 c κs = search needs
@@ -56,10 +70,26 @@ enum-told-8 : tie.Need-enum-told-8
 enum-told-8 c = search needs
 
 returns-5 : tie.Need-returns-5
-returns-5 c = passes _ _ _ (c .before .before .before .before .before .before .before .before .before .before .before .before .before .check-ready .ensures) (c .before .before .before .before .before .before .before .before .before .before .before .enum-told .given .1) (passes _ _ _ (c .before .before .before .before .before .before .before .before .before .before .check-prefix .ensures) (c .before .before .before .before .before .before .before .before .enum-told3 .given .1) (passes _ _ _ (c .before .before .before .before .before .before .before .check-codes .ensures) (c .before .before .before .before .before .enum-told5 .given .1) (holds-not _ _ _ (ap not (lt-ltb _ _ (c .before .before .before .if1 .left))) (fails-here _ _ _ (c .before .before .check-ready2 .ensures) (c .enum-told8 .given .1)))))
+returns-5 c =
+    let i = c .before .before .before in
+    let k = i .before .before .before .before in
+    let p = k .before .before .before in
+    passes _ _ _ (p .before .before .before .check-ready .ensures) (p .before .enum-told .given .1)
+    (passes _ _ _ (p .check-prefix .ensures) (k .before .enum-told3 .given .1)
+    (passes _ _ _ (k .check-codes .ensures) (i .before .before .enum-told5 .given .1)
+    (holds-not _ _ _ (ap not (lt-ltb _ _ (i .if1 .left)))
+    (fails-here _ _ _ (c .before .before .check-ready2 .ensures) (c .enum-told8 .given .1)))))
 
 returns-6 : tie.Need-returns-6
-returns-6 c = passes _ _ _ (c .before .before .before .before .before .before .before .before .before .before .before .before .before .check-ready .ensures) (c .before .before .before .before .before .before .before .before .before .before .before .enum-told .given .1) (passes _ _ _ (c .before .before .before .before .before .before .before .before .before .before .check-prefix .ensures) (c .before .before .before .before .before .before .before .before .enum-told3 .given .1) (passes _ _ _ (c .before .before .before .before .before .before .before .check-codes .ensures) (c .before .before .before .before .before .enum-told5 .given .1) (holds-not _ _ _ (ap not (lt-ltb _ _ (c .before .before .before .if1 .left))) (passes _ _ _ (c .before .before .check-ready2 .ensures) (c .enum-told7 .given .1) none-left))))
+returns-6 c =
+    let i = c .before .before .before in
+    let k = i .before .before .before .before in
+    let p = k .before .before .before in
+    passes _ _ _ (p .before .before .before .check-ready .ensures) (p .before .enum-told .given .1)
+    (passes _ _ _ (p .check-prefix .ensures) (k .before .enum-told3 .given .1)
+    (passes _ _ _ (k .check-codes .ensures) (i .before .before .enum-told5 .given .1)
+    (holds-not _ _ _ (ap not (lt-ltb _ _ (i .if1 .left)))
+    (passes _ _ _ (c .before .before .check-ready2 .ensures) (c .enum-told7 .given .1) none-left))))
 
 pub record-refusal-spec : {M : Type 1} → statement M
 record-refusal-spec =
