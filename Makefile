@@ -191,6 +191,7 @@ released: $(ARCHIVE)
 header: | tools
 	gcc -std=c99 $(STRICT) -Iinclude -fsyntax-only tests/header_clean.c
 	g++ -std=c++11 $(STRICT) -Iinclude -fsyntax-only -x c++ tests/header_clean.c
+	scripts/check-header
 
 readme: build/readme
 	build/readme > build/readme.output

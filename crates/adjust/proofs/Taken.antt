@@ -2,15 +2,16 @@
 -- A refused call changes nothing; of a taken one the record is read back; no other place and no other part changes, either way.
 -- Assumes nothing.
 use Prim.Native.Nat.{ℕ, _<_}
-use mathlib.Core.Path.{_≡_, refl, ap, _∙_}
+use mathlib.Core.Path.{_≡_, refl, sym, ap, _∙_}
 use mathlib.Core.Logic.{_≢_}
 use mathlib.Core.Bool.{Bool, true, false}
 use mathlib.Core.List.{List, _∷_}
 use lib.Dec.{eqb}
 use lib.ListN.{length, set, length-set}
 use lib.Seq.{getD-set-same, getD-set-other}
-use borrow.Author.Tests.{eq-eqb, ne-eqb}
+use borrow.Author.Tests.{eq-eqb, ne-eqb, eqb-true, eqb-false}
 use Rattle.checks.specs.Order.{pick, Checks, firstOf}
+use Rattle.checks.proofs.Bools.{true-false}
 use Rattle.address.specs.declared.Address.{Address}
 use Rattle.address.specs.declared.Mask.{Mask}
 use Rattle.address.specs.declared.PathAddress.{PathAddress}
@@ -20,10 +21,11 @@ use Rattle.records.specs.declared.OwnedPort.{OwnedPort}
 use Rattle.records.specs.declared.Group.{Group}
 use Rattle.records.specs.declared.PathPlace.{PathPlace}
 use Rattle.records.specs.Fresh.{freshGroup, freshPath}
+use Rattle.records.specs.SetUp.{isSetUp}
 use Rattle.sets.specs.Limits.{portCount, groupPlaces, pathPlaces}
 use Rattle.state.specs.Relay.{Mission, Relay, groupAt, pathAt, groupIn, pathIn, withGroup, withPath, putGroup, putPath}
 use Rattle.state.specs.Relay.{withMission, allGroups, allPaths}
-use Rattle.state.specs.Seen.{Board, State, ownedAt, putRouter, putOwned, seated, onMission, onSeated, freshState}
+use Rattle.state.specs.Seen.{Board, State, ownedAt, putRouter, putOwned, onMission, onSeated, freshState}
 use Rattle.state.proofs.Sizes.{Sized, SizedBoard}
 use Rattle.state.proofs.Places.{owned-back, put-group-back, put-path-back, group-back, path-back, owned-left, group-left, path-left}
 use Rattle.settings.specs.Refusals.{placeRefused}
@@ -31,7 +33,7 @@ use Rattle.settings.proofs.Values.{place-taken}
 use Rattle.refusals.specs.Lists.{portChecks, routeChecks, clearRouteChecks, groupChecks, pathChecks, routerChecks, missionChecks, clearChecks}
 use Rattle.refusals.proofs.Places.{place-there}
 use Rattle.refusals.proofs.Chains.{areNumbers}
-use Rattle.refusals.proofs.Decided.{route-decided, clear-route-decided}
+use Rattle.refusals.proofs.Decided.{port-decided, route-decided, clear-route-decided}
 use Rattle.adjust.specs.Settled.{settled, newPort, newGroup, newPath}
 use Rattle.adjust.specs.Settled.{settledRouter, settledPort, settledRoute, settledGroup, settledPath, settledFresh}
 use Rattle.adjust.specs.Settled.{clearedRoute, clearedGroup, clearedPath}
@@ -142,6 +144,24 @@ module _ (rs : List Record) (i : ℕ) where
 -- No other place of the same kind.
 pub port-others : (b : Board) (n i : ℕ) (x : OwnedPort) (j : ℕ) → j ≢ i → ownedAt (settled n (putOwned b i x) b) j ≡ ownedAt b j
 port-others b n i x j other = unchanged n (putOwned b i x) b (λ (y : Board). ownedAt y j) (owned-left b i j other x)
+
+-- "A port is written once" (page 02, W-208): one that is set up stays as it stands, whatever is written and whosever it is.
+module _ (b : Board) (i : ℕ) (address : Address) (mask : Mask) (mtu mission : ℕ) where
+  pub port-once : isSetUp (ownedAt b i .port) ≡ true → firstOf (portChecks b i address mask mtu mission) ≢ 0
+  port-once up none = true-false (sym up ∙ port-decided b i address mask mtu mission .0 .0 none .1 .1 .1 .1 .1 .0)
+
+  pub port-stays : (j : ℕ) → isSetUp (ownedAt b j .port) ≡ true → ownedAt (settledPort b i address mask mtu mission) j ≡ ownedAt b j
+  port-stays j up = cases (eqb j i) refl
+    where
+      here : j ≡ i → firstOf (portChecks b i address mask mtu mission) ≢ 0
+      here same = port-once (ap (λ (k : ℕ). isSetUp (ownedAt b k .port)) (sym same) ∙ up)
+
+      cases : (t : Bool) → eqb j i ≡ t → ownedAt (settledPort b i address mask mtu mission) j ≡ ownedAt b j
+      cases true e =
+          ap (λ (y : Board). ownedAt y j)
+          (refused-nothing (firstOf (portChecks b i address mask mtu mission)) (putOwned b i (newPort address mask mtu mission)) b
+          (here (eqb-true j i e)))
+      cases false e = port-others b (firstOf (portChecks b i address mask mtu mission)) i (newPort address mask mtu mission) j (eqb-false j i e)
 
 module _ (r : Relay) (n i : ℕ) where
   pub group-others : (x : Group) (j : ℕ) → j ≢ i → groupIn (settled n (withGroup r i x) r) j ≡ groupIn r j

@@ -4,15 +4,14 @@
 // entry the lower place holds. So a scan carries, beside what it found, the set of the mask lengths that it saw: all records that an address
 // matches have their prefixes from it, and two of them with as many ones hold the same entry. A record that is not up is seen all the same, and
 // hides a later one of its entry.
-// The scan is a struct of numbers, and most records end at one of three tests of numbers: that path is a few instructions a record. The awkward
-// case is a mask that is not ones and then zeros, which is refused and so seen by no count.
+// The scan is a struct of numbers and comes back as it is where a record does not match, so that such a record costs nine instructions. The
+// awkward case is a mask that is not ones and then zeros: it may match, but it is refused, and so seen by no count.
 use address::Address;
 use address::Mask;
 use address::MaskForm;
 use checks::Check;
 use routes::Record;
 ghost use mathlib.Core.Path.{_≡_};
-ghost use Prim.Native.Nat.{_≤_};
 ghost use Rattle.checks.specs.Order.{firstOf};
 ghost use Rattle.listing.specs.Listed.{checksOf};
 ghost use Rattle.listing.specs.Scan.{

@@ -31,6 +31,11 @@ pub octet-number : (s : List ℕ) (at : ℕ) → octet s at ≡ number s at 1
 unfolding number
 octet-number s at = rw add-zero (omega arith)
 
+-- four octets as two pairs
+pub two-pairs : (s : List ℕ) (at x y : ℕ) → x ≡ octet s at * 256 + octet s (at + 1) → y ≡ octet s (at + 2) * 256 + octet s (at + 3) → x * 65536 + y ≡ number s at 4
+unfolding number
+two-pairs s at x y p q = rw (p, q, add-zero at) (omega arith)
+
 pub length-octets : (n v : ℕ) → length (octets n v) ≡ n
 unfolding octets
 length-octets zero v = refl

@@ -9,8 +9,13 @@ use Rattle.address.specs.declared.PathAddress.{PathAddress}
 use Rattle.routes.specs.declared.Record.{Record}
 use Rattle.state.specs.Relay.{Relay}
 use Rattle.state.specs.Seen.{Board}
+use Rattle.listing.specs.Listed.{recordChecks}
 use Rattle.refusals.proofs.Chains.{Decided, decided}
 use Rattle.refusals.specs.Lists.{portChecks, routeChecks, clearRouteChecks, groupChecks, pathChecks, routerChecks, missionChecks, clearChecks}
+
+-- a route's record, by itself: 21, 22 and 24
+pub record-decided : (b : Board) (x : Record) → Decided (recordChecks b x)
+record-decided b x = decided (recordChecks b x) refl
 
 module _ (b : Board) (i : ℕ) where
   pub port-decided : (address : Address) (mask : Mask) (mtu mission : ℕ) → Decided (portChecks b i address mask mtu mission)

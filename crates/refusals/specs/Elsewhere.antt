@@ -5,8 +5,6 @@ use mathlib.Core.Bool.{Bool, not, _&&_}
 use lib.Dec.{eqb}
 use Rattle.address.specs.declared.Address.{Address}
 use Rattle.address.specs.declared.PathAddress.{PathAddress}
-use Rattle.records.specs.declared.Group.{Group}
-use Rattle.records.specs.declared.PathPlace.{PathPlace}
 use Rattle.sets.specs.Limits.{groupPlaces, pathPlaces}
 use Rattle.sets.specs.Sets.{anyBelow}
 use Rattle.records.specs.Held.{holdsGroup, holdsPath}

@@ -105,7 +105,8 @@ module _ {M : Type 1} (𝓤 : URA M) (H : Heap 𝓤) (A : Atoms 𝓤) (mem : Mem
   abbrev Step : Contract 𝓤
   Step = tripleOf 𝓤 H A step.signature (step.spec 𝓤 H A mem run)
 
-module _ {M : Type 1} (𝓤 : URA M) (H : Heap 𝓤) (A : Atoms 𝓤) (W : Given 𝓤 H A) (mem : Memory → SProp 𝓤) (run : Routine → Fun 𝓤) (κ : Lft) (q : Share) (b o : ℕ) (γ : GName) (ys : List Record) (ask : Query) (room : Room T.the-row (length ys)) (asks : Is Q.the-row ask (Q′.lowered ask ∷ [])) where
+module _ {M : Type 1} (𝓤 : URA M) (H : Heap 𝓤) (A : Atoms 𝓤) (W : Given 𝓤 H A) (mem : Memory → SProp 𝓤) (run : Routine → Fun 𝓤) (κ : Lft) (q : Share)
+    (b o : ℕ) (γ : GName) (ys : List Record) (ask : Query) (room : Room T.the-row (length ys)) (asks : Is Q.the-row ask (Q′.lowered ask ∷ [])) where
   abbrev n : ℕ
   n = length ys
 
@@ -136,7 +137,8 @@ module _ {M : Type 1} (𝓤 : URA M) (H : Heap 𝓤) (A : Atoms 𝓤) (W : Given
   exits : (r : Scan) (u : Val) → Is F.the-row r (u ∷ []) → r ≡ scanOf ask ys → ent 𝓤 (⋆ 𝓤 H A ((‵ (flft κ q) ⊛ ‵ ftrue) ∷ ‵ Own ∷ [])) (Post u)
   exits r u is e =
       qed W ((‵ (flft κ q) ⊛ ‵ ftrue) ∷ ‵ Own ∷ []) ∵
-      suffices ! _ (ends-at 𝓤 H A f.ended stayed (f.clauses 𝓤 H A mem run) W (((κ, tt), (q, tt), tt, args, at), tt) u r (tt, (tt, tt)) (tt, (tt, tt))) $
+      suffices ! _ (ends-at 𝓤 H A f.ended stayed (f.clauses 𝓤 H A mem run) W (((κ, tt), (q, tt), tt, args, at), tt) u r (tt, (tt, tt)) (tt, (tt, tt)))
+      $
       says ! e $
       frame ! $ nothing ! $ owned ! Q.the-row (Is Q.the-row) (LL.makes Q.the-type Q′.the-plain 𝓤 H A) ask _ asks $ fjoin ! $ move ! (1 ∷ 0 ∷ []) $
       fjoin ! $ frame ! $
@@ -168,12 +170,15 @@ module _ {M : Type 1} (𝓤 : URA M) (H : Heap 𝓤) (A : Atoms 𝓤) (W : Given
   abbrev to-rec : ℕ → RecordAt 𝓤 H A mem run .Ghost
   to-rec i = (((κ, tt), (q, tt), tt, (x, (i, tt)), (s ∷ [], (vint w64 i ∷ [], tt))), tt)
 
-  goes-rec : (i : ℕ) → i < 2 ^ 64 → ent 𝓤 (⋆ 𝓤 H A ((‵ (flft κ q) ⊛ ‵ ftrue) ∷ ‵ Own ∷ [])) (sep 𝓤 (RecordAt 𝓤 H A mem run .pre (to-rec i)) (sem 𝓤 H A Own))
+  goes-rec : (i : ℕ) → i < 2 ^ 64 → ent 𝓤 (⋆ 𝓤 H A ((‵ (flft κ q) ⊛ ‵ ftrue) ∷ ‵ Own ∷ []))
+      (sep 𝓤 (RecordAt 𝓤 H A mem run .pre (to-rec i)) (sem 𝓤 H A Own))
   goes-rec i fits =
       qed W ((‵ (flft κ q) ⊛ ‵ ftrue) ∷ ‵ Own ∷ []) ∵
       move ! (1 ∷ []) $ use1 W (‵ Own ⊛ ‵ Own) (shr-slice-copy 𝓤 H A W (named 0) κ T.the-row .twice x (s ∷ [])) $ split ! $
       nothing ! $ owned ! usize (Is usize) (uint-makes 𝓤 H A W w64) i _ (refl, fits) $ fjoin ! $ move ! (1 ∷ 0 ∷ []) $ fjoin ! $ move ! (2 ∷ 0 ∷ []) $
-      use2 W (raw (RecordAt 𝓤 H A mem run .pre (to-rec i))) (qed W ((‵ (flft κ q) ⊛ ‵ ftrue) ∷ ‵ (owns (ShrSlice (named 0) κ T.the-row ∷ usize ∷ []) (x, (i, tt)) (s ∷ [], (vint w64 i ∷ [], tt))) ∷ []) ∵ join ! $
+      use2 W (raw (RecordAt 𝓤 H A mem run .pre (to-rec i)))
+      (qed W ((‵ (flft κ q) ⊛ ‵ ftrue) ∷ ‵ (owns (ShrSlice (named 0) κ T.the-row ∷ usize ∷ []) (x, (i, tt)) (s ∷ [], (vint w64 i ∷ [], tt))) ∷
+      []) ∵ join ! $
       frame ! $ done !) $ frame ! $ done !
 
   rec-said : (i : ℕ) (r : Record) → ent 𝓤 (ensured 𝓤 H A rec.ended (rec.clauses 𝓤 H A mem run) (κ, tt) (x, (i, tt)) tt r) (fact 𝓤 (r ≡ recordAt ys i))
@@ -183,14 +188,16 @@ module _ {M : Type 1} (𝓤 : URA M) (H : Heap 𝓤) (A : Atoms 𝓤) (W : Given
   abbrev to-step : Scan → Val → ℕ → Record → Val → Step 𝓤 H A mem run .Ghost
   to-step t u i r v = ((tt, tt, tt, (t, (i, (r, (ask, tt)))), (u ∷ [], (vint w64 i ∷ [], (v ∷ [], (m ∷ [], tt))))), tt)
 
-  goes-step : (t : Scan) (u : Val) (i : ℕ) (r : Record) (v : Val) → Is F.the-row t (u ∷ []) → i < 2 ^ 64 → Is T.the-row r (v ∷ []) → ent 𝓤 (emp 𝓤) (Step 𝓤 H A mem run .pre (to-step t u i r v))
+  goes-step : (t : Scan) (u : Val) (i : ℕ) (r : Record) (v : Val) → Is F.the-row t (u ∷ []) → i < 2 ^ 64 → Is T.the-row r (v ∷ []) → ent 𝓤 (emp 𝓤)
+      (Step 𝓤 H A mem run .pre (to-step t u i r v))
   goes-step t u i r v is fits isr =
       qed W [] ∵ nothing ! $ owned ! Q.the-row (Is Q.the-row) (LL.makes Q.the-type Q′.the-plain 𝓤 H A) ask _ asks $ fjoin ! $
       owned ! T.the-row (Is T.the-row) (LL.makes T.the-type T′.the-plain 𝓤 H A) r _ isr $ fjoin ! $
       owned ! usize (Is usize) (uint-makes 𝓤 H A W w64) i _ (refl, fits) $ fjoin ! $
       owned ! F.the-row (Is F.the-row) (LL.makes F.the-type F′.the-plain 𝓤 H A) t _ is $ fjoin ! $ nothing ! $ join ! $ frame ! $ done !
 
-  step-said : (t : Scan) (i : ℕ) (r : Record) (w : Scan) → ent 𝓤 (ensured 𝓤 H A step.ended (step.clauses 𝓤 H A mem run) tt (t, (i, (r, (ask, tt)))) tt w) (fact 𝓤 (w ≡ stepOf ask t i r))
+  step-said : (t : Scan) (i : ℕ) (r : Record) (w : Scan) → ent 𝓤
+      (ensured 𝓤 H A step.ended (step.clauses 𝓤 H A mem run) tt (t, (i, (r, (ask, tt)))) tt w) (fact 𝓤 (w ≡ stepOf ask t i r))
   step-said t i r w = exE 𝓤 _ (λ ws. snd∗ 𝓤 (sem 𝓤 H A (lasts step.ended tt (t, (i, (r, (ask, tt)))) ws)) (fact 𝓤 (w ≡ stepOf ask t i r)))
 
   -- where a turn begins: the place, the scan so far and its machine value, with what is left to look at
@@ -208,7 +215,8 @@ module _ {M : Type 1} (𝓤 : URA M) (H : Heap 𝓤) (A : Atoms 𝓤) (W : Given
   Nearer-wf : WellFounded Nearer
   Nearer-wf = InvImage·wf (λ (z : State). n - z .i) (Nat·lt-wfRel .wf)
 
-  module _ (𝓣 : Tables 𝓤 H) (known-rec : Triple 𝓤 (𝓣 .C #list·record-at) (RecordAt 𝓤 H A mem run)) (known-step : Triple 𝓤 (𝓣 .C #listing·step) (Step 𝓤 H A mem run)) (l₀ l₁ l₂ l₃ l₄ l₅ l₆ l₇ l₈ : ℕ) where
+  module _ (𝓣 : Tables 𝓤 H) (known-rec : Triple 𝓤 (𝓣 .C #list·record-at) (RecordAt 𝓤 H A mem run))
+      (known-step : Triple 𝓤 (𝓣 .C #listing·step) (Step 𝓤 H A mem run)) (l₀ l₁ l₂ l₃ l₄ l₅ l₆ l₇ l₈ : ℕ) where
     abbrev C : Calls 𝓤 H
     C = 𝓣 .C
 
@@ -216,31 +224,38 @@ module _ {M : Type 1} (𝓤 : URA M) (H : Heap 𝓤) (A : Atoms 𝓤) (W : Given
     Λ = 𝓣 .Λ
 
     abbrev En : Env 𝓤 H
-    En = (F′.mir, l₀) ∷ (slice, l₁) ∷ (Q′.mir, l₂) ∷ (F′.mir, l₃) ∷ (tyInt w64, l₄) ∷ (T′.mir, l₅) ∷ (tyInt w64, l₆) ∷ (tyInt w64, l₇) ∷ (tyBool, l₈) ∷ []
+    En = (F′.mir, l₀) ∷ (slice, l₁) ∷ (Q′.mir, l₂) ∷ (F′.mir, l₃) ∷ (tyInt w64, l₄) ∷ (T′.mir, l₅) ∷ (tyInt w64, l₆) ∷ (tyInt w64, l₇) ∷ (tyBool, l₈)
+        ∷ []
 
     -- [_8; …; _7; …; _6; …; _5; …; _4; …; _3; …; _2; …; _1; …; room for _0; …; the token; what list owns]
     abbrev At : State → List (Item 𝓤)
     At z =
-        ‵ (froom tyBool l₈ 0) ∷ ‵ (fdies tyBool l₈) ∷ ‵ (froom (tyInt w64) l₇ 0) ∷ ‵ (fdies (tyInt w64) l₇) ∷ ‵ (froom (tyInt w64) l₆ 0) ∷ ‵ (fdies (tyInt w64) l₆)
+        ‵ (froom tyBool l₈ 0) ∷ ‵ (fdies tyBool l₈) ∷ ‵ (froom (tyInt w64) l₇ 0) ∷ ‵ (fdies (tyInt w64) l₇) ∷ ‵ (froom (tyInt w64) l₆ 0)
+        ∷ ‵ (fdies (tyInt w64) l₆)
         ∷ ‵ (froom T′.mir l₅ 0) ∷ ‵ (fdies T′.mir l₅) ∷ ‵ (fat fullShare (tyInt w64) l₄ 0 (vint w64 (z .i))) ∷ ‵ (fdies (tyInt w64) l₄)
         ∷ ‵ (fat fullShare F′.mir l₃ 0 (z .val)) ∷ ‵ (fdies F′.mir l₃) ∷ ‵ (fat fullShare Q′.mir l₂ 0 m) ∷ ‵ (fdies Q′.mir l₂)
         ∷ ‵ (fat fullShare slice l₁ 0 s) ∷ ‵ (fdies slice l₁) ∷ ‵ (froom F′.mir l₀ 0) ∷ ‵ (fdies F′.mir l₀) ∷ (‵ (flft κ q) ⊛ ‵ ftrue) ∷ ‵ Own ∷ []
 
     -- a turn's postcondition: it ends nearer to the end, or the loop is left and the rest of the body runs
     abbrev Turned : State → Out → SProp 𝓤
-    Turned z = afterTurn 𝓤 H (Below 𝓤 H A Nearer At z) (afterBlock 𝓤 H (afterSeq 𝓤 H (Wp 𝓤 H C Λ En mir.t-5 (atReturn 𝓤 H En Post)) (atReturn 𝓤 H En Post)))
+    Turned z = afterTurn 𝓤 H (Below 𝓤 H A Nearer At z)
+        (afterBlock 𝓤 H (afterSeq 𝓤 H (Wp 𝓤 H C Λ En mir.t-5 (atReturn 𝓤 H En Post)) (atReturn 𝓤 H En Post)))
 
     turns : (z : State) → Sq W (At z) (runs C Λ En mir.turn-1 (anyQ (Turned z)))
     unfolding afterTurn
     turns z =
-        assigns ! (of-opd ! (load ! (from ! (fld ! refl (stop !))) (look-in ! 14 (sub ! 1 refl (whole !))))) (from ! (stop !)) (init ! 2 refl (tt, record { fits = room .0 })) $
-        assigns ! (bin ! (load ! (from ! (stop !)) (look ! 8 refl)) (load ! (from ! (stop !)) (look ! 2 refl)) tt) (from ! (stop !)) (init ! 0 refl (tt, tt)) $
+        assigns ! (of-opd ! (load ! (from ! (fld ! refl (stop !))) (look-in ! 14 (sub ! 1 refl (whole !))))) (from ! (stop !))
+        (init ! 2 refl (tt, record { fits = room .0 })) $
+        assigns ! (bin ! (load ! (from ! (stop !)) (look ! 8 refl)) (load ! (from ! (stop !)) (look ! 2 refl)) tt) (from ! (stop !))
+        (init ! 0 refl (tt, tt)) $
         first ! $ branches ! (load ! (from ! (stop !)) (look ! 0 refl))
         (λ less. let inside = ltb→lt (z .i) n less in
         skips ! $ exec ! C Λ En more (anyQ (Turned z)) $
         move ! (18 ∷ 19 ∷ []) $ use2 W (raw (RecordAt 𝓤 H A mem run .pre (to-rec (z .i))) ⊛ ‵ Own) (goes-rec (z .i) fits) $ split ! $
-        calls-at ! (fmOf 𝓤 H (W .laws) 𝓣) (RecordAt 𝓤 H A mem run) known-rec (to-rec (z .i)) (and-then ! (load ! (from ! (stop !)) (look ! 16 refl)) (and-then ! (load ! (from ! (stop !)) (look ! 10 refl)) (no-more !))) (λ v.
-        use1 W (later (some (λ (r : Record). ((‵ (flft κ q) ⊛ ‵ ftrue) ⊛ ‵ (T.the-row .own r (v ∷ []))) ⊛ raw (ensured 𝓤 H A rec.ended (rec.clauses 𝓤 H A mem run) (κ, tt) (x, (z .i, tt)) tt r)))) (id⊢ 𝓤 _) $
+        calls-at ! (fmOf 𝓤 H (W .laws) 𝓣) (RecordAt 𝓤 H A mem run) known-rec (to-rec (z .i))
+        (and-then ! (load ! (from ! (stop !)) (look ! 16 refl)) (and-then ! (load ! (from ! (stop !)) (look ! 10 refl)) (no-more !))) (λ v.
+        use1 W (later (some (λ (r : Record). ((‵ (flft κ q) ⊛ ‵ ftrue) ⊛ ‵ (T.the-row .own r (v ∷ []))) ⊛ raw
+        (ensured 𝓤 H A rec.ended (rec.clauses 𝓤 H A mem run) (κ, tt) (x, (z .i, tt)) tt r)))) (id⊢ 𝓤 _) $
         await ! tt $ pick ! (λ r.
         split ! $ move ! (1 ∷ []) $ use1 W (raw (fact 𝓤 (r ≡ recordAt ys (z .i)))) (rec-said (z .i) r) $
         heard ! (r ≡ recordAt ys (z .i)) (λ e. split ! $ move ! (1 ∷ []) $
@@ -250,22 +265,35 @@ module _ {M : Type 1} (𝓤 : URA M) (H : Heap 𝓤) (A : Atoms 𝓤) (W : Given
         use0 W (raw (Step 𝓤 H A mem run .pre (to-step (z .best) (z .val) (z .i) r v))) (goes-step (z .best) (z .val) (z .i) r v (z .is) fits isr) $
         -- [what `step` asks; the token; what list owns; _8; …]
         calls-at ! (fmOf 𝓤 H (W .laws) 𝓣) (Step 𝓤 H A mem run) known-step (to-step (z .best) (z .val) (z .i) r v)
-        (and-then ! (load ! (from ! (stop !)) (look ! 13 refl)) (and-then ! (load ! (from ! (stop !)) (look ! 11 refl)) (and-then ! (load ! (from ! (stop !)) (look ! 9 refl)) (and-then ! (load ! (from ! (stop !)) (look ! 15 refl)) (no-more !))))) (λ u.
-        use1 W (later (some (λ (w : Scan). (‵ ftrue ⊛ ‵ (F.the-row .own w (u ∷ []))) ⊛ raw (ensured 𝓤 H A step.ended (step.clauses 𝓤 H A mem run) tt (z .best, (z .i, (r, (ask, tt)))) tt w)))) (id⊢ 𝓤 _) $
+        (and-then ! (load ! (from ! (stop !)) (look ! 13 refl))
+        (and-then ! (load ! (from ! (stop !)) (look ! 11 refl))
+        (and-then ! (load ! (from ! (stop !)) (look ! 9 refl)) (and-then ! (load ! (from ! (stop !)) (look ! 15 refl)) (no-more !))))) (λ u.
+        use1 W (later (some (λ (w : Scan). (‵ ftrue ⊛ ‵ (F.the-row .own w (u ∷ []))) ⊛ raw
+        (ensured 𝓤 H A step.ended (step.clauses 𝓤 H A mem run) tt (z .best, (z .i, (r, (ask, tt)))) tt w)))) (id⊢ 𝓤 _) $
         await ! tt $ pick ! (λ w.
         split ! $ move ! (1 ∷ []) $ use1 W (raw (fact 𝓤 (w ≡ stepOf ask (z .best) (z .i) r))) (step-said (z .best) (z .i) r w) $
         heard ! (w ≡ stepOf ask (z .best) (z .i) r) (λ e′. split ! $ move ! (1 ∷ []) $
         -- [the scan; true; the token; what list owns; _8; …; _7; …; _6; …; _5; …; _4; …; _3; …]
         peeks ! F.the-row (Is F.the-row) (shows 𝓤 H A F.the-row) w (u ∷ []) (λ isw.
         land ! (from ! (stop !)) (store ! 14 refl (LL.lawful F.the-type F′.the-laws 𝓤 H A W .typed w _ isw .0)) $
-        assigns-last ! (bin ! (load ! (from ! (stop !)) (look ! 12 refl)) (lit ! tt) (record { fits = next-fits inside })) (from ! (stop !)) (store ! 12 refl (tt, record { fits = next-fits inside })) $
+        assigns-last ! (bin ! (load ! (from ! (stop !)) (look ! 12 refl)) (lit ! tt) (record { fits = next-fits inside })) (from ! (stop !))
+        (store ! 12 refl (tt, record { fits = next-fits inside })) $
         forget ! 4 refl $ forget ! 6 refl $ forget ! 10 refl $
         keep ! (4 ∷ 5 ∷ 6 ∷ 7 ∷ 8 ∷ 9 ∷ 10 ∷ 11 ∷ 12 ∷ 13 ∷ 14 ∷ 15 ∷ 16 ∷ 17 ∷ 18 ∷ 19 ∷ 20 ∷ 21 ∷ 2 ∷ 3 ∷ []) $
         again ! Nearer At z
-        (record { i = z .i + 1; best = w; val = u; within = add-one-le inside; is = isw; left = turned ys ask (z .best) (z .i) inside r e w e′ ∙ z .left })
+        (record {
+          i = z .i + 1;
+          best = w;
+          val = u;
+          within = add-one-le inside;
+          is = isw;
+          left = turned ys ask (z .best) (z .i) inside r e w e′
+              ∙ z .left;
+        })
         (add-one-dec n (z .i) inside))))))))))
         (λ over. jumps ! $ exec ! C Λ En mir.t-5 (atRet En Post) $
-        assigns ! (of-opd ! (load ! (from ! (stop !)) (look ! 10 refl))) (from ! (stop !)) (init ! 16 refl (LL.lawful F.the-type F′.the-laws 𝓤 H A W .typed (z .best) _ (z .is) .0)) $
+        assigns ! (of-opd ! (load ! (from ! (stop !)) (look ! 10 refl))) (from ! (stop !))
+        (init ! 16 refl (LL.lawful F.the-type F′.the-laws 𝓤 H A W .typed (z .best) _ (z .is) .0)) $
         returns ! (look ! 16 refl) $ forget ! 0 refl $ forget ! 2 refl $ forget ! 8 refl $ forget ! 10 refl $ forget ! 12 refl $ forget ! 14 refl $
         forget ! 16 refl $
         move ! (16 ∷ 17 ∷ []) $ free1 ! $ move ! (14 ∷ 15 ∷ []) $ free1 ! $ move ! (12 ∷ 13 ∷ []) $ free1 ! $ move ! (10 ∷ 11 ∷ []) $ free1 ! $
@@ -288,25 +316,31 @@ module _ {M : Type 1} (𝓤 : URA M) (H : Heap 𝓤) (A : Atoms 𝓤) (W : Given
       → Triple 𝓤 (𝓣 .C #list·record-at) (RecordAt 𝓤 H A mem run) → Triple 𝓤 (𝓣 .C #listing·step) (Step 𝓤 H A mem run)
       → ent 𝓤 (onEntry 𝓤 H A f.signature (κ, tt) (q, tt) args at) (WpFn 𝓤 H (𝓣 .C) (𝓣 .Λ) code.function (s ∷ m ∷ []) Post)
   walk 𝓣 known-begun known-begins known-rec known-step =
-      qed W ((‵ (flft κ q) ⊛ ‵ ftrue) ∷ ‵ (owns (ShrSlice (named 0) κ T.the-row ∷ Q.the-row ∷ []) args at) ∷ []) ∵ enter ! (𝓣 .C) (𝓣 .Λ) code.function (s ∷ m ∷ []) _ $
-      alloc1 ! (λ l₀. alloc1 ! (λ l₁. alloc1 ! (λ l₂. alloc1 ! (λ l₃. alloc1 ! (λ l₄. alloc1 ! (λ l₅. alloc1 ! (λ l₆. alloc1 ! (λ l₇. alloc1 ! (λ l₈. alloc0 ! $
+      qed W ((‵ (flft κ q) ⊛ ‵ ftrue) ∷ ‵ (owns (ShrSlice (named 0) κ T.the-row ∷ Q.the-row ∷ []) args at) ∷ []) ∵ enter ! (𝓣 .C) (𝓣 .Λ) code.function
+      (s ∷ m ∷ []) _ $
+      alloc1 ! (λ l₀. alloc1 ! (λ l₁. alloc1 ! (λ l₂. alloc1 !
+      (λ l₃. alloc1 ! (λ l₄. alloc1 ! (λ l₅. alloc1 ! (λ l₆. alloc1 ! (λ l₇. alloc1 ! (λ l₈. alloc0 ! $
       params1 ! $
       pass1 ! (init ! 14 refl (tt, (tt, (record { fits = room .0 }, tt)))) $
       pass1 ! (init ! 12 refl (LL.lawful Q.the-type Q′.the-laws 𝓤 H A W .typed ask _ asks .0)) $ pass0 ! $
       use0 W (raw (Begun 𝓤 H A mem run .pre to-begun)) goes-begun $
       -- [what `begun` asks; _8; …]
       calls-at ! (fmOf 𝓤 H (W .laws) 𝓣) (Begun 𝓤 H A mem run) known-begun to-begun (no-more !) (λ u.
-      use1 W (later (some (λ (w : Scan). (‵ ftrue ⊛ ‵ (F.the-row .own w (u ∷ []))) ⊛ raw (ensured 𝓤 H A begun.ended (begun.clauses 𝓤 H A mem run) tt tt tt w)))) (id⊢ 𝓤 _) $
+      use1 W (later (some (λ (w : Scan). (‵ ftrue ⊛ ‵ (F.the-row .own w (u ∷ []))) ⊛ raw
+      (ensured 𝓤 H A begun.ended (begun.clauses 𝓤 H A mem run) tt tt tt w)))) (id⊢ 𝓤 _) $
       await ! tt $ pick ! (λ w.
       split ! $ move ! (1 ∷ []) $ use1 W (raw (fact 𝓤 (w ≡ begunScan))) (begun-said w) $ heard ! (w ≡ begunScan) (λ e. split ! $ move ! (1 ∷ []) $
       -- [the scan; true; _8; …]
       peeks ! F.the-row (Is F.the-row) (shows 𝓤 H A F.the-row) w (u ∷ []) (λ isw.
       land ! (from ! (stop !)) (init ! 12 refl (LL.lawful F.the-type F′.the-laws 𝓤 H A W .typed w _ isw .0)) $ drops ! $ drops ! $
-      assigns ! (of-opd ! (load ! (from ! (fld ! refl (stop !))) (look-in ! 14 (sub ! 1 refl (whole !))))) (from ! (stop !)) (init ! 4 refl (tt, record { fits = room .0 })) $
+      assigns ! (of-opd ! (load ! (from ! (fld ! refl (stop !))) (look-in ! 14 (sub ! 1 refl (whole !))))) (from ! (stop !))
+      (init ! 4 refl (tt, record { fits = room .0 })) $
       use0 W (raw (Begins 𝓤 H A mem run .pre to-begins)) goes-begins $
       -- [what `first_place` asks; _8; …]
-      calls-at ! (fmOf 𝓤 H (W .laws) 𝓣) (Begins 𝓤 H A mem run) known-begins to-begins (and-then ! (load ! (from ! (stop !)) (look ! 13 refl)) (and-then ! (load ! (from ! (stop !)) (look ! 5 refl)) (no-more !))) (λ v.
-      use1 W (later (some (λ (k : ℕ). (‵ ftrue ⊛ ‵ (usize .own k (v ∷ []))) ⊛ raw (ensured 𝓤 H A begins.ended (begins.clauses 𝓤 H A mem run) tt (ask, (n, tt)) tt k)))) (id⊢ 𝓤 _) $
+      calls-at ! (fmOf 𝓤 H (W .laws) 𝓣) (Begins 𝓤 H A mem run) known-begins to-begins
+      (and-then ! (load ! (from ! (stop !)) (look ! 13 refl)) (and-then ! (load ! (from ! (stop !)) (look ! 5 refl)) (no-more !))) (λ v.
+      use1 W (later (some (λ (k : ℕ). (‵ ftrue ⊛ ‵ (usize .own k (v ∷ []))) ⊛ raw
+      (ensured 𝓤 H A begins.ended (begins.clauses 𝓤 H A mem run) tt (ask, (n, tt)) tt k)))) (id⊢ 𝓤 _) $
       await ! tt $ pick ! (λ k.
       split ! $ move ! (1 ∷ []) $ use1 W (raw (fact 𝓤 (k ≡ firstPlace ask n))) (begins-said k) $ heard ! (k ≡ firstPlace ask n) (λ g. split ! $
       move ! (1 ∷ []) $
@@ -323,10 +357,13 @@ module _ {M : Type 1} (𝓤 : URA M) (H : Heap 𝓤) (A : Atoms 𝓤) (W : Given
   scan-walks : (𝓣 : Tables 𝓤 H) → Triple 𝓤 (𝓣 .C #listing·begun) (Begun 𝓤 H A mem run) → Triple 𝓤 (𝓣 .C #listing·first-place) (Begins 𝓤 H A mem run)
       → Triple 𝓤 (𝓣 .C #list·record-at) (RecordAt 𝓤 H A mem run) → Triple 𝓤 (𝓣 .C #listing·step) (Step 𝓤 H A mem run)
       → Walks 𝓤 H A f.ended stayed (WpFn 𝓤 H (𝓣 .C) (𝓣 .Λ) code.function) (f.clauses 𝓤 H A mem run)
-  scan-walks 𝓣 known-begun known-begins known-rec known-step = walked 𝓤 H A f.ended stayed (f.clauses 𝓤 H A mem run) (WpFn 𝓤 H (𝓣 .C) (𝓣 .Λ) code.function)
-      (λ κs. (slice-vals, (LL.vals Q.the-type Q′.the-laws, tt))) (λ κs. (shr-slice-tells (named 0) (κs .0) T.the-row, (LL.tells Q.the-type Q′.the-laws, tt)))
+  scan-walks 𝓣 known-begun known-begins known-rec known-step = walked 𝓤 H A f.ended stayed (f.clauses 𝓤 H A mem run)
+      (WpFn 𝓤 H (𝓣 .C) (𝓣 .Λ) code.function)
+      (λ κs. (slice-vals, (LL.vals Q.the-type Q′.the-laws, tt)))
+      (λ κs. (shr-slice-tells (named 0) (κs .0) T.the-row, (LL.tells Q.the-type Q′.the-laws, tt)))
       (λ κs qs bounds a g are. via 𝓤 _ (fst∗ 𝓤 _ (emp 𝓤))
-      (walk 𝓤 H A W mem run (κs .0) (qs .0) (a .0 .ptr .0) (a .0 .ptr .1) (a .0 .name) (a .0 .now) (a .1 .0) (are .0 .0 .1) (are .1 .0) 𝓣 known-begun known-begins known-rec known-step))
+      (walk 𝓤 H A W mem run (κs .0) (qs .0) (a .0 .ptr .0) (a .0 .ptr .1) (a .0 .name) (a .0 .now) (a .1 .0) (are .0 .0 .1)
+      (are .1 .0) 𝓣 known-begun known-begins known-rec known-step))
 
   goes : AllGo 𝓤 H A W 1 (f.signature .params) (f.ended .kept) stayed
   goes = (goes-none-slice 𝓤 H A W 1 (0 ∷ []) tt (plain (λ _. T.the-row)) yes, (goes-none 𝓤 H A W 1 (λ _. Q.the-row) yes (λ κs x f. refl), tt))
@@ -335,7 +372,8 @@ scan-meets : {M : Type 1} (𝓤 : URA M) (H : Heap 𝓤) (A : Atoms 𝓤) (W : G
     → Triple 𝓤 (𝓣 .C #listing·begun) (Begun 𝓤 H A mem run) → Triple 𝓤 (𝓣 .C #listing·first-place) (Begins 𝓤 H A mem run)
     → Triple 𝓤 (𝓣 .C #list·record-at) (RecordAt 𝓤 H A mem run) → Triple 𝓤 (𝓣 .C #listing·step) (Step 𝓤 H A mem run)
     → Meets 𝓤 H A f.signature (WpFn 𝓤 H (𝓣 .C) (𝓣 .Λ) code.function) (f.spec 𝓤 H A mem run)
-scan-meets 𝓤 H A W mem run 𝓣 known-begun known-begins known-rec known-step = walk-meets 𝓤 H A f.ended stayed W (goes 𝓤 H A W mem run) (f.clauses 𝓤 H A mem run) (WpFn 𝓤 H (𝓣 .C) (𝓣 .Λ) code.function) (WpFn-mono 𝓤 H (W .laws) 𝓣 code.function)
+scan-meets 𝓤 H A W mem run 𝓣 known-begun known-begins known-rec known-step = walk-meets 𝓤 H A f.ended stayed W (goes 𝓤 H A W mem run)
+    (f.clauses 𝓤 H A mem run) (WpFn 𝓤 H (𝓣 .C) (𝓣 .Λ) code.function) (WpFn-mono 𝓤 H (W .laws) 𝓣 code.function)
     (scan-walks 𝓤 H A W mem run 𝓣 known-begun known-begins known-rec known-step)
 
 pub scan-spec : {M : Type 1} → stated.statement M
@@ -345,6 +383,7 @@ scan-spec 𝓤 H 𝓜 𝓖 𝓡 =
     (tables 𝓤 H 𝓜 𝓡 code.env .C) (tables 𝓤 H 𝓜 𝓡 code.env .Λ) #list·scan code.function (code.unfolded 𝓤 H 𝓜 𝓡)
     (scan-meets 𝓤 H (𝓖 .A) (givenOf 𝓤 H 𝓜 𝓖) (𝓜 .mem) (𝓡 .run) (tablesOf 𝓤 H 𝓜 (tables 𝓤 H 𝓜 𝓡 code.env))
     (cited 𝓤 H (Begun 𝓤 H (𝓖 .A) (𝓜 .mem) (𝓡 .run)) 𝓜 𝓡 code.env #listing·begun begun-def.routine code.calls-listing·begun (begun-thm.met 𝓤 H 𝓜 𝓖 𝓡))
-    (cited 𝓤 H (Begins 𝓤 H (𝓖 .A) (𝓜 .mem) (𝓡 .run)) 𝓜 𝓡 code.env #listing·first-place begins-def.routine code.calls-listing·first-place (begins-thm.met 𝓤 H 𝓜 𝓖 𝓡))
+    (cited 𝓤 H (Begins 𝓤 H (𝓖 .A) (𝓜 .mem) (𝓡 .run)) 𝓜 𝓡 code.env #listing·first-place begins-def.routine code.calls-listing·first-place
+    (begins-thm.met 𝓤 H 𝓜 𝓖 𝓡))
     (cited 𝓤 H (RecordAt 𝓤 H (𝓖 .A) (𝓜 .mem) (𝓡 .run)) 𝓜 𝓡 code.env #list·record-at rec-def.routine code.calls-list·record-at (rec-thm.met 𝓤 H 𝓜 𝓖 𝓡))
     (cited 𝓤 H (Step 𝓤 H (𝓖 .A) (𝓜 .mem) (𝓡 .run)) 𝓜 𝓡 code.env #listing·step step-def.routine code.calls-listing·step (step-thm.met 𝓤 H 𝓜 𝓖 𝓡)))

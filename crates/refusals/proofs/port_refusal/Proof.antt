@@ -15,23 +15,35 @@ use Rattle.refusals.proofs.port_refusal.Tie as tie
 abbrev tests : tie.Start → Checks
 tests s = portChecks (decodeBoard (s .args .board .now)) (s .args .port) (s .args .address) (s .args .mask) (s .args .mtu) (s .args .mission)
 
-past-place : (c : tie.After-enum-told) → Past 1 (tests (c .before .before .before .before))
+abbrev at-place : tie.After-enum-told → tie.Start
+at-place c = c .before .before .before .before
+
+past-place : (c : tie.After-enum-told) → Past 1 (tests (at-place c))
 past-place c = passes _ _ _ (c .before .before .check-place .ensures) (c .enum-told .given .1) refl
 
-past-class : (c : tie.After-enum-told3) → Past 2 (tests (c .before .before .before .before .before .before .before))
+abbrev at-class : tie.After-enum-told3 → tie.Start
+at-class c = at-place (c .before .before .before)
+
+past-class : (c : tie.After-enum-told3) → Past 2 (tests (at-class c))
 past-class c =
     passes _ _ _ (c .before .before .check-port-class .ensures) (c .enum-told3 .given .1) refl
     ∙ past-place (c .before .before .before)
 
-past-mask : (c : tie.After-enum-told5) → Past 3 (tests (c .before .before .before .before .before .before .before .before .before .before))
+abbrev at-mask : tie.After-enum-told5 → tie.Start
+at-mask c = at-class (c .before .before .before)
+
+past-mask : (c : tie.After-enum-told5) → Past 3 (tests (at-mask c))
 past-mask c =
     passes _ _ _ (c .before .before .check-port-mask .ensures) (c .enum-told5 .given .1) refl
     ∙ past-class (c .before .before .before)
 
-past-mtu : (c : tie.After-enum-told7) → Past 4 (tests (c .before .before .before .before .before .before .before .before .before .before .before .before .before))
+abbrev at-mtu : tie.After-enum-told7 → tie.Start
+at-mtu c = at-mask (c .before .before .before)
+
+past-mtu : (c : tie.After-enum-told7) → Past 4 (tests (at-mtu c))
 past-mtu c = passes _ _ _ (c .before .before .check-mtu .ensures) (c .enum-told7 .given .1) refl ∙ past-mask (c .before .before .before)
 
-past-mission : (c : tie.After-enum-told9) → Past 5 (tests (c .before .before .before .before .before .before .before .before .before .before .before .before .before .before .before .before))
+past-mission : (c : tie.After-enum-told9) → Past 5 (tests (at-mtu (c .before .before .before)))
 past-mission c =
     passes _ _ _ (c .before .before .check-place2 .ensures) (c .enum-told9 .given .1) refl
     ∙ past-mtu (c .before .before .before)

@@ -34,7 +34,8 @@ abbrev at-target : tie.After-check-target → tie.Start
 at-target c = c .before .before .before .before
 
 -- the place and the set to send to are tested against the ports that the mission sees
-targeted : (c : tie.After-check-target) → c .check-target .result ≡ checkOf (outside (at-target c) || setRefused (at-target c .args .send) (ports (at-target c)))
+targeted : (c : tie.After-check-target)
+    → c .check-target .result ≡ checkOf (outside (at-target c) || setRefused (at-target c .args .send) (ports (at-target c)))
 targeted c =
     let start = at-target c in
     target-against (start .args .send) _ (ports start) _ (c .before .ready-here .ensures) (start .args .place) pathPlaces (c .check-target .ensures)
