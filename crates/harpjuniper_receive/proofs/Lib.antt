@@ -1,2 +1,2 @@
--- What receiving hands together.
-mod Ended
+-- Told: what the two halves of receiving come to over the list.
+pub mod Told

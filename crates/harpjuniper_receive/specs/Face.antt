@@ -1,6 +1,7 @@
 -- What receiving answers, leaves and sends on, of the words lent: page 01, "One received datagram, step by step"; page 02, W-208. b is the board's words,
 -- w the mission's. Assumes nothing.
 use Prim.Native.Nat.{ℕ}
+use mathlib.Core.Path.{_≡_}
 use mathlib.Core.List.{List}
 use lib.ListN.{length}
 use Rattle.checks.specs.Order.{pick}
@@ -23,3 +24,9 @@ receiveWords b w rs port slot octets room =
 unfoldable pub receiveOutput : List ℕ → List ℕ → List Record → ℕ → List ℕ → List ℕ → List ℕ
 receiveOutput b w rs port octets output =
     toldBoth (λ (x : Board) (s : State). sentOutput (heardEnding x s rs port octets (length output) .ruling .took) octets output) output b w
+
+-- the contract: what is answered, and the words and the output that are left
+abbrev pub Receives : List ℕ → List ℕ → List Record → ℕ → ℕ → List ℕ → List ℕ → ℕ → List ℕ → List ℕ → Type 0
+Receives b w rs port slot octets output answer words left =
+    (answer ≡ receiveAnswer b w rs port octets (length output))
+    × ((lent words ≡ receiveWords b w rs port slot octets (length output)) × (left ≡ receiveOutput b w rs port octets output))

@@ -15,38 +15,43 @@ use Rattle.header.specs.declared.Read.{Read}
 use Rattle.header.specs.declared.Read.the-variants.{Good, Refused}
 use Rattle.header.proofs.Passed.{passed}
 use Rattle.state.specs.Relay.{Relay}
+use Rattle.verdict.specs.Rule.{localOf, lineOf, grantedOf, rulingOf}
+use Rattle.verdict.specs.declared.Way.{Way}
 use Rattle.judge.specs.declared.ruling.Arrival.{Arrival}
+use Rattle.judge.specs.declared.Asked.{Asked}
 use Rattle.judge.specs.declared.Ending.{Ending}
-use Rattle.judge.specs.Ending.{refusedBy, callChecks, octetsEnding, arrivalAt, endingOf}
+use Rattle.judge.specs.Ending.{refusedBy, callChecks, arrivalAt}
+use Rattle.judge.specs.Asked.{refusedAsked, octetsAsked, datagramAsked, wishedOf, ruledAsked, finishedOf}
 
--- a refusal has no port that took
+-- some port takes an entry
 abbrev pub Takes : Ending → Type 0
 Takes e = e .ruling .took ≡ 0 → ⊥
 
-not-refused : (t : Bool) (n : ℕ) (e : Ending) → Takes (pick t e (refusedBy n)) → (t ≡ true) × Takes e
-not-refused true n e h = (refl, h)
-not-refused false n e h = absurd (h refl)
+-- a refusal has no port that took
+refused-took : (r : Relay) (w : Way) (n : ℕ) → finishedOf r (refusedAsked n) w .ruling .took ≡ 0
+unfolding finishedOf ruledAsked wishedOf lineOf grantedOf rulingOf
+refused-took r w n = by-number (eqb n 0)
+  where
+    by-number : (t : Bool) → pick t (record { refusal = 0; ruling = ruledAsked r (refusedAsked n) w; precedence = 0; size = 0 }) (refusedBy n) .ruling .took ≡ 0
+    by-number true = refl
+    by-number false = refl
 
-header-read : (r : Relay) (at : Arrival) (s : List ℕ) (x : Read)
-    → readOf s ≡ x → Takes (octetsEnding r at x) → placesOf s .size ≤ length s
-header-read r at s (Good h) e k = let p = passed s h e in omega (arith, p .fits, p .inside)
-header-read r at s (Refused n) e k = absurd (k refl)
+not-refused : (r : Relay) (w : Way) (t : Bool) (n : ℕ) (a : Asked) → Takes (finishedOf r (pick t a (refusedAsked n)) w) → (t ≡ true) × Takes (finishedOf r a w)
+not-refused r w true n a h = (refl, h)
+not-refused r w false n a h = absurd (h (refused-took r w n))
+
+header-read : (r : Relay) (w : Way) (number : ℕ) (at : Arrival) (s : List ℕ) (x : Read)
+    → readOf s ≡ x → Takes (finishedOf r (octetsAsked r number at x) w) → placesOf s .size ≤ length s
+header-read r w number at s (Good h) e k = let p = passed s h e in omega (arith, p .fits, p .inside)
+header-read r w number at s (Refused n) e k = absurd (k (refused-took r w n))
 
 pub took-good :
-    (r : Relay) (port : ℕ) (octets : List ℕ) (room : ℕ)
-    → Takes (endingOf r port octets room)
+    (r : Relay) (w : Way) (number port : ℕ) (octets : List ℕ) (room : ℕ)
+    → Takes (finishedOf r (datagramAsked r number port octets room) w)
     → (50 ≤ room) × (placesOf octets .size ≤ length octets)
-unfolding endingOf callChecks
-took-good r port octets room h =
+unfolding datagramAsked callChecks
+took-good r w number port octets room h =
     let n = firstOf (callChecks r port room) in
-    let k = not-refused (eqb n 0) n (octetsEnding r (arrivalAt r port) (readOf octets)) h in
+    let k = not-refused r w (eqb n 0) n (octetsAsked r number (arrivalAt r port) (readOf octets)) h in
     let none = zero-none (callChecks r port room) ((λ z. omega arith), ((λ z. omega arith), tt)) (eqb-true n 0 (k .0)) in
-    (ltb-false room 50 (none .1 .0), header-read r (arrivalAt r port) octets (readOf octets) refl (k .1))
-
--- the same of an ending that was told
-pub told-good :
-    (r : Relay) (port : ℕ) (octets : List ℕ) (room : ℕ) {e : Ending}
-    → e ≡ endingOf r port octets room
-    → Takes e
-    → (50 ≤ room) × (placesOf octets .size ≤ length octets)
-told-good r port octets room told h = took-good r port octets room (rw (← told) h)
+    (ltb-false room 50 (none .1 .0), header-read r w number (arrivalAt r port) octets (readOf octets) refl (k .1))

@@ -148,25 +148,25 @@ module _ {M : Type 1} (𝓤 : URA M) (H : Heap 𝓤) (A : Atoms 𝓤) (W : Given
     asks-record-at e is-e νr δr = (xr δr, (e .place, tt))
 
     abbrev to-record-at : (e : Emptying) (is-e : Is E.the-row e (E′.lowered e ∷ [])) (νr : ℕ) (δr : GName) → The-record-at 𝓤 H A mem run .Ghost
-    to-record-at e is-e νr δr = (((νr ∷ [], tt), (fullShare, tt), tt, (asks-record-at e is-e νr δr), (sr ∷ [], (vint w64 (e .place) ∷ [], tt))), tt)
+    to-record-at e is-e νr δr = (((νr ∷ [], tt), (fullShare, tt), tt, asks-record-at e is-e νr δr, (sr ∷ [], (vint w64 (e .place) ∷ [], tt))), tt)
 
     abbrev Gives-record-at : (νr : ℕ) (δr : GName) → List (Item 𝓤)
     Gives-record-at νr δr = ‵ (flft (νr ∷ []) fullShare) ∷ ‵ (LentR νr δr) ∷ []
 
-    goes-record-at : (e : Emptying) (is-e : Is E.the-row e (E′.lowered e ∷ [])) (νr : ℕ) (δr : GName) → ent 𝓤 (⋆ 𝓤 H A (Gives-record-at νr δr))
-        (The-record-at 𝓤 H A mem run .pre (to-record-at e is-e νr δr))
+    goes-record-at : (e : Emptying) (is-e : Is E.the-row e (E′.lowered e ∷ [])) (νr : ℕ) (δr : GName)
+        → ent 𝓤 (⋆ 𝓤 H A (Gives-record-at νr δr)) (The-record-at 𝓤 H A mem run .pre (to-record-at e is-e νr δr))
     goes-record-at e is-e νr δr =
         qed W (Gives-record-at νr δr) ∵
         nothing ! $
         move ! (1 ∷ 0 ∷ []) $ join ! $
         nothing ! $
-        owned ! usize (Is usize) (uint-makes 𝓤 H A W w64) (e .place) _ (refl, LL.owed E.the-type E′.the-laws e (E′.lowered e ∷ []) is-e .1 .0 .1) $
-        fjoin ! $
+        owned ! usize (Is usize) (uint-makes 𝓤 H A W w64) (e .place) _
+        (refl, LL.owed E.the-type E′.the-laws e (E′.lowered e ∷ []) is-e .1 .0 .1) $ fjoin ! $
         move ! (2 ∷ 0 ∷ []) $ fjoin ! $
         move ! (1 ∷ 0 ∷ []) $ join ! $ frame ! $ done !
 
-    record-at-said : (e : Emptying) (is-e : Is E.the-row e (E′.lowered e ∷ [])) (νr : ℕ) (δr : GName) (old : Record) → ent 𝓤
-        (ensured 𝓤 H A record-at.ended (record-at.clauses 𝓤 H A mem run) (νr ∷ [], tt) (asks-record-at e is-e νr δr) tt old)
+    record-at-said : (e : Emptying) (is-e : Is E.the-row e (E′.lowered e ∷ [])) (νr : ℕ) (δr : GName) (old : Record)
+        → ent 𝓤 (ensured 𝓤 H A record-at.ended (record-at.clauses 𝓤 H A mem run) (νr ∷ [], tt) (asks-record-at e is-e νr δr) tt old)
         (fact 𝓤 (old ≡ recordAt rs (e .place)))
     record-at-said e is-e νr δr old = exE 𝓤 _ (λ ws. snd∗ 𝓤 (sem 𝓤 H A (lasts record-at.ended (νr ∷ [], tt) (asks-record-at e is-e νr δr) ws))
         (fact 𝓤 (old ≡ recordAt rs (e .place))))
@@ -178,10 +178,10 @@ module _ {M : Type 1} (𝓤 : URA M) (H : Heap 𝓤) (A : Atoms 𝓤) (W : Given
 
     abbrev to-cleared : (e : Emptying) (is-e : Is E.the-row e (E′.lowered e ∷ [])) (old : Record) (xold : Val)
         (is-old : Is T.the-row old (xold ∷ [])) → The-cleared 𝓤 H A mem run .Ghost
-    to-cleared e is-e old xold is-old = ((tt, tt, tt, (asks-cleared e is-e old xold is-old), (E′.lowered e ∷ [], (xold ∷ [], tt))), tt)
+    to-cleared e is-e old xold is-old = ((tt, tt, tt, asks-cleared e is-e old xold is-old, (E′.lowered e ∷ [], (xold ∷ [], tt))), tt)
 
-    goes-cleared : (e : Emptying) (is-e : Is E.the-row e (E′.lowered e ∷ [])) (old : Record) (xold : Val) (is-old : Is T.the-row old (xold ∷ [])) →
-        ent 𝓤 (⋆ 𝓤 H A []) (The-cleared 𝓤 H A mem run .pre (to-cleared e is-e old xold is-old))
+    goes-cleared : (e : Emptying) (is-e : Is E.the-row e (E′.lowered e ∷ [])) (old : Record) (xold : Val) (is-old : Is T.the-row old (xold ∷ []))
+        → ent 𝓤 (⋆ 𝓤 H A []) (The-cleared 𝓤 H A mem run .pre (to-cleared e is-e old xold is-old))
     goes-cleared e is-e old xold is-old =
         qed W [] ∵
         nothing ! $
@@ -197,32 +197,32 @@ module _ {M : Type 1} (𝓤 : URA M) (H : Heap 𝓤) (A : Atoms 𝓤) (W : Given
         (fact 𝓤 (x ≡ clearedRecord e old)))
 
     -- the call of `set_at`
-    abbrev asks-set-at : (e : Emptying) (is-e : Is E.the-row e (E′.lowered e ∷ [])) (x : Record) (xx : Val) (is-x : Is T.the-row x (xx ∷ [])) → RefT
-        (List Record) × (ℕ × (Record × Unit {0}))
+    abbrev asks-set-at : (e : Emptying) (is-e : Is E.the-row e (E′.lowered e ∷ [])) (x : Record) (xx : Val) (is-x : Is T.the-row x (xx ∷ []))
+        → RefT (List Record) × (ℕ × (Record × Unit {0}))
     asks-set-at e is-e x xx is-x = (xr γr, (e .place, (x, tt)))
 
-    abbrev to-set-at : (e : Emptying) (is-e : Is E.the-row e (E′.lowered e ∷ [])) (x : Record) (xx : Val) (is-x : Is T.the-row x (xx ∷ [])) →
-        The-set-at 𝓤 H A mem run .Ghost
-    to-set-at e is-e x xx is-x = (((κr, tt), (qr, tt), tt, (asks-set-at e is-e x xx is-x), (sr ∷ [], (vint w64 (e .place) ∷ [], (xx ∷ [], tt)))), tt)
+    abbrev to-set-at : (e : Emptying) (is-e : Is E.the-row e (E′.lowered e ∷ [])) (x : Record) (xx : Val) (is-x : Is T.the-row x (xx ∷ []))
+        → The-set-at 𝓤 H A mem run .Ghost
+    to-set-at e is-e x xx is-x = (((κr, tt), (qr, tt), tt, asks-set-at e is-e x xx is-x, (sr ∷ [], (vint w64 (e .place) ∷ [], (xx ∷ [], tt)))), tt)
 
     abbrev Gives-set-at : List (Item 𝓤)
     Gives-set-at = ‵ (flft κr qr) ∷ ‵ MineR ∷ []
 
-    goes-set-at : (e : Emptying) (is-e : Is E.the-row e (E′.lowered e ∷ [])) (x : Record) (xx : Val) (is-x : Is T.the-row x (xx ∷ [])) → ent 𝓤
-        (⋆ 𝓤 H A Gives-set-at) (The-set-at 𝓤 H A mem run .pre (to-set-at e is-e x xx is-x))
+    goes-set-at : (e : Emptying) (is-e : Is E.the-row e (E′.lowered e ∷ [])) (x : Record) (xx : Val) (is-x : Is T.the-row x (xx ∷ []))
+        → ent 𝓤 (⋆ 𝓤 H A Gives-set-at) (The-set-at 𝓤 H A mem run .pre (to-set-at e is-e x xx is-x))
     goes-set-at e is-e x xx is-x =
         qed W Gives-set-at ∵
         nothing ! $
         move ! (1 ∷ 0 ∷ []) $ join ! $
         nothing ! $
         owned ! T.the-row (Is T.the-row) (LL.makes T.the-type T′.the-plain 𝓤 H A) x _ is-x $ fjoin ! $
-        owned ! usize (Is usize) (uint-makes 𝓤 H A W w64) (e .place) _ (refl, LL.owed E.the-type E′.the-laws e (E′.lowered e ∷ []) is-e .1 .0 .1) $
-        fjoin ! $
+        owned ! usize (Is usize) (uint-makes 𝓤 H A W w64) (e .place) _
+        (refl, LL.owed E.the-type E′.the-laws e (E′.lowered e ∷ []) is-e .1 .0 .1) $ fjoin ! $
         move ! (2 ∷ 0 ∷ []) $ fjoin ! $
         move ! (1 ∷ 0 ∷ []) $ join ! $ frame ! $ done !
 
-    exits : (w : ℕ) (y : Val) (is : Is u32 w (y ∷ [])) (rz : List Record) → (ClearsRoute rs place w rz) → length rz ≡ length rs → ent 𝓤
-        (⋆ 𝓤 H A (‵ (flft κr qr) ∷ ‵ (finally T.the-row γr rz) ∷ [])) (Post y)
+    exits : (w : ℕ) (y : Val) (is : Is u32 w (y ∷ [])) (rz : List Record) → (ClearsRoute rs place w rz) → length rz ≡ length rs
+        → ent 𝓤 (⋆ 𝓤 H A (‵ (flft κr qr) ∷ ‵ (finally T.the-row γr rz) ∷ [])) (Post y)
     exits w y is rz e len-r =
         qed W (‵ (flft κr qr) ∷ ‵ (finally T.the-row γr rz) ∷ []) ∵
         suffices ! _ (ends-at 𝓤 H A f.ended stayed (f.clauses 𝓤 H A mem run) W (((κr, tt), (qr, tt), tt, args, at), tt) y w (rz, (tt, tt))
@@ -244,18 +244,18 @@ module _ {M : Type 1} (𝓤 : URA M) (H : Heap 𝓤) (A : Atoms 𝓤) (W : Given
           pass1 ! (init ! 20 refl (tt, (tt, (record { fits = room-r .0 }, tt)))) $ pass1 ! (init ! 18 refl (tt, record { fits = g-place })) $
           pass0 ! $ move ! (25 ∷ []) $ fsplit ! $ move ! (1 ∷ []) $ fsplit ! $ move ! (1 ∷ []) $ drop ! $ drop ! $ move ! (25 ∷ []) $ split ! $
           move ! (1 ∷ []) $ drop ! $
-          -- [routes's token; routes; _11; …]
+          -- [routes' token; routes; _11; …]
           assigns ! (of-opd ! (load ! (from ! (fld ! refl (stop !))) (look-in ! 22 (sub ! 1 refl (whole !))))) (from ! (stop !))
           (init ! 12 refl (tt, record { fits = room-r .0 })) $
-          -- `clearing`
+          -- the call of `clearing`
           use0 W (raw (The-clearing 𝓤 H A mem run .pre to-clearing)) goes-clearing $
-          -- [what `clearing` asks; routes's token; routes; _11; …]
+          -- [what `clearing` asks; routes' token; routes; _11; …]
           calls-at ! fm (The-clearing 𝓤 H A mem run) known-clearing to-clearing
           (and-then ! (load ! (from ! (stop !)) (look ! 13 refl)) (and-then ! (load ! (from ! (stop !)) (look ! 21 refl)) (no-more !))) (λ xe.
           use1 W (later (some (λ (e : Emptying). (‵ ftrue ⊛ ‵ (E.the-row .own e (xe ∷ []))) ⊛ raw
           (ensured 𝓤 H A clearing.ended (clearing.clauses 𝓤 H A mem run) tt asks-clearing tt e)))) (id⊢ 𝓤 _) $ await ! tt $ pick ! (λ e.
-          split ! $ move ! (1 ∷ []) $ use1 W (raw (fact 𝓤 (e ≡ emptyingOf (length rs) place))) (clearing-said e) $ heard !
-          (e ≡ emptyingOf (length rs) place) (λ e-e. split ! $
+          split ! $ move ! (1 ∷ []) $ use1 W (raw (fact 𝓤 (e ≡ emptyingOf (length rs) place))) (clearing-said e) $ heard
+          ! (e ≡ emptyingOf (length rs) place) (λ e-e. split ! $
           drop ! $ peeks ! E.the-row (Is E.the-row) (shows 𝓤 H A E.the-row) e (xe ∷ []) (λ is-e.
           land ! (from ! (stop !)) (init ! 19 refl (LL.lawful E.the-type E′.the-laws 𝓤 H A W .typed e _ is-e .0)) $ drop ! $
           rewrite ! 18 (λ (z : Val). ‵ (fat fullShare E′.mir l₃ 0 z)) (ap only (E′.lowers .val-is e (xe ∷ []) is-e)) refl $
@@ -264,38 +264,38 @@ module _ {M : Type 1} (𝓤 : URA M) (H : Heap 𝓤) (A : Atoms 𝓤) (W : Given
           assigns ! (agg ! (and-then ! (load ! (from ! (stop !)) (look ! 10 refl))
           (and-then ! (load ! (from ! (fld ! refl (stop !))) (look-in ! 22 (sub ! 1 refl (whole !)))) (no-more !)))) (from ! (stop !))
           (init ! 8 refl (tt, (tt, (record { fits = room-r .0 }, tt)))) $
-          -- `record_at`
+          -- the call of `record_at`
           lft-new ! tt (λ νr. move ! (2 ∷ 1 ∷ []) $
           use2 W (later (some (λ (δr : GName). ‵ (LentR νr δr) ⊛ ‵ (KeptR νr))))
           (lends-shared T.the-row κr (νr ∷ []) qr γr br or rs 𝓤 H A W (named 0) (named 0)) $ await ! tt $ pick ! (λ δr. split ! $
           move ! (2 ∷ 0 ∷ []) $
           group ! 2 $ use1 W (raw (The-record-at 𝓤 H A mem run .pre (to-record-at e (is-lowered-e e xe is-e) νr δr)))
           (goes-record-at e (is-lowered-e e xe is-e) νr δr) $
-          -- [what `record_at` asks; routes's rest; _11; …]
+          -- [what `record_at` asks; routes' rest; _11; …]
           calls-at ! fm (The-record-at 𝓤 H A mem run) known-record-at (to-record-at e (is-lowered-e e xe is-e) νr δr)
           (and-then ! (load ! (from ! (stop !)) (look ! 8 refl))
           (and-then ! (load ! (from ! (fld ! refl (stop !))) (look-in ! 18 (sub ! 1 refl (whole !)))) (no-more !))) (λ xold.
           use1 W (later (some (λ (old : Record). ((‵ (flft (νr ∷ []) fullShare) ⊛ ‵ ftrue) ⊛ ‵ (T.the-row .own old (xold ∷ []))) ⊛ raw
           (ensured 𝓤 H A record-at.ended (record-at.clauses 𝓤 H A mem run) (νr ∷ [], tt) (asks-record-at e (is-lowered-e e xe is-e) νr δr) tt
           old)))) (id⊢ 𝓤 _) $ await ! tt $ pick ! (λ old.
-          split ! $ move ! (1 ∷ []) $ use1 W (raw (fact 𝓤 (old ≡ recordAt rs (e .place)))) (record-at-said e (is-lowered-e e xe is-e) νr δr old) $
-          heard ! (old ≡ recordAt rs (e .place)) (λ e-old. split ! $
+          split ! $ move ! (1 ∷ []) $ use1 W (raw (fact 𝓤 (old ≡ recordAt rs (e .place))))
+          (record-at-said e (is-lowered-e e xe is-e) νr δr old) $ heard ! (old ≡ recordAt rs (e .place)) (λ e-old. split ! $
           move ! (1 ∷ []) $ peeks ! T.the-row (Is T.the-row) (shows 𝓤 H A T.the-row) old (xold ∷ []) (λ is-old.
           land ! (from ! (stop !)) (init ! 17 refl (LL.lawful T.the-type T′.the-laws 𝓤 H A W .typed old _ is-old .0)) $ drop ! $ split ! $
           move ! (1 ∷ []) $ drop ! $ lft-end ! tt $
-          use2 W (later (‵ MineR ⊛ ‵ (flft κr qr))) (shared-back T.the-row κr (νr ∷ []) qr γr br or rs 𝓤 H A W (named 0) (named 0) room-r) $ await !
-          tt $ split ! $
-          -- `cleared`
+          use2 W (later (‵ MineR ⊛ ‵ (flft κr qr))) (shared-back T.the-row κr (νr ∷ []) qr γr br or rs 𝓤 H A W (named 0) (named 0) room-r) $ await
+          ! tt $ split ! $
+          -- the call of `cleared`
           use0 W (raw (The-cleared 𝓤 H A mem run .pre (to-cleared e (is-lowered-e e xe is-e) old xold is-old)))
           (goes-cleared e (is-lowered-e e xe is-e) old xold is-old) $
-          -- [what `cleared` asks; routes; routes's token; _11; …]
+          -- [what `cleared` asks; routes; routes' token; _11; …]
           calls-at ! fm (The-cleared 𝓤 H A mem run) known-cleared (to-cleared e (is-lowered-e e xe is-e) old xold is-old)
           (and-then ! (load ! (from ! (stop !)) (look ! 19 refl)) (and-then ! (load ! (from ! (stop !)) (look ! 17 refl)) (no-more !))) (λ xx.
           use1 W (later (some (λ (x : Record). (‵ ftrue ⊛ ‵ (T.the-row .own x (xx ∷ []))) ⊛ raw
           (ensured 𝓤 H A cleared.ended (cleared.clauses 𝓤 H A mem run) tt (asks-cleared e (is-lowered-e e xe is-e) old xold is-old) tt x))))
           (id⊢ 𝓤 _) $ await ! tt $ pick ! (λ x.
-          split ! $ move ! (1 ∷ []) $ use1 W (raw (fact 𝓤 (x ≡ clearedRecord e old))) (cleared-said e (is-lowered-e e xe is-e) old xold is-old x) $
-          heard ! (x ≡ clearedRecord e old) (λ e-x. split ! $
+          split ! $ move ! (1 ∷ []) $ use1 W (raw (fact 𝓤 (x ≡ clearedRecord e old)))
+          (cleared-said e (is-lowered-e e xe is-e) old xold is-old x) $ heard ! (x ≡ clearedRecord e old) (λ e-x. split ! $
           drop ! $ peeks ! T.the-row (Is T.the-row) (shows 𝓤 H A T.the-row) x (xx ∷ []) (λ is-x.
           land ! (from ! (stop !)) (init ! 15 refl (LL.lawful T.the-type T′.the-laws 𝓤 H A W .typed x _ is-x .0)) $ drop ! $
           assigns ! (addr ! (from ! (fld ! refl (hop ! (look-in ! 22 (sub ! 0 refl (whole !))) (stop !))))) (from ! (stop !))
@@ -303,7 +303,7 @@ module _ {M : Type 1} (𝓤 : URA M) (H : Heap 𝓤) (A : Atoms 𝓤) (W : Given
           assigns ! (agg ! (and-then ! (load ! (from ! (stop !)) (look ! 4 refl))
           (and-then ! (load ! (from ! (fld ! refl (stop !))) (look-in ! 22 (sub ! 1 refl (whole !)))) (no-more !)))) (from ! (stop !))
           (init ! 2 refl (tt, (tt, (record { fits = room-r .0 }, tt)))) $
-          -- `set_at`
+          -- the call of `set_at`
           move ! (1 ∷ 0 ∷ []) $
           group ! 2 $ use1 W (raw (The-set-at 𝓤 H A mem run .pre (to-set-at e (is-lowered-e e xe is-e) x xx is-x)))
           (goes-set-at e (is-lowered-e e xe is-e) x xx is-x) $
@@ -336,9 +336,9 @@ module _ {M : Type 1} (𝓤 : URA M) (H : Heap 𝓤) (A : Atoms 𝓤) (W : Given
           ) (z-n .0) (clear-told rs place e old x (z-n .0) e-e e-old e-x e-n) len-r)))))))))))))))))))))))))))))))))
 
 module _ {M : Type 1} (𝓤 : URA M) (H : Heap 𝓤) (A : Atoms 𝓤) (W : Given 𝓤 H A) (mem : Memory → SProp 𝓤) (run : Routine → Fun 𝓤) where
-  walks-through : (C : Calls 𝓤 H) (Λ : Loops 𝓤 H) → FmC 𝓤 H (W .laws) C → Triple 𝓤 (C #route-calls·clearing) (The-clearing 𝓤 H A mem run) → Triple 𝓤
-      (C #list·record-at) (The-record-at 𝓤 H A mem run) → Triple 𝓤 (C #route-calls·cleared) (The-cleared 𝓤 H A mem run) → Triple 𝓤 (C #list·set-at)
-      (The-set-at 𝓤 H A mem run) → Walks 𝓤 H A f.ended stayed (WpFn 𝓤 H C Λ code.function) (f.clauses 𝓤 H A mem run)
+  walks-through : (C : Calls 𝓤 H) (Λ : Loops 𝓤 H) → FmC 𝓤 H (W .laws) C → Triple 𝓤 (C #route-calls·clearing) (The-clearing 𝓤 H A mem run)
+      → Triple 𝓤 (C #list·record-at) (The-record-at 𝓤 H A mem run) → Triple 𝓤 (C #route-calls·cleared) (The-cleared 𝓤 H A mem run)
+      → Triple 𝓤 (C #list·set-at) (The-set-at 𝓤 H A mem run) → Walks 𝓤 H A f.ended stayed (WpFn 𝓤 H C Λ code.function) (f.clauses 𝓤 H A mem run)
   walks-through C Λ fm known-clearing known-record-at known-cleared known-set-at =
       walked 𝓤 H A f.ended stayed (f.clauses 𝓤 H A mem run) (WpFn 𝓤 H C Λ code.function)
       (λ κs. (slice-vals, (uint-vals w32, tt)))
@@ -352,8 +352,8 @@ module _ {M : Type 1} (𝓤 : URA M) (H : Heap 𝓤) (A : Atoms 𝓤) (W : Given
       (goes-gave-slice 𝓤 H A W 1 0 tt (plain (λ _. T.the-row)), (goes-none 𝓤 H A W 1 (λ _. u32) yes (λ κs x f. refl), tt))
 
 meets : {M : Type 1} (𝓤 : URA M) (H : Heap 𝓤) (A : Atoms 𝓤) (W : Given 𝓤 H A) (mem : Memory → SProp 𝓤) (run : Routine → Fun 𝓤) (𝓣 : Tables 𝓤 H)
-    → Triple 𝓤 (𝓣 .C #route-calls·clearing) (The-clearing 𝓤 H A mem run) → Triple 𝓤 (𝓣 .C #list·record-at) (The-record-at 𝓤 H A mem run) → Triple 𝓤
-    (𝓣 .C #route-calls·cleared) (The-cleared 𝓤 H A mem run) → Triple 𝓤 (𝓣 .C #list·set-at) (The-set-at 𝓤 H A mem run)
+    → Triple 𝓤 (𝓣 .C #route-calls·clearing) (The-clearing 𝓤 H A mem run) → Triple 𝓤 (𝓣 .C #list·record-at) (The-record-at 𝓤 H A mem run)
+    → Triple 𝓤 (𝓣 .C #route-calls·cleared) (The-cleared 𝓤 H A mem run) → Triple 𝓤 (𝓣 .C #list·set-at) (The-set-at 𝓤 H A mem run)
     → Meets 𝓤 H A f.signature (WpFn 𝓤 H (𝓣 .C) (𝓣 .Λ) code.function) (f.spec 𝓤 H A mem run)
 meets 𝓤 H A W mem run 𝓣 known-clearing known-record-at known-cleared known-set-at =
     walk-meets 𝓤 H A f.ended stayed W (goes 𝓤 H A W mem run) (f.clauses 𝓤 H A mem run) (WpFn 𝓤 H (𝓣 .C) (𝓣 .Λ) code.function)

@@ -120,13 +120,13 @@ module _ {M : Type 1} (𝓤 : URA M) (H : Heap 𝓤) (A : Atoms 𝓤) (W : Given
     asks-record-at i xi is-i = (xr, (i, tt))
 
     abbrev to-record-at : (i : ℕ) (xi : Val) (is-i : Is usize i (xi ∷ [])) → The-record-at 𝓤 H A mem run .Ghost
-    to-record-at i xi is-i = (((κr, tt), (qr, tt), tt, (asks-record-at i xi is-i), (sr ∷ [], (xi ∷ [], tt))), tt)
+    to-record-at i xi is-i = (((κr, tt), (qr, tt), tt, asks-record-at i xi is-i, (sr ∷ [], (xi ∷ [], tt))), tt)
 
     abbrev Gives-record-at : List (Item 𝓤)
     Gives-record-at = ‵ (flft κr qr) ∷ ‵ OwnR ∷ []
 
-    goes-record-at : (i : ℕ) (xi : Val) (is-i : Is usize i (xi ∷ [])) → ent 𝓤 (⋆ 𝓤 H A Gives-record-at)
-        (The-record-at 𝓤 H A mem run .pre (to-record-at i xi is-i))
+    goes-record-at : (i : ℕ) (xi : Val) (is-i : Is usize i (xi ∷ []))
+        → ent 𝓤 (⋆ 𝓤 H A Gives-record-at) (The-record-at 𝓤 H A mem run .pre (to-record-at i xi is-i))
     goes-record-at i xi is-i =
         qed W Gives-record-at ∵
         nothing ! $
@@ -136,8 +136,9 @@ module _ {M : Type 1} (𝓤 : URA M) (H : Heap 𝓤) (A : Atoms 𝓤) (W : Given
         move ! (2 ∷ 0 ∷ []) $ fjoin ! $
         move ! (1 ∷ 0 ∷ []) $ join ! $ frame ! $ done !
 
-    record-at-said : (i : ℕ) (xi : Val) (is-i : Is usize i (xi ∷ [])) (x : Record) → ent 𝓤
-        (ensured 𝓤 H A record-at.ended (record-at.clauses 𝓤 H A mem run) (κr, tt) (asks-record-at i xi is-i) tt x) (fact 𝓤 (x ≡ recordAt (now xr) i))
+    record-at-said : (i : ℕ) (xi : Val) (is-i : Is usize i (xi ∷ [])) (x : Record)
+        → ent 𝓤 (ensured 𝓤 H A record-at.ended (record-at.clauses 𝓤 H A mem run) (κr, tt) (asks-record-at i xi is-i) tt x)
+        (fact 𝓤 (x ≡ recordAt (now xr) i))
     record-at-said i xi is-i x = exE 𝓤 _ (λ ws. snd∗ 𝓤 (sem 𝓤 H A (lasts record-at.ended (κr, tt) (asks-record-at i xi is-i) ws))
         (fact 𝓤 (x ≡ recordAt (now xr) i)))
 
@@ -151,14 +152,14 @@ module _ {M : Type 1} (𝓤 : URA M) (H : Heap 𝓤) (A : Atoms 𝓤) (W : Given
         tt,
         tt,
         tt,
-        (asks-record-word x xx is-x),
+        asks-record-word x xx is-x,
         (vint w64 (length (now xr)) ∷ [], (vint w32 place ∷ [], (xx ∷ [], (vint w32 word ∷ [], tt)))),
       ),
       tt,
     )
 
-    goes-record-word : (x : Record) (xx : Val) (is-x : Is T.the-row x (xx ∷ [])) → ent 𝓤 (⋆ 𝓤 H A [])
-        (The-record-word 𝓤 H A mem run .pre (to-record-word x xx is-x))
+    goes-record-word : (x : Record) (xx : Val) (is-x : Is T.the-row x (xx ∷ []))
+        → ent 𝓤 (⋆ 𝓤 H A []) (The-record-word 𝓤 H A mem run .pre (to-record-word x xx is-x))
     goes-record-word x xx is-x =
         qed W [] ∵
         nothing ! $
@@ -169,14 +170,14 @@ module _ {M : Type 1} (𝓤 : URA M) (H : Heap 𝓤) (A : Atoms 𝓤) (W : Given
         owned ! usize (Is usize) (uint-makes 𝓤 H A W w64) (length (now xr)) _ (refl, room-r .0) $ fjoin ! $
         move ! (1 ∷ 0 ∷ []) $ join ! $ frame ! $ done !
 
-    record-word-said : (x : Record) (xx : Val) (is-x : Is T.the-row x (xx ∷ [])) (n : ℕ) → ent 𝓤
-        (ensured 𝓤 H A record-word.ended (record-word.clauses 𝓤 H A mem run) tt (asks-record-word x xx is-x) tt n)
+    record-word-said : (x : Record) (xx : Val) (is-x : Is T.the-row x (xx ∷ [])) (n : ℕ)
+        → ent 𝓤 (ensured 𝓤 H A record-word.ended (record-word.clauses 𝓤 H A mem run) tt (asks-record-word x xx is-x) tt n)
         (fact 𝓤 (n ≡ recordWord (length (now xr)) place x word))
     record-word-said x xx is-x n = exE 𝓤 _ (λ ws. snd∗ 𝓤 (sem 𝓤 H A (lasts record-word.ended tt (asks-record-word x xx is-x) ws))
         (fact 𝓤 (n ≡ recordWord (length (now xr)) place x word)))
 
-    exits : (w : ℕ) (y : Val) (is : Is u64 w (y ∷ [])) → (ReadsRouteWord (now xr) place word w) → ent 𝓤 (⋆ 𝓤 H A (‵ (flft κr qr) ∷ ‵ OwnR ∷ []))
-        (Post y)
+    exits : (w : ℕ) (y : Val) (is : Is u64 w (y ∷ [])) → (ReadsRouteWord (now xr) place word w)
+        → ent 𝓤 (⋆ 𝓤 H A (‵ (flft κr qr) ∷ ‵ OwnR ∷ [])) (Post y)
     exits w y is e =
         qed W (‵ (flft κr qr) ∷ ‵ OwnR ∷ []) ∵
         suffices ! _ (ends-at 𝓤 H A f.ended stayed (f.clauses 𝓤 H A mem run) W (((κr, tt), (qr, tt), tt, args, at), tt) y w (tt, (tt, (tt, tt)))
@@ -198,44 +199,44 @@ module _ {M : Type 1} (𝓤 : URA M) (H : Heap 𝓤) (A : Atoms 𝓤) (W : Given
           pass1 ! (init ! 6 refl (tt, record { fits = g-word })) $ pass0 ! $ move ! (15 ∷ []) $ fsplit ! $ move ! (1 ∷ []) $ fsplit ! $
           move ! (1 ∷ []) $ fsplit ! $ move ! (1 ∷ []) $ drop ! $ move ! (1 ∷ []) $ drop ! $ drop ! $ move ! (15 ∷ []) $ split ! $ move ! (1 ∷ []) $
           drop ! $
-          -- [routes's token; routes; _6; …]
-          -- `index`
+          -- [routes' token; routes; _6; …]
+          -- the call of `index`
           use0 W (raw (The-index 𝓤 H A mem run .pre to-index)) goes-index $
-          -- [what `index` asks; routes's token; routes; _6; …]
+          -- [what `index` asks; routes' token; routes; _6; …]
           calls-at ! fm (The-index 𝓤 H A mem run) known-index to-index (and-then ! (load ! (from ! (stop !)) (look ! 11 refl)) (no-more !)) (λ xi.
           use1 W (later (some (λ (i : ℕ). (‵ ftrue ⊛ ‵ (usize .own i (xi ∷ []))) ⊛ raw
           (ensured 𝓤 H A index.ended (index.clauses 𝓤 H A mem run) tt asks-index tt i)))) (id⊢ 𝓤 _) $ await ! tt $ pick ! (λ i.
           split ! $ move ! (1 ∷ []) $ use1 W (raw (fact 𝓤 (i ≡ place))) (index-said i) $ heard ! (i ≡ place) (λ e-i. split ! $ drop ! $
           peeks ! usize (Is usize) (shows 𝓤 H A usize) i (xi ∷ []) (λ is-i.
           land ! (from ! (stop !)) (init ! 7 refl (uint-lawful 𝓤 H A W w64 .typed i _ is-i .0)) $ drop ! $
-          -- `record_at`
+          -- the call of `record_at`
           move ! (1 ∷ []) $ use1 W (‵ OwnR ⊛ ‵ OwnR) (shr-slice-copy 𝓤 H A W (named 0) κr T.the-row .twice xr (sr ∷ [])) $ split ! $
           move ! (2 ∷ 1 ∷ []) $ group ! 2 $ use1 W (raw (The-record-at 𝓤 H A mem run .pre (to-record-at i xi is-i))) (goes-record-at i xi is-i) $
           -- [what `record_at` asks; routes; _6; …]
           calls-at ! fm (The-record-at 𝓤 H A mem run) known-record-at (to-record-at i xi is-i)
           (and-then ! (load ! (from ! (stop !)) (look ! 12 refl)) (and-then ! (load ! (from ! (stop !)) (look ! 6 refl)) (no-more !))) (λ xx.
           use1 W (later (some (λ (x : Record). ((‵ (flft κr qr) ⊛ ‵ ftrue) ⊛ ‵ (T.the-row .own x (xx ∷ []))) ⊛ raw
-          (ensured 𝓤 H A record-at.ended (record-at.clauses 𝓤 H A mem run) (κr, tt) (asks-record-at i xi is-i) tt x)))) (id⊢ 𝓤 _) $ await ! tt $
-          pick ! (λ x.
-          split ! $ move ! (1 ∷ []) $ use1 W (raw (fact 𝓤 (x ≡ recordAt (now xr) i))) (record-at-said i xi is-i x) $ heard !
-          (x ≡ recordAt (now xr) i) (λ e-x. split ! $
+          (ensured 𝓤 H A record-at.ended (record-at.clauses 𝓤 H A mem run) (κr, tt) (asks-record-at i xi is-i) tt x)))) (id⊢ 𝓤 _) $ await
+          ! tt $ pick ! (λ x.
+          split ! $ move ! (1 ∷ []) $ use1 W (raw (fact 𝓤 (x ≡ recordAt (now xr) i))) (record-at-said i xi is-i x) $ heard
+          ! (x ≡ recordAt (now xr) i) (λ e-x. split ! $
           move ! (1 ∷ []) $ peeks ! T.the-row (Is T.the-row) (shows 𝓤 H A T.the-row) x (xx ∷ []) (λ is-x.
           land ! (from ! (stop !)) (init ! 5 refl (LL.lawful T.the-type T′.the-laws 𝓤 H A W .typed x _ is-x .0)) $ drop ! $ split ! $
           move ! (1 ∷ []) $ drop ! $
           assigns ! (of-opd ! (load ! (from ! (fld ! refl (stop !))) (look-in ! 12 (sub ! 1 refl (whole !))))) (from ! (stop !))
           (init ! 2 refl (tt, record { fits = room-r .0 })) $
-          -- `record_word`
+          -- the call of `record_word`
           use0 W (raw (The-record-word 𝓤 H A mem run .pre (to-record-word x xx is-x))) (goes-record-word x xx is-x) $
-          -- [what `record_word` asks; routes's token; routes; _6; …]
+          -- [what `record_word` asks; routes' token; routes; _6; …]
           calls-at ! fm (The-record-word 𝓤 H A mem run) known-record-word (to-record-word x xx is-x)
           (and-then ! (load ! (from ! (stop !)) (look ! 3 refl))
           (and-then ! (load ! (from ! (stop !)) (look ! 11 refl))
           (and-then ! (load ! (from ! (stop !)) (look ! 5 refl)) (and-then ! (load ! (from ! (stop !)) (look ! 9 refl)) (no-more !))))) (λ xn.
           use1 W (later (some (λ (n : ℕ). (‵ ftrue ⊛ ‵ (u64 .own n (xn ∷ []))) ⊛ raw
-          (ensured 𝓤 H A record-word.ended (record-word.clauses 𝓤 H A mem run) tt (asks-record-word x xx is-x) tt n)))) (id⊢ 𝓤 _) $ await ! tt $
-          pick ! (λ n.
-          split ! $ move ! (1 ∷ []) $ use1 W (raw (fact 𝓤 (n ≡ recordWord (length (now xr)) place x word))) (record-word-said x xx is-x n) $ heard !
-          (n ≡ recordWord (length (now xr)) place x word) (λ e-n. split ! $
+          (ensured 𝓤 H A record-word.ended (record-word.clauses 𝓤 H A mem run) tt (asks-record-word x xx is-x) tt n)))) (id⊢ 𝓤 _) $ await
+          ! tt $ pick ! (λ n.
+          split ! $ move ! (1 ∷ []) $ use1 W (raw (fact 𝓤 (n ≡ recordWord (length (now xr)) place x word))) (record-word-said x xx is-x n) $ heard
+          ! (n ≡ recordWord (length (now xr)) place x word) (λ e-n. split ! $
           drop ! $ peeks ! u64 (Is u64) (shows 𝓤 H A u64) n (xn ∷ []) (λ is-n.
           land ! (from ! (stop !)) (init ! 15 refl (uint-lawful 𝓤 H A W w64 .typed n _ is-n .0)) $ drop ! $ returns ! (look ! 14 refl) $
           forget ! 2 refl $ forget ! 4 refl $ forget ! 6 refl $ forget ! 8 refl $ forget ! 10 refl $ forget ! 12 refl $ forget ! 14 refl $
@@ -244,9 +245,9 @@ module _ {M : Type 1} (𝓤 : URA M) (H : Heap 𝓤) (A : Atoms 𝓤) (W : Given
           by ! (exits n xn is-n (word-told (now xr) place word i x n e-i e-x e-n)))))))))))))))))))))
 
 module _ {M : Type 1} (𝓤 : URA M) (H : Heap 𝓤) (A : Atoms 𝓤) (W : Given 𝓤 H A) (mem : Memory → SProp 𝓤) (run : Routine → Fun 𝓤) where
-  walks-through : (C : Calls 𝓤 H) (Λ : Loops 𝓤 H) → FmC 𝓤 H (W .laws) C → Triple 𝓤 (C #route-calls·index) (The-index 𝓤 H A mem run) → Triple 𝓤
-      (C #list·record-at) (The-record-at 𝓤 H A mem run) → Triple 𝓤 (C #route-calls·record-word) (The-record-word 𝓤 H A mem run) → Walks 𝓤 H A f.ended
-      stayed (WpFn 𝓤 H C Λ code.function) (f.clauses 𝓤 H A mem run)
+  walks-through : (C : Calls 𝓤 H) (Λ : Loops 𝓤 H) → FmC 𝓤 H (W .laws) C → Triple 𝓤 (C #route-calls·index) (The-index 𝓤 H A mem run)
+      → Triple 𝓤 (C #list·record-at) (The-record-at 𝓤 H A mem run) → Triple 𝓤 (C #route-calls·record-word) (The-record-word 𝓤 H A mem run)
+      → Walks 𝓤 H A f.ended stayed (WpFn 𝓤 H C Λ code.function) (f.clauses 𝓤 H A mem run)
   walks-through C Λ fm known-index known-record-at known-record-word =
       walked 𝓤 H A f.ended stayed (f.clauses 𝓤 H A mem run) (WpFn 𝓤 H C Λ code.function)
       (λ κs. (slice-vals, (uint-vals w32, (uint-vals w32, tt))))
@@ -262,8 +263,8 @@ module _ {M : Type 1} (𝓤 : URA M) (H : Heap 𝓤) (A : Atoms 𝓤) (W : Given
   )
 
 meets : {M : Type 1} (𝓤 : URA M) (H : Heap 𝓤) (A : Atoms 𝓤) (W : Given 𝓤 H A) (mem : Memory → SProp 𝓤) (run : Routine → Fun 𝓤) (𝓣 : Tables 𝓤 H)
-    → Triple 𝓤 (𝓣 .C #route-calls·index) (The-index 𝓤 H A mem run) → Triple 𝓤 (𝓣 .C #list·record-at) (The-record-at 𝓤 H A mem run) → Triple 𝓤
-    (𝓣 .C #route-calls·record-word) (The-record-word 𝓤 H A mem run)
+    → Triple 𝓤 (𝓣 .C #route-calls·index) (The-index 𝓤 H A mem run) → Triple 𝓤 (𝓣 .C #list·record-at) (The-record-at 𝓤 H A mem run)
+    → Triple 𝓤 (𝓣 .C #route-calls·record-word) (The-record-word 𝓤 H A mem run)
     → Meets 𝓤 H A f.signature (WpFn 𝓤 H (𝓣 .C) (𝓣 .Λ) code.function) (f.spec 𝓤 H A mem run)
 meets 𝓤 H A W mem run 𝓣 known-index known-record-at known-record-word =
     walk-meets 𝓤 H A f.ended stayed W (goes 𝓤 H A W mem run) (f.clauses 𝓤 H A mem run) (WpFn 𝓤 H (𝓣 .C) (𝓣 .Λ) code.function)

@@ -165,13 +165,13 @@ module _ {M : Type 1} (𝓤 : URA M) (H : Heap 𝓤) (A : Atoms 𝓤) (W : Given
     asks-scan q xq is-q = (xr, (q, tt))
 
     abbrev to-scan : (q : Query) (xq : Val) (is-q : Is Q.the-row q (xq ∷ [])) → The-scan 𝓤 H A mem run .Ghost
-    to-scan q xq is-q = (((κr, tt), (qr, tt), tt, (asks-scan q xq is-q), (sr ∷ [], (xq ∷ [], tt))), tt)
+    to-scan q xq is-q = (((κr, tt), (qr, tt), tt, asks-scan q xq is-q, (sr ∷ [], (xq ∷ [], tt))), tt)
 
     abbrev Gives-scan : List (Item 𝓤)
     Gives-scan = ‵ (flft κr qr) ∷ ‵ OwnR ∷ []
 
-    goes-scan : (q : Query) (xq : Val) (is-q : Is Q.the-row q (xq ∷ [])) → ent 𝓤 (⋆ 𝓤 H A Gives-scan)
-        (The-scan 𝓤 H A mem run .pre (to-scan q xq is-q))
+    goes-scan : (q : Query) (xq : Val) (is-q : Is Q.the-row q (xq ∷ []))
+        → ent 𝓤 (⋆ 𝓤 H A Gives-scan) (The-scan 𝓤 H A mem run .pre (to-scan q xq is-q))
     goes-scan q xq is-q =
         qed W Gives-scan ∵
         nothing ! $
@@ -181,21 +181,21 @@ module _ {M : Type 1} (𝓤 : URA M) (H : Heap 𝓤) (A : Atoms 𝓤) (W : Given
         move ! (2 ∷ 0 ∷ []) $ fjoin ! $
         move ! (1 ∷ 0 ∷ []) $ join ! $ frame ! $ done !
 
-    scan-said : (q : Query) (xq : Val) (is-q : Is Q.the-row q (xq ∷ [])) (s : Scan) → ent 𝓤
-        (ensured 𝓤 H A scan.ended (scan.clauses 𝓤 H A mem run) (κr, tt) (asks-scan q xq is-q) tt s) (fact 𝓤 (s ≡ scanOf q (now xr)))
+    scan-said : (q : Query) (xq : Val) (is-q : Is Q.the-row q (xq ∷ [])) (s : Scan)
+        → ent 𝓤 (ensured 𝓤 H A scan.ended (scan.clauses 𝓤 H A mem run) (κr, tt) (asks-scan q xq is-q) tt s) (fact 𝓤 (s ≡ scanOf q (now xr)))
     scan-said q xq is-q s = exE 𝓤 _ (λ ws. snd∗ 𝓤 (sem 𝓤 H A (lasts scan.ended (κr, tt) (asks-scan q xq is-q) ws)) (fact 𝓤 (s ≡ scanOf q (now xr))))
 
     -- the call of `search_number`
-    abbrev asks-search-number : (q : Query) (xq : Val) (is-q : Is Q.the-row q (xq ∷ [])) (s : Scan) (xs : Val) (is-s : Is S.the-row s (xs ∷ [])) →
-        Query × (Scan × Unit {0})
+    abbrev asks-search-number : (q : Query) (xq : Val) (is-q : Is Q.the-row q (xq ∷ [])) (s : Scan) (xs : Val) (is-s : Is S.the-row s (xs ∷ []))
+        → Query × (Scan × Unit {0})
     asks-search-number q xq is-q s xs is-s = (q, (s, tt))
 
-    abbrev to-search-number : (q : Query) (xq : Val) (is-q : Is Q.the-row q (xq ∷ [])) (s : Scan) (xs : Val) (is-s : Is S.the-row s (xs ∷ [])) →
-        The-search-number 𝓤 H A mem run .Ghost
-    to-search-number q xq is-q s xs is-s = ((tt, tt, tt, (asks-search-number q xq is-q s xs is-s), (xq ∷ [], (xs ∷ [], tt))), tt)
+    abbrev to-search-number : (q : Query) (xq : Val) (is-q : Is Q.the-row q (xq ∷ [])) (s : Scan) (xs : Val) (is-s : Is S.the-row s (xs ∷ []))
+        → The-search-number 𝓤 H A mem run .Ghost
+    to-search-number q xq is-q s xs is-s = ((tt, tt, tt, asks-search-number q xq is-q s xs is-s, (xq ∷ [], (xs ∷ [], tt))), tt)
 
-    goes-search-number : (q : Query) (xq : Val) (is-q : Is Q.the-row q (xq ∷ [])) (s : Scan) (xs : Val) (is-s : Is S.the-row s (xs ∷ [])) → ent 𝓤
-        (⋆ 𝓤 H A []) (The-search-number 𝓤 H A mem run .pre (to-search-number q xq is-q s xs is-s))
+    goes-search-number : (q : Query) (xq : Val) (is-q : Is Q.the-row q (xq ∷ [])) (s : Scan) (xs : Val) (is-s : Is S.the-row s (xs ∷ []))
+        → ent 𝓤 (⋆ 𝓤 H A []) (The-search-number 𝓤 H A mem run .pre (to-search-number q xq is-q s xs is-s))
     goes-search-number q xq is-q s xs is-s =
         qed W [] ∵
         nothing ! $
@@ -204,14 +204,14 @@ module _ {M : Type 1} (𝓤 : URA M) (H : Heap 𝓤) (A : Atoms 𝓤) (W : Given
         owned ! Q.the-row (Is Q.the-row) (LL.makes Q.the-type Q′.the-plain 𝓤 H A) q _ is-q $ fjoin ! $
         move ! (1 ∷ 0 ∷ []) $ join ! $ frame ! $ done !
 
-    search-number-said : (q : Query) (xq : Val) (is-q : Is Q.the-row q (xq ∷ [])) (s : Scan) (xs : Val) (is-s : Is S.the-row s (xs ∷ [])) (n : ℕ) →
-        ent 𝓤 (ensured 𝓤 H A search-number.ended (search-number.clauses 𝓤 H A mem run) tt (asks-search-number q xq is-q s xs is-s) tt n)
+    search-number-said : (q : Query) (xq : Val) (is-q : Is Q.the-row q (xq ∷ [])) (s : Scan) (xs : Val) (is-s : Is S.the-row s (xs ∷ [])) (n : ℕ)
+        → ent 𝓤 (ensured 𝓤 H A search-number.ended (search-number.clauses 𝓤 H A mem run) tt (asks-search-number q xq is-q s xs is-s) tt n)
         (fact 𝓤 (n ≡ searchNumber q s))
     search-number-said q xq is-q s xs is-s n = exE 𝓤 _ (λ ws. snd∗ 𝓤
         (sem 𝓤 H A (lasts search-number.ended tt (asks-search-number q xq is-q s xs is-s) ws)) (fact 𝓤 (n ≡ searchNumber q s)))
 
-    exits : (w : ℕ) (y : Val) (is : Is u64 w (y ∷ [])) → (Searches (now xb) (now xm) (now xr) address w) → ent 𝓤
-        (⋆ 𝓤 H A (‵ (flft κr qr) ∷ ‵ OwnR ∷ ‵ (flft κm qm) ∷ ‵ (flft κb qb) ∷ ‵ OwnM ∷ ‵ OwnB ∷ [])) (Post y)
+    exits : (w : ℕ) (y : Val) (is : Is u64 w (y ∷ [])) → (Searches (now xb) (now xm) (now xr) address w)
+        → ent 𝓤 (⋆ 𝓤 H A (‵ (flft κr qr) ∷ ‵ OwnR ∷ ‵ (flft κm qm) ∷ ‵ (flft κb qb) ∷ ‵ OwnM ∷ ‵ OwnB ∷ [])) (Post y)
     exits w y is e =
         qed W (‵ (flft κr qr) ∷ ‵ OwnR ∷ ‵ (flft κm qm) ∷ ‵ (flft κb qb) ∷ ‵ OwnM ∷ ‵ OwnB ∷ []) ∵
         suffices ! _ (ends-at 𝓤 H A f.ended stayed (f.clauses 𝓤 H A mem run) W (((κb, (κm, (κr, tt))), (qb, (qm, (qr, tt))), tt, args, at), tt) y w
@@ -236,26 +236,26 @@ module _ {M : Type 1} (𝓤 : URA M) (H : Heap 𝓤) (A : Atoms 𝓤) (W : Given
           pass0 ! $ move ! (17 ∷ []) $ fsplit ! $ move ! (1 ∷ []) $ fsplit ! $ move ! (1 ∷ []) $ fsplit ! $ move ! (1 ∷ []) $ fsplit ! $
           move ! (1 ∷ []) $ drop ! $ drop ! $ move ! (19 ∷ []) $ split ! $ move ! (1 ∷ []) $ split ! $ move ! (1 ∷ []) $ split ! $ move ! (1 ∷ []) $
           drop ! $
-          -- [routes's token; mission's token; board's token; routes; mission; board; _7; …]
+          -- [routes' token; mission's token; board's token; routes; mission; board; _7; …]
           assigns ! (of-opd ! (load ! (from ! (fld ! refl (stop !))) (look-in ! 14 (sub ! 1 refl (whole !))))) (from ! (stop !))
           (init ! 6 refl (tt, record { fits = room-r .0 })) $
-          -- `asked`
+          -- the call of `asked`
           move ! (5 ∷ []) $ use1 W (‵ OwnB ⊛ ‵ OwnB) (shr-slice-copy 𝓤 H A W (named 0) κb u32 .twice xb (sb ∷ [])) $ split ! $ move ! (6 ∷ []) $
           use1 W (‵ OwnM ⊛ ‵ OwnM) (shr-slice-copy 𝓤 H A W (named 0) κm u32 .twice xm (sm ∷ [])) $ split ! $ move ! (6 ∷ 5 ∷ 3 ∷ 1 ∷ []) $
           group ! 4 $ use1 W (raw (The-asked 𝓤 H A mem run .pre to-asked)) goes-asked $
-          -- [what `asked` asks; mission; board; routes's token; routes; _7; …]
+          -- [what `asked` asks; mission; board; routes' token; routes; _7; …]
           calls-at ! fm (The-asked 𝓤 H A mem run) known-asked to-asked
           (and-then ! (load ! (from ! (stop !)) (look ! 17 refl))
           (and-then ! (load ! (from ! (stop !)) (look ! 15 refl))
           (and-then ! (load ! (from ! (stop !)) (look ! 5 refl)) (and-then ! (load ! (from ! (stop !)) (look ! 11 refl)) (no-more !))))) (λ xq.
           use1 W (later (some (λ (q : Query). ((‵ (flft κb qb) ⊛ (‵ (flft κm qm) ⊛ ‵ ftrue)) ⊛ ‵ (Q.the-row .own q (xq ∷ []))) ⊛ raw
           (ensured 𝓤 H A asked.ended (asked.clauses 𝓤 H A mem run) (κb, (κm, tt)) asks-asked tt q)))) (id⊢ 𝓤 _) $ await ! tt $ pick ! (λ q.
-          split ! $ move ! (1 ∷ []) $ use1 W (raw (fact 𝓤 (q ≡ searchQuery (now xb) (now xm) (length (now xr)) address))) (asked-said q) $ heard !
-          (q ≡ searchQuery (now xb) (now xm) (length (now xr)) address) (λ e-q. split ! $
+          split ! $ move ! (1 ∷ []) $ use1 W (raw (fact 𝓤 (q ≡ searchQuery (now xb) (now xm) (length (now xr)) address))) (asked-said q) $ heard
+          ! (q ≡ searchQuery (now xb) (now xm) (length (now xr)) address) (λ e-q. split ! $
           move ! (1 ∷ []) $ peeks ! Q.the-row (Is Q.the-row) (shows 𝓤 H A Q.the-row) q (xq ∷ []) (λ is-q.
           land ! (from ! (stop !)) (init ! 10 refl (LL.lawful Q.the-type Q′.the-laws 𝓤 H A W .typed q _ is-q .0)) $ drop ! $ split ! $
           move ! (1 ∷ []) $ split ! $ move ! (1 ∷ []) $ drop ! $
-          -- `scan`
+          -- the call of `scan`
           move ! (5 ∷ []) $ use1 W (‵ OwnR ⊛ ‵ OwnR) (shr-slice-copy 𝓤 H A W (named 0) κr T.the-row .twice xr (sr ∷ [])) $ split ! $
           move ! (6 ∷ 1 ∷ []) $ group ! 2 $ use1 W (raw (The-scan 𝓤 H A mem run .pre (to-scan q xq is-q))) (goes-scan q xq is-q) $
           -- [what `scan` asks; routes; mission's token; board's token; mission; board; _7; …]
@@ -268,16 +268,16 @@ module _ {M : Type 1} (𝓤 : URA M) (H : Heap 𝓤) (A : Atoms 𝓤) (W : Given
           move ! (1 ∷ []) $ peeks ! S.the-row (Is S.the-row) (shows 𝓤 H A S.the-row) s (xs ∷ []) (λ is-s.
           land ! (from ! (stop !)) (init ! 9 refl (LL.lawful S.the-type S′.the-laws 𝓤 H A W .typed s _ is-s .0)) $ drop ! $ split ! $
           move ! (1 ∷ []) $ drop ! $
-          -- `search_number`
+          -- the call of `search_number`
           use0 W (raw (The-search-number 𝓤 H A mem run .pre (to-search-number q xq is-q s xs is-s))) (goes-search-number q xq is-q s xs is-s) $
-          -- [what `search_number` asks; routes's token; routes; mission's token; board's token; mission; board; _7; …]
+          -- [what `search_number` asks; routes' token; routes; mission's token; board's token; mission; board; _7; …]
           calls-at ! fm (The-search-number 𝓤 H A mem run) known-search-number (to-search-number q xq is-q s xs is-s)
           (and-then ! (load ! (from ! (stop !)) (look ! 11 refl)) (and-then ! (load ! (from ! (stop !)) (look ! 9 refl)) (no-more !))) (λ xn.
           use1 W (later (some (λ (n : ℕ). (‵ ftrue ⊛ ‵ (u64 .own n (xn ∷ []))) ⊛ raw
-          (ensured 𝓤 H A search-number.ended (search-number.clauses 𝓤 H A mem run) tt (asks-search-number q xq is-q s xs is-s) tt n)))) (id⊢ 𝓤 _)
-          $ await ! tt $ pick ! (λ n.
-          split ! $ move ! (1 ∷ []) $ use1 W (raw (fact 𝓤 (n ≡ searchNumber q s))) (search-number-said q xq is-q s xs is-s n) $ heard !
-          (n ≡ searchNumber q s) (λ e-n. split ! $
+          (ensured 𝓤 H A search-number.ended (search-number.clauses 𝓤 H A mem run) tt (asks-search-number q xq is-q s xs is-s) tt n))))
+          (id⊢ 𝓤 _) $ await ! tt $ pick ! (λ n.
+          split ! $ move ! (1 ∷ []) $ use1 W (raw (fact 𝓤 (n ≡ searchNumber q s))) (search-number-said q xq is-q s xs is-s n) $ heard
+          ! (n ≡ searchNumber q s) (λ e-n. split ! $
           drop ! $ peeks ! u64 (Is u64) (shows 𝓤 H A u64) n (xn ∷ []) (λ is-n.
           land ! (from ! (stop !)) (init ! 21 refl (uint-lawful 𝓤 H A W w64 .typed n _ is-n .0)) $ drop ! $ returns ! (look ! 20 refl) $
           forget ! 6 refl $ forget ! 8 refl $ forget ! 10 refl $ forget ! 12 refl $ forget ! 14 refl $ forget ! 16 refl $ forget ! 18 refl $
@@ -287,9 +287,9 @@ module _ {M : Type 1} (𝓤 : URA M) (H : Heap 𝓤) (A : Atoms 𝓤) (W : Given
           (search-told (now xr) address (now xb) (now xm) q s n e-q e-s e-n))))))))))))))))))))))
 
 module _ {M : Type 1} (𝓤 : URA M) (H : Heap 𝓤) (A : Atoms 𝓤) (W : Given 𝓤 H A) (mem : Memory → SProp 𝓤) (run : Routine → Fun 𝓤) where
-  walks-through : (C : Calls 𝓤 H) (Λ : Loops 𝓤 H) → FmC 𝓤 H (W .laws) C → Triple 𝓤 (C #route-calls·asked) (The-asked 𝓤 H A mem run) → Triple 𝓤
-      (C #list·scan) (The-scan 𝓤 H A mem run) → Triple 𝓤 (C #route-calls·search-number) (The-search-number 𝓤 H A mem run) → Walks 𝓤 H A f.ended
-      stayed (WpFn 𝓤 H C Λ code.function) (f.clauses 𝓤 H A mem run)
+  walks-through : (C : Calls 𝓤 H) (Λ : Loops 𝓤 H) → FmC 𝓤 H (W .laws) C → Triple 𝓤 (C #route-calls·asked) (The-asked 𝓤 H A mem run)
+      → Triple 𝓤 (C #list·scan) (The-scan 𝓤 H A mem run) → Triple 𝓤 (C #route-calls·search-number) (The-search-number 𝓤 H A mem run)
+      → Walks 𝓤 H A f.ended stayed (WpFn 𝓤 H C Λ code.function) (f.clauses 𝓤 H A mem run)
   walks-through C Λ fm known-asked known-scan known-search-number =
       walked 𝓤 H A f.ended stayed (f.clauses 𝓤 H A mem run) (WpFn 𝓤 H C Λ code.function)
       (λ κs. (slice-vals, (slice-vals, (slice-vals, (uint-vals w32, tt)))))
@@ -314,8 +314,8 @@ module _ {M : Type 1} (𝓤 : URA M) (H : Heap 𝓤) (A : Atoms 𝓤) (W : Given
   )
 
 meets : {M : Type 1} (𝓤 : URA M) (H : Heap 𝓤) (A : Atoms 𝓤) (W : Given 𝓤 H A) (mem : Memory → SProp 𝓤) (run : Routine → Fun 𝓤) (𝓣 : Tables 𝓤 H)
-    → Triple 𝓤 (𝓣 .C #route-calls·asked) (The-asked 𝓤 H A mem run) → Triple 𝓤 (𝓣 .C #list·scan) (The-scan 𝓤 H A mem run) → Triple 𝓤
-    (𝓣 .C #route-calls·search-number) (The-search-number 𝓤 H A mem run)
+    → Triple 𝓤 (𝓣 .C #route-calls·asked) (The-asked 𝓤 H A mem run) → Triple 𝓤 (𝓣 .C #list·scan) (The-scan 𝓤 H A mem run)
+    → Triple 𝓤 (𝓣 .C #route-calls·search-number) (The-search-number 𝓤 H A mem run)
     → Meets 𝓤 H A f.signature (WpFn 𝓤 H (𝓣 .C) (𝓣 .Λ) code.function) (f.spec 𝓤 H A mem run)
 meets 𝓤 H A W mem run 𝓣 known-asked known-scan known-search-number =
     walk-meets 𝓤 H A f.ended stayed W (goes 𝓤 H A W mem run) (f.clauses 𝓤 H A mem run) (WpFn 𝓤 H (𝓣 .C) (𝓣 .Λ) code.function)

@@ -250,10 +250,10 @@ module _ {M : Type 1} (𝓤 : URA M) (H : Heap 𝓤) (A : Atoms 𝓤) (W : Given
     asks-same-query o is-o = (o, tt)
 
     abbrev to-same-query : (o : Order) (is-o : Is O.the-row o (O′.lowered o ∷ [])) → The-same-query 𝓤 H A mem run .Ghost
-    to-same-query o is-o = ((tt, tt, tt, (asks-same-query o is-o), (O′.lowered o ∷ [], tt)), tt)
+    to-same-query o is-o = ((tt, tt, tt, asks-same-query o is-o, (O′.lowered o ∷ [], tt)), tt)
 
-    goes-same-query : (o : Order) (is-o : Is O.the-row o (O′.lowered o ∷ [])) → ent 𝓤 (⋆ 𝓤 H A [])
-        (The-same-query 𝓤 H A mem run .pre (to-same-query o is-o))
+    goes-same-query : (o : Order) (is-o : Is O.the-row o (O′.lowered o ∷ []))
+        → ent 𝓤 (⋆ 𝓤 H A []) (The-same-query 𝓤 H A mem run .pre (to-same-query o is-o))
     goes-same-query o is-o =
         qed W [] ∵
         nothing ! $
@@ -261,8 +261,8 @@ module _ {M : Type 1} (𝓤 : URA M) (H : Heap 𝓤) (A : Atoms 𝓤) (W : Given
         owned ! O.the-row (Is O.the-row) (LL.makes O.the-type O′.the-plain 𝓤 H A) o _ is-o $ fjoin ! $
         move ! (1 ∷ 0 ∷ []) $ join ! $ frame ! $ done !
 
-    same-query-said : (o : Order) (is-o : Is O.the-row o (O′.lowered o ∷ [])) (q : Query) → ent 𝓤
-        (ensured 𝓤 H A same-query.ended (same-query.clauses 𝓤 H A mem run) tt (asks-same-query o is-o) tt q) (fact 𝓤 (q ≡ sameQuery o))
+    same-query-said : (o : Order) (is-o : Is O.the-row o (O′.lowered o ∷ [])) (q : Query)
+        → ent 𝓤 (ensured 𝓤 H A same-query.ended (same-query.clauses 𝓤 H A mem run) tt (asks-same-query o is-o) tt q) (fact 𝓤 (q ≡ sameQuery o))
     same-query-said o is-o q = exE 𝓤 _ (λ ws. snd∗ 𝓤 (sem 𝓤 H A (lasts same-query.ended tt (asks-same-query o is-o) ws)) (fact 𝓤 (q ≡ sameQuery o)))
 
     -- the call of `scan`, with routes lent
@@ -270,13 +270,13 @@ module _ {M : Type 1} (𝓤 : URA M) (H : Heap 𝓤) (A : Atoms 𝓤) (W : Given
     asks-scan q xq is-q νr δr = (xr δr, (q, tt))
 
     abbrev to-scan : (q : Query) (xq : Val) (is-q : Is Q.the-row q (xq ∷ [])) (νr : ℕ) (δr : GName) → The-scan 𝓤 H A mem run .Ghost
-    to-scan q xq is-q νr δr = (((νr ∷ [], tt), (fullShare, tt), tt, (asks-scan q xq is-q νr δr), (sr ∷ [], (xq ∷ [], tt))), tt)
+    to-scan q xq is-q νr δr = (((νr ∷ [], tt), (fullShare, tt), tt, asks-scan q xq is-q νr δr, (sr ∷ [], (xq ∷ [], tt))), tt)
 
     abbrev Gives-scan : (νr : ℕ) (δr : GName) → List (Item 𝓤)
     Gives-scan νr δr = ‵ (flft (νr ∷ []) fullShare) ∷ ‵ (LentR νr δr) ∷ []
 
-    goes-scan : (q : Query) (xq : Val) (is-q : Is Q.the-row q (xq ∷ [])) (νr : ℕ) (δr : GName) → ent 𝓤 (⋆ 𝓤 H A (Gives-scan νr δr))
-        (The-scan 𝓤 H A mem run .pre (to-scan q xq is-q νr δr))
+    goes-scan : (q : Query) (xq : Val) (is-q : Is Q.the-row q (xq ∷ [])) (νr : ℕ) (δr : GName)
+        → ent 𝓤 (⋆ 𝓤 H A (Gives-scan νr δr)) (The-scan 𝓤 H A mem run .pre (to-scan q xq is-q νr δr))
     goes-scan q xq is-q νr δr =
         qed W (Gives-scan νr δr) ∵
         nothing ! $
@@ -286,8 +286,8 @@ module _ {M : Type 1} (𝓤 : URA M) (H : Heap 𝓤) (A : Atoms 𝓤) (W : Given
         move ! (2 ∷ 0 ∷ []) $ fjoin ! $
         move ! (1 ∷ 0 ∷ []) $ join ! $ frame ! $ done !
 
-    scan-said : (q : Query) (xq : Val) (is-q : Is Q.the-row q (xq ∷ [])) (νr : ℕ) (δr : GName) (s : Scan) → ent 𝓤
-        (ensured 𝓤 H A scan.ended (scan.clauses 𝓤 H A mem run) (νr ∷ [], tt) (asks-scan q xq is-q νr δr) tt s) (fact 𝓤 (s ≡ scanOf q rs))
+    scan-said : (q : Query) (xq : Val) (is-q : Is Q.the-row q (xq ∷ [])) (νr : ℕ) (δr : GName) (s : Scan)
+        → ent 𝓤 (ensured 𝓤 H A scan.ended (scan.clauses 𝓤 H A mem run) (νr ∷ [], tt) (asks-scan q xq is-q νr δr) tt s) (fact 𝓤 (s ≡ scanOf q rs))
     scan-said q xq is-q νr δr s = exE 𝓤 _ (λ ws. snd∗ 𝓤 (sem 𝓤 H A (lasts scan.ended (νr ∷ [], tt) (asks-scan q xq is-q νr δr) ws))
         (fact 𝓤 (s ≡ scanOf q rs)))
 
@@ -296,25 +296,25 @@ module _ {M : Type 1} (𝓤 : URA M) (H : Heap 𝓤) (A : Atoms 𝓤) (W : Given
     asks-record-at o is-o νr δr = (xr δr, (o .place, tt))
 
     abbrev to-record-at : (o : Order) (is-o : Is O.the-row o (O′.lowered o ∷ [])) (νr : ℕ) (δr : GName) → The-record-at 𝓤 H A mem run .Ghost
-    to-record-at o is-o νr δr = (((νr ∷ [], tt), (fullShare, tt), tt, (asks-record-at o is-o νr δr), (sr ∷ [], (vint w64 (o .place) ∷ [], tt))), tt)
+    to-record-at o is-o νr δr = (((νr ∷ [], tt), (fullShare, tt), tt, asks-record-at o is-o νr δr, (sr ∷ [], (vint w64 (o .place) ∷ [], tt))), tt)
 
     abbrev Gives-record-at : (νr : ℕ) (δr : GName) → List (Item 𝓤)
     Gives-record-at νr δr = ‵ (flft (νr ∷ []) fullShare) ∷ ‵ (LentR νr δr) ∷ []
 
-    goes-record-at : (o : Order) (is-o : Is O.the-row o (O′.lowered o ∷ [])) (νr : ℕ) (δr : GName) → ent 𝓤 (⋆ 𝓤 H A (Gives-record-at νr δr))
-        (The-record-at 𝓤 H A mem run .pre (to-record-at o is-o νr δr))
+    goes-record-at : (o : Order) (is-o : Is O.the-row o (O′.lowered o ∷ [])) (νr : ℕ) (δr : GName)
+        → ent 𝓤 (⋆ 𝓤 H A (Gives-record-at νr δr)) (The-record-at 𝓤 H A mem run .pre (to-record-at o is-o νr δr))
     goes-record-at o is-o νr δr =
         qed W (Gives-record-at νr δr) ∵
         nothing ! $
         move ! (1 ∷ 0 ∷ []) $ join ! $
         nothing ! $
-        owned ! usize (Is usize) (uint-makes 𝓤 H A W w64) (o .place) _ (refl, LL.owed O.the-type O′.the-laws o (O′.lowered o ∷ []) is-o .1 .0 .1) $
-        fjoin ! $
+        owned ! usize (Is usize) (uint-makes 𝓤 H A W w64) (o .place) _
+        (refl, LL.owed O.the-type O′.the-laws o (O′.lowered o ∷ []) is-o .1 .0 .1) $ fjoin ! $
         move ! (2 ∷ 0 ∷ []) $ fjoin ! $
         move ! (1 ∷ 0 ∷ []) $ join ! $ frame ! $ done !
 
-    record-at-said : (o : Order) (is-o : Is O.the-row o (O′.lowered o ∷ [])) (νr : ℕ) (δr : GName) (old : Record) → ent 𝓤
-        (ensured 𝓤 H A record-at.ended (record-at.clauses 𝓤 H A mem run) (νr ∷ [], tt) (asks-record-at o is-o νr δr) tt old)
+    record-at-said : (o : Order) (is-o : Is O.the-row o (O′.lowered o ∷ [])) (νr : ℕ) (δr : GName) (old : Record)
+        → ent 𝓤 (ensured 𝓤 H A record-at.ended (record-at.clauses 𝓤 H A mem run) (νr ∷ [], tt) (asks-record-at o is-o νr δr) tt old)
         (fact 𝓤 (old ≡ recordAt rs (o .place)))
     record-at-said o is-o νr δr old = exE 𝓤 _ (λ ws. snd∗ 𝓤 (sem 𝓤 H A (lasts record-at.ended (νr ∷ [], tt) (asks-record-at o is-o νr δr) ws))
         (fact 𝓤 (old ≡ recordAt rs (o .place))))
@@ -331,7 +331,7 @@ module _ {M : Type 1} (𝓤 : URA M) (H : Heap 𝓤) (A : Atoms 𝓤) (W : Given
         tt,
         tt,
         tt,
-        (asks-chosen o is-o s xs is-s old xold is-old),
+        asks-chosen o is-o s xs is-s old xold is-old,
         (O′.lowered o ∷ [], (xs ∷ [], (xold ∷ [], tt))),
       ),
       tt,
@@ -350,48 +350,48 @@ module _ {M : Type 1} (𝓤 : URA M) (H : Heap 𝓤) (A : Atoms 𝓤) (W : Given
         move ! (1 ∷ 0 ∷ []) $ join ! $ frame ! $ done !
 
     chosen-said : (o : Order) (is-o : Is O.the-row o (O′.lowered o ∷ [])) (s : Scan) (xs : Val) (is-s : Is S.the-row s (xs ∷ [])) (old : Record)
-        (xold : Val) (is-old : Is T.the-row old (xold ∷ [])) (x : Record) → ent 𝓤
-        (ensured 𝓤 H A chosen.ended (chosen.clauses 𝓤 H A mem run) tt (asks-chosen o is-o s xs is-s old xold is-old) tt x)
+        (xold : Val) (is-old : Is T.the-row old (xold ∷ [])) (x : Record)
+        → ent 𝓤 (ensured 𝓤 H A chosen.ended (chosen.clauses 𝓤 H A mem run) tt (asks-chosen o is-o s xs is-s old xold is-old) tt x)
         (fact 𝓤 (x ≡ chosenRecord o s old))
     chosen-said o is-o s xs is-s old xold is-old x = exE 𝓤 _ (λ ws. snd∗ 𝓤
         (sem 𝓤 H A (lasts chosen.ended tt (asks-chosen o is-o s xs is-s old xold is-old) ws)) (fact 𝓤 (x ≡ chosenRecord o s old)))
 
     -- the call of `set_at`
-    abbrev asks-set-at : (o : Order) (is-o : Is O.the-row o (O′.lowered o ∷ [])) (x : Record) (xx : Val) (is-x : Is T.the-row x (xx ∷ [])) → RefT
-        (List Record) × (ℕ × (Record × Unit {0}))
+    abbrev asks-set-at : (o : Order) (is-o : Is O.the-row o (O′.lowered o ∷ [])) (x : Record) (xx : Val) (is-x : Is T.the-row x (xx ∷ []))
+        → RefT (List Record) × (ℕ × (Record × Unit {0}))
     asks-set-at o is-o x xx is-x = (xr γr, (o .place, (x, tt)))
 
-    abbrev to-set-at : (o : Order) (is-o : Is O.the-row o (O′.lowered o ∷ [])) (x : Record) (xx : Val) (is-x : Is T.the-row x (xx ∷ [])) → The-set-at
-        𝓤 H A mem run .Ghost
-    to-set-at o is-o x xx is-x = (((κr, tt), (qr, tt), tt, (asks-set-at o is-o x xx is-x), (sr ∷ [], (vint w64 (o .place) ∷ [], (xx ∷ [], tt)))), tt)
+    abbrev to-set-at : (o : Order) (is-o : Is O.the-row o (O′.lowered o ∷ [])) (x : Record) (xx : Val) (is-x : Is T.the-row x (xx ∷ []))
+        → The-set-at 𝓤 H A mem run .Ghost
+    to-set-at o is-o x xx is-x = (((κr, tt), (qr, tt), tt, asks-set-at o is-o x xx is-x, (sr ∷ [], (vint w64 (o .place) ∷ [], (xx ∷ [], tt)))), tt)
 
     abbrev Gives-set-at : List (Item 𝓤)
     Gives-set-at = ‵ (flft κr qr) ∷ ‵ MineR ∷ []
 
-    goes-set-at : (o : Order) (is-o : Is O.the-row o (O′.lowered o ∷ [])) (x : Record) (xx : Val) (is-x : Is T.the-row x (xx ∷ [])) → ent 𝓤
-        (⋆ 𝓤 H A Gives-set-at) (The-set-at 𝓤 H A mem run .pre (to-set-at o is-o x xx is-x))
+    goes-set-at : (o : Order) (is-o : Is O.the-row o (O′.lowered o ∷ [])) (x : Record) (xx : Val) (is-x : Is T.the-row x (xx ∷ []))
+        → ent 𝓤 (⋆ 𝓤 H A Gives-set-at) (The-set-at 𝓤 H A mem run .pre (to-set-at o is-o x xx is-x))
     goes-set-at o is-o x xx is-x =
         qed W Gives-set-at ∵
         nothing ! $
         move ! (1 ∷ 0 ∷ []) $ join ! $
         nothing ! $
         owned ! T.the-row (Is T.the-row) (LL.makes T.the-type T′.the-plain 𝓤 H A) x _ is-x $ fjoin ! $
-        owned ! usize (Is usize) (uint-makes 𝓤 H A W w64) (o .place) _ (refl, LL.owed O.the-type O′.the-laws o (O′.lowered o ∷ []) is-o .1 .0 .1) $
-        fjoin ! $
+        owned ! usize (Is usize) (uint-makes 𝓤 H A W w64) (o .place) _
+        (refl, LL.owed O.the-type O′.the-laws o (O′.lowered o ∷ []) is-o .1 .0 .1) $ fjoin ! $
         move ! (2 ∷ 0 ∷ []) $ fjoin ! $
         move ! (1 ∷ 0 ∷ []) $ join ! $ frame ! $ done !
 
     -- the call of `answer`
-    abbrev asks-answer : (o : Order) (is-o : Is O.the-row o (O′.lowered o ∷ [])) (s : Scan) (xs : Val) (is-s : Is S.the-row s (xs ∷ [])) → Order ×
-        (Scan × Unit {0})
+    abbrev asks-answer : (o : Order) (is-o : Is O.the-row o (O′.lowered o ∷ [])) (s : Scan) (xs : Val) (is-s : Is S.the-row s (xs ∷ []))
+        → Order × (Scan × Unit {0})
     asks-answer o is-o s xs is-s = (o, (s, tt))
 
-    abbrev to-answer : (o : Order) (is-o : Is O.the-row o (O′.lowered o ∷ [])) (s : Scan) (xs : Val) (is-s : Is S.the-row s (xs ∷ [])) → The-answer 𝓤
-        H A mem run .Ghost
-    to-answer o is-o s xs is-s = ((tt, tt, tt, (asks-answer o is-o s xs is-s), (O′.lowered o ∷ [], (xs ∷ [], tt))), tt)
+    abbrev to-answer : (o : Order) (is-o : Is O.the-row o (O′.lowered o ∷ [])) (s : Scan) (xs : Val) (is-s : Is S.the-row s (xs ∷ []))
+        → The-answer 𝓤 H A mem run .Ghost
+    to-answer o is-o s xs is-s = ((tt, tt, tt, asks-answer o is-o s xs is-s, (O′.lowered o ∷ [], (xs ∷ [], tt))), tt)
 
-    goes-answer : (o : Order) (is-o : Is O.the-row o (O′.lowered o ∷ [])) (s : Scan) (xs : Val) (is-s : Is S.the-row s (xs ∷ [])) → ent 𝓤
-        (⋆ 𝓤 H A []) (The-answer 𝓤 H A mem run .pre (to-answer o is-o s xs is-s))
+    goes-answer : (o : Order) (is-o : Is O.the-row o (O′.lowered o ∷ [])) (s : Scan) (xs : Val) (is-s : Is S.the-row s (xs ∷ []))
+        → ent 𝓤 (⋆ 𝓤 H A []) (The-answer 𝓤 H A mem run .pre (to-answer o is-o s xs is-s))
     goes-answer o is-o s xs is-s =
         qed W [] ∵
         nothing ! $
@@ -400,14 +400,14 @@ module _ {M : Type 1} (𝓤 : URA M) (H : Heap 𝓤) (A : Atoms 𝓤) (W : Given
         owned ! O.the-row (Is O.the-row) (LL.makes O.the-type O′.the-plain 𝓤 H A) o _ is-o $ fjoin ! $
         move ! (1 ∷ 0 ∷ []) $ join ! $ frame ! $ done !
 
-    answer-said : (o : Order) (is-o : Is O.the-row o (O′.lowered o ∷ [])) (s : Scan) (xs : Val) (is-s : Is S.the-row s (xs ∷ [])) (k : ℕ) → ent 𝓤
-        (ensured 𝓤 H A answer.ended (answer.clauses 𝓤 H A mem run) tt (asks-answer o is-o s xs is-s) tt k) (fact 𝓤 (k ≡ orderAnswer o s))
+    answer-said : (o : Order) (is-o : Is O.the-row o (O′.lowered o ∷ [])) (s : Scan) (xs : Val) (is-s : Is S.the-row s (xs ∷ [])) (k : ℕ)
+        → ent 𝓤 (ensured 𝓤 H A answer.ended (answer.clauses 𝓤 H A mem run) tt (asks-answer o is-o s xs is-s) tt k) (fact 𝓤 (k ≡ orderAnswer o s))
     answer-said o is-o s xs is-s k = exE 𝓤 _ (λ ws. snd∗ 𝓤 (sem 𝓤 H A (lasts answer.ended tt (asks-answer o is-o s xs is-s) ws))
         (fact 𝓤 (k ≡ orderAnswer o s)))
 
-    exits : (w : ℕ) (y : Val) (is : Is u32 w (y ∷ [])) (rz : List Record) →
-        (SetsRoute (now xb) rs place prefix mask port availability capabilities mission w rz) → length rz ≡ length rs → ent 𝓤
-        (⋆ 𝓤 H A (‵ (flft κr qr) ∷ ‵ (finally T.the-row γr rz) ∷ ‵ (flft κb qb) ∷ ‵ OwnB ∷ [])) (Post y)
+    exits : (w : ℕ) (y : Val) (is : Is u32 w (y ∷ [])) (rz : List Record)
+        → (SetsRoute (now xb) rs place prefix mask port availability capabilities mission w rz) → length rz ≡ length rs
+        → ent 𝓤 (⋆ 𝓤 H A (‵ (flft κr qr) ∷ ‵ (finally T.the-row γr rz) ∷ ‵ (flft κb qb) ∷ ‵ OwnB ∷ [])) (Post y)
     exits w y is rz e len-r =
         qed W (‵ (flft κr qr) ∷ ‵ (finally T.the-row γr rz) ∷ ‵ (flft κb qb) ∷ ‵ OwnB ∷ []) ∵
         suffices ! _ (ends-at 𝓤 H A f.ended stayed (f.clauses 𝓤 H A mem run) W (((κb, (κr, tt)), (qb, (qr, tt)), tt, args, at), tt) y w
@@ -451,13 +451,13 @@ module _ {M : Type 1} (𝓤 : URA M) (H : Heap 𝓤) (A : Atoms 𝓤) (W : Given
           move ! (1 ∷ []) $ drop ! $ move ! (6 ∷ []) $ drop ! $ move ! (5 ∷ []) $ drop ! $ move ! (4 ∷ []) $ drop ! $ move ! (3 ∷ []) $ drop ! $
           move ! (2 ∷ []) $ drop ! $ move ! (1 ∷ []) $ drop ! $ drop ! $ move ! (48 ∷ []) $ split ! $ move ! (1 ∷ []) $ split ! $ move ! (1 ∷ []) $
           drop ! $
-          -- [routes's token; board's token; routes; board; _22; …]
+          -- [routes' token; board's token; routes; board; _22; …]
           assigns ! (of-opd ! (load ! (from ! (fld ! refl (stop !))) (look-in ! 44 (sub ! 1 refl (whole !))))) (from ! (stop !))
           (init ! 18 refl (tt, record { fits = room-r .0 })) $
-          -- `ordered`
+          -- the call of `ordered`
           move ! (3 ∷ []) $ use1 W (‵ OwnB ⊛ ‵ OwnB) (shr-slice-copy 𝓤 H A W (named 0) κb u32 .twice xb (sb ∷ [])) $ split ! $ move ! (3 ∷ 1 ∷ []) $
           group ! 2 $ use1 W (raw (The-ordered 𝓤 H A mem run .pre to-ordered)) goes-ordered $
-          -- [what `ordered` asks; board; routes's token; routes; _22; …]
+          -- [what `ordered` asks; board; routes' token; routes; _22; …]
           calls-at ! fm (The-ordered 𝓤 H A mem run) known-ordered to-ordered
           (and-then ! (load ! (from ! (stop !)) (look ! 46 refl))
           (and-then ! (load ! (from ! (stop !)) (look ! 18 refl))
@@ -471,22 +471,23 @@ module _ {M : Type 1} (𝓤 : URA M) (H : Heap 𝓤) (A : Atoms 𝓤) (W : Given
           use1 W (later (some (λ (o : Order). ((‵ (flft κb qb) ⊛ ‵ ftrue) ⊛ ‵ (O.the-row .own o (xo ∷ []))) ⊛ raw
           (ensured 𝓤 H A ordered.ended (ordered.clauses 𝓤 H A mem run) (κb, tt) asks-ordered tt o)))) (id⊢ 𝓤 _) $ await ! tt $ pick ! (λ o.
           split ! $ move ! (1 ∷ []) $ use1 W
-          (raw (fact 𝓤 (o ≡ orderOf (now xb) (length rs) place (newRecord prefix mask port availability capabilities mission)))) (ordered-said o)
-          $ heard ! (o ≡ orderOf (now xb) (length rs) place (newRecord prefix mask port availability capabilities mission)) (λ e-o. split ! $
+          (raw (fact 𝓤 (o ≡ orderOf (now xb) (length rs) place (newRecord prefix mask port availability capabilities mission))))
+          (ordered-said o) $ heard ! (o ≡ orderOf (now xb) (length rs) place (newRecord prefix mask port availability capabilities mission))
+          (λ e-o. split ! $
           move ! (1 ∷ []) $ peeks ! O.the-row (Is O.the-row) (shows 𝓤 H A O.the-row) o (xo ∷ []) (λ is-o.
           land ! (from ! (stop !)) (init ! 29 refl (LL.lawful O.the-type O′.the-laws 𝓤 H A W .typed o _ is-o .0)) $ drop ! $
           rewrite ! 28 (λ (z : Val). ‵ (fat fullShare O′.mir l₁₀ 0 z)) (ap only (O′.lowers .val-is o (xo ∷ []) is-o)) refl $ split ! $
           move ! (1 ∷ []) $ drop ! $
-          -- `same_query`
+          -- the call of `same_query`
           use0 W (raw (The-same-query 𝓤 H A mem run .pre (to-same-query o (is-lowered-o o xo is-o)))) (goes-same-query o (is-lowered-o o xo is-o)) $
-          -- [what `same_query` asks; board's token; board; routes's token; routes; _22; …]
+          -- [what `same_query` asks; board's token; board; routes' token; routes; _22; …]
           calls-at ! fm (The-same-query 𝓤 H A mem run) known-same-query (to-same-query o (is-lowered-o o xo is-o))
           (and-then ! (load ! (from ! (stop !)) (look ! 29 refl)) (no-more !)) (λ xq.
           use1 W (later (some (λ (q : Query). (‵ ftrue ⊛ ‵ (Q.the-row .own q (xq ∷ []))) ⊛ raw
-          (ensured 𝓤 H A same-query.ended (same-query.clauses 𝓤 H A mem run) tt (asks-same-query o (is-lowered-o o xo is-o)) tt q)))) (id⊢ 𝓤 _) $
-          await ! tt $ pick ! (λ q.
-          split ! $ move ! (1 ∷ []) $ use1 W (raw (fact 𝓤 (q ≡ sameQuery o))) (same-query-said o (is-lowered-o o xo is-o) q) $ heard !
-          (q ≡ sameQuery o) (λ e-q. split ! $
+          (ensured 𝓤 H A same-query.ended (same-query.clauses 𝓤 H A mem run) tt (asks-same-query o (is-lowered-o o xo is-o)) tt q))))
+          (id⊢ 𝓤 _) $ await ! tt $ pick ! (λ q.
+          split ! $ move ! (1 ∷ []) $ use1 W (raw (fact 𝓤 (q ≡ sameQuery o))) (same-query-said o (is-lowered-o o xo is-o) q) $ heard
+          ! (q ≡ sameQuery o) (λ e-q. split ! $
           drop ! $ peeks ! Q.the-row (Is Q.the-row) (shows 𝓤 H A Q.the-row) q (xq ∷ []) (λ is-q.
           land ! (from ! (stop !)) (init ! 27 refl (LL.lawful Q.the-type Q′.the-laws 𝓤 H A W .typed q _ is-q .0)) $ drop ! $
           assigns ! (addr ! (from ! (fld ! refl (hop ! (look-in ! 44 (sub ! 0 refl (whole !))) (stop !))))) (from ! (stop !))
@@ -494,12 +495,12 @@ module _ {M : Type 1} (𝓤 : URA M) (H : Heap 𝓤) (A : Atoms 𝓤) (W : Given
           assigns ! (agg ! (and-then ! (load ! (from ! (stop !)) (look ! 16 refl))
           (and-then ! (load ! (from ! (fld ! refl (stop !))) (look-in ! 44 (sub ! 1 refl (whole !)))) (no-more !)))) (from ! (stop !))
           (init ! 14 refl (tt, (tt, (record { fits = room-r .0 }, tt)))) $
-          -- `scan`
+          -- the call of `scan`
           lft-new ! tt (λ νr. move ! (4 ∷ 3 ∷ []) $
           use2 W (later (some (λ (δr : GName). ‵ (LentR νr δr) ⊛ ‵ (KeptR νr))))
           (lends-shared T.the-row κr (νr ∷ []) qr γr br or rs 𝓤 H A W (named 0) (named 0)) $ await ! tt $ pick ! (λ δr. split ! $
           move ! (2 ∷ 0 ∷ []) $ group ! 2 $ use1 W (raw (The-scan 𝓤 H A mem run .pre (to-scan q xq is-q νr δr))) (goes-scan q xq is-q νr δr) $
-          -- [what `scan` asks; routes's rest; board's token; board; _22; …]
+          -- [what `scan` asks; routes' rest; board's token; board; _22; …]
           calls-at ! fm (The-scan 𝓤 H A mem run) known-scan (to-scan q xq is-q νr δr)
           (and-then ! (load ! (from ! (stop !)) (look ! 14 refl)) (and-then ! (load ! (from ! (stop !)) (look ! 26 refl)) (no-more !))) (λ xs.
           use1 W (later (some (λ (s : Scan). ((‵ (flft (νr ∷ []) fullShare) ⊛ ‵ ftrue) ⊛ ‵ (S.the-row .own s (xs ∷ []))) ⊛ raw
@@ -510,38 +511,38 @@ module _ {M : Type 1} (𝓤 : URA M) (H : Heap 𝓤) (A : Atoms 𝓤) (W : Given
           move ! (1 ∷ []) $ peeks ! S.the-row (Is S.the-row) (shows 𝓤 H A S.the-row) s (xs ∷ []) (λ is-s.
           land ! (from ! (stop !)) (init ! 25 refl (LL.lawful S.the-type S′.the-laws 𝓤 H A W .typed s _ is-s .0)) $ drop ! $ split ! $
           move ! (1 ∷ []) $ drop ! $ lft-end ! tt $
-          use2 W (later (‵ MineR ⊛ ‵ (flft κr qr))) (shared-back T.the-row κr (νr ∷ []) qr γr br or rs 𝓤 H A W (named 0) (named 0) room-r) $ await !
-          tt $ split ! $
+          use2 W (later (‵ MineR ⊛ ‵ (flft κr qr))) (shared-back T.the-row κr (νr ∷ []) qr γr br or rs 𝓤 H A W (named 0) (named 0) room-r) $ await
+          ! tt $ split ! $
           assigns ! (addr ! (from ! (fld ! refl (hop ! (look-in ! 44 (sub ! 0 refl (whole !))) (stop !))))) (from ! (stop !))
           (init ! 12 refl (tt, tt)) $
           assigns ! (agg ! (and-then ! (load ! (from ! (stop !)) (look ! 12 refl))
           (and-then ! (load ! (from ! (fld ! refl (stop !))) (look-in ! 44 (sub ! 1 refl (whole !)))) (no-more !)))) (from ! (stop !))
           (init ! 10 refl (tt, (tt, (record { fits = room-r .0 }, tt)))) $
-          -- `record_at`
+          -- the call of `record_at`
           lft-new ! tt (λ νr. move ! (1 ∷ 2 ∷ []) $
           use2 W (later (some (λ (δr : GName). ‵ (LentR νr δr) ⊛ ‵ (KeptR νr))))
           (lends-shared T.the-row κr (νr ∷ []) qr γr br or rs 𝓤 H A W (named 0) (named 0)) $ await ! tt $ pick ! (λ δr. split ! $
           move ! (2 ∷ 0 ∷ []) $
           group ! 2 $ use1 W (raw (The-record-at 𝓤 H A mem run .pre (to-record-at o (is-lowered-o o xo is-o) νr δr)))
           (goes-record-at o (is-lowered-o o xo is-o) νr δr) $
-          -- [what `record_at` asks; routes's rest; board's token; board; _22; …]
+          -- [what `record_at` asks; routes' rest; board's token; board; _22; …]
           calls-at ! fm (The-record-at 𝓤 H A mem run) known-record-at (to-record-at o (is-lowered-o o xo is-o) νr δr)
           (and-then ! (load ! (from ! (stop !)) (look ! 10 refl))
           (and-then ! (load ! (from ! (fld ! refl (stop !))) (look-in ! 28 (sub ! 1 refl (whole !)))) (no-more !))) (λ xold.
           use1 W (later (some (λ (old : Record). ((‵ (flft (νr ∷ []) fullShare) ⊛ ‵ ftrue) ⊛ ‵ (T.the-row .own old (xold ∷ []))) ⊛ raw
           (ensured 𝓤 H A record-at.ended (record-at.clauses 𝓤 H A mem run) (νr ∷ [], tt) (asks-record-at o (is-lowered-o o xo is-o) νr δr) tt
           old)))) (id⊢ 𝓤 _) $ await ! tt $ pick ! (λ old.
-          split ! $ move ! (1 ∷ []) $ use1 W (raw (fact 𝓤 (old ≡ recordAt rs (o .place)))) (record-at-said o (is-lowered-o o xo is-o) νr δr old) $
-          heard ! (old ≡ recordAt rs (o .place)) (λ e-old. split ! $
+          split ! $ move ! (1 ∷ []) $ use1 W (raw (fact 𝓤 (old ≡ recordAt rs (o .place))))
+          (record-at-said o (is-lowered-o o xo is-o) νr δr old) $ heard ! (old ≡ recordAt rs (o .place)) (λ e-old. split ! $
           move ! (1 ∷ []) $ peeks ! T.the-row (Is T.the-row) (shows 𝓤 H A T.the-row) old (xold ∷ []) (λ is-old.
           land ! (from ! (stop !)) (init ! 23 refl (LL.lawful T.the-type T′.the-laws 𝓤 H A W .typed old _ is-old .0)) $ drop ! $ split ! $
           move ! (1 ∷ []) $ drop ! $ lft-end ! tt $
-          use2 W (later (‵ MineR ⊛ ‵ (flft κr qr))) (shared-back T.the-row κr (νr ∷ []) qr γr br or rs 𝓤 H A W (named 0) (named 0) room-r) $ await !
-          tt $ split ! $
-          -- `chosen`
+          use2 W (later (‵ MineR ⊛ ‵ (flft κr qr))) (shared-back T.the-row κr (νr ∷ []) qr γr br or rs 𝓤 H A W (named 0) (named 0) room-r) $ await
+          ! tt $ split ! $
+          -- the call of `chosen`
           use0 W (raw (The-chosen 𝓤 H A mem run .pre (to-chosen o (is-lowered-o o xo is-o) s xs is-s old xold is-old)))
           (goes-chosen o (is-lowered-o o xo is-o) s xs is-s old xold is-old) $
-          -- [what `chosen` asks; routes; routes's token; board's token; board; _22; …]
+          -- [what `chosen` asks; routes; routes' token; board's token; board; _22; …]
           calls-at ! fm (The-chosen 𝓤 H A mem run) known-chosen (to-chosen o (is-lowered-o o xo is-o) s xs is-s old xold is-old)
           (and-then ! (load ! (from ! (stop !)) (look ! 29 refl))
           (and-then ! (load ! (from ! (stop !)) (look ! 25 refl)) (and-then ! (load ! (from ! (stop !)) (look ! 23 refl)) (no-more !)))) (λ xx.
@@ -557,7 +558,7 @@ module _ {M : Type 1} (𝓤 : URA M) (H : Heap 𝓤) (A : Atoms 𝓤) (W : Given
           assigns ! (agg ! (and-then ! (load ! (from ! (stop !)) (look ! 6 refl))
           (and-then ! (load ! (from ! (fld ! refl (stop !))) (look-in ! 44 (sub ! 1 refl (whole !)))) (no-more !)))) (from ! (stop !))
           (init ! 4 refl (tt, (tt, (record { fits = room-r .0 }, tt)))) $
-          -- `set_at`
+          -- the call of `set_at`
           move ! (1 ∷ 0 ∷ []) $
           group ! 2 $ use1 W (raw (The-set-at 𝓤 H A mem run .pre (to-set-at o (is-lowered-o o xo is-o) x xx is-x)))
           (goes-set-at o (is-lowered-o o xo is-o) x xx is-x) $
@@ -576,17 +577,17 @@ module _ {M : Type 1} (𝓤 : URA M) (H : Heap 𝓤) (A : Atoms 𝓤) (W : Given
           fsplit ! $ fsplit ! $ move ! (1 ∷ []) $ feqL ! (λ len-r. move ! (1 ∷ []) $ drop ! $ move ! (1 ∷ []) $ split ! $ move ! (1 ∷ []) $
           peeks ! Nothing (Is Nothing) (shows 𝓤 H A Nothing) n (xn ∷ []) (λ is-n.
           land ! (from ! (stop !)) (init ! 9 refl (nothing-lawful 𝓤 H A W .typed n _ is-n .0)) $ drop ! $ split ! $ move ! (1 ∷ []) $ drop ! $
-          -- `answer`
+          -- the call of `answer`
           use0 W (raw (The-answer 𝓤 H A mem run .pre (to-answer o (is-lowered-o o xo is-o) s xs is-s)))
           (goes-answer o (is-lowered-o o xo is-o) s xs is-s) $
-          -- [what `answer` asks; routes's token; the last routes; board's token; board; _22; …]
+          -- [what `answer` asks; routes' token; the last routes; board's token; board; _22; …]
           calls-at ! fm (The-answer 𝓤 H A mem run) known-answer (to-answer o (is-lowered-o o xo is-o) s xs is-s)
           (and-then ! (load ! (from ! (stop !)) (look ! 29 refl)) (and-then ! (load ! (from ! (stop !)) (look ! 25 refl)) (no-more !))) (λ xk.
           use1 W (later (some (λ (k : ℕ). (‵ ftrue ⊛ ‵ (u32 .own k (xk ∷ []))) ⊛ raw
-          (ensured 𝓤 H A answer.ended (answer.clauses 𝓤 H A mem run) tt (asks-answer o (is-lowered-o o xo is-o) s xs is-s) tt k)))) (id⊢ 𝓤 _) $
-          await ! tt $ pick ! (λ k.
-          split ! $ move ! (1 ∷ []) $ use1 W (raw (fact 𝓤 (k ≡ orderAnswer o s))) (answer-said o (is-lowered-o o xo is-o) s xs is-s k) $ heard !
-          (k ≡ orderAnswer o s) (λ e-k. split ! $
+          (ensured 𝓤 H A answer.ended (answer.clauses 𝓤 H A mem run) tt (asks-answer o (is-lowered-o o xo is-o) s xs is-s) tt k))))
+          (id⊢ 𝓤 _) $ await ! tt $ pick ! (λ k.
+          split ! $ move ! (1 ∷ []) $ use1 W (raw (fact 𝓤 (k ≡ orderAnswer o s))) (answer-said o (is-lowered-o o xo is-o) s xs is-s k) $ heard
+          ! (k ≡ orderAnswer o s) (λ e-k. split ! $
           drop ! $ peeks ! u32 (Is u32) (shows 𝓤 H A u32) k (xk ∷ []) (λ is-k.
           land ! (from ! (stop !)) (init ! 49 refl (uint-lawful 𝓤 H A W w32 .typed k _ is-k .0)) $ drop ! $ returns ! (look ! 48 refl) $
           forget ! 4 refl $ forget ! 6 refl $ forget ! 8 refl $ forget ! 10 refl $ forget ! 12 refl $ forget ! 14 refl $ forget ! 16 refl $
@@ -602,11 +603,11 @@ module _ {M : Type 1} (𝓤 : URA M) (H : Heap 𝓤) (A : Atoms 𝓤) (W : Given
           (z-n .0) k e-o e-q e-s e-old e-x e-n e-k) len-r))))))))))))))))))))))))))))))))))))))))))))))))))))))))))
 
 module _ {M : Type 1} (𝓤 : URA M) (H : Heap 𝓤) (A : Atoms 𝓤) (W : Given 𝓤 H A) (mem : Memory → SProp 𝓤) (run : Routine → Fun 𝓤) where
-  walks-through : (C : Calls 𝓤 H) (Λ : Loops 𝓤 H) → FmC 𝓤 H (W .laws) C → Triple 𝓤 (C #route-calls·ordered) (The-ordered 𝓤 H A mem run) → Triple 𝓤
-      (C #route-calls·same-query) (The-same-query 𝓤 H A mem run) → Triple 𝓤 (C #list·scan) (The-scan 𝓤 H A mem run) → Triple 𝓤 (C #list·record-at)
-      (The-record-at 𝓤 H A mem run) → Triple 𝓤 (C #route-calls·chosen) (The-chosen 𝓤 H A mem run) → Triple 𝓤 (C #list·set-at)
-      (The-set-at 𝓤 H A mem run) → Triple 𝓤 (C #route-calls·answer) (The-answer 𝓤 H A mem run) → Walks 𝓤 H A f.ended stayed
-      (WpFn 𝓤 H C Λ code.function) (f.clauses 𝓤 H A mem run)
+  walks-through : (C : Calls 𝓤 H) (Λ : Loops 𝓤 H) → FmC 𝓤 H (W .laws) C → Triple 𝓤 (C #route-calls·ordered) (The-ordered 𝓤 H A mem run)
+      → Triple 𝓤 (C #route-calls·same-query) (The-same-query 𝓤 H A mem run) → Triple 𝓤 (C #list·scan) (The-scan 𝓤 H A mem run)
+      → Triple 𝓤 (C #list·record-at) (The-record-at 𝓤 H A mem run) → Triple 𝓤 (C #route-calls·chosen) (The-chosen 𝓤 H A mem run)
+      → Triple 𝓤 (C #list·set-at) (The-set-at 𝓤 H A mem run) → Triple 𝓤 (C #route-calls·answer) (The-answer 𝓤 H A mem run)
+      → Walks 𝓤 H A f.ended stayed (WpFn 𝓤 H C Λ code.function) (f.clauses 𝓤 H A mem run)
   walks-through C Λ fm known-ordered known-same-query known-scan known-record-at known-chosen known-set-at known-answer =
       walked 𝓤 H A f.ended stayed (f.clauses 𝓤 H A mem run) (WpFn 𝓤 H C Λ code.function)
       (λ κs. (
@@ -661,10 +662,10 @@ module _ {M : Type 1} (𝓤 : URA M) (H : Heap 𝓤) (A : Atoms 𝓤) (W : Given
   )
 
 meets : {M : Type 1} (𝓤 : URA M) (H : Heap 𝓤) (A : Atoms 𝓤) (W : Given 𝓤 H A) (mem : Memory → SProp 𝓤) (run : Routine → Fun 𝓤) (𝓣 : Tables 𝓤 H)
-    → Triple 𝓤 (𝓣 .C #route-calls·ordered) (The-ordered 𝓤 H A mem run) → Triple 𝓤 (𝓣 .C #route-calls·same-query) (The-same-query 𝓤 H A mem run) →
-    Triple 𝓤 (𝓣 .C #list·scan) (The-scan 𝓤 H A mem run) → Triple 𝓤 (𝓣 .C #list·record-at) (The-record-at 𝓤 H A mem run) → Triple 𝓤
-    (𝓣 .C #route-calls·chosen) (The-chosen 𝓤 H A mem run) → Triple 𝓤 (𝓣 .C #list·set-at) (The-set-at 𝓤 H A mem run) → Triple 𝓤
-    (𝓣 .C #route-calls·answer) (The-answer 𝓤 H A mem run)
+    → Triple 𝓤 (𝓣 .C #route-calls·ordered) (The-ordered 𝓤 H A mem run) → Triple 𝓤 (𝓣 .C #route-calls·same-query) (The-same-query 𝓤 H A mem run)
+    → Triple 𝓤 (𝓣 .C #list·scan) (The-scan 𝓤 H A mem run) → Triple 𝓤 (𝓣 .C #list·record-at) (The-record-at 𝓤 H A mem run)
+    → Triple 𝓤 (𝓣 .C #route-calls·chosen) (The-chosen 𝓤 H A mem run) → Triple 𝓤 (𝓣 .C #list·set-at) (The-set-at 𝓤 H A mem run)
+    → Triple 𝓤 (𝓣 .C #route-calls·answer) (The-answer 𝓤 H A mem run)
     → Meets 𝓤 H A f.signature (WpFn 𝓤 H (𝓣 .C) (𝓣 .Λ) code.function) (f.spec 𝓤 H A mem run)
 meets 𝓤 H A W mem run 𝓣 known-ordered known-same-query known-scan known-record-at known-chosen known-set-at known-answer =
     walk-meets 𝓤 H A f.ended stayed W (goes 𝓤 H A W mem run) (f.clauses 𝓤 H A mem run) (WpFn 𝓤 H (𝓣 .C) (𝓣 .Λ) code.function)

@@ -1,9 +1,9 @@
--- `judge::judge_octets` meets its contract. Assumes nothing.
+-- `judge::ask_octets` meets its contract. Assumes nothing.
 use mathlib.Core.Path.{sym, _∙_}
 use Rattle.judge.proofs.Stages.{short-length}
 use borrow.Author.Needs.{needs}
-use Rattle.judge.proofs.judge_octets.Statement.{statement}
-use Rattle.judge.proofs.judge_octets.Tie as tie
+use Rattle.judge.proofs.ask_octets.Statement.{statement}
+use Rattle.judge.proofs.ask_octets.Tie as tie
 
 read-header-requires : tie.Need-read-header-requires
 read-header-requires c κs = search needs
@@ -11,8 +11,8 @@ read-header-requires c κs = search needs
 enum-known-h : tie.Need-enum-known-h
 enum-known-h c = search needs
 
-judge-header-requires : tie.Need-judge-header-requires
-judge-header-requires c κs = (c .before .before .before .before .before .before .pre, short-length _ _ (λ i. c .before .before .before .before .shared-slice-known2 .given i .fits) (sym (c .before .before .before .read-header .ensures) ∙ c .before .h .given .1))
+ask-header-requires : tie.Need-ask-header-requires
+ask-header-requires c κs = (c .before .before .before .before .before .before .before .pre .0, (c .before .before .before .before .before .before .before .pre .1, short-length _ _ (λ i. c .before .before .before .before .shared-slice-known3 .given i .fits) (sym (c .before .before .before .read-header .ensures) ∙ c .before .h .given .1)))
 
 enum-known-number : tie.Need-enum-known-number
 enum-known-number c = search needs
@@ -24,18 +24,18 @@ refused-requires : tie.Need-refused-requires
 refused-requires c κs = search needs
 
 returns : tie.Need-returns
-returns c = rw (sym (c .before .before .before .before .read-header .ensures) ∙ c .before .before .h .given .1) (c .judge-header .ensures)
+returns c = rw (sym (c .before .before .before .before .read-header .ensures) ∙ c .before .before .h .given .1) (c .ask-header .ensures)
 
 returns-2 : tie.Need-returns-2
 returns-2 c = rw (sym (c .before .before .before .before .read-header .ensures) ∙ c .before .before .number .given .1) (c .refused .ensures)
 
-pub judge-octets-spec : {M : Type 1} → statement M
-judge-octets-spec =
+pub ask-octets-spec : {M : Type 1} → statement M
+ask-octets-spec =
     tie.close
     (tie.spec
     read-header-requires
     enum-known-h
-    judge-header-requires
+    ask-header-requires
     enum-known-number
     cast-refused
     refused-requires
