@@ -44,7 +44,7 @@ static const struct shape SHAPES[] = {
     {1, ONE_DOMAIN, 6, 3, 16, 8, 8, 20, 3}, /* in one domain */
     {1, DOMAINS, 7, 3, 16, 8, 8, 20, 3},    /* between domains */
     {1, INTERNET, 4, 0, 12, 6, 4, 20, 3},   /* outside net 10 */
-    {1, ONE_DOMAIN, 4, 1, 12, 8, 8, 2, 1},  /* hardly emptied: queues fill */
+    {1, ONE_DOMAIN, 3, 0, 12, 8, 8, 2, 1},  /* hardly emptied: queues fill */
     {1, DOMAINS, 8, 4, 64, 16, 16, 6, 1},   /* every place written */
     {1, ALL_NETS, 2, 1, 8, 8, 6, 20, 0},    /* one port alone for each */
     {0, ALL_NETS, 4, 1, 6, 6, 6, 10, 3},    /* a host */

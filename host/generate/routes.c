@@ -54,6 +54,17 @@ static void same_route(struct world *world, struct route *route,
     }
 }
 
+/* One that is no mission's, where there is one. */
+static uint32_t free_port(const struct world *world, struct random *random)
+{
+    uint32_t port = random_below(random, WORLD_PORTS);
+
+    for (uint32_t tries = 0;
+         tries < WORLD_PORTS && world_has(world_set_up(world), port); tries++)
+        port = (port + 1) % WORLD_PORTS;
+    return port;
+}
+
 static void spoil_codes(struct route *route, uint32_t chosen,
                         struct random *random)
 {
@@ -77,9 +88,8 @@ static void spoil_route(struct world *world, struct route *route,
     if (chosen & 2)
         route->place = beyond(world->places, random);
     if (chosen & 4)
-        route->port = random_one_in(random, 2)
-                          ? beyond(WORLD_PORTS, random)
-                          : random_below(random, WORLD_PORTS);
+        route->port = random_one_in(random, 2) ? beyond(WORLD_PORTS, random)
+                                               : free_port(world, random);
     if (chosen & 8) {
         route->mask = no_mask(random);
         route->prefix &= route->mask;
@@ -162,6 +172,7 @@ void history_record(struct world *world, struct random *random)
     switch (random_below(random, 4)) {
     case 0:
         spoil_route(world, &route, random);
+        note_route(world, which, &route);
         break;
     case 1:
         note_route(world, which, &route);

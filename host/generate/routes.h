@@ -1,7 +1,8 @@
 /*
  * routes.h: `set_route` lines and the lines that write the list unjudged. A
- * good setting is noted in the world as what was asked for, and so is a record
- * that is good; what is to be refused is not.
+ * good setting is noted in the world as what was asked for, and so is a record,
+ * so that others may hold the same entry; a setting that is to be refused is
+ * not.
  */
 #ifndef ROUTES_H
 #define ROUTES_H

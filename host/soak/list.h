@@ -17,7 +17,7 @@ bool list_has_port(const hj_board *board, uint32_t mission, uint32_t port);
 const hj_record *list_longest(const struct library_lent *lent,
                               uint32_t address, bool of_all);
 
-/* What a set_route of these numbers, at a place of the list, is due to answer. */
+/* What a set_route of these numbers, at a place of the list, has to answer. */
 uint32_t list_setting(const struct library_lent *lent,
                       const uint32_t *numbers);
 

@@ -31,10 +31,9 @@
 
 #include "call.h"
 #include "draw.h"
-#include "lent.h"
 #include "list.h"
-#include "numbers.h"
 #include "ours.h"
+#include "pieces.h"
 #include "plain.h"
 #include "rules.h"
 #include "shared/options.h"
@@ -54,14 +53,6 @@ static struct world world;
 static struct soak_tally tally;
 static struct soak_call call;
 static struct soak_answer answer;
-static struct soak_lent board, missions[HJ_MISSIONS], routes, octets, output;
-static struct soak_lent other_board, other_mission, other_routes;
-
-/* What a call is lent, the pieces; null for what it is not. */
-static struct {
-    struct soak_lent *board, *mission, *routes;
-} pieces;
-
 /* What the verdicts and takes of a history said, by mission and port. */
 static struct {
     uint64_t took, dropped, handed_out;
@@ -85,32 +76,6 @@ static void fail_by_signal(int number)
 }
 
 /* ---- One call ------------------------------------------------------------ */
-
-static void lend_octets(void)
-{
-    soak_lent_begin(&octets, call.count, random_one_in(random, 2), 0);
-    if (call.count > 0)
-        memcpy(octets.at, call.octets, call.count);
-    soak_lent_keep(&octets);
-}
-
-/* Octets of any one value. */
-static void lend_filled(struct soak_lent *lent, size_t count)
-{
-    bool fenced = random_one_in(random, 2);
-
-    soak_lent_begin(lent, count, fenced, (uint8_t)random_below(random, 256));
-}
-
-/* A copy of a piece, so long; what is beyond it is of one value. */
-static struct soak_lent *lend_other(struct soak_lent *other,
-                                    const struct soak_lent *of, size_t count)
-{
-    soak_lent_begin(other, count, random_one_in(random, 2), 1);
-    memcpy(other->at, of->at, count < of->octets ? count : of->octets);
-    soak_lent_keep(other);
-    return other;
-}
 
 static void count_call(void)
 {
@@ -140,134 +105,38 @@ static void count_end(void)
         tally.onward[answer.parts[2]]++;
 }
 
-/* What is lent, as the call sees it, or what is due of it. */
-static struct library_lent lent_by(void *piece(const struct soak_lent *))
-{
-    struct library_lent lent = {(hj_board *)piece(pieces.board),
-                                call.board_words,
-                                (hj_mission *)piece(pieces.mission),
-                                call.mission_words,
-                                (hj_record *)piece(pieces.routes),
-                                call.records};
-
-    return lent;
-}
-
-static bool plain_agrees(const struct library_lent *due)
+static bool plain_agrees(const struct soak_pieces *due)
 {
     struct soak_answer plain;
 
-    soak_plain(&call, due->routes, (uint8_t *)soak_lent_due(&output), &plain);
+    soak_plain(&call, due->lent.routes, due->output, &plain);
     return memcmp(plain.parts, answer.parts, sizeof plain.parts) == 0;
 }
 
-static bool all_due(void)
-{
-    enum call_lent lent = call_facts[call.which].lent;
-
-    if (!soak_lent_is_due(pieces.board) || !soak_lent_is_due(&board))
-        return fail("the words of the board, or those around it");
-    if (!soak_lent_is_due(pieces.mission) ||
-        !soak_lent_is_due(&missions[0]) || !soak_lent_is_due(&missions[1]))
-        return fail("the words of a mission's state, or those around it");
-    if ((lent & LENT_R) != 0 && !soak_lent_is_due(pieces.routes))
-        return fail("the records of the list, or what is around it");
-    if (!soak_lent_is_due(&output))
-        return fail("the output's octets, or those around it");
-    return soak_lent_is_due(&octets) || fail("the octets lent to be read");
-}
-
-/* The call, on the pieces. */
+/* The call, on what is lent. */
 static bool make_on_pieces(bool compared)
 {
-    struct library_lent lent = lent_by(soak_lent_piece);
-    struct library_lent due = lent_by(soak_lent_due);
+    struct soak_pieces lent, due;
     const char *wrong;
 
     count_call();
-    lend_octets();
-    lend_filled(&output, call.room);
-    soak_ours(&call, &lent, (const uint8_t *)soak_lent_piece(&octets),
-              (uint8_t *)soak_lent_piece(&output), &answer);
-    wrong = soak_rules(&call, &answer, &due,
-                       (uint8_t *)soak_lent_due(&output));
+    pieces_lend_octets(&call, random);
+    lent = pieces_lent(&call);
+    due = pieces_due(&call);
+    soak_ours(&call, &lent.lent, lent.octets, lent.output, &answer);
+    wrong = soak_rules(&call, &answer, &due.lent, due.output);
     if (wrong != NULL)
         return fail(wrong);
     count_end();
     if ((compared || !call_has_state(call.which)) && !plain_agrees(&due))
         return fail("plain answers otherwise");
-    return all_due();
+    wrong = pieces_changed(&call);
+    return wrong == NULL || fail(wrong);
 }
 
-/* Lends what stands, all of the right length. */
-static void lend_all(void)
-{
-    call.mission = world.mission;
-    pieces.board = &board;
-    pieces.mission = &missions[call.mission];
-    pieces.routes = &routes;
-    call.board_words = HJ_BOARD_WORDS;
-    call.mission_words = HJ_MISSION_WORDS;
-    call.records = routes.octets / sizeof(hj_record);
-}
-
-/* Another list, of the next length in turn: what stands, and odd records. */
-static void lend_other_list(void)
-{
-    static size_t next;
-    size_t count = next++ % (MOST_LISTS + 2);
-    hj_record *records;
-
-    if (count > MOST_LISTS)
-        count = random_below(random, SOAK_MOST_RECORDS + 1);
-    pieces.routes = lend_other(&other_routes, &routes,
-                               count * sizeof(hj_record));
-    records = (hj_record *)(void *)other_routes.at;
-    for (uint32_t i = 0; i < 4 && count > 0; i++)
-        soak_draw_record(&records[random_below(random, (uint32_t)count)],
-                         &world, random);
-    soak_lent_keep(&other_routes);
-    call.records = count;
-}
-
-/* The next length in turn, but the right one, so that none is left out; the
- * last one stands for any that is longer. */
-static size_t next_wrong(size_t *next, size_t right, size_t most)
-{
-    size_t words = (*next)++ % (most + 2);
-
-    if (words == right)
-        words = (*next)++ % (most + 2);
-    return words <= most
-               ? words
-               : most + random_below(random,
-                                     (uint32_t)(SOAK_MOST_WORDS - most));
-}
-
-/* The board's words, the mission's, or both. */
 static bool make_wrong_length(void)
 {
-    static size_t next_board, next_mission;
-    enum call_lent lent = call_facts[call.which].lent;
-    enum call_lent wrong = lent & LENT_BM;
-
-    lend_all();
-    if (wrong == LENT_BM && !random_one_in(random, 4))
-        wrong = random_one_in(random, 2) ? LENT_B : LENT_M;
-    if (wrong & LENT_B) {
-        call.board_words =
-            next_wrong(&next_board, HJ_BOARD_WORDS, MOST_BOARDS);
-        pieces.board = lend_other(&other_board, &board,
-                                  call.board_words * sizeof(uint32_t));
-    }
-    if (wrong & LENT_M) {
-        call.mission_words =
-            next_wrong(&next_mission, HJ_MISSION_WORDS, MOST_MISSIONS);
-        pieces.mission = lend_other(&other_mission, &missions[call.mission],
-                                    call.mission_words * sizeof(uint32_t));
-    }
-    if (lent == LENT_R || ((lent & LENT_R) && random_one_in(random, 8)))
-        lend_other_list();
+    pieces_lend_wrong(&call, &world, random);
     return make_on_pieces(false);
 }
 
@@ -286,8 +155,9 @@ static void note_in_books(void)
 
 static void count_search(void)
 {
-    struct library_lent lent = lent_by(soak_lent_piece);
-    const hj_record *longest = list_longest(&lent, call.numbers[0], true);
+    struct soak_pieces lent = pieces_lent(&call);
+    const hj_record *longest =
+        list_longest(&lent.lent, call.numbers[0], true);
     bool found = answer.parts[1] != 0;
 
     tally.found[found]++;
@@ -296,17 +166,19 @@ static void count_search(void)
 
 static bool make(enum soak_state sort)
 {
-    lend_all();
-    if ((call_facts[call.which].lent & LENT_R) != 0 &&
-        random_one_in(random, 6))
-        lend_other_list();
+    bool other_list = (call_facts[call.which].lent & LENT_R) != 0 &&
+                      random_one_in(random, 6);
+
+    pieces_lend(&call, &world);
+    if (other_list)
+        pieces_lend_other_list(&call, &world, random);
     if (!make_on_pieces(sort == SOAK_HISTORY))
         return false;
     tally.calls_on[sort] += call_has_state(call.which);
     if (call.which == CALL_SEARCH && sort == SOAK_HISTORY &&
         answer.parts[0] == HJ_DONE)
         count_search();
-    if (answer.parts[0] == HJ_DONE && pieces.routes == &routes)
+    if (answer.parts[0] == HJ_DONE && !other_list)
         soak_note(&call, &world);
     note_in_books();
     return true;
@@ -342,23 +214,11 @@ static enum call draw_which(void)
     return draw < 50 ? CALL_TAKE : CALL_RECEIVE;
 }
 
-/* Anyone may write the list. */
-static void write_record(void)
-{
-    hj_record *records = (hj_record *)(void *)routes.at;
-    uint32_t count = (uint32_t)(routes.octets / sizeof *records);
-
-    if (count == 0)
-        return;
-    soak_draw_record(&records[random_below(random, count)], &world, random);
-    soak_lent_keep(&routes);
-}
-
 static bool make_any(enum soak_state sort)
 {
     world.mission = random_below(random, HJ_MISSIONS);
     if (random_one_in(random, 24))
-        write_record();
+        pieces_write_record(&world, random);
     if (random_one_in(random, 8)) {
         soak_draw_call(&call, draw_of(KIND_FRESH, KIND_LOOK), &world, random);
         return make_wrong_length();
@@ -493,9 +353,7 @@ static bool begin_history(void)
     enum nets nets = (enum nets)random_below(random, ALL_NETS + 1);
 
     world_begin(&world, nets, PICK(PLACES), random);
-    lend_filled(&routes, world.places * sizeof(hj_record));
-    memset(routes.at, 0, routes.octets);
-    soak_lent_keep(&routes);
+    pieces_begin(world.places, random);
     memset(books, 0, sizeof books);
     return make_settings(CALL_FRESH_BOARD, 1) && begin_missions() &&
            make_settings(CALL_SET_ROUTER, 1) &&
@@ -528,38 +386,6 @@ static bool run_history(void)
 
 /* ---- Other states -------------------------------------------------------- */
 
-/* A word of the board or of a mission's state; often a queue's count, or whose
- * a port or a state is. */
-static uint32_t *some_word(struct soak_lent **piece)
-{
-    uint32_t way = random_below(random, 8);
-    struct soak_lent *mission = &missions[random_below(random, HJ_MISSIONS)];
-    uint32_t at = random_below(random, HJ_MISSION_WORDS);
-
-    *piece = way < 3 ? &board : mission;
-    if (way == 0)
-        at = SOAK_PORT_WORDS * (1 + random_below(random, HJ_PORTS));
-    else if (way < 3)
-        at = random_below(random, HJ_BOARD_WORDS);
-    else if (way == 3)
-        at = 0;
-    else if (way == 4)
-        at = SOAK_QUEUES_AT +
-             SOAK_QUEUE_WORDS * random_below(random, HJ_PORTS) + HJ_QUEUE;
-    return (uint32_t *)soak_lent_piece(*piece) + at;
-}
-
-static void change_word(void)
-{
-    struct soak_lent *piece;
-    uint32_t *word = some_word(&piece);
-
-    *word = random_one_in(random, 2)
-                ? soak_odd_number(&world, random)
-                : *word ^ 1u << random_below(random, 32);
-    soak_lent_keep(piece);
-}
-
 static bool run_changed(void)
 {
     bool good = true;
@@ -567,7 +393,7 @@ static bool run_changed(void)
     for (uint32_t i = 0; good && i < OTHER_CALLS; i++) {
         if (i % CALLS_ON_ONE == 0) {
             for (uint32_t n = 1 + random_below(random, 8); n > 0; n--)
-                change_word();
+                pieces_change_word(&world, random);
             tally.states[SOAK_CHANGED]++;
         }
         good = make_any(SOAK_CHANGED);
@@ -575,61 +401,15 @@ static bool run_changed(void)
     return good;
 }
 
-/* Random words, or numbers that mean something somewhere, or one number in
- * all words. */
-static void fill_with_garbage(struct soak_lent *piece)
-{
-    uint32_t *words = (uint32_t *)(void *)piece->at;
-    uint32_t way = random_below(random, 8);
-    uint32_t same = soak_odd_number(&world, random);
-
-    for (size_t i = 0; i < piece->octets / sizeof *words; i++) {
-        if (way == 0)
-            words[i] = same;
-        else if (way < 3)
-            words[i] = (uint32_t)random_number(random);
-        else if (way < 5)
-            words[i] = random_below(random, 40);
-        else
-            words[i] = soak_odd_number(&world, random);
-    }
-    soak_lent_keep(piece);
-}
-
-/* A number that is a mission's is too seldom drawn, so some words get one. */
-static void own_garbage(void)
-{
-    uint32_t *of_board = (uint32_t *)soak_lent_piece(&board);
-
-    if (random_one_in(random, 3))
-        return;
-    for (uint32_t port = 1; port <= HJ_PORTS; port++)
-        of_board[SOAK_PORT_WORDS * port] = random_below(random, 3);
-    for (uint32_t i = 0; i < HJ_MISSIONS; i++) {
-        *(uint32_t *)soak_lent_piece(&missions[i]) = random_below(random, 3);
-        soak_lent_keep(&missions[i]);
-    }
-    soak_lent_keep(&board);
-}
-
-static void make_garbage(void)
-{
-    fill_with_garbage(&board);
-    for (uint32_t i = 0; i < HJ_MISSIONS; i++)
-        fill_with_garbage(&missions[i]);
-    if (random_one_in(random, 2))
-        fill_with_garbage(&routes);
-    own_garbage();
-    tally.states[SOAK_GARBAGE]++;
-}
-
 static bool run_garbage(void)
 {
     bool good = true;
 
     for (uint32_t i = 0; good && i < OTHER_CALLS; i++) {
-        if (i % CALLS_ON_ONE == 0)
-            make_garbage();
+        if (i % CALLS_ON_ONE == 0) {
+            pieces_fill_with_garbage(&world, random);
+            tally.states[SOAK_GARBAGE]++;
+        }
         good = make_any(SOAK_GARBAGE);
     }
     return good;
@@ -639,9 +419,6 @@ static bool run_garbage(void)
 
 static bool run_three(void)
 {
-    lend_filled(&board, sizeof(hj_board));
-    lend_filled(&missions[0], sizeof(hj_mission));
-    lend_filled(&missions[1], sizeof(hj_mission));
     return run_history() && run_changed() && run_garbage();
 }
 
@@ -652,18 +429,7 @@ static bool prepare(void)
     memset(&action, 0, sizeof action);
     action.sa_handler = fail_by_signal;
     return sigaction(SIGSEGV, &action, NULL) == 0 &&
-           sigaction(SIGBUS, &action, NULL) == 0 &&
-           soak_lent_make(&board, sizeof(hj_board)) &&
-           soak_lent_make(&missions[0], sizeof(hj_mission)) &&
-           soak_lent_make(&missions[1], sizeof(hj_mission)) &&
-           soak_lent_make(&routes, SOAK_MOST_RECORDS * sizeof(hj_record)) &&
-           soak_lent_make(&other_board, SOAK_MOST_WORDS * sizeof(uint32_t)) &&
-           soak_lent_make(&other_mission,
-                          SOAK_MOST_WORDS * sizeof(uint32_t)) &&
-           soak_lent_make(&other_routes,
-                          SOAK_MOST_RECORDS * sizeof(hj_record)) &&
-           soak_lent_make(&octets, sizeof call.octets) &&
-           soak_lent_make(&output, SOAK_MOST_ROOM);
+           sigaction(SIGBUS, &action, NULL) == 0 && pieces_make();
 }
 
 static const struct program PROGRAM = {
