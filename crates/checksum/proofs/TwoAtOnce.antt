@@ -7,7 +7,7 @@ use native.Mathlib.Omega.{arith}
 use lib.ListN.{length, drop, length-drop}
 use Rattle.octets.specs.Octets.{octet, number}
 use Rattle.octets.proofs.Laws.{two-pairs}
-use Rattle.checksum.specs.Sum.{word, words, around, around32, sumFrom, onesSum}
+use Rattle.checksum.specs.Sum.{word, words, around, around32, onesSum}
 use Rattle.checksum.proofs.Words.{Octets, plain, plain-zero, plain-four, sumFrom-plain, sumFrom-zero, sumFrom-none}
 use Rattle.checksum.proofs.Laws.{sum-fits}
 
@@ -29,7 +29,7 @@ added v q a b r p e h = (omega (arith, h .0), (λ z. h .1 .0 (omega arith), λ z
 pub turn : (l : List ℕ) (i v q p : ℕ) → 4 * i + 3 < length l → q ≡ number l (4 * i) 4 → Alike (v + plain (words (drop (4 * i) l))) p
     → Alike (around32 (v + q) + plain (words (drop (4 * (i + 1)) l))) p
 turn l i v q p h e g =
-    added v q _ _ _ p (e ∙ sym (two-pairs l (4 * i) _ _ refl refl)) (rw (plain-four l i h) at g)
+    added v q _ _ _ p (omega (arith, e, two-pairs l (4 * i) _ _ refl refl)) (rw (plain-four l i h) at g)
 
 -- two words q at the end, the last ones
 closed : (v q a b t p : ℕ) → q ≡ a * 65536 + b → t ≡ a + b → Alike (v + t) p → Alike (around32 (v + q)) p

@@ -5,8 +5,7 @@ use Prim.Native.Nat.{ℕ, zero, suc, _+_, _*_, _%_, _<_}
 use mathlib.Core.Path.{_≡_, refl, ap}
 use mathlib.Core.List.{List, [], _∷_, _++_}
 use native.Mathlib.Omega.{arith}
-use native.Mathlib.Numerals.{add-one}
-use lib.ListN.{getD, length, drop, drop-of-length-le}
+use lib.ListN.{getD, length, drop}
 use lib.Seq.{drop-cons}
 use Rattle.checksum.specs.Sum.{word, words, around, sumFrom}
 

@@ -9,7 +9,8 @@
 // and a checksum element behind it straddles two words. As zero the element adds nothing wherever it stands
 // (`blank-sum` in proofs), so it is never summed in place: the octets before it are summed.
 ghost use mathlib.Core.Path.{_≡_};
-ghost use Prim.Native.Nat.{_+_, _*_, _<_};
+ghost use Prim.Native.Nat.{_+_, _*_, _≤_, _<_};
+ghost use lib.ListN.{length};
 ghost use Rattle.octets.specs.Octets.{octet};
 ghost use Rattle.checksum.specs.Sum.{around, around32, onesSum, checksumOf, elementOf};
 
@@ -33,7 +34,9 @@ fn wide(octet: u8) -> u32
 fn last_words(s: &[u8]) -> u32
     ensures { λ r. ⌜ r ≡ octet (now (s .entry)) 0 * 16777216 + octet (now (s .entry)) 1 * 65536 + octet (now (s .entry)) 2 * 256 ⌝ }
 {
-    wide(octets::octet_at(s, 0)) * 16777216 + wide(octets::octet_at(s, 1)) * 65536 + wide(octets::octet_at(s, 2)) * 256
+    wide(octets::octet_at(s, 0)) * 16777216
+        + wide(octets::octet_at(s, 1)) * 65536
+        + wide(octets::octet_at(s, 2)) * 256
 }
 
 // What is above 16 bits of a sum, brought round.
@@ -75,12 +78,10 @@ pub fn checksum(s: &[u8]) -> u16
     (65535 - ones_sum(s)) as u16
 }
 
-// What a header's checksum element at place `at` should be. Past the octets lent, `at` stands at their end.
+// What a header's checksum element at place `at` should be.
 pub fn element(s: &[u8], at: usize) -> u16
+    requires { ⌜ at ≤ length (now s) ⌝ }
     ensures { λ r. ⌜ r ≡ elementOf (now (s .entry)) at ⌝ }
 {
-    if at < s.len() {
-        return checksum(&s[..at]);
-    }
-    checksum(s)
+    checksum(&s[..at])
 }
