@@ -58,7 +58,22 @@ pub fn word_at(s: &[u8], place: usize) -> u32
     requires { ⌜ place + 4 ≤ length (now s) ⌝ }
     ensures { λ r. ⌜ r ≡ number (now (s .entry)) place 4 ⌝ }
 {
-    pair(s[place], s[place + 1]) * 65536 + pair(s[place + 2], s[place + 3])
+    pair(s[place + 2], s[place + 3]) + pair(s[place], s[place + 1]) * 65536
+}
+
+// The number that two words make, the greater first.
+fn joined(high: u32, low: u32) -> u64
+    ensures { λ r. ⌜ r ≡ high * 4294967296 + low ⌝ }
+{
+    high as u64 * 4294967296 + low as u64
+}
+
+// The number that eight octets make.
+pub fn long_at(s: &[u8], place: usize) -> u64
+    requires { ⌜ place + 8 ≤ length (now s) ⌝ }
+    ensures { λ r. ⌜ r ≡ number (now (s .entry)) place 8 ⌝ }
+{
+    joined(word_at(s, place), word_at(s, place + 4))
 }
 
 // Writes the last octets of a number from a place on; answers the place after them.

@@ -29,8 +29,8 @@ fn six_at(s: &[u8], place: usize) -> Six
     ensures { λ r. ⌜ r ≡ sixOf (now (s .entry)) place ⌝ }
 {
     Six {
-        high: octets::number_at(s, place, 8),
-        low: octets::number_at(s, place + 8, 8),
+        high: octets::long_at(s, place),
+        low: octets::long_at(s, place + 8),
     }
 }
 

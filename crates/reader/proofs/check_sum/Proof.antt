@@ -22,7 +22,9 @@ number-at-requires c κs =
     (omega arith, omega (arith, room, summed))
 
 element-requires : tie.Need-element-requires
-element-requires c κs = search needs
+element-requires c κs =
+    let start = c .before .before .before .before in
+    omega (arith, rooms _ _ _ _ (start .pre .0) (start .pre .1) .checksum)
 
 cast-due : tie.Need-cast-due
 cast-due c = search needs
