@@ -11,40 +11,40 @@ ghost use lib.ListN.{length};
 ghost use Rattle.header.specs.Form.{placesOf};
 ghost use Rattle.header.specs.Limits.{longestHeader};
 ghost use Rattle.sets.specs.Limits.{portCount};
-ghost use Rattle.state.specs.Relay.{onRelay};
-ghost use Rattle.state.specs.Layout.{stateWords, decode};
+ghost use Rattle.state.specs.Seen.{Board, onSeated};
+ghost use Rattle.state.specs.Layout.{missionWords, decode};
 ghost use Rattle.relay.specs.Outgoing.{entered, enteredIf, enteredAll, sentOutput};
 
 // The entry in the queue of a port.
-fn enter(state: &mut [u32], p: usize, e: Entry)
-    requires { ⌜ (length (now state) ≡ stateWords) × (p < portCount) ⌝ }
-    ensures { λ _. ⌜ decode (now (state .exit)) ≡ onRelay (λ r. entered r p e) (decode (now (state .entry))) ⌝ }
+fn enter(mission: &mut [u32], p: usize, e: Entry)
+    requires { ⌜ (length (now mission) ≡ missionWords) × (p < portCount) ⌝ }
+    ensures { λ _. ⌜ ((b : Board) → decode (now (mission .exit)) ≡ onSeated b (λ r. entered r p e) (decode (now (mission .entry)))) ⌝ }
 {
-    let q = state_queues::queue_of(state, p);
+    let q = state_queues::queue_of(mission, p);
     let put = q.put(e);
     let next = put.queue;
-    state_queues::put_queue(state, p, next);
+    state_queues::put_queue(mission, p, next);
 }
 
 // The entry in the queue of a port, where the port is in the set.
-fn enter_if(state: &mut [u32], p: usize, took: u32, e: Entry)
-    requires { ⌜ (length (now state) ≡ stateWords) × (p < portCount) ⌝ }
-    ensures { λ _. ⌜ decode (now (state .exit)) ≡ onRelay (λ r. enteredIf r took e p) (decode (now (state .entry))) ⌝ }
+fn enter_if(mission: &mut [u32], p: usize, took: u32, e: Entry)
+    requires { ⌜ (length (now mission) ≡ missionWords) × (p < portCount) ⌝ }
+    ensures { λ _. ⌜ ((b : Board) → decode (now (mission .exit)) ≡ onSeated b (λ r. enteredIf r took e p) (decode (now (mission .entry)))) ⌝ }
 {
     if took & sets::only_port(p as u32) == 0 {
         return;
     }
-    enter(state, p, e);
+    enter(mission, p, e);
 }
 
 // The entry in the queue of each port of the set.
-pub fn enter_all(state: &mut [u32], took: u32, e: Entry)
-    requires { ⌜ length (now state) ≡ stateWords ⌝ }
-    ensures { λ _. ⌜ decode (now (state .exit)) ≡ onRelay (λ r. enteredAll r took e portCount) (decode (now (state .entry))) ⌝ }
+pub fn enter_all(mission: &mut [u32], took: u32, e: Entry)
+    requires { ⌜ length (now mission) ≡ missionWords ⌝ }
+    ensures { λ _. ⌜ ((b : Board) → decode (now (mission .exit)) ≡ onSeated b (λ r. enteredAll r took e portCount) (decode (now (mission .entry)))) ⌝ }
 {
     let mut p = 0;
     while p < PORTS {
-        enter_if(state, p, took, e);
+        enter_if(mission, p, took, e);
         p += 1;
     }
 }
