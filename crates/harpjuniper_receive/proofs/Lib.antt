@@ -1,2 +1,3 @@
--- Told: what the two halves of receiving come to over the list.
+-- Joined: the verdict in two halves, with the scan between them, is page 01's. Told serves the proof of the call.
+pub mod Joined
 pub mod Told

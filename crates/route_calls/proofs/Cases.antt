@@ -1,9 +1,9 @@
 -- What each definition gives, by the tests that the code makes in their order. Assumes nothing.
 use native.Mathlib.Omega.{arith}
 use Prim.Native.Nat.{ℕ, _+_, _≤_, _<_}
-use mathlib.Core.Path.{_≡_, refl, sym, ap, _∙_}
+use mathlib.Core.Path.{_≡_, sym, ap, _∙_}
 use mathlib.Core.Logic.{_≢_}
-use mathlib.Core.List.{List, [], _∷_}
+use mathlib.Core.List.{List}
 use lib.ListN.{length}
 use borrow.Author.Tests.{eq-eqb, ne-eqb, lt-ltb, le-ltb}
 use Rattle.checks.specs.Order.{checkOf, firstOf}
@@ -19,7 +19,7 @@ use Rattle.routes.specs.Records.{emptyRecord}
 use Rattle.state.specs.Relay.{readyOf}
 use Rattle.state.specs.Seen.{Board, State, portsSeen, allPorts}
 use Rattle.state.specs.Layout.{boardWords, decodeBoard, missionWords, decode}
-use Rattle.lent_state.specs.Read.{wordAnswer, placeAnswer}
+use Rattle.lent_state.specs.Read.{wordAnswer}
 use Rattle.lent_state.proofs.Calls.{board-held-told, board-other-told, both-held-told, no-board-told, no-mission-told}
 use Rattle.lent_state.proofs.Read.{no-word}
 use Rattle.listing.specs.declared.Query.{Query}
