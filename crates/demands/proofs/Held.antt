@@ -91,11 +91,11 @@ either-way true a = refl
 either-way false a = refl
 
 -- equal where all parts are
-abbrev promise : ℕ → Lent Board → Lent State → List Record → List ℕ → List ℕ → Promise
+abbrev pub promise : ℕ → Lent Board → Lent State → List Record → List ℕ → List ℕ → Promise
 promise answer board mission routes output numbers =
     record { answer = answer; board = board; mission = mission; routes = routes; output = output; numbers = numbers }
 
-same-promise : {a a′ : ℕ} {b b′ : Lent Board} {m m′ : Lent State} {rs rs′ : List Record} {o o′ n n′ : List ℕ}
+pub same-promise : {a a′ : ℕ} {b b′ : Lent Board} {m m′ : Lent State} {rs rs′ : List Record} {o o′ n n′ : List ℕ}
     → a ≡ a′ → b ≡ b′ → m ≡ m′ → rs ≡ rs′ → o ≡ o′ → n ≡ n′ → promise a b m rs o n ≡ promise a′ b′ m′ rs′ o′ n′
 same-promise e f g h i j = rw (e, f, g, h, i, j)
 
