@@ -110,7 +110,7 @@ unfolding readLeft readAnswer readingOf readingWords numbersWords
 reading-left (read.Refused n) = either-way (eqb n 0) (replicate readingCount 0)
 reading-left (read.Good h) = refl
 
-reading-answer : (r : Reading) → readAnswer (length {A = ℕ} (replicate readingCount 0)) r ≡ r .refusal
+pub reading-answer : (r : Reading) → readAnswer (length {A = ℕ} (replicate readingCount 0)) r ≡ r .refusal
 unfolding readAnswer
 reading-answer r = refl
 

@@ -113,8 +113,8 @@ Answered who m =
     (steps : List Step) (x : Result) → historyOf who steps ≡ m .calls → Gives steps (stepOf who (m .asked)) x → readOut (m .asked) (x .answer) ≡ m .answer
 
 -- the answer n of a setting with these tests: by its number exactly where its test holds and none before it, and 0 exactly where none holds
-abbrev pub Decided : Checks → ℕ → Type 0
-Decided checks answer = ((n : ℕ) → n ≢ 0 → (answer ≡ n) ↔ firstHolds checks n) × ((answer ≡ 0) ↔ noneHolds checks)
+abbrev pub DecidedBy : Checks → ℕ → Type 0
+DecidedBy checks answer = ((n : ℕ) → n ≢ 0 → (answer ≡ n) ↔ firstHolds checks n) × ((answer ≡ 0) ↔ noneHolds checks)
 
 pub record Demand2 : Type 0 where
   -- "Headers are read .. as CCSDS 713.0-B-1 lays them out": hj_read answers what the layout gives, and refuses by n exactly where the condition of n
@@ -157,11 +157,11 @@ pub record Demand2 : Type 0 where
   pub marked : (who : Customer) → Each (Answered who) (markedCases (numberOf who))
   -- "every .. setting .. follows the written rules": the operator's orders, which leave a board and a list,
   pub orders-follow : (steps : List Step) (o : Order) (x : Result) (g : Gives steps (operates (orders o)) x)
-      → Decided (orderChecks (boardOf steps) o) (x .answer)
+      → DecidedBy (orderChecks (boardOf steps) o) (x .answer)
       × ((decodeBoard (wordsAfter (g .before) (operates (orders o)) x .board) ≡ boardLeft (boardOf steps) o) × (x .left .routes ≡ listLeft (boardOf steps) o))
   -- and a customer's own, which leave its groups and paths
   pub settings : (who : Customer) (steps : List Step) (s : Setting) (x : Result) → Gives steps (flies who (sets s)) x
-      → Decided (checksOf (relayOf who steps) s) (x .answer) × (ownIn (x .left .mission) ≡ settle (relayOf who steps) s .mission)
+      → DecidedBy (checksOf (relayOf who steps) s) (x .answer) × (ownIn (x .left .mission) ≡ settle (relayOf who steps) s .mission)
   -- what is taken "holds until it is changed", whatever other calls are made, the other customer's among them, and is read back, a word at a time: of a
   -- port, of a group, of a path, and of a record in a list
   pub settings-hold : (who : Customer) (steps later : List Step) (part : Part) → Each (λ (c : Call). About c part → ⊥) (historyOf who later)
