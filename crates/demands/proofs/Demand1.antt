@@ -7,7 +7,7 @@ use mathlib.Core.Logic.{_⊎_, inl, inr, ⊎-elim}
 use mathlib.Core.List.{List, []}
 use lib.ListN.{length}
 use borrow.Author.Tests.{ne-eqb}
-use Rattle.checks.specs.Order.{pick, firstOf}
+use Rattle.checks.specs.Order.{pick}
 use Rattle.checks.specs.Answer.{refusalNumber}
 use Rattle.checks.proofs.Bools.{true-false}
 use Rattle.header.specs.Read.{readOf}
@@ -18,9 +18,9 @@ use Rattle.numbers.specs.InWords.{fieldWords}
 use Rattle.routes.specs.declared.Record.{Record}
 use Rattle.state.specs.Relay.{Relay}
 use Rattle.state.specs.Seen.{State, freshBoard, freshState}
-use Rattle.state.specs.Layout.{decodeBoard, decode}
-use Rattle.lent_state.specs.View.{Held, lentBoard, lent, tooLong}
-use Rattle.lent_state.proofs.Same.{board-injective, lent-injective}
+use Rattle.state.specs.Layout.{decode}
+use Rattle.lent_state.specs.View.{lent, tooLong}
+use Rattle.lent_state.proofs.Same.{board-injective}
 use Rattle.verdict.specs.Numbers.{localNumber, onwardNumber}
 use Rattle.taking.specs.Taking.{takeOutcome}
 use Rattle.tally.specs.Tally.{Move, countedAll}
@@ -59,7 +59,6 @@ use Rattle.history.specs.Calls.{
 }
 use Rattle.history.specs.Seat.{Seat, relayIn, heardBy}
 use Rattle.history.specs.Outcome as outcome
-use Rattle.history.specs.Tally.{stateAfter}
 use Rattle.history.specs.Answers.{answersOf, stands}
 use Rattle.history.specs.Transport.{SameButTpid, SameButLocal, localBy}
 use Rattle.history.proofs.Answered.{every-answer-is-listed}
@@ -68,9 +67,9 @@ use Rattle.history.proofs.Untaken.{took-none}
 use Rattle.history.proofs.Refusals.{nobody-took, output-as-lent}
 use Rattle.history.proofs.Sums.{moves-as-written}
 use Rattle.history.proofs.Transport as transport
-use Rattle.demands.specs.Trace.{Customer, numberOf, Step, operates, flies, stepOf, Words, missionOf, made, wordsAfter, historyOf, seatOf, relayOf, Gives}
-use Rattle.demands.specs.ReadOut.{ownOut, readOut, ownIn, hearsNothing, tookIn, counterAt}
-use Rattle.demands.specs.Demand1.{Unchanged, LocalAlone, Lacks, lackNumber, refusedOwn, AnswersLack, HasLong, refusedAs, OperatorLacks, MissionLacks, Demand1}
+use Rattle.demands.specs.Trace.{Customer, Step, operates, flies, stepOf, Words, missionOf, made, wordsAfter, seatOf, relayOf, Gives}
+use Rattle.demands.specs.ReadOut.{ownOut, readOut, ownIn, hearsNothing, counterAt}
+use Rattle.demands.specs.Demand1.{Unchanged, LocalAlone, Lacks, lackNumber, refusedOwn, AnswersLack, HasLong, refusedAs, MissionLacks, Demand1}
 use Rattle.demands.proofs.Lane.{madeBy}
 use Rattle.demands.proofs.Promised.{promisedBy, nextState}
 use Rattle.demands.proofs.Held.{quiet-taking}

@@ -47,7 +47,6 @@ use Rattle.queue.proofs.Waits.{EachOf, chosen-each, chosen-nobody}
 use Rattle.routes.specs.declared.Record.{Record}
 use Rattle.state.specs.Relay.{Relay, portIn, portSetUp}
 use Rattle.state.specs.Seen.{Board, State}
-use Rattle.state.specs.Layout.{decodeBoard}
 use Rattle.taking.specs.Taking.{takeOutcome}
 use Rattle.taking.specs.declared.Taking.{Taking}
 use Rattle.taking.specs.declared.Taking.the-variants as taking
@@ -101,9 +100,8 @@ use Rattle.history.specs.Calls.{
   settle,
 }
 use Rattle.history.specs.Calls as look
-use Rattle.history.specs.Seat.{Seat, freshSeat, stateOf, relayIn, heardBy}
+use Rattle.history.specs.Seat.{Seat, freshSeat, stateOf, heardBy}
 use Rattle.history.specs.Outcome.{entry, ofTaking, outcome, next, runFrom, seatAfter}
-use Rattle.history.specs.Tally.{stateAfter}
 use Rattle.history.specs.Parts.{Part, theRouter, thePort, theGroup, thePath, About, settingIn}
 use Rattle.history.specs.Line.{Copy, entryOf, takingOf, lineAt}
 use Rattle.history.specs.Marked.{Marked, markedCases}
@@ -118,13 +116,13 @@ use Rattle.history.proofs.Reach.{reached}
 use Rattle.history.proofs.ReadBack.{ReadBack, read-back}
 use Rattle.history.proofs.Search.{masks-contiguous}
 use Rattle.history.proofs.Takes.{take-is, is-port}
-use Rattle.demands.specs.Trace.{Customer, first, second, numberOf, Step, operates, flies, stepOf, wordsAfter, historyOf, boardOf, seatOf, relayOf, relayFor, Gives}
-use Rattle.demands.specs.ReadOut.{ownOut, readOut, tookIn, droppedIn, ownIn, asksFor, partTold, Reads, Builds, headerIn}
+use Rattle.demands.specs.Trace.{Customer, first, second, numberOf, Step, flies, historyOf, boardOf, seatOf, relayOf, relayFor, Gives}
+use Rattle.demands.specs.ReadOut.{ownOut, tookIn, droppedIn, ownIn, asksFor, partTold, Reads, Builds, headerIn}
 use Rattle.demands.specs.Demand2.{ToldAs, Answered, DecidedBy, Demand2, ExactlyAs, GoesOut}
 use Rattle.demands.proofs.Promised.{nextState}
 use Rattle.demands.proofs.Held.{reading-left, reading-answer, build-answer, build-output}
 use Rattle.demands.proofs.Traced.{history-more, board-is, held-words}
-use Rattle.demands.proofs.Told.{gives-row, gives-board, gives-next, counters, setting-told, order-told}
+use Rattle.demands.proofs.Told.{gives-row, gives-board, counters, setting-told, order-told}
 use Rattle.demands.proofs.Fitting.{history-passed}
 use Rattle.demands.proofs.ReadOut.{read-out}
 

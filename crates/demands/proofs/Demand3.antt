@@ -22,17 +22,16 @@ use Rattle.queue.proofs.Waits.{chosen-asked, waits-count, waits-fits}
 use Rattle.queue.specs.declared.Entry.{Entry}
 use Rattle.routes.specs.declared.Record.{Record}
 use Rattle.state.specs.Relay.{Mission, counterIn, queueAt}
-use Rattle.lent_state.specs.View.{tooLong}
 use Rattle.answers.specs.Answers.{takingNumber}
 use Rattle.harpjuniper_relay.specs.Face.{counterAnswer, waitingAnswer}
 use Rattle.contracts.specs.Promised.{Result}
 use Rattle.contracts.specs.Contracts.{Says}
-use Rattle.history.specs.Calls.{counter, waiting, takes, Call, operator, own, looks, hears, MissionCall}
+use Rattle.history.specs.Calls.{counter, waiting, takes, Call, operator, own, looks, hears}
 use Rattle.history.specs.Seat.{Seat, freshSeat, heardBy}
-use Rattle.history.specs.Outcome.{Answer, outcome, ownOutcome, seatAfter, next, runFrom}
+use Rattle.history.specs.Outcome.{Answer, ownOutcome, seatAfter, next}
 use Rattle.history.specs.Ledger.{dropped}
 use Rattle.history.specs.Line.{entryOf, lineAt, copyOf, takenOwn}
-use Rattle.history.specs.Foretold.{andThen, answeredBy, answeredOwn, answeredFrom, answeredSince}
+use Rattle.history.specs.Foretold.{answeredOwn, answeredFrom}
 use Rattle.history.proofs.Domain.{took-read}
 use Rattle.history.proofs.Search.{masks-contiguous}
 use Rattle.history.proofs.Heard.{heard-is}
@@ -44,7 +43,7 @@ use Rattle.history.proofs.Takes.{take-is}
 use Rattle.history.proofs.Fair.{fair}
 use Rattle.history.proofs.ReadBack.{read-back, ReadBack}
 use Rattle.demands.specs.Trace.{Customer, first, second, numberOf, Step, operates, flies, stepOf, Words, made, wordsAfter, Trace, Passes, AllPass, Begun, historyOf, seatOf, relayFor, Gives}
-use Rattle.demands.specs.ReadOut.{droppedIn, entriesIn, tookIn, ownOut}
+use Rattle.demands.specs.ReadOut.{entriesIn, tookIn}
 use Rattle.demands.specs.Demand3.{placedBy, Demand3}
 use Rattle.demands.proofs.Traced.{history-more}
 use Rattle.demands.proofs.Told.{gives-row, counters}

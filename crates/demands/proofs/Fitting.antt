@@ -2,7 +2,7 @@
 -- Assumes nothing.
 use native.Mathlib.Omega.{arith}
 use Prim.Native.Nat.{ℕ, _^_, _<_}
-use mathlib.Core.Path.{_≡_, refl, sym, ap, subst}
+use mathlib.Core.Path.{_≡_, sym, subst}
 use mathlib.Core.Bool.{Bool, true, false, _&&_}
 use mathlib.Core.List.{List, [], _∷_}
 use lib.ListN.{length, getD}
@@ -18,7 +18,7 @@ use Rattle.records.specs.declared.OwnedPort.{OwnedPort}
 use Rattle.records.specs.declared.Group.{Group}
 use Rattle.records.specs.declared.PathPlace.{PathPlace}
 use Rattle.sets.specs.Limits.{portCount, groupPlaces, pathPlaces}
-use Rattle.state.specs.Relay.{Mission, Relay}
+use Rattle.state.specs.Relay.{Relay}
 use Rattle.state.specs.Seen.{Board, freshBoard, freshMission}
 use Rattle.state.specs.Layout.{ownedWords, groupWords, pathWords}
 use Rattle.adjust.specs.Settled.{newPort, newGroup, newPath}

@@ -6,13 +6,11 @@ use mathlib.Core.Bool.{Bool, true, false}
 use mathlib.Core.List.{List, []}
 use lib.ListN.{length, replicate}
 use lib.Dec.{eqb}
-use borrow.Author.Tests.{eq-eqb, eqb-true}
 use Rattle.checks.specs.Order.{pick, firstOf}
-use Rattle.checks.specs.Answer.{refusalNumber}
 use Rattle.header.specs.Read.{readOf}
 use Rattle.header.specs.declared.Read.{Read}
 use Rattle.header.specs.declared.Read.the-variants as read
-use Rattle.numbers.specs.InWords.{fieldWords, numbersWords, numbersFrom}
+use Rattle.numbers.specs.InWords.{numbersWords}
 use Rattle.numbers.specs.declared.Numbers.{Numbers}
 use Rattle.numbers.proofs.in_words.Halves.{numbers-again, words-count}
 use Rattle.address.specs.declared.Address.{Address}
@@ -22,18 +20,17 @@ use Rattle.sets.specs.Limits.{groupPlaces, pathPlaces}
 use Rattle.records.specs.Fresh.{freshGroup, freshPath}
 use Rattle.state.specs.Relay.{Relay, Mission, withGroup, withPath}
 use Rattle.refusals.specs.Lists.{clearChecks}
-use Rattle.state.specs.Seen.{Board, State, seated, onSeated}
+use Rattle.state.specs.Seen.{Board, State}
 use Rattle.taking.specs.Taking.{takeOutcome, takenRelay}
 use Rattle.taking.specs.declared.Taking.{Taking}
 use Rattle.taking.specs.declared.Taking.the-variants.{Handed, Refused}
 use Rattle.tally.specs.Tally.{Move, countedAll}
-use Rattle.judge.specs.Ending.{refusedBy, orElse, endingOf}
 use Rattle.judge.specs.declared.Ending.{Ending}
 use Rattle.relay.specs.Outgoing.{sentOutput}
 use Rattle.relay.specs.Received.{heardEnding, receivedState}
 use Rattle.lent_state.specs.View.{Lent, Held, lentBoard, lent, byLent, onLent, toldBoard, changedBoard, told, changed, toldBoth, changedBoth, changedRelay, tooLong}
 use Rattle.answers.specs.Answers.{partsOf, receiveNumber}
-use Rattle.harpjuniper.specs.Face.{Reading, readingOf, readingWords, readingCount, nothing, readAnswer, readLeft}
+use Rattle.harpjuniper.specs.Face.{Reading, readingOf, readingWords, readingCount, readAnswer, readLeft}
 use Rattle.harpjuniper.specs.Face.{buildAnswer, buildOutput, buildWordsAnswer, buildWordsOutput}
 use Rattle.route_calls.specs.Search.{searchAnswer}
 use Rattle.harpjuniper_routes.specs.Face.{searchTold}
@@ -51,7 +48,6 @@ use Rattle.history.specs.Calls.{
   routerFlag,
   portWord,
   recordWord,
-  OperatorCall,
   orders,
   views,
   Setting,
@@ -72,7 +68,6 @@ use Rattle.history.specs.Calls.{
   checksum,
   boardSize,
   missionSize,
-  MissionCall,
   sets,
   hears,
   takes,

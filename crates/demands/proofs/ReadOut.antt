@@ -17,7 +17,6 @@ use Rattle.numbers.specs.Words.{Words}
 use Rattle.numbers.specs.declared.Numbers.{Numbers}
 use Rattle.queue.specs.Waits.{Chosen, nobody, one, chosen, rankBy}
 use Rattle.queue.proofs.Waits.{EachOf, chosen-each}
-use Rattle.routes.specs.declared.Record.{Record}
 use Rattle.sets.specs.Limits.{portCount, counterCount}
 use Rattle.state.specs.Relay.{portSetUp}
 use Rattle.lent_state.specs.View.{tooLong}

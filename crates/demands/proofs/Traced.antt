@@ -1,7 +1,7 @@
 -- After any trace the board's words hold the board that the operator's calls leave, and each customer's words the state that its history leaves. The
 -- theorem is `words-hold`, at the end. Assumes nothing.
 use Prim.Native.Nat.{ℕ}
-use mathlib.Core.Path.{_≡_, refl, sym, ap, subst, _∙_}
+use mathlib.Core.Path.{_≡_, refl, ap, subst, _∙_}
 use mathlib.Core.Bool.{Bool, true, false}
 use mathlib.Core.List.{List, [], _∷_, _++_}
 use lib.ListN.{length}
@@ -9,21 +9,21 @@ use lib.Dec.{eqb}
 use borrow.Author.Tests.{eqb-true}
 use Rattle.checks.specs.Order.{pick}
 use Rattle.checks.proofs.Bools.{true-false}
-use Rattle.state.specs.Seen.{Board, State, freshBoard, freshState}
+use Rattle.state.specs.Seen.{Board, State, freshState}
 use Rattle.state.specs.Layout.{boardWords, decodeBoard, missionWords, decode}
 use Rattle.tally.specs.Tally.{countedAll}
 use Rattle.lent_state.specs.View.{Held, Other, lentBoard, lent}
-use Rattle.contracts.specs.Promised.{Result, Allows, promised}
+use Rattle.contracts.specs.Promised.{Result, Allows}
 use Rattle.contracts.specs.Contracts.{Says}
 use Rattle.contracts.proofs.Rows.{says-row}
-use Rattle.history.specs.Calls.{OperatorCall, Call, operator, own}
+use Rattle.history.specs.Calls.{Call, operator, own}
 use Rattle.history.specs.Seat.{Seat, freshSeat, stateOf}
-use Rattle.history.specs.Outcome.{nextBoard, next, outcome, runFrom}
+use Rattle.history.specs.Outcome.{next, outcome, runFrom}
 use Rattle.history.specs.Tally.{countersFrom, stateAfter}
 use Rattle.demands.specs.Trace.{Customer, first, second, numberOf, Step, operates, flies, Words, missionOf, Begun, historyOf, ordersOf, boardAfter, boardOf, seatOf}
 use Rattle.demands.proofs.Fresh.{fresh-board-holds, fresh-mission-holds}
 use Rattle.demands.proofs.Lane.{madeBy, boardBy, ownBy, Lane, ran}
-use Rattle.demands.proofs.Promised.{nextState, promisedBy}
+use Rattle.demands.proofs.Promised.{promisedBy}
 use Rattle.demands.proofs.Held.{row-is, words-after}
 
 -- ---- words that hold something are as many as it has, and they spell it

@@ -4,10 +4,9 @@ use Prim.Native.Nat.{ℕ}
 use mathlib.Core.Path.{_≡_, refl, sym, ap, subst, _∙_}
 use mathlib.Core.Bool.{Bool, true, false, not}
 use mathlib.Core.Logic.{_⊎_, ⊎-elim}
-use mathlib.Core.List.{List, [], _∷_}
+use mathlib.Core.List.{List}
 use lib.ListN.{length, replicate}
 use lib.Dec.{eqb}
-use borrow.Author.Tests.{ne-eqb}
 use Rattle.checks.specs.Order.{pick, firstOf}
 use Rattle.checks.specs.Answer.{refusalNumber}
 use Rattle.checks.proofs.Bools.{true-false}
@@ -19,13 +18,12 @@ use Rattle.numbers.specs.InWords.{numbersWords}
 use Rattle.routes.specs.declared.Record.{Record}
 use Rattle.state.specs.Relay.{Relay}
 use Rattle.state.specs.Seen.{Board, State, seated}
-use Rattle.state.specs.Layout.{boardWords, missionWords}
 use Rattle.refusals.specs.Lists.{routeChecks, clearRouteChecks}
 use Rattle.adjust.specs.Settled.{newRecord, settledRoute, clearedRoute}
 use Rattle.taking.specs.Taking.{takeOutcome, takenRelay}
 use Rattle.taking.specs.declared.Taking.{Taking}
 use Rattle.taking.specs.declared.Taking.the-variants.{Handed, Refused}
-use Rattle.tally.specs.Tally.{counterFor, countedAt, countedAll, movesOf}
+use Rattle.tally.specs.Tally.{counterFor, countedAt, countedAll}
 use Rattle.judge.specs.Ending.{refusedBy}
 use Rattle.judge.specs.declared.Ending.{Ending}
 use Rattle.relay.specs.Received.{heardEnding, receivedState}
@@ -38,6 +36,7 @@ use Rattle.harpjuniper.specs.Face.{readingOf, readingWords, readingCount, numbe
 use Rattle.harpjuniper_routes.specs.Face.{searchTold, routeWordTold}
 use Rattle.harpjuniper_receive.specs.Face.{receiveAnswer, receiveWords, receiveOutput}
 use Rattle.contracts.specs.Promised.{Things, Result, Promise, Allows, lentTo, looking, promised}
+use Rattle.contracts.proofs.OneResult.{same-things}
 use Rattle.history.specs.Seat.{Seat, stateOf, relayIn}
 use Rattle.history.specs.Outcome.{isRefusal, ofTaking, outcome}
 use Rattle.history.specs.Calls.{
@@ -91,16 +90,12 @@ use Rattle.history.specs.Calls.{
 }
 use Rattle.history.proofs.Refusals.{nobody-took, output-as-lent, refused-take-leaves}
 use Rattle.demands.specs.ReadOut.{hearsNothing}
-use Rattle.demands.specs.Demand1.{NoBoard, NoMission, OperatorLacks, MissionLacks, HasLong, lackNumber}
+use Rattle.demands.specs.Demand1.{NoBoard, NoMission, OperatorLacks, MissionLacks, HasLong}
 use Rattle.demands.proofs.Lane.{madeBy}
 use Rattle.demands.proofs.Promised.{promisedBy, nextState}
 use Rattle.demands.proofs.Held.{either-way, same-promise, quiet-taking}
 
 -- Where a call's promise is that of a look, all is left as it was lent.
-same-things : {b b′ m m′ : List ℕ} {rs rs′ : List Record} {o o′ n n′ : List ℕ} → b ≡ b′ → m ≡ m′ → rs ≡ rs′ → o ≡ o′ → n ≡ n′
-    → _≡_ {A = Things} (record { board = b; mission = m; routes = rs; output = o; numbers = n }) (record { board = b′; mission = m′; routes = rs′; output = o′; numbers = n′ })
-same-things e f g h i = rw (e, f, g, h, i)
-
 pub whole : (t : Things) (answer : ℕ) (x : Result) → Allows (looking t answer) x → x .left ≡ t
 whole t answer x k =
     same-things

@@ -2,16 +2,14 @@
 -- each there are steps after which it would have to give back something else. That there are such steps at all, for any words to begin with, is
 -- demand 1. Assumes nothing.
 use native.Mathlib.Omega.{arith}
-use Prim.Native.Nat.{ℕ, _^_, _<_}
+use Prim.Native.Nat.{ℕ, _<_}
 use mathlib.Core.Path.{_≡_, refl, sym, ap, _∙_}
 use mathlib.Core.Bool.{true}
 use mathlib.Core.Logic.{_≢_}
 use mathlib.Core.List.{List, [], _∷_, _++_, map, append-nil}
-use lib.ListN.{length, replicate}
+use lib.ListN.{replicate}
 use Rattle.checks.specs.Answer.{refusalNumber}
 use Rattle.checks.proofs.Bools.{true-false}
-use Rattle.address.specs.Mask.{maskOf}
-use Rattle.address.specs.Octets.{dotted}
 use Rattle.address.specs.declared.Slot.{Slot}
 use Rattle.header.specs.Limits.{longestHeader}
 use Rattle.routes.specs.Records.{emptyRecord}
@@ -27,7 +25,7 @@ use Rattle.contracts.specs.Contracts.{Says}
 use Rattle.contracts.proofs.Answers.{each-call-answers}
 use Rattle.contracts.proofs.Kept.{getD-each}
 use Rattle.answers.specs.Answers.{partAt}
-use Rattle.history.specs.Calls.{Order, setRouter, setPort, setRoute, orders, MissionCall, hears, takes, looks, counter, waiting, Call, operator, own}
+use Rattle.history.specs.Calls.{Order, setRoute, orders, MissionCall, hears, takes, looks, counter, waiting, Call, own}
 use Rattle.history.specs.Marked.{port, routerWithPorts, allRoutes, datagram}
 use Rattle.history.specs.Outcome.{ended}
 use Rattle.history.proofs.Marked.{opened}

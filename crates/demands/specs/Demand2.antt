@@ -57,7 +57,6 @@ use Rattle.history.specs.Calls.{
   takes,
   looks,
   Call,
-  own,
   orderChecks,
   boardLeft,
   listLeft,
