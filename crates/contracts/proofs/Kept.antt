@@ -63,17 +63,17 @@ module _ {A : Type 0} (P : A → Type 0) where
   drop-each (suc n) [] h = tt
   drop-each (suc n) (x ∷ l) h = drop-each n l (h .1)
 
-  set-each : (l : List A) (i : ℕ) (x : A) → P x → Each P l → Each P (set l i x)
+  pub set-each : (l : List A) (i : ℕ) (x : A) → P x → Each P l → Each P (set l i x)
   set-each [] i x p h = tt
   set-each (y ∷ l) zero x p h = (p, h .1)
   set-each (y ∷ l) (suc i) x p h = (h .0, set-each l i x p (h .1))
 
-  getD-each : (l : List A) (i : ℕ) (d : A) → P d → Each P l → P (getD l i d)
+  pub getD-each : (l : List A) (i : ℕ) (d : A) → P d → Each P l → P (getD l i d)
   getD-each [] i d p h = p
   getD-each (y ∷ l) zero d p h = h .0
   getD-each (y ∷ l) (suc i) d p h = getD-each l i d p (h .1)
 
-  replicate-each : (n : ℕ) (x : A) → P x → Each P (replicate n x)
+  pub replicate-each : (n : ℕ) (x : A) → P x → Each P (replicate n x)
   replicate-each zero x p = tt
   replicate-each (suc n) x p = (p, replicate-each n x p)
 

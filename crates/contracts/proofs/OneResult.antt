@@ -7,24 +7,27 @@ use Rattle.lent_state.proofs.Same.{board-injective, lent-injective}
 use Rattle.contracts.specs.Promised.{Things, Result, Promise, Allows, Exported, promised}
 
 -- equal where all parts are
-abbrev result : ℕ → List ℕ → List ℕ → List Record → List ℕ → List ℕ → Result
-result answer board mission routes output numbers =
-    record { answer = answer; left = record { board = board; mission = mission; routes = routes; output = output; numbers = numbers } }
+abbrev things : List ℕ → List ℕ → List Record → List ℕ → List ℕ → Things
+things board mission routes output numbers =
+    record { board = board; mission = mission; routes = routes; output = output; numbers = numbers }
 
-same-parts : {a a′ : ℕ} {b b′ m m′ : List ℕ} {rs rs′ : List Record} {o o′ n n′ : List ℕ}
-    → a ≡ a′ → b ≡ b′ → m ≡ m′ → rs ≡ rs′ → o ≡ o′ → n ≡ n′ → result a b m rs o n ≡ result a′ b′ m′ rs′ o′ n′
-same-parts e f g h i j = rw (e, f, g, h, i, j)
+pub same-things : {b b′ m m′ : List ℕ} {rs rs′ : List Record} {o o′ n n′ : List ℕ}
+    → b ≡ b′ → m ≡ m′ → rs ≡ rs′ → o ≡ o′ → n ≡ n′ → things b m rs o n ≡ things b′ m′ rs′ o′ n′
+same-things e f g h i = rw (e, f, g, h, i)
+
+same-parts : {a a′ : ℕ} {t t′ : Things} → a ≡ a′ → t ≡ t′ → _≡_ {A = Result} (record { answer = a; left = t }) (record { answer = a′; left = t′ })
+same-parts e f = rw (e, f)
 
 -- Two results that a promise allows are equal.
 pub allowed-once : (p : Promise) (x y : Result) → Allows p x → Allows p y → x ≡ y
 allowed-once p x y h k =
-    same-parts
-    (h .answer ∙ sym (k .answer))
+    same-parts (h .answer ∙ sym (k .answer))
+    (same-things
     (board-injective (x .left .board) (y .left .board) (h .board ∙ sym (k .board)))
     (lent-injective (x .left .mission) (y .left .mission) (h .mission ∙ sym (k .mission)))
     (h .routes ∙ sym (k .routes))
     (h .output ∙ sym (k .output))
-    (h .numbers ∙ sym (k .numbers))
+    (h .numbers ∙ sym (k .numbers)))
 
 -- Of each call from C, two results that its promise allows are equal: the answer, every word, every record and every octet of the output.
 pub one-result-each : (c : Exported) (x y : Result) → Allows (promised c) x → Allows (promised c) y → x ≡ y

@@ -148,19 +148,19 @@ looking t answer =
     }
 
 -- one thing is left otherwise
-abbrev boardLeft : Promise → Lent Board → Promise
+abbrev pub boardLeft : Promise → Lent Board → Promise
 boardLeft p x = record { answer = p .answer; board = x; mission = p .mission; routes = p .routes; output = p .output; numbers = p .numbers }
 
-abbrev missionLeft : Promise → Lent State → Promise
+abbrev pub missionLeft : Promise → Lent State → Promise
 missionLeft p x = record { answer = p .answer; board = p .board; mission = x; routes = p .routes; output = p .output; numbers = p .numbers }
 
-abbrev routesLeft : Promise → List Record → Promise
+abbrev pub routesLeft : Promise → List Record → Promise
 routesLeft p x = record { answer = p .answer; board = p .board; mission = p .mission; routes = x; output = p .output; numbers = p .numbers }
 
-abbrev outputLeft : Promise → List ℕ → Promise
+abbrev pub outputLeft : Promise → List ℕ → Promise
 outputLeft p x = record { answer = p .answer; board = p .board; mission = p .mission; routes = p .routes; output = x; numbers = p .numbers }
 
-abbrev numbersLeft : Promise → List ℕ → Promise
+abbrev pub numbersLeft : Promise → List ℕ → Promise
 numbersLeft p x = record { answer = p .answer; board = p .board; mission = p .mission; routes = p .routes; output = p .output; numbers = x }
 
 -- the kinds of call: on the board, 21 where the words are no board's;

@@ -1,14 +1,13 @@
 -- What a customer is told and left does not depend on the other customer. The two histories share a lane (proofs/Lane.antt), and no call in it has a
 -- choice. Assumes nothing.
-use Prim.Native.Nat.{ℕ}
-use mathlib.Core.Path.{_≡_, refl, sym, ap, subst, _∙_}
+use mathlib.Core.Path.{_≡_, refl, sym, subst, _∙_}
 use mathlib.Core.Logic.{_≢_}
-use mathlib.Core.List.{List, [], _∷_, map}
+use mathlib.Core.List.{List, [], map}
 use Rattle.lent_state.proofs.Same.{board-injective, lent-injective}
 use Rattle.contracts.specs.Promised.{Result}
 use Rattle.contracts.proofs.Rows.{one-result-by-contract}
 use Rattle.history.specs.Calls.{OperatorCall, MissionCall, Call, operator, own}
-use Rattle.demands.specs.Trace.{Customer, first, second, Step, operates, flies, stepOf, Words, missionOf, wordsAfter, Begun, historyOf, ordersOf, Gives}
+use Rattle.demands.specs.Trace.{Customer, first, second, Step, flies, stepOf, Words, missionOf, wordsAfter, Begun, historyOf, ordersOf, Gives}
 use Rattle.demands.specs.Apart.{givenTo, leftTo, Apart}
 use Rattle.demands.proofs.Fresh.{fresh-board-holds, fresh-mission-holds}
 use Rattle.demands.proofs.Lane.{madeBy, Lane, Ran, ran, operator-lane, ran-once}

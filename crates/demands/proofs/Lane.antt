@@ -6,7 +6,7 @@ use mathlib.Core.List.{List, [], _∷_, map}
 use Rattle.contracts.specs.Promised.{Result, Exported}
 use Rattle.contracts.specs.Contracts.{Says}
 use Rattle.contracts.proofs.Rows.{one-result-by-contract}
-use Rattle.history.specs.Calls.{OperatorCall, Call, operator, own}
+use Rattle.history.specs.Calls.{Call, operator, own}
 use Rattle.demands.specs.Trace.{Customer, first, second, Step, operates, flies, Words, missionOf, wordsAfter, Trace, historyOf, ordersOf}
 use Rattle.demands.specs.Trace.{operatorBy, missionBy, operatorLeaves, missionLeaves}
 use Rattle.demands.specs.Apart.{givenTo}

@@ -10,12 +10,11 @@ use Rattle.answers.specs.Answers.{partAt, refusalIn, slotIn, precedenceIn}
 use Rattle.numbers.specs.InWords.{numbersWords}
 use Rattle.numbers.specs.declared.Numbers.{Numbers}
 use Rattle.queue.specs.declared.Entry.{Entry}
-use Rattle.routes.specs.declared.Record.{Record}
 use Rattle.state.specs.Relay.{Mission, counterIn}
 use Rattle.state.specs.Layout.{decode}
 use Rattle.harpjuniper.specs.Face.{Reading, readingCount, readingWords}
 use Rattle.harpjuniper_reads.specs.Back.{portAnswer, groupAnswer, pathAnswer}
-use Rattle.contracts.specs.Promised.{Things, Result, hj-read-words, hj-build-words}
+use Rattle.contracts.specs.Promised.{Result, hj-read-words, hj-build-words}
 use Rattle.contracts.specs.Contracts.{Says}
 use Rattle.history.specs.Seat.{Seat}
 use Rattle.history.specs.Parts.{Part, theRouter, thePort, theGroup, thePath}

@@ -9,7 +9,6 @@ use lib.ListN.{replicate}
 use Rattle.checks.specs.Order.{pick}
 use Rattle.numbers.specs.InWords.{numbersWords}
 use Rattle.contracts.specs.Promised.{
-  Things,
   Result,
   Exported,
   hj-read-words,
