@@ -15,7 +15,11 @@ use Rattle.address.specs.declared.Address.{Address}
 use Rattle.address.specs.declared.PathAddress.{PathAddress}
 use Rattle.header.specs.Read.{readOf}
 use Rattle.header.specs.declared.Header.{Header}
-use Rattle.header.specs.declared.Read.{Read}
+use Rattle.header.specs.Onward.{foundOf}
+use Rattle.header.specs.declared.Renewal.{Renewal}
+use Rattle.header.specs.declared.Found.{Found}
+use Rattle.header.specs.declared.Found.the-variants as found
+use Rattle.header.proofs.FoundLaws.{found-good, found-refused}
 use Rattle.header.specs.declared.Read.the-variants as read
 use Rattle.header.proofs.Refusals.{never-zero}
 use Rattle.networks.specs.Networks.{domainOf}
@@ -134,7 +138,7 @@ module _ (r : Relay) (rs : List Route) (number : ℕ) (w : Way) where
       by-number true e j = h e j
       by-number false e j = refused-is n e
 
-  module _ (at : Arrival) (h : Header) where
+  module _ (at : Arrival) (h : Header) (n : Renewal) where
     abbrev node : Address → Sought
     node a = soughtOf (aim.Node a) (domainOf (at .address)) (h .length)
 
@@ -146,7 +150,7 @@ module _ (r : Relay) (rs : List Route) (number : ℕ) (w : Way) where
     unfolding namedBelow surveyBelow
     ready-same a = refl
 
-    node-ruled : (a : Address) → Searched (nodeAsked r number at h a) → ruledAsked r (nodeAsked r number at h a) w ≡ ruleOf full at (aim.Node a) h
+    node-ruled : (a : Address) → Searched (nodeAsked r number at h n a) → ruledAsked r (nodeAsked r number at h n a) w ≡ ruleOf full at (aim.Node a) h
     unfolding ruledAsked nodeAsked ruleOf ruleTarget
     node-ruled a k =
         let t = targetAsked r a in
@@ -158,38 +162,38 @@ module _ (r : Relay) (rs : List Route) (number : ℕ) (w : Way) where
         ∙ ap (λ (x : Target). ruledBy x (placeFor r x a (at .set)) (wayFor full x a) c s) (target-same a)
         ∙ ap (λ (x : Place). ruledBy u x (wayFor full u a) c s) (sym (place-same u a (at .set)))
 
-    path-ruled : (p : PathAddress) → ruledAsked r (pathAsked r number at h p) w ≡ ruleOf full at (aim.Path p) h
+    path-ruled : (p : PathAddress) → ruledAsked r (pathAsked r number at h n p) w ≡ ruleOf full at (aim.Path p) h
     unfolding ruledAsked wishedOf pathAsked ruleOf ruledBy lineOf pathPlace surveyBelow
     path-ruled p = refl
 
-    aim-is : (x : Aim) → badAim x ≡ false → Searched (aimAsked r number at h x)
-        → finishedOf r (aimAsked r number at h x) w
+    aim-is : (x : Aim) → badAim x ≡ false → Searched (aimAsked r number at h n x)
+        → finishedOf r (aimAsked r number at h n x) w
         ≡ record { refusal = 0; ruling = ruleOf full at x h; precedence = precedenceAsked (h .fields .qos); size = h .size }
     unfolding finishedOf aimAsked nodeAsked pathAsked
     aim-is (aim.Node a) g k = ap (ended (h .size) (precedenceAsked (h .fields .qos))) (node-ruled a k)
     aim-is (aim.Path p) g k = ap (ended (h .size) (precedenceAsked (h .fields .qos))) (path-ruled p)
     aim-is aim.Uncarried g k = true-false g
 
-    header-is : Searched (carriedAsked r number at h) → finishedOf r (carriedAsked r number at h) w ≡ headerEnding full at h
+    header-is : Searched (carriedAsked r number at h n) → finishedOf r (carriedAsked r number at h n) w ≡ headerEnding full at h
     unfolding carriedAsked headerEnding
     header-is k =
         let cs = arrivalChecks (at .address) (h .fields) in
         let x = aimOf (at .address .0) (h .fields .addresses) in
-        else-is (firstOf cs) (aimAsked r number at h x) (ruledEnding full at h) k
+        else-is (firstOf cs) (aimAsked r number at h n x) (ruledEnding full at h) k
         (λ zero j.
         let none = zero-none cs ((λ z. omega arith), ((λ z. omega arith), ((λ z. omega arith), ((λ z. omega arith), tt)))) (eqb-true (firstOf cs) 0 zero) in
         aim-is x (none .1 .1 .0) j)
 
-  octets-is : (at : Arrival) (s : List ℕ) (x : Read) → readOf s ≡ x → Searched (octetsAsked r number at x)
-      → finishedOf r (octetsAsked r number at x) w ≡ octetsEnding full at x
-  octets-is at s (read.Good h) e k = header-is at h k
-  octets-is at s (read.Refused n) e k = refused-is n (refused-some s n e)
+  octets-is : (at : Arrival) (s : List ℕ) (x : Found) → foundOf s ≡ x → Searched (octetsAsked r number at x)
+      → finishedOf r (octetsAsked r number at x) w ≡ octetsEnding full at (readOf s)
+  octets-is at s (found.Good h n) e k = rw (found-good s h n e .0) (header-is at h n k)
+  octets-is at s (found.Refused n) e k = rw (found-refused s n e) (refused-is n (refused-some s n (found-refused s n e)))
 
   -- judged, searched and finished: the ending of the relay with these routes
   pub finished-is : (port : ℕ) (octets : List ℕ) (room : ℕ) → Searched (datagramAsked r number port octets room)
       → finishedOf r (datagramAsked r number port octets room) w ≡ endingOf full port octets room
   unfolding datagramAsked endingOf callChecks
   finished-is port octets room k =
-      else-is (firstOf (callChecks r port room)) (octetsAsked r number (arrivalAt r port) (readOf octets))
+      else-is (firstOf (callChecks r port room)) (octetsAsked r number (arrivalAt r port) (foundOf octets))
       (octetsEnding full (arrivalAt full port) (readOf octets)) k
-      (λ zero j. octets-is (arrivalAt r port) octets (readOf octets) refl j)
+      (λ zero j. octets-is (arrivalAt r port) octets (foundOf octets) refl j)

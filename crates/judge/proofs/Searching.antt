@@ -8,10 +8,11 @@ use mathlib.Core.List.{List}
 use lib.Dec.{eqb}
 use lib.ListN.{getD}
 use Rattle.checks.specs.Order.{pick, firstOf}
-use Rattle.header.specs.Read.{readOf}
+use Rattle.header.specs.Onward.{foundOf}
 use Rattle.header.specs.declared.Header.{Header}
-use Rattle.header.specs.declared.Read.{Read}
-use Rattle.header.specs.declared.Read.the-variants as read
+use Rattle.header.specs.declared.Renewal.{Renewal}
+use Rattle.header.specs.declared.Found.{Found}
+use Rattle.header.specs.declared.Found.the-variants as found
 use Rattle.meaning.specs.Names.{aimOf}
 use Rattle.meaning.specs.Arrival.{arrivalChecks}
 use Rattle.meaning.specs.declared.Aim.{Aim}
@@ -63,25 +64,25 @@ module _ (r : Relay) (number : ℕ) where
       by-number true e = k e
       by-number false e = refused-asks n e
 
-  aim-asks : (at : Arrival) (h : Header) (x : Aim) → searchedIn (aimAsked r number at h x) ≡ 1 → Asks (aimAsked r number at h x)
+  aim-asks : (at : Arrival) (h : Header) (c : Renewal) (x : Aim) → searchedIn (aimAsked r number at h c x) ≡ 1 → Asks (aimAsked r number at h c x)
   unfolding aimAsked nodeAsked pathAsked
-  aim-asks at h (aim.Node a) e = (refl, named-ready (r .ports) a)
-  aim-asks at h (aim.Path p) e = absurd (omega (arith, e))
-  aim-asks at h aim.Uncarried e = refused-asks 6 e
+  aim-asks at h c (aim.Node a) e = (refl, named-ready (r .ports) a)
+  aim-asks at h c (aim.Path p) e = absurd (omega (arith, e))
+  aim-asks at h c aim.Uncarried e = refused-asks 6 e
 
-  header-asks : (at : Arrival) (h : Header) → searchedIn (carriedAsked r number at h) ≡ 1 → Asks (carriedAsked r number at h)
+  header-asks : (at : Arrival) (h : Header) (c : Renewal) → searchedIn (carriedAsked r number at h c) ≡ 1 → Asks (carriedAsked r number at h c)
   unfolding carriedAsked
-  header-asks at h e =
+  header-asks at h c e =
       let x = aimOf (at .address .0) (h .fields .addresses) in
-      else-asks (firstOf (arrivalChecks (at .address) (h .fields))) (aimAsked r number at h x) (aim-asks at h x) e
+      else-asks (firstOf (arrivalChecks (at .address) (h .fields))) (aimAsked r number at h c x) (aim-asks at h c x) e
 
-  octets-asks : (at : Arrival) (x : Read) → searchedIn (octetsAsked r number at x) ≡ 1 → Asks (octetsAsked r number at x)
-  octets-asks at (read.Good h) e = header-asks at h e
-  octets-asks at (read.Refused n) e = refused-asks n e
+  octets-asks : (at : Arrival) (x : Found) → searchedIn (octetsAsked r number at x) ≡ 1 → Asks (octetsAsked r number at x)
+  octets-asks at (found.Good h c) e = header-asks at h c e
+  octets-asks at (found.Refused n) e = refused-asks n e
 
   pub search-asks : (port : ℕ) (octets : List ℕ) (room : ℕ)
       → searchedIn (datagramAsked r number port octets room) ≡ 1 → Asks (datagramAsked r number port octets room)
   unfolding datagramAsked
   search-asks port octets room e =
-      else-asks (firstOf (callChecks r port room)) (octetsAsked r number (arrivalAt r port) (readOf octets))
-      (octets-asks (arrivalAt r port) (readOf octets)) e
+      else-asks (firstOf (callChecks r port room)) (octetsAsked r number (arrivalAt r port) (foundOf octets))
+      (octets-asks (arrivalAt r port) (foundOf octets)) e

@@ -19,9 +19,11 @@ use Rattle.address.specs.declared.PathAddress.{PathAddress}
 use Rattle.address.specs.declared.Class.{Class}
 use Rattle.address.specs.declared.PathForm.{PathForm}
 use Rattle.header.specs.Limits.{noRoom}
-use Rattle.header.specs.Read.{readOf}
+use Rattle.header.specs.Onward.{foundOf}
+use Rattle.header.specs.declared.Renewal.{Renewal}
+use Rattle.header.specs.declared.Found.the-variants as found
+use Rattle.header.proofs.FoundLaws.{found-good}
 use Rattle.header.specs.declared.Header.{Header}
-use Rattle.header.specs.declared.Read.the-variants.{Good}
 use Rattle.header.proofs.Answers.{read-bounds}
 use Rattle.networks.specs.Networks.{domainOf}
 use Rattle.meaning.specs.Names.{aimOf, originOf, notCarried, noDomain, badClass, badPath, badAim, badSource}
@@ -73,7 +75,7 @@ module _ (a : Address) {class : Class} {n : ℕ} (is : class ≡ classOf (a .0))
   node-refused rest h told = bad (badClass (a .0)) rest (eq-eqb _ 0 (sym class-told ∙ h)) told
 
   pub node-asked :
-      (b : Board) (s : State) (at : Arrival) (h : Header) {m router domain : ℕ} {v : Survey} {t : Target} {p : Place} {c : Case} {q : Sought} {precedence : ℕ}
+      (b : Board) (s : State) (at : Arrival) (h : Header) (k : Renewal) {m router domain : ℕ} {v : Survey} {t : Target} {p : Place} {c : Case} {q : Sought} {precedence : ℕ}
       → (n ≡ 0 → ⊥)
       → m ≡ s .number
       → v ≡ namedOf (portsSeen m b) a
@@ -85,10 +87,10 @@ module _ (a : Address) {class : Class} {n : ℕ} (is : class ≡ classOf (a .0))
       → q ≡ soughtOf (aim.Node a) domain (h .length)
       → precedence ≡ precedenceAsked (h .fields .qos)
       → _≡_ {A = Asked}
-      (record { refusal = 0; target = t; place = p; case = c; ready = v .ready; sought = q; number = m; precedence = precedence; size = h .size })
-      (elseAsked (pick (badClass (a .0)) 6 0) (nodeAsked (seated b s) (s .number) at h a))
+      (record { refusal = 0; target = t; place = p; case = c; ready = v .ready; sought = q; number = m; precedence = precedence; size = h .size; renewal = k })
+      (elseAsked (pick (badClass (a .0)) 6 0) (nodeAsked (seated b s) (s .number) at h k a))
   unfolding nodeAsked
-  node-asked b s at h some e1 e2 e3 e4 e5 e6 e7 e8 e9 = good (badClass (a .0)) _ (ne-eqb _ 0 (λ z. some (class-told ∙ z))) cc
+  node-asked b s at h k some e1 e2 e3 e4 e5 e6 e7 e8 e9 = good (badClass (a .0)) _ (ne-eqb _ 0 (λ z. some (class-told ∙ z))) cc
 
 -- ---- a path
 module _ (p : PathAddress) {form : PathForm} {n : ℕ} (is : form ≡ pathForm (p .0)) (number : n ≡ pathNumber form) where
@@ -99,7 +101,7 @@ module _ (p : PathAddress) {form : PathForm} {n : ℕ} (is : form ≡ pathForm (
   path-refused rest h told = bad (badPath (p .0)) rest (eq-eqb _ 0 (sym form-told ∙ h)) told
 
   pub path-asked :
-      (b : Board) (s : State) (at : Arrival) (h : Header) {m router domain : ℕ} {x : Place} {c : Case} {q : Sought} {precedence : ℕ}
+      (b : Board) (s : State) (at : Arrival) (h : Header) (k : Renewal) {m router domain : ℕ} {x : Place} {c : Case} {q : Sought} {precedence : ℕ}
       → (n ≡ 0 → ⊥)
       → x ≡ pathPlace (seated b s) p
       → router ≡ b .router
@@ -109,10 +111,10 @@ module _ (p : PathAddress) {form : PathForm} {n : ℕ} (is : form ≡ pathForm (
       → m ≡ s .number
       → precedence ≡ precedenceAsked (h .fields .qos)
       → _≡_ {A = Asked}
-      (record { refusal = 0; target = target.Path; place = x; case = c; ready = 0; sought = q; number = m; precedence = precedence; size = h .size })
-      (elseAsked (pick (badPath (p .0)) 6 0) (pathAsked (seated b s) (s .number) at h p))
+      (record { refusal = 0; target = target.Path; place = x; case = c; ready = 0; sought = q; number = m; precedence = precedence; size = h .size; renewal = k })
+      (elseAsked (pick (badPath (p .0)) 6 0) (pathAsked (seated b s) (s .number) at h k p))
   unfolding pathAsked
-  path-asked b s at h some e1 e2 e3 e4 e5 e6 e7 = good (badPath (p .0)) _ (ne-eqb _ 0 (λ z. some (form-told ∙ z))) cc
+  path-asked b s at h k some e1 e2 e3 e4 e5 e6 e7 = good (badPath (p .0)) _ (ne-eqb _ 0 (λ z. some (form-told ∙ z))) cc
 
 -- ---- a good header: 6 is given for either address
 either-6 : (t u : Bool) → u ≡ true → 6 ≡ firstOf ((t, 6) ∷ (u, 6) ∷ [])
@@ -129,43 +131,43 @@ source-told : (at : Arrival) (h : Header) {o : Origin} {c : Check} → o ≡ ori
     → c ≡ checkOf (badSource (originOf (at .address .0) (h .fields .addresses)))
 source-told at h from told = told ∙ ap (λ (x : Origin). checkOf (badSource x)) from
 
-module _ (r : Relay) (number : ℕ) (at : Arrival) (h : Header) {e : Asked} where
-  pub header-refused : {n : ℕ} → n ≡ firstOf (arrivalChecks (at .address) (h .fields)) → (n ≡ 0 → ⊥) → e ≡ refusedAsked n → e ≡ carriedAsked r number at h
+module _ (r : Relay) (number : ℕ) (at : Arrival) (h : Header) (k : Renewal) {e : Asked} where
+  pub header-refused : {n : ℕ} → n ≡ firstOf (arrivalChecks (at .address) (h .fields)) → (n ≡ 0 → ⊥) → e ≡ refusedAsked n → e ≡ carriedAsked r number at h k
   unfolding carriedAsked
   header-refused is some told = by-number _ _ is some told
 
   module _ {carried domain : Check} (told : carried ≡ checkOf (notCarried (h .fields))) (carries : carried ≡ Passed)
       (told′ : domain ≡ checkOf (noDomain (at .address) (h .fields .addresses))) (has : domain ≡ Passed)
       {o : Origin} {origin : Check} (from : o ≡ originOf (at .address .0) (h .fields .addresses)) (told″ : origin ≡ checkOf (badSource o)) where
-    pub source-refused : origin ≡ Failed → e ≡ refusedAsked 6 → e ≡ carriedAsked r number at h
+    pub source-refused : origin ≡ Failed → e ≡ refusedAsked 6 → e ≡ carriedAsked r number at h k
     source-refused fails is =
         header-refused (passes _ _ _ told carries (passes _ _ _ told′ has (either-6 _ _ (failed-true _ (sym (source-told at h from told″) ∙ fails))))) (λ z. omega arith) is
 
     pub header-aimed : origin ≡ Passed → {y : Aim} (x : Aim) → y ≡ aimOf (at .address .0) (h .fields .addresses) → y ≡ x
-        → e ≡ elseAsked (pick (badAim x) 6 0) (aimAsked r number at h x) → e ≡ carriedAsked r number at h
+        → e ≡ elseAsked (pick (badAim x) 6 0) (aimAsked r number at h k x) → e ≡ carriedAsked r number at h k
     unfolding carriedAsked
     header-aimed passed x named same is =
         let aimed : x ≡ aimOf (at .address .0) (h .fields .addresses) = sym same ∙ named in
         is
-        ∙ ap (λ (z : Aim). elseAsked (pick (badAim z) 6 0) (aimAsked r number at h z)) aimed
-        ∙ ap (λ (n : ℕ). elseAsked n (aimAsked r number at h (aimOf (at .address .0) (h .fields .addresses))))
+        ∙ ap (λ (z : Aim). elseAsked (pick (badAim z) 6 0) (aimAsked r number at h k z)) aimed
+        ∙ ap (λ (n : ℕ). elseAsked n (aimAsked r number at h k (aimOf (at .address .0) (h .fields .addresses))))
         (passes _ _ _ told carries (passes _ _ _ told′ has (first-6 _ _ (passed-false _ (sym (source-told at h from told″) ∙ passed)))))
 
 -- the three aims
-module _ (r : Relay) (number : ℕ) (at : Arrival) (h : Header) {e : Asked} where
-  pub at-node : (a : Address) → e ≡ elseAsked (pick (badClass (a .0)) 6 0) (nodeAsked r number at h a)
-      → e ≡ elseAsked (pick (badAim (aim.Node a)) 6 0) (aimAsked r number at h (aim.Node a))
+module _ (r : Relay) (number : ℕ) (at : Arrival) (h : Header) (k : Renewal) {e : Asked} where
+  pub at-node : (a : Address) → e ≡ elseAsked (pick (badClass (a .0)) 6 0) (nodeAsked r number at h k a)
+      → e ≡ elseAsked (pick (badAim (aim.Node a)) 6 0) (aimAsked r number at h k (aim.Node a))
   unfolding aimAsked
   at-node a is = is
 
-  pub at-path : (p : PathAddress) → e ≡ elseAsked (pick (badPath (p .0)) 6 0) (pathAsked r number at h p)
-      → e ≡ elseAsked (pick (badAim (aim.Path p)) 6 0) (aimAsked r number at h (aim.Path p))
+  pub at-path : (p : PathAddress) → e ≡ elseAsked (pick (badPath (p .0)) 6 0) (pathAsked r number at h k p)
+      → e ≡ elseAsked (pick (badAim (aim.Path p)) 6 0) (aimAsked r number at h k (aim.Path p))
   unfolding aimAsked
   at-path p is = is
 
 -- the length field has 13 bits
-pub short-length : (s : List ℕ) (h : Header) → ((i : ℕ) → getD s i 0 < 256) → readOf s ≡ Good h → h .length < 8192
-short-length s h small e = read-bounds s h small e .1 .1 .1 .1
+pub short-length : (s : List ℕ) (h : Header) (k : Renewal) → ((i : ℕ) → getD s i 0 < 256) → foundOf s ≡ found.Good h k → h .length < 8192
+short-length s h k small e = read-bounds s h small (found-good s h k e .0) .1 .1 .1 .1
 
 -- ---- the whole
 -- the port, by the mission's number
@@ -191,9 +193,9 @@ module _ (r : Relay) (number port : ℕ) (octets : List ℕ) (room : ℕ) {e : A
         → k ≡ Passed
         → p ≡ getD (r .ports) port freshPort
         → set ≡ onlyPort port
-        → e ≡ octetsAsked r number (record { set = set; address = p .address }) (readOf octets)
+        → e ≡ octetsAsked r number (record { set = set; address = p .address }) (foundOf octets)
         → e ≡ datagramAsked r number port octets room
     unfolding datagramAsked callChecks
     judged enough same only is =
         by-rest _ _ (passes _ _ _ told ready (passes _ _ _ roomy enough none-left)) refl
-        (is ∙ ap (λ (at : Arrival). octetsAsked r number at (readOf octets)) cc)
+        (is ∙ ap (λ (at : Arrival). octetsAsked r number at (foundOf octets)) cc)

@@ -7,10 +7,11 @@ use Rattle.checks.specs.Order.{pick, firstOf}
 use Rattle.address.specs.Class.{classOf}
 use Rattle.address.specs.declared.Address.{Address}
 use Rattle.address.specs.declared.PathAddress.{PathAddress}
-use Rattle.header.specs.Read.{readOf}
+use Rattle.header.specs.Onward.{foundOf}
 use Rattle.header.specs.declared.Header.{Header}
-use Rattle.header.specs.declared.Read.{Read}
-use Rattle.header.specs.declared.Read.the-variants as read
+use Rattle.header.specs.declared.Renewal.{Renewal}
+use Rattle.header.specs.declared.Found.{Found}
+use Rattle.header.specs.declared.Found.the-variants as found
 use Rattle.networks.specs.Networks.{domainOf}
 use Rattle.meaning.specs.Names.{aimOf}
 use Rattle.meaning.specs.Arrival.{arrivalChecks}
@@ -58,15 +59,16 @@ refusedAsked n =
       number = 0;
       precedence = 0;
       size = 0;
+      renewal = record { hops = 0; counted = 0; checksum = 0; summed = 0 };
     }
 
 -- by a number that refuses, or where it is 0 by what follows
 abbrev pub elseAsked : ℕ → Asked → Asked
 elseAsked n a = pick (eqb n 0) a (refusedAsked n)
 
--- a good header, its target, what the place of a group or a path says, and the ports set up where the target's line asks for them
-abbrev pub headerAsked : Relay → ℕ → Arrival → Header → Aim → Target → Place → ℕ → Asked
-headerAsked r number at h x t p ready =
+-- a good header, where it differs when it is sent on, its target, what the place of a group or a path says, and the ports set up where the target's line asks for them
+abbrev pub headerAsked : Relay → ℕ → Arrival → Header → Renewal → Aim → Target → Place → ℕ → Asked
+headerAsked r number at h n x t p ready =
     record {
       refusal = 0;
       target = t;
@@ -77,36 +79,37 @@ headerAsked r number at h x t p ready =
       number = number;
       precedence = precedenceAsked (h .fields .qos);
       size = h .size;
+      renewal = n;
     }
 
 abbrev pub targetAsked : Relay → Address → Target
 targetAsked r a = targetOf (classOf (a .0)) (namedOf (r .ports) a)
 
-unfoldable pub nodeAsked : Relay → ℕ → Arrival → Header → Address → Asked
-nodeAsked r number at h a =
-    headerAsked r number at h (aim.Node a) (targetAsked r a) (placeFor r (targetAsked r a) a (at .set)) (namedOf (r .ports) a .ready)
+unfoldable pub nodeAsked : Relay → ℕ → Arrival → Header → Renewal → Address → Asked
+nodeAsked r number at h n a =
+    headerAsked r number at h n (aim.Node a) (targetAsked r a) (placeFor r (targetAsked r a) a (at .set)) (namedOf (r .ports) a .ready)
 
 -- a path's line asks for no other port
-unfoldable pub pathAsked : Relay → ℕ → Arrival → Header → PathAddress → Asked
-pathAsked r number at h p = headerAsked r number at h (aim.Path p) Path (pathPlace r p) 0
+unfoldable pub pathAsked : Relay → ℕ → Arrival → Header → Renewal → PathAddress → Asked
+pathAsked r number at h n p = headerAsked r number at h n (aim.Path p) Path (pathPlace r p) 0
 
 -- what is not carried is refused before
-unfoldable pub aimAsked : Relay → ℕ → Arrival → Header → Aim → Asked
-aimAsked r number at h (aim.Node a) = nodeAsked r number at h a
-aimAsked r number at h (aim.Path p) = pathAsked r number at h p
-aimAsked r number at h aim.Uncarried = refusedAsked 6
+unfoldable pub aimAsked : Relay → ℕ → Arrival → Header → Renewal → Aim → Asked
+aimAsked r number at h n (aim.Node a) = nodeAsked r number at h n a
+aimAsked r number at h n (aim.Path p) = pathAsked r number at h n p
+aimAsked r number at h n aim.Uncarried = refusedAsked 6
 
-unfoldable pub carriedAsked : Relay → ℕ → Arrival → Header → Asked
-carriedAsked r number at h =
-    elseAsked (firstOf (arrivalChecks (at .address) (h .fields))) (aimAsked r number at h (aimOf (at .address .0) (h .fields .addresses)))
+unfoldable pub carriedAsked : Relay → ℕ → Arrival → Header → Renewal → Asked
+carriedAsked r number at h n =
+    elseAsked (firstOf (arrivalChecks (at .address) (h .fields))) (aimAsked r number at h n (aimOf (at .address .0) (h .fields .addresses)))
 
-abbrev pub octetsAsked : Relay → ℕ → Arrival → Read → Asked
-octetsAsked r number at (read.Good h) = carriedAsked r number at h
-octetsAsked r number at (read.Refused n) = refusedAsked n
+abbrev pub octetsAsked : Relay → ℕ → Arrival → Found → Asked
+octetsAsked r number at (found.Good h n) = carriedAsked r number at h n
+octetsAsked r number at (found.Refused n) = refusedAsked n
 
 unfoldable pub datagramAsked : Relay → ℕ → ℕ → List ℕ → ℕ → Asked
 datagramAsked r number port octets room =
-    elseAsked (firstOf (callChecks r port room)) (octetsAsked r number (arrivalAt r port) (readOf octets))
+    elseAsked (firstOf (callChecks r port room)) (octetsAsked r number (arrivalAt r port) (foundOf octets))
 
 -- ---- after it
 -- the ruling by the local half and what the line wants, by what all ports say

@@ -15,8 +15,9 @@ use crate::ruling::Arrival;
 use address::Address;
 use address::PathAddress;
 use checks::Check;
+use header::Found;
 use header::Header;
-use header::Read;
+use header::Renewal;
 use meaning::Aim;
 use survey::Destination;
 use survey::Sought;
@@ -31,7 +32,7 @@ ghost use Prim.Native.Nat.{_<_};
 ghost use lib.ListN.{length};
 ghost use Rattle.checks.specs.Order.{pick};
 ghost use Rattle.header.specs.Limits.{lengthLimit};
-ghost use Rattle.header.specs.Read.{readOf};
+ghost use Rattle.header.specs.Onward.{foundOf};
 ghost use Rattle.meaning.specs.Names.{badClass, badPath};
 ghost use Rattle.state.specs.Seen.{seated};
 ghost use Rattle.state.specs.Layout.{boardWords, decodeBoard, missionWords, decode};
@@ -56,8 +57,8 @@ pub struct Ending {
 }
 
 // What is known before the search: the refusal that ends the call, or 0 and the target; what the place of a group or a path says; what the rule
-// asks of node, arrival port and header; the ports set up; what is asked of wanted ports; the mission's number; the precedence and the
-// header's own length.
+// asks of node, arrival port and header; the ports set up; what is asked of wanted ports; the mission's number; the precedence, the header's own
+// length, and where it differs when it is sent on.
 pub struct Asked {
     pub refusal: u32,
     pub target: Target,
@@ -68,6 +69,7 @@ pub struct Asked {
     pub number: u32,
     pub precedence: u16,
     pub size: usize,
+    pub renewal: Renewal,
 }
 
 // A refusal.
@@ -87,6 +89,12 @@ pub fn refused(refusal: u32) -> Asked
         domain: 0,
         length: 0,
     };
+    let renewal = Renewal {
+        hops: 0,
+        counted: 0,
+        checksum: 0,
+        summed: 0,
+    };
     Asked {
         refusal,
         target: Target::Here,
@@ -97,6 +105,7 @@ pub fn refused(refusal: u32) -> Asked
         number: 0,
         precedence: 0,
         size: 0,
+        renewal,
     }
 }
 
@@ -120,12 +129,12 @@ pub fn ended_by(refusal: u32) -> Ending
 }
 
 // An end system's address or a group's: its class (6), and by this and the ports its target.
-fn ask_node(board: &[u32], mission: &[u32], at: Arrival, h: Header, a: Address) -> Asked
+fn ask_node(board: &[u32], mission: &[u32], at: Arrival, h: Header, n: Renewal, a: Address) -> Asked
     requires { ⌜ (length (now board) ≡ boardWords) × ((length (now mission) ≡ missionWords) × (h .length < lengthLimit)) ⌝ }
     ensures { λ r. ⌜
         r
         ≡ elseAsked (pick (badClass (a .0)) 6 0)
-        (nodeAsked (seated (decodeBoard (now (board .entry))) (decode (now (mission .entry)))) (decode (now (mission .entry)) .number) at h a)
+        (nodeAsked (seated (decodeBoard (now (board .entry))) (decode (now (mission .entry)))) (decode (now (mission .entry)) .number) at h n a)
         ⌝ }
 {
     let class = address::class_of(a);
@@ -149,16 +158,24 @@ fn ask_node(board: &[u32], mission: &[u32], at: Arrival, h: Header, a: Address) 
         number,
         precedence: meaning::asked::precedence_of(qos),
         size: h.size,
+        renewal: n,
     }
 }
 
 // A path: its form (6), and what its place says.
-fn ask_path(board: &[u32], mission: &[u32], at: Arrival, h: Header, p: PathAddress) -> Asked
+fn ask_path(
+    board: &[u32],
+    mission: &[u32],
+    at: Arrival,
+    h: Header,
+    n: Renewal,
+    p: PathAddress,
+) -> Asked
     requires { ⌜ (length (now board) ≡ boardWords) × ((length (now mission) ≡ missionWords) × (h .length < lengthLimit)) ⌝ }
     ensures { λ r. ⌜
         r
         ≡ elseAsked (pick (badPath (p .0)) 6 0)
-        (pathAsked (seated (decodeBoard (now (board .entry))) (decode (now (mission .entry)))) (decode (now (mission .entry)) .number) at h p)
+        (pathAsked (seated (decodeBoard (now (board .entry))) (decode (now (mission .entry)))) (decode (now (mission .entry)) .number) at h n p)
         ⌝ }
 {
     if address::path_number(address::path_form(p)) == 0 {
@@ -177,16 +194,17 @@ fn ask_path(board: &[u32], mission: &[u32], at: Arrival, h: Header, p: PathAddre
         number: state_mission::number_of(mission),
         precedence: meaning::asked::precedence_of(qos),
         size: h.size,
+        renewal: n,
     }
 }
 
 // What the relay carries (8), a domain for addresses of one octet (7), the source and the destination that the header names by its arrival
 // port (6, by two checks), and what is asked for these.
-fn ask_header(board: &[u32], mission: &[u32], at: Arrival, h: Header) -> Asked
+fn ask_header(board: &[u32], mission: &[u32], at: Arrival, h: Header, n: Renewal) -> Asked
     requires { ⌜ (length (now board) ≡ boardWords) × ((length (now mission) ≡ missionWords) × (h .length < lengthLimit)) ⌝ }
     ensures { λ r. ⌜
         r
-        ≡ carriedAsked (seated (decodeBoard (now (board .entry))) (decode (now (mission .entry)))) (decode (now (mission .entry)) .number) at h
+        ≡ carriedAsked (seated (decodeBoard (now (board .entry))) (decode (now (mission .entry)))) (decode (now (mission .entry)) .number) at h n
         ⌝ }
 {
     let f = h.fields;
@@ -202,8 +220,8 @@ fn ask_header(board: &[u32], mission: &[u32], at: Arrival, h: Header) -> Asked
         return refused(6);
     };
     match meaning::aim_of(port, addresses) {
-        Aim::Node(a) => ask_node(board, mission, at, h, a),
-        Aim::Path(p) => ask_path(board, mission, at, h, p),
+        Aim::Node(a) => ask_node(board, mission, at, h, n, a),
+        Aim::Path(p) => ask_path(board, mission, at, h, n, p),
         Aim::Uncarried => refused(6),
     }
 }
@@ -214,12 +232,12 @@ fn ask_octets(board: &[u32], mission: &[u32], at: Arrival, octets: &[u8]) -> Ask
     ensures { λ r. ⌜
         r
         ≡ octetsAsked (seated (decodeBoard (now (board .entry))) (decode (now (mission .entry)))) (decode (now (mission .entry)) .number) at
-        (readOf (now (octets .entry)))
+        (foundOf (now (octets .entry)))
         ⌝ }
 {
-    match reader::read_header(octets) {
-        Read::Good(h) => ask_header(board, mission, at, h),
-        Read::Refused(number) => refused(number as u32),
+    match reader::find_header(octets) {
+        Found::Good(h, n) => ask_header(board, mission, at, h, n),
+        Found::Refused(number) => refused(number as u32),
     }
 }
 

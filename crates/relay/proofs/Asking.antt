@@ -9,6 +9,7 @@ use lib.Dec.{eqb, ltb}
 use borrow.Author.Tests.{eq-eqb, ne-eqb, lt-ltb, le-ltb, ltb-true, ltb-false, eqb-true, eqb-false}
 use Rattle.checks.specs.Order.{pick}
 use Rattle.header.specs.Form.{placesOf}
+use Rattle.header.specs.Onward.{renewalOf}
 use Rattle.state.specs.Relay.{Relay}
 use Rattle.state.specs.Seen.{Board, State, seated}
 use Rattle.state.specs.Layout.{boardWords, missionWords, decodeBoard, decode}
@@ -88,6 +89,9 @@ judged-good b w octets room a f zero = was-judged b w octets room a f (λ e. ome
 
 -- some port took an entry: there is room, and the header lies in the octets
 pub took-told : (r : Relay) (w : Way) (number port : ℕ) (octets : List ℕ) (room : ℕ) {a : Asked} {e : Ending}
-    → a ≡ datagramAsked r number port octets room → e ≡ finishedOf r a w → Takes e → (50 ≤ room) × (placesOf octets .size ≤ length octets)
+    → a ≡ datagramAsked r number port octets room → e ≡ finishedOf r a w → Takes e
+    → (50 ≤ room) × ((placesOf octets .size ≤ length octets) × (a .renewal ≡ renewalOf octets))
 took-told r w number port octets room ea ee h =
-    took-good r w number port octets room (λ z. h (ap (λ (x : Ending). x .ruling .took) (ee ∙ ap (λ (x : Asked). finishedOf r x w) ea) ∙ z))
+    let t =
+    took-good r w number port octets room (λ z. h (ap (λ (x : Ending). x .ruling .took) (ee ∙ ap (λ (x : Asked). finishedOf r x w) ea) ∙ z)) in
+    (t .0, (t .1 .0, ap (λ (x : Asked). x .renewal) ea ∙ t .1 .1))

@@ -10,6 +10,7 @@
 pub mod outgoing;
 
 use address::Slot;
+use header::Renewal;
 use judge::Asked;
 use judge::Ending;
 use listing::Query;
@@ -26,6 +27,7 @@ ghost use lib.ListN.{length};
 ghost use Rattle.checks.specs.Order.{pick};
 ghost use Rattle.address.specs.declared.Slot.{Slot};
 ghost use Rattle.header.specs.Form.{placesOf};
+ghost use Rattle.header.specs.Onward.{renewalOf};
 ghost use Rattle.header.specs.Limits.{longestHeader};
 ghost use Rattle.state.specs.Seen.{Board};
 ghost use Rattle.state.specs.Layout.{boardWords, missionWords, decode};
@@ -158,9 +160,17 @@ fn refuse(mission: &mut [u32], refusal: u32) -> u64
 }
 
 // An ending carried out: counted, entered and sent on.
-fn carry_out(mission: &mut [u32], slot: Slot, octets: &[u8], output: &mut [u8], e: Ending) -> u64
+fn carry_out(
+    mission: &mut [u32],
+    slot: Slot,
+    octets: &[u8],
+    output: &mut [u8],
+    e: Ending,
+    renewal: Renewal,
+) -> u64
     requires { ⌜ (length (now mission) ≡ missionWords)
-        × ((e .ruling .took ≡ 0 → ⊥) → (longestHeader ≤ length (now output)) × (placesOf (now octets) .size ≤ length (now octets))) ⌝ }
+        × ((e .ruling .took ≡ 0 → ⊥) → (longestHeader ≤ length (now output))
+        × ((placesOf (now octets) .size ≤ length (now octets)) × (renewal ≡ renewalOf (now octets)))) ⌝ }
     ensures { λ r. ⌜ r ≡ receiveNumber e ⌝ }
     ensures { λ _. ⌜ ((b : Board) → decode (now (mission .exit)) ≡ receivedState b (decode (now (mission .entry))) slot e) ⌝ }
     ensures { λ _. ⌜ now (output .exit) ≡ sentOutput (e .ruling .took) (now (octets .entry)) (now (output .entry)) ⌝ }
@@ -175,7 +185,7 @@ fn carry_out(mission: &mut [u32], slot: Slot, octets: &[u8], output: &mut [u8], 
             precedence: e.precedence,
         },
     );
-    crate::outgoing::send(took, octets, output);
+    crate::outgoing::send(took, octets, output, renewal);
     answers::receive_number(e)
 }
 
@@ -200,7 +210,8 @@ pub fn after(
     if refusal != 0 {
         return refuse(mission, refusal);
     }
+    let renewal = a.renewal;
     let way = way_in(s);
     let e = judge::finishing::finish(board, mission, a, way);
-    carry_out(mission, Slot(slot), octets, output, e)
+    carry_out(mission, Slot(slot), octets, output, e, renewal)
 }

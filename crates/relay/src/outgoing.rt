@@ -3,12 +3,14 @@
 // Both are done by the ruling's set of ports that took. Fullness is as it was before the call, and the ruling has counted on it: each
 // queue that is put to here has room. The awkward case is a set that is empty, where nothing is put and no octet of the output is
 // touched; it is also every refusal's.
+use header::Renewal;
 use queue::Entry;
 use sets::indexes::PORTS;
 ghost use mathlib.Core.Path.{_≡_};
 ghost use Prim.Native.Nat.{_≤_, _<_};
 ghost use lib.ListN.{length};
 ghost use Rattle.header.specs.Form.{placesOf};
+ghost use Rattle.header.specs.Onward.{renewalOf};
 ghost use Rattle.header.specs.Limits.{longestHeader};
 ghost use Rattle.sets.specs.Limits.{portCount};
 ghost use Rattle.state.specs.Seen.{Board, onSeated};
@@ -50,12 +52,12 @@ pub fn enter_all(mission: &mut [u32], took: u32, e: Entry)
 }
 
 // The header sent on at the front of the output, where a port took an entry.
-pub fn send(took: u32, octets: &[u8], output: &mut [u8])
-    requires { ⌜ ((took ≡ 0 → ⊥) → (longestHeader ≤ length (now output)) × (placesOf (now octets) .size ≤ length (now octets))) ⌝ }
+pub fn send(took: u32, octets: &[u8], output: &mut [u8], renewal: Renewal)
+    requires { ⌜ ((took ≡ 0 → ⊥) → (longestHeader ≤ length (now output)) × ((placesOf (now octets) .size ≤ length (now octets)) × (renewal ≡ renewalOf (now octets)))) ⌝ }
     ensures { λ _. ⌜ now (output .exit) ≡ sentOutput took (now (octets .entry)) (now (output .entry)) ⌝ }
 {
     if took == 0 {
         return;
     }
-    sent_on::send_on(octets, output);
+    sent_on::send_on(octets, output, renewal);
 }

@@ -21,7 +21,7 @@ refused-requires : tie.Need-refused-requires
 refused-requires c κs = search needs
 
 returns : tie.Need-returns
-returns c = header-refused _ _ _ _ (fails-here _ _ _ (c .before .before .before .check-carried .ensures) (c .before .enum-told2 .given .1)) (λ z. omega arith) (c .refused .ensures)
+returns c = header-refused _ _ _ _ _ (fails-here _ _ _ (c .before .before .before .check-carried .ensures) (c .before .enum-told2 .given .1)) (λ z. omega arith) (c .refused .ensures)
 
 check-domain-requires : tie.Need-check-domain-requires
 check-domain-requires c κs = search needs
@@ -36,7 +36,7 @@ refused-requires-2 : tie.Need-refused-requires-2
 refused-requires-2 c κs = search needs
 
 returns-2 : tie.Need-returns-2
-returns-2 c = header-refused _ _ _ _ (passes _ _ _ (c .before .before .before .before .before .before .check-carried .ensures) (c .before .before .before .before .enum-told .given .1) (fails-here _ _ _ (c .before .before .before .check-domain .ensures) (c .before .enum-told4 .given .1))) (λ z. omega arith) (c .refused2 .ensures)
+returns-2 c = header-refused _ _ _ _ _ (passes _ _ _ (c .before .before .before .before .before .before .check-carried .ensures) (c .before .before .before .before .enum-told .given .1) (fails-here _ _ _ (c .before .before .before .check-domain .ensures) (c .before .enum-told4 .given .1))) (λ z. omega arith) (c .refused2 .ensures)
 
 origin-of-requires : tie.Need-origin-of-requires
 origin-of-requires c κs = search needs
@@ -54,7 +54,7 @@ refused-requires-3 : tie.Need-refused-requires-3
 refused-requires-3 c κs = search needs
 
 returns-3 : tie.Need-returns-3
-returns-3 c = source-refused _ _ _ _ (c .before .before .before .before .before .before .before .before .before .before .check-carried .ensures) (c .before .before .before .before .before .before .before .before .enum-told .given .1) (c .before .before .before .before .before .before .before .check-domain .ensures) (c .before .before .before .before .before .enum-told3 .given .1) (c .before .before .before .before .origin-of .ensures) (c .before .before .before .check-origin .ensures) (c .before .enum-told6 .given .1) (c .refused3 .ensures)
+returns-3 c = source-refused _ _ _ _ _ (c .before .before .before .before .before .before .before .before .before .before .check-carried .ensures) (c .before .before .before .before .before .before .before .before .enum-told .given .1) (c .before .before .before .before .before .before .before .check-domain .ensures) (c .before .before .before .before .before .enum-told3 .given .1) (c .before .before .before .before .origin-of .ensures) (c .before .before .before .check-origin .ensures) (c .before .enum-told6 .given .1) (c .refused3 .ensures)
 
 aim-of-requires : tie.Need-aim-of-requires
 aim-of-requires c κs = search needs
@@ -78,13 +78,13 @@ refused-requires-4 : tie.Need-refused-requires-4
 refused-requires-4 c κs = search needs
 
 returns-4 : tie.Need-returns-4
-returns-4 c = header-aimed _ _ _ _ (c .before .before .before .before .before .before .before .before .before .before .before .before .before .before .check-carried .ensures) (c .before .before .before .before .before .before .before .before .before .before .before .before .enum-told .given .1) (c .before .before .before .before .before .before .before .before .before .before .before .check-domain .ensures) (c .before .before .before .before .before .before .before .before .before .enum-told3 .given .1) (c .before .before .before .before .before .before .before .before .origin-of .ensures) (c .before .before .before .before .before .before .before .check-origin .ensures) (c .before .before .before .before .before .enum-told5 .given .1) _ (c .before .before .before .before .aim-of .ensures) (c .before .before .a .given .1) (at-node _ _ _ _ _ (c .ask-node .ensures))
+returns-4 c = header-aimed _ _ _ _ _ (c .before .before .before .before .before .before .before .before .before .before .before .before .before .before .check-carried .ensures) (c .before .before .before .before .before .before .before .before .before .before .before .before .enum-told .given .1) (c .before .before .before .before .before .before .before .before .before .before .before .check-domain .ensures) (c .before .before .before .before .before .before .before .before .before .enum-told3 .given .1) (c .before .before .before .before .before .before .before .before .origin-of .ensures) (c .before .before .before .before .before .before .before .check-origin .ensures) (c .before .before .before .before .before .enum-told5 .given .1) _ (c .before .before .before .before .aim-of .ensures) (c .before .before .a .given .1) (at-node _ _ _ _ _ _ (c .ask-node .ensures))
 
 returns-5 : tie.Need-returns-5
-returns-5 c = header-aimed _ _ _ _ (c .before .before .before .before .before .before .before .before .before .before .before .before .before .before .check-carried .ensures) (c .before .before .before .before .before .before .before .before .before .before .before .before .enum-told .given .1) (c .before .before .before .before .before .before .before .before .before .before .before .check-domain .ensures) (c .before .before .before .before .before .before .before .before .before .enum-told3 .given .1) (c .before .before .before .before .before .before .before .before .origin-of .ensures) (c .before .before .before .before .before .before .before .check-origin .ensures) (c .before .before .before .before .before .enum-told5 .given .1) _ (c .before .before .before .before .aim-of .ensures) (c .before .before .p .given .1) (at-path _ _ _ _ _ (c .ask-path .ensures))
+returns-5 c = header-aimed _ _ _ _ _ (c .before .before .before .before .before .before .before .before .before .before .before .before .before .before .check-carried .ensures) (c .before .before .before .before .before .before .before .before .before .before .before .before .enum-told .given .1) (c .before .before .before .before .before .before .before .before .before .before .before .check-domain .ensures) (c .before .before .before .before .before .before .before .before .before .enum-told3 .given .1) (c .before .before .before .before .before .before .before .before .origin-of .ensures) (c .before .before .before .before .before .before .before .check-origin .ensures) (c .before .before .before .before .before .enum-told5 .given .1) _ (c .before .before .before .before .aim-of .ensures) (c .before .before .p .given .1) (at-path _ _ _ _ _ _ (c .ask-path .ensures))
 
 returns-6 : tie.Need-returns-6
-returns-6 c = header-aimed _ _ _ _ (c .before .before .before .before .before .before .before .before .before .before .before .before .before .check-carried .ensures) (c .before .before .before .before .before .before .before .before .before .before .before .enum-told .given .1) (c .before .before .before .before .before .before .before .before .before .before .check-domain .ensures) (c .before .before .before .before .before .before .before .before .enum-told3 .given .1) (c .before .before .before .before .before .before .before .origin-of .ensures) (c .before .before .before .before .before .before .check-origin .ensures) (c .before .before .before .before .enum-told5 .given .1) aim.Uncarried (c .before .before .before .aim-of .ensures) (c .before .enum-told7 .given .1) (c .refused4 .ensures)
+returns-6 c = header-aimed _ _ _ _ _ (c .before .before .before .before .before .before .before .before .before .before .before .before .before .check-carried .ensures) (c .before .before .before .before .before .before .before .before .before .before .before .enum-told .given .1) (c .before .before .before .before .before .before .before .before .before .before .check-domain .ensures) (c .before .before .before .before .before .before .before .before .enum-told3 .given .1) (c .before .before .before .before .before .before .before .origin-of .ensures) (c .before .before .before .before .before .before .check-origin .ensures) (c .before .before .before .before .enum-told5 .given .1) aim.Uncarried (c .before .before .before .aim-of .ensures) (c .before .enum-told7 .given .1) (c .refused4 .ensures)
 
 pub ask-header-spec : {M : Type 1} → statement M
 ask-header-spec =

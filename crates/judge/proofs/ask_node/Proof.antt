@@ -49,7 +49,7 @@ precedence-of-requires : tie.Need-precedence-of-requires
 precedence-of-requires c κs = search needs
 
 returns-2 : tie.Need-returns-2
-returns-2 c = node-asked _ (c .before .before .before .before .before .before .before .before .before .before .before .before .before .before .class-of .ensures) (c .before .before .before .before .before .before .before .before .before .before .before .before .before .class-number .ensures) _ (decode (c .before .before .before .before .before .before .before .before .before .before .before .before .before .before .before .before .before .args .mission .now)) _ _ (c .before .before .before .before .before .before .before .before .before .before .before .before .if1 .left) (c .before .before .before .before .before .before .before .before .before .before .before .number-of .ensures) (c .before .before .before .before .before .before .before .before .before .before .named .ensures) (c .before .before .before .before .before .before .before .before .before .target-of .ensures) (c .before .before .before .before .before .before .before .before .place-for .ensures _) (c .before .before .before .before .before .router-of .ensures) (c .before .before .before .before .case-of .ensures) (c .before .before .before .domain-of .ensures) (c .before .sought-of .ensures) (c .precedence-of .ensures)
+returns-2 c = node-asked _ (c .before .before .before .before .before .before .before .before .before .before .before .before .before .before .class-of .ensures) (c .before .before .before .before .before .before .before .before .before .before .before .before .before .class-number .ensures) _ (decode (c .before .before .before .before .before .before .before .before .before .before .before .before .before .before .before .before .before .args .mission .now)) _ _ _ (c .before .before .before .before .before .before .before .before .before .before .before .before .if1 .left) (c .before .before .before .before .before .before .before .before .before .before .before .number-of .ensures) (c .before .before .before .before .before .before .before .before .before .before .named .ensures) (c .before .before .before .before .before .before .before .before .before .target-of .ensures) (c .before .before .before .before .before .before .before .before .place-for .ensures _) (c .before .before .before .before .before .router-of .ensures) (c .before .before .before .before .case-of .ensures) (c .before .before .before .domain-of .ensures) (c .before .sought-of .ensures) (c .precedence-of .ensures)
 
 pub ask-node-spec : {M : Type 1} → statement M
 ask-node-spec =

@@ -42,7 +42,7 @@ precedence-of-requires : tie.Need-precedence-of-requires
 precedence-of-requires c κs = search needs
 
 returns-2 : tie.Need-returns-2
-returns-2 c = path-asked _ (c .before .before .before .before .before .before .before .before .before .before .before .before .path-form .ensures) (c .before .before .before .before .before .before .before .before .before .before .before .path-number .ensures) _ (decode (c .before .before .before .before .before .before .before .before .before .before .before .before .before .before .before .args .mission .now)) _ _ (c .before .before .before .before .before .before .before .before .before .before .if1 .left) (c .before .before .before .before .before .before .before .path-place .ensures _) (c .before .before .before .before .before .before .router-of .ensures) (c .before .before .before .before .before .case-of .ensures) (c .before .before .before .before .domain-of .ensures) (c .before .before .sought-of .ensures) (c .before .number-of .ensures) (c .precedence-of .ensures)
+returns-2 c = path-asked _ (c .before .before .before .before .before .before .before .before .before .before .before .before .path-form .ensures) (c .before .before .before .before .before .before .before .before .before .before .before .path-number .ensures) _ (decode (c .before .before .before .before .before .before .before .before .before .before .before .before .before .before .before .args .mission .now)) _ _ _ (c .before .before .before .before .before .before .before .before .before .before .if1 .left) (c .before .before .before .before .before .before .before .path-place .ensures _) (c .before .before .before .before .before .before .router-of .ensures) (c .before .before .before .before .before .case-of .ensures) (c .before .before .before .before .domain-of .ensures) (c .before .before .sought-of .ensures) (c .before .number-of .ensures) (c .precedence-of .ensures)
 
 pub ask-path-spec : {M : Type 1} → statement M
 ask-path-spec =
