@@ -51,9 +51,10 @@ static void write_answered(const struct trace_call *call,
             putchar(' ');
         fwrite(call->words[i].text, 1, call->words[i].length, stdout);
     }
-    if (answer->used > 0)
+    if (answer->used > 0) {
         fputs(" = ", stdout);
-    fwrite(answer->start, 1, answer->used, stdout);
+        fwrite(answer->start, 1, answer->used, stdout);
+    }
     putchar('\n');
 }
 
