@@ -15,7 +15,10 @@ pub same-things : {b b′ m m′ : List ℕ} {rs rs′ : List Record} {o o′ n 
     → b ≡ b′ → m ≡ m′ → rs ≡ rs′ → o ≡ o′ → n ≡ n′ → things b m rs o n ≡ things b′ m′ rs′ o′ n′
 same-things e f g h i = rw (e, f, g, h, i)
 
-same-parts : {a a′ : ℕ} {t t′ : Things} → a ≡ a′ → t ≡ t′ → _≡_ {A = Result} (record { answer = a; left = t }) (record { answer = a′; left = t′ })
+abbrev result : ℕ → Things → Result
+result answer left = record { answer = answer; left = left }
+
+same-parts : {a a′ : ℕ} {t t′ : Things} → a ≡ a′ → t ≡ t′ → result a t ≡ result a′ t′
 same-parts e f = rw (e, f)
 
 -- Two results that a promise allows are equal.

@@ -260,7 +260,9 @@ long-out (own (looks missionSize)) h = absurd h
 long-lists : (w : Words) (who : Customer) (c : Call) (x : Result) → HasLong c → Says (made w (stepOf who c)) x
     → (readOut c (x .answer) ≡ refusedAs c 21) × (x .left ≡ lentTo (made w (stepOf who c)))
 long-lists w who (operator c) x h says =
-    let is = left-whole (w .board) [] (operator c) (longAnswer (operator c)) (long-left (w .board) [] (operator c) h) x (says-row (madeBy (w .board) [] (operator c)) x says) in
+    let b = w .board in
+    let row = says-row (madeBy b [] (operator c)) x says in
+    let is = left-whole b [] (operator c) (longAnswer (operator c)) (long-left b [] (operator c) h) x row in
     (ap (readOut (operator c)) (is .0) ∙ long-out (operator c) h, is .1)
 long-lists w who (own c) x h says =
     let b = w .board in

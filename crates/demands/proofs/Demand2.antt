@@ -450,7 +450,9 @@ module _ (who : Customer) (steps : List Step) where
       ap (λ (t : State). t .mission) (held-words (x .left .mission) (nextState seat (counters who steps) (own (sets s))) is .1)
 
   settled : (s : Setting) (x : Result) → Gives steps (flies who (sets s)) x → ownIn (x .left .mission) ≡ settle r s .mission
-  settled (setGroup i address send subscribed) x g = set-left (setGroup i address send subscribed) x (gives-row who steps (own (sets (setGroup i address send subscribed))) x g .mission)
+  settled (setGroup i address send subscribed) x g =
+      let s = setGroup i address send subscribed in
+      set-left s x (gives-row who steps (own (sets s)) x g .mission)
   settled (setPath i path send here) x g = set-left (setPath i path send here) x (gives-row who steps (own (sets (setPath i path send here))) x g .mission)
   settled (clearGroup i) x g = set-left (clearGroup i) x (gives-row who steps (own (sets (clearGroup i))) x g .mission)
   settled (clearPath i) x g = set-left (clearPath i) x (gives-row who steps (own (sets (clearPath i))) x g .mission)
@@ -482,8 +484,8 @@ module _ (who : Customer) (steps : List Step) where
     same-header : (a b : Header) → Good a ≡ Good b → a ≡ b
     same-header a b e = cc
 
-    goes-case : (up : Bool) → portSetUp r p ≡ up → (c : Chosen Copy) → chosen (rankBy entryOf) (lineAt p m h) ≡ c → (e : Entry) → takingOf up c ≡ taking.Handed e
-        → GoesOut r p (lineAt p m h) e
+    goes-case : (up : Bool) → portSetUp r p ≡ up → (c : Chosen Copy) → chosen (rankBy entryOf) (lineAt p m h) ≡ c → (e : Entry)
+        → takingOf up c ≡ taking.Handed e → GoesOut r p (lineAt p m h) e
     goes-case false is c out e handed = true-false cc
     goes-case true is nobody out e handed = true-false cc
     goes-case true is (one c others) out e handed =

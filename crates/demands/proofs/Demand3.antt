@@ -90,7 +90,7 @@ trace-more : (xs : List Step) (c : Step) (w v : Words) → Trace w xs v → (x :
 trace-more [] c w v t x says = subst (λ (z : Words). Trace z (c ∷ []) (wordsAfter v c x)) t (x, (says, refl))
 trace-more (d ∷ xs) c w v t x says = (t .0, (t .1 .0, trace-more xs c (wordsAfter w d (t .0)) v (t .1 .1) x says))
 
-pass-more : (xs : List Step) (c : Step) → AllPass xs → Passes c → AllPass (xs ++ (c ∷ []))
+pub pass-more : (xs : List Step) (c : Step) → AllPass xs → Passes c → AllPass (xs ++ (c ∷ []))
 pass-more [] c all p = (p, tt)
 pass-more (d ∷ xs) c all p = (all .0, pass-more xs c (all .1) p)
 

@@ -180,8 +180,10 @@ all-fits (c ∷ cs) x all h = all-fits cs (next x c) (all .1) (next-fits x c (al
 
 fresh-fits : (n : ℕ) → Fits (freshSeat n)
 unfolding freshBoard freshMission
-fresh-fits n =
-    (replicate-each PortFits portCount freshOwned port-fits, (replicate-each GroupFits groupPlaces freshGroup group-fits, replicate-each PathFits pathPlaces freshPath path-fits))
+fresh-fits n = (
+  replicate-each PortFits portCount freshOwned port-fits,
+  (replicate-each GroupFits groupPlaces freshGroup group-fits, replicate-each PathFits pathPlaces freshPath path-fits),
+)
 
 -- ---- after any steps
 module _ (who : Customer) (steps : List Step) (all : AllPass steps) where

@@ -213,11 +213,13 @@ module _ (b m : List ℕ) (x : Seat) (l : List ℕ) (board : lentBoard b ≡ Hel
   setting-row (setPath i path send here) = same-promise (both-told _ _) board (both-changed _) refl refl refl
   setting-row (clearGroup i) =
       same-promise (own-told _ _) refl
-      (own-changed _ ∙ ap (λ (z : Mission). Held (with z l)) (own-of (eqb (firstOf (clearChecks i groupPlaces)) 0) (withGroup (relayIn x) i freshGroup) (relayIn x)))
+      (own-changed _
+      ∙ ap (λ (z : Mission). Held (with z l)) (own-of (eqb (firstOf (clearChecks i groupPlaces)) 0) (withGroup (relayIn x) i freshGroup) (relayIn x)))
       refl refl refl
   setting-row (clearPath i) =
       same-promise (own-told _ _) refl
-      (own-changed _ ∙ ap (λ (z : Mission). Held (with z l)) (own-of (eqb (firstOf (clearChecks i pathPlaces)) 0) (withPath (relayIn x) i freshPath) (relayIn x)))
+      (own-changed _
+      ∙ ap (λ (z : Mission). Held (with z l)) (own-of (eqb (firstOf (clearChecks i pathPlaces)) 0) (withPath (relayIn x) i freshPath) (relayIn x)))
       refl refl refl
 
   look-row : (z : Look) → promised (madeBy b m (own (looks z))) ≡ promisedBy x l (own (looks z))

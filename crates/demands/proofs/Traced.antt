@@ -18,9 +18,9 @@ use Rattle.contracts.specs.Contracts.{Says}
 use Rattle.contracts.proofs.Rows.{says-row}
 use Rattle.history.specs.Calls.{Call, operator, own}
 use Rattle.history.specs.Seat.{Seat, freshSeat, stateOf}
-use Rattle.history.specs.Outcome.{next, outcome, runFrom}
+use Rattle.history.specs.Outcome.{boardFrom, next, outcome, runFrom}
 use Rattle.history.specs.Tally.{countersFrom, stateAfter}
-use Rattle.demands.specs.Trace.{Customer, first, second, numberOf, Step, operates, flies, Words, missionOf, Begun, historyOf, ordersOf, boardAfter, boardOf, seatOf}
+use Rattle.demands.specs.Trace.{Customer, first, second, numberOf, Step, operates, flies, Words, missionOf, Begun, historyOf, ordersOf, boardOf, seatOf}
 use Rattle.demands.proofs.Fresh.{fresh-board-holds, fresh-mission-holds}
 use Rattle.demands.proofs.Lane.{madeBy, boardBy, ownBy, Lane, ran}
 use Rattle.demands.proofs.Promised.{promisedBy}
@@ -70,7 +70,7 @@ history-more second (flies first c ∷ xs) ys = history-more second xs ys
 history-more second (flies second c ∷ xs) ys = ap (λ (h : List Call). own c ∷ h) (history-more second xs ys)
 
 -- ---- the board is the same to both customers
-board-run : (who : Customer) (cs : List Step) (x : Seat) → runFrom x (historyOf who cs) .board ≡ boardAfter (x .board) (ordersOf cs)
+board-run : (who : Customer) (cs : List Step) (x : Seat) → runFrom x (historyOf who cs) .board ≡ boardFrom (x .board) (ordersOf cs)
 board-run who [] x = refl
 board-run who (operates c ∷ cs) x = board-run who cs (next x (operator c))
 board-run first (flies first c ∷ cs) x = board-run first cs (next x (own c))

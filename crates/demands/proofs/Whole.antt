@@ -178,7 +178,8 @@ module _ (b m : List ℕ) (x : Seat) (l : List ℕ) (board : lentBoard b ≡ Hel
   take-left : (p : ℕ) → LeftBy (own (takes p))
   take-left p h =
       same-promise refl (sym board)
-      (ap (λ moves. Held (record { number = x .number; mission = takenRelay (relayIn x) p .mission; counters = countedAll l moves })) (quiet-taking p (takeOutcome (relayIn x) p))
+      (ap (λ moves. Held (record { number = x .number; mission = takenRelay (relayIn x) p .mission; counters = countedAll l moves }))
+      (quiet-taking p (takeOutcome (relayIn x) p))
       ∙ same-relay (takenRelay (relayIn x) p) (taken-old (relayIn x) p (takeOutcome (relayIn x) p) refl h))
       refl refl refl
 

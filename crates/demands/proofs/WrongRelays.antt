@@ -4,12 +4,15 @@
 use native.Mathlib.Omega.{arith}
 use Prim.Native.Nat.{ℕ, _<_}
 use mathlib.Core.Path.{_≡_, refl, sym, ap, _∙_}
-use mathlib.Core.Bool.{true}
+use mathlib.Core.Bool.{Bool, true, _&&_}
 use mathlib.Core.Logic.{_≢_}
 use mathlib.Core.List.{List, [], _∷_, _++_, map, append-nil}
 use lib.ListN.{replicate}
+use lib.Dec.{ltb}
+use borrow.Author.Tests.{ltb-true}
 use Rattle.checks.specs.Answer.{refusalNumber}
-use Rattle.checks.proofs.Bools.{true-false}
+use Rattle.checks.proofs.Bools.{true-false, and-true}
+use Rattle.queue.specs.Order.{Each}
 use Rattle.address.specs.declared.Slot.{Slot}
 use Rattle.header.specs.Limits.{longestHeader}
 use Rattle.routes.specs.Records.{emptyRecord}
@@ -36,6 +39,7 @@ use Rattle.demands.proofs.Lasts.{passable, gives-lasts}
 use Rattle.demands.proofs.Told.{gives-row, order-told}
 use Rattle.demands.proofs.Demand1.{demand-1}
 use Rattle.demands.proofs.Demand2.{demand-2}
+use Rattle.demands.proofs.Demand3.{pass-more}
 use Rattle.demands.proofs.Apart.{apart}
 
 -- ---- steps that can be made
@@ -103,7 +107,8 @@ writing-a-port-again wrong =
 pub showing-the-others-calls : (who other : Customer) → who ≢ other → (steps : List Step) (c : MissionCall) (d : Call) (x y : Result)
     → Gives steps (stepOf who d) x → Gives (steps ++ (flies other c ∷ [])) (stepOf who d) y → (x ≡ y → ⊥) → ⊥
 showing-the-others-calls who other differ steps c d x y g k wrong =
-    wrong (apart .same-next who steps (steps ++ (flies other c ∷ [])) (sym (history-more who steps (flies other c ∷ []) ∙ left-out who other differ)) d x y g k)
+    let more = steps ++ (flies other c ∷ []) in
+    wrong (apart .same-next who steps more (sym (history-more who steps (flies other c ∷ []) ∙ left-out who other differ)) d x y g k)
   where
     left-out : (who other : Customer) → who ≢ other → historyOf who steps ++ historyOf who (flies other c ∷ []) ≡ historyOf who steps
     left-out first first differ = absurd (differ refl)
@@ -115,17 +120,30 @@ showing-the-others-calls who other differ steps c d x y g k wrong =
 port-passes : (p : ℕ) → p < 8 → Passes (operates (orders (port 0 p)))
 port-passes p h = (omega (arith, h), (omega arith, (omega arith, (omega arith, tt))))
 
+ports-pass : AllPass ours
+ports-pass =
+    (tt, (port-passes 0 (omega arith), (port-passes 1 (omega arith), (port-passes 2 (omega arith), (port-passes 3 (omega arith), last-passes)))))
+  where
+    last-passes : AllPass (operates (orders (port 0 4)) ∷ [])
+    last-passes = (port-passes 4 (omega arith), tt)
+
+-- numbers that a test finds to be octets
+abbrev allOctets : List ℕ → Bool
+allOctets [] = true
+allOctets (n ∷ l) = ltb n 256 && allOctets l
+
+octets-so : (l : List ℕ) → allOctets l ≡ true → Each (λ (n : ℕ). n < 256) l
+octets-so [] h = tt
+octets-so (n ∷ l) h = let both = and-true (ltb n 256) (allOctets l) h in (ltb-true n 256 (both .0), octets-so l (both .1))
+
 hearing-passes : Passes (flies first hearing)
 hearing-passes = (
   omega arith,
-  λ i.
-      getD-each (λ (n : ℕ). n < 256) (datagram 10 4 9 14 0) i 0 (omega arith)
-      (omega arith, (omega arith, (omega arith, (omega arith, (omega arith, (omega arith, (omega arith, (omega arith, (omega arith, (omega arith, (omega arith, (omega arith, (omega arith, tt))))))))))))),
+  λ i. getD-each (λ (n : ℕ). n < 256) (datagram 10 4 9 14 0) i 0 (omega arith) (octets-so (datagram 10 4 9 14 0) refl),
 )
 
 heard-pass : AllPass heard
-heard-pass =
-    (tt, (port-passes 0 (omega arith), (port-passes 1 (omega arith), (port-passes 2 (omega arith), (port-passes 3 (omega arith), (port-passes 4 (omega arith), (hearing-passes, tt)))))))
+heard-pass = pass-more ours (flies first hearing) ports-pass hearing-passes
 
 -- It does not keep one queue for both: what the first customer heard does not wait for the second.
 pub sharing-queues :

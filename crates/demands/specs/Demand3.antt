@@ -57,7 +57,8 @@ pub record Demand3 : Type 0 where
   -- where the copies of a datagram, granted, taken and dropped, are those of page 01's verdict, and those that C is told
   pub copies-told : (who : Customer) (steps : List Step) (rs : List Record) (p at : ℕ) (slot : Slot) (octets output : List ℕ) (x : Result) → p < portCount
       → Gives steps (flies who (hears rs at slot octets output)) x → tooLong rs ≡ false
-      → (inSet p (ownOutcome (seatOf who steps) (hears rs at slot octets output) .granted) ≡ verdictOf (relayFor who steps rs) at octets (length output) .granted p)
+      → (inSet p (ownOutcome (seatOf who steps) (hears rs at slot octets output) .granted)
+      ≡ verdictOf (relayFor who steps rs) at octets (length output) .granted p)
       × ((inSet p (ownOutcome (seatOf who steps) (hears rs at slot octets output) .took) ≡ inSet p (tookIn x))
       × (inSet p (ownOutcome (seatOf who steps) (hears rs at slot octets output) .dropped) ≡ inSet p (droppedIn x)))
   -- ".. because 32 already waited.": where hj_receive says that a port dropped its copy, hj_waiting answered 32 before

@@ -48,7 +48,7 @@ use Rattle.state.specs.Seen.{Board, freshBoard}
 use Rattle.harpjuniper.specs.Face.{readingCount}
 use Rattle.history.specs.Ranges.{OwnPassed}
 use Rattle.history.specs.Seat.{Seat, relayIn, relayWith}
-use Rattle.history.specs.Outcome.{nextBoard, seatAfter}
+use Rattle.history.specs.Outcome.{boardFrom, seatAfter}
 use Rattle.history.specs.Calls.{
   Order,
   setRouter,
@@ -280,12 +280,8 @@ ordersOf (operates c ∷ cs) = c ∷ ordersOf cs
 ordersOf (flies x c ∷ cs) = ordersOf cs
 
 -- the board after them
-abbrev pub boardAfter : Board → List OperatorCall → Board
-boardAfter b [] = b
-boardAfter b (c ∷ cs) = boardAfter (nextBoard b c) cs
-
 abbrev pub boardOf : List Step → Board
-boardOf cs = boardAfter freshBoard (ordersOf cs)
+boardOf cs = boardFrom freshBoard (ordersOf cs)
 
 -- ---- the board, and the customer's settings and queues, after these steps
 abbrev pub seatOf : Customer → List Step → Seat
