@@ -1,5 +1,4 @@
--- To be read: Joined, that the two steps and the scan between them are what receiving is promised to be. What the steps hand together is in Received
--- and Asking.
+-- What the two steps of receiving hand together. That they and the scan between them are what receiving is promised to be is `joined`, in crate
+-- harpjuniper_receive.
 pub mod Received
 pub mod Asking
-pub mod Joined
