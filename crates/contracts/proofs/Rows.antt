@@ -1,7 +1,7 @@
 -- The contract of each call from C, as it stands in the source, says what its row of the table says, and no more: so what is proved of the rows holds
 -- of whatever the functions give back. Assumes nothing.
 use Prim.Native.Nat.{ℕ}
-use mathlib.Core.Path.{_≡_, refl, ap}
+use mathlib.Core.Path.{_≡_, ap}
 use mathlib.Core.Logic.{_↔_}
 use mathlib.Core.List.{List}
 use Rattle.routes.specs.declared.Record.{Record}
