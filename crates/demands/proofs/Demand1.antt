@@ -309,9 +309,9 @@ demand-1 =
       );
       fresh-mission = λ w n x says. (
         λ right. (
-              fresh-mission-answers w n x says right,
-              λ told. held-words (x .left .mission) (freshState n) (fresh-mission-holds w n x says told) .1,
-            ),
+          fresh-mission-answers w n x says right,
+          λ told. held-words (x .left .mission) (freshState n) (fresh-mission-holds w n x says told) .1,
+        ),
         fresh-mission-refused w n x says,
       );
       lasts = gives-lasts;

@@ -114,7 +114,7 @@ use Rattle.history.proofs.Marked.{marked-cases}
 use Rattle.history.proofs.Ranges.{in-range, waiting-fits, taken-fits}
 use Rattle.history.proofs.Reach.{reached}
 use Rattle.history.proofs.ReadBack.{ReadBack, read-back}
-use Rattle.history.proofs.Search.{masks-contiguous}
+use Rattle.listing.proofs.Counting.{seen-contiguous}
 use Rattle.history.proofs.Takes.{take-is, is-port}
 use Rattle.demands.specs.Trace.{Customer, first, second, numberOf, Step, flies, historyOf, boardOf, seatOf, relayOf, relayFor, Gives}
 use Rattle.demands.specs.ReadOut.{ownOut, tookIn, droppedIn, ownIn, asksFor, partTold, Reads, Builds, headerIn}
@@ -380,7 +380,7 @@ module _ (who : Customer) (steps : List Step) where
 
       told-as : ToldAs octets x (verdictOf q at octets (length output))
       told-as =
-          let page = verdict-is-the-page q (masks-contiguous (seat .board) (seat .number) rs) at octets (length output) in
+          let page = verdict-is-the-page q (seen-contiguous (seat .board) rs (seat .number)) at octets (length output) in
           record {
             refusal = seen .refusal ∙ page .refusal;
             local = seen .local ∙ page .ruling .local;
@@ -403,7 +403,7 @@ module _ (who : Customer) (steps : List Step) where
                 (exactly.local-exactly q at octets (length output) none);
             onward = λ none n.
                 by-answer (seen .onward) n
-                (exactly.onward-exactly q at octets (length output) moreOnes (ones-choose q (masks-contiguous (seat .board) (seat .number) rs)) none n);
+                (exactly.onward-exactly q at octets (length output) moreOnes (ones-choose q (seen-contiguous (seat .board) rs (seat .number))) none n);
           }
 
       verdict : ToldAs octets x (verdictOf q at octets (length output))
@@ -567,7 +567,7 @@ demand-2 =
       takings-fit = λ who steps p x e g. takings-fit who steps p x g e;
       route-taken = λ who steps rs at slot octets output a p x g short sought inside some.
           let seat = seatOf who steps in
-          sought-taken (relayFor who steps rs) at octets (length output) a sought (masks-contiguous (seat .board) (seat .number) rs) p inside
+          sought-taken (relayFor who steps rs) at octets (length output) a sought (seen-contiguous (seat .board) rs (seat .number)) p inside
           (granted who steps rs at slot octets output x g short p inside some);
       no-route = λ who steps rs at slot octets output a x g short sought.
           by-answer (seen who steps rs at slot octets output x g short .onward) 11 (sought-no-route (relayFor who steps rs) at octets (length output) a sought);

@@ -33,7 +33,7 @@ use Rattle.history.specs.Ledger.{dropped}
 use Rattle.history.specs.Line.{entryOf, lineAt, copyOf, takenOwn}
 use Rattle.history.specs.Foretold.{answeredOwn, answeredFrom}
 use Rattle.history.proofs.Domain.{took-read}
-use Rattle.history.proofs.Search.{masks-contiguous}
+use Rattle.listing.proofs.Counting.{seen-contiguous}
 use Rattle.history.proofs.Heard.{heard-is}
 use Rattle.history.proofs.Sums.{counted-as-written}
 use Rattle.history.proofs.Ledger as ledgers
@@ -195,7 +195,7 @@ demand-3 =
           (fair (seatOf who steps) p inside rs at octets (length output) .full (sym (ap (inSet p) is) ∙ dropped));
       copies-told = λ who steps rs p at slot octets output x inside g short.
           let seat = seatOf who steps in
-          let page = verdict-is-the-page (relayFor who steps rs) (masks-contiguous (seat .board) (seat .number) rs) at octets (length output) in
+          let page = verdict-is-the-page (relayFor who steps rs) (seen-contiguous (seat .board) rs (seat .number)) at octets (length output) in
           let told = parts who steps rs p at slot octets output x g in (
             ap (λ (z : Ending). inSet p (z .ruling .granted)) (heard-is seat rs at octets (length output) false short) ∙ page .ruling .granted p inside,
             (ap (inSet p) (sym (told .took)), ap (inSet p) (sym (told .dropped))),
