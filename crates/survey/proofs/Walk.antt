@@ -10,10 +10,15 @@ use lib.Dec.{eqb}
 use lib.ListN.{getD}
 use lib.Pow.{pow-mono}
 use borrow.Author.Tests.{eq-eqb, ne-eqb, lt-ltb}
+use Rattle.checks.specs.Order.{pick}
 use Rattle.sets.specs.Sets.{inSet, portSet, onlyPort}
 use Rattle.sets.proofs.Loops.{portSet-below}
 use Rattle.address.specs.declared.Address.{Address}
-use Rattle.networks.specs.Networks.{domainOf, subnetBroadcast, classBroadcast}
+use Rattle.address.specs.Class.{between, familyOf}
+use Rattle.address.specs.Octets.{dotted}
+use Rattle.address.specs.declared.Family.{Family}
+use Rattle.address.specs.declared.Family.the-variants.{Net, Scps, Multicast, Invalid}
+use Rattle.networks.specs.Networks.{domainOf, lastOf, subnetBroadcast, broadcastIn, classBroadcast}
 use Rattle.records.specs.Fresh.{freshPort}
 use Rattle.records.specs.declared.Port.{Port}
 use Rattle.state.specs.Relay.{Relay, portIn, queueIn}
@@ -35,6 +40,40 @@ pub own-class :
     → t ≡ ownBroadcast p a
 unfolding ownBroadcast
 own-class p a x t e h b = rw (← e) (simp (ne-eqb (x .0) (a .0) h) b)
+
+-- the broadcast of a class network ends with 255
+module _ (a : Address) (other : a .0 % 256 ≡ 255 → ⊥) where
+  abbrev Not : ℕ → Family → Type 0
+  Not v f = broadcastIs (broadcastIn f v) a ≡ false
+
+  by-test : (v : ℕ) (t : Bool) (f g : Family) → Not v f → Not v g → Not v (pick t f g)
+  by-test v true f g p q = p
+  by-test v false f g p q = q
+
+  in-net : (v k : ℕ) → lastOf v k % 256 ≡ 255 → Not v (Net k)
+  unfolding broadcastIn
+  in-net v k ends = ne-eqb (lastOf v k) (a .0) (λ e. other (ap (λ (n : ℕ). n % 256) (sym e) ∙ ends))
+
+  in-scps : (v : ℕ) → Not v Scps
+  unfolding broadcastIn
+  in-scps v = ne-eqb (dotted 10 255 255 255) (a .0) (λ e. other (ap (λ (n : ℕ). n % 256) (sym e) ∙ refl))
+
+  in-none : (v : ℕ) (t : Bool) → Not v (pick t Multicast Invalid)
+  unfolding broadcastIn
+  in-none v t = by-test v t Multicast Invalid refl refl
+
+  no-class-broadcast : (x : Address) → broadcastIs (classBroadcast x) a ≡ false
+  unfolding classBroadcast familyOf
+  no-class-broadcast x =
+      let v = x .0 in
+      let first = v / 2 ^ 24 in
+      by-test v (eqb first 10) Scps _ (in-scps v)
+      (by-test v (between 1 126 first) (Net (2 ^ 24)) _ (in-net v (2 ^ 24) (omega arith))
+      (by-test v (between 128 191 first) (Net (2 ^ 16)) _ (in-net v (2 ^ 16) (omega arith))
+      (by-test v (between 192 223 first) (Net (2 ^ 8)) _ (in-net v (2 ^ 8) (omega arith)) (in-none v (between 224 239 first)))))
+
+  pub no-broadcast : (p : Port) (x : Address) → x ≡ subnetBroadcast (p .address) (p .mask) → (x .0 ≡ a .0 → ⊥) → false ≡ ownBroadcast p a
+  no-broadcast p x e h = own-class p a x false e h (sym (no-class-broadcast (p .address)))
 
 -- ---- one port more
 module _ (s : Survey) (port : ℕ) (p : Port) (a : Address) where

@@ -55,13 +55,17 @@ fn broadcast_is(b: Broadcast, a: Address) -> bool
     }
 }
 
-// Whether the address is a broadcast of a port's subnet or class network.
+// Whether the address is a broadcast of a port's subnet or class network. That of a class network ends with 255, so that for most addresses
+// no port's class is looked at.
 fn own_broadcast(p: Port, a: Address) -> bool
     ensures { λ r. ⌜ r ≡ ownBroadcast p a ⌝ }
 {
     let own = p.address;
     if networks::subnet_broadcast(own, p.mask).0 == a.0 {
         return true;
+    }
+    if a.0 % 256 != 255 {
+        return false;
     }
     broadcast_is(networks::class_broadcast(own), a)
 }
