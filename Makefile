@@ -87,7 +87,7 @@ format: | prepare
 # The crates that export to C. `rt staticlib` makes an archive of one crate's exports,
 # an object that shows no other name; ours is made of their objects.
 EXPORTING := harpjuniper harpjuniper_address harpjuniper_settings \
-	harpjuniper_reads harpjuniper_receive harpjuniper_relay
+	harpjuniper_reads harpjuniper_routes harpjuniper_receive harpjuniper_relay
 OBJECTS := $(EXPORTING:%=build/objects/%.o)
 
 ifeq ($(MACHINE),x86_64)
@@ -138,7 +138,7 @@ build/readme: build/readme.c
 build/rehearsal_wrong: $(REHEARSAL) tests/wrong_take.c
 build/soak_faulty: $(SOAK) $(PLAIN) tests/soak_faults.c
 build/rehearsal_wrong: wrapped := take
-build/soak_faulty: wrapped := class take counter waiting search set_port receive
+build/soak_faulty: wrapped := class take counter waiting search set_port receive_at
 
 LINKED := $(addprefix build/,replay rehearsal rehearsal_wrong calls relay_calls bench \
 	flight_loop settings_batch soak soak_faulty readme)
@@ -191,19 +191,21 @@ released: $(ARCHIVE)
 header: | tools
 	gcc -std=c99 $(STRICT) -Iinclude -fsyntax-only tests/header_clean.c
 	g++ -std=c++11 $(STRICT) -Iinclude -fsyntax-only -x c++ tests/header_clean.c
+	scripts/check-header
 
 readme: build/readme
 	build/readme > build/readme.output
 	cmp build/readme.output build/readme.expected
 
 host-tests: build/calls build/relay_calls build/test_plain build/test_relay \
-	build/replay build/plain build/ledger build/generate build/coverage \
+	build/test_missions build/replay build/plain build/ledger build/generate build/coverage \
 	build/bench build/flight_loop build/settings_batch build/rehearsal \
 	build/rehearsal_wrong build/soak build/soak_faulty build/coverage-plain/plain
 	build/calls
 	build/relay_calls
 	build/test_plain
 	build/test_relay
+	build/test_missions
 	build/flight_loop > build/flight_loop.output
 	diff examples/flight_loop.expected build/flight_loop.output
 	build/settings_batch > build/settings_batch.output

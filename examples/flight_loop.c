@@ -1,7 +1,9 @@
 /*
- * flight_loop: the smallest loop that relays. It sets up two ports and a route,
- * hears datagrams, lets the relay judge each, and sends on what the relay says:
- * the header that the relay wrote, then the data that the loop kept.
+ * flight_loop: the smallest loop that relays, for one mission. It sets up two
+ * ports and a route, hears datagrams, lets the relay judge each, and sends on
+ * what the relay says: the header that the relay wrote, then the data that the
+ * loop kept. A second mission would have a state and a store of its own, and be
+ * lent the same board and routes.
  *
  * The links are stood in for: `heard` hands out datagrams built here, and
  * `send_on` prints. In flight both would be drivers, and the rest would stay.
@@ -18,7 +20,14 @@
 #define SLOTS 64
 #define NO_SLOT SLOTS
 
-static uint32_t relay[HJ_STATE_WORDS];
+static hj_board board;
+static hj_mission mission;
+static hj_record routes[8]; /* as many as are needed, at most HJ_ROUTES */
+
+/* What calls are lent, each with its count. */
+#define BOARD &board, HJ_BOARD_WORDS
+#define MISSION &mission, HJ_MISSION_WORDS
+#define ROUTES routes, sizeof routes / sizeof *routes
 
 static struct slot {
     uint32_t copies; /* still to be sent; 0 where the slot is free */
@@ -92,18 +101,19 @@ static void send_on(uint32_t port, const struct slot *slot)
 /* 0, or the number of what refused a setting. */
 static uint32_t set_up(void)
 {
-    uint32_t refusal = hj_fresh(relay, HJ_STATE_WORDS);
+    uint32_t refusal = hj_fresh_board(BOARD);
 
     if (refusal == HJ_DONE)
-        refusal = hj_set_router(relay, HJ_STATE_WORDS, 1);
+        refusal = hj_fresh_mission(MISSION, 0);
     if (refusal == HJ_DONE)
-        refusal = hj_set_port(relay, HJ_STATE_WORDS, 0, HERE, 0xffffff00, 8191);
+        refusal = hj_set_router(BOARD, 1);
     if (refusal == HJ_DONE)
-        refusal = hj_set_port(relay, HJ_STATE_WORDS, 1, 0x0a0a0b02, 0xffffff00,
-                              1500);
+        refusal = hj_set_port(BOARD, 0, HERE, 0xffffff00, 8191, 0);
     if (refusal == HJ_DONE)
-        refusal = hj_set_route(relay, HJ_STATE_WORDS, 0, 0x0a040900, 0xffffff00,
-                               1, HJ_UP, HJ_CAPABLE_NONE);
+        refusal = hj_set_port(BOARD, 1, 0x0a0a0b02, 0xffffff00, 1500, 0);
+    if (refusal == HJ_DONE)
+        refusal = hj_set_route(BOARD, ROUTES, 0, 0x0a040900, 0xffffff00, 1,
+                               HJ_UP, HJ_CAPABLE_NONE, 0);
     return refusal;
 }
 
@@ -130,8 +140,9 @@ static uint32_t size_of_set(uint32_t ports)
 static void judge(uint32_t port, uint16_t number, uint32_t count)
 {
     struct slot *slot = &slots[number];
+    hj_arrival arrival = {port, number, 0};
     hj_verdict verdict =
-        hj_receive(relay, HJ_STATE_WORDS, port, number, slot->octets, count,
+        hj_receive(BOARD, MISSION, ROUTES, arrival, slot->octets, count,
                    slot->header, sizeof slot->header);
 
     printf("port %u hears %u octets: ended by %u, local %u, onward %u\n",
@@ -149,7 +160,7 @@ static void send_waiting(uint32_t port)
 {
     hj_answer taken;
 
-    while (hj_refusal(taken = hj_take(relay, HJ_STATE_WORDS, port)) == HJ_DONE) {
+    while (hj_refusal(taken = hj_take(BOARD, MISSION, port)) == HJ_DONE) {
         send_on(port, &slots[hj_slot(taken)]);
         slots[hj_slot(taken)].copies--;
     }
@@ -179,8 +190,7 @@ int main(void)
     for (uint32_t port = 0; port < 2; port++)
         send_waiting(port);
     printf("received %u, sent on %u\n",
-           (unsigned)hj_value(hj_counter(relay, HJ_STATE_WORDS, HJ_IN_RECEIVES)),
-           (unsigned)hj_value(
-               hj_counter(relay, HJ_STATE_WORDS, HJ_FORW_DATAGRAMS)));
+           (unsigned)hj_value(hj_counter(MISSION, HJ_IN_RECEIVES)),
+           (unsigned)hj_value(hj_counter(MISSION, HJ_FORW_DATAGRAMS)));
     return 0;
 }

@@ -4,7 +4,8 @@
  * The trace form has no place for an absent element with a value, for a flag
  * that is neither 0 nor 1, or for a time field too large for its octets; the C
  * struct has. Each of them must be 19, with nothing written. Null pointers with
- * a count of 0 are good.
+ * a count of 0 are good. The words that the inline calls pack and unpack are
+ * tried field by field, and in every wrong number.
  */
 #include <stdbool.h>
 #include <string.h>
@@ -184,6 +185,136 @@ static void check_order(void)
                    "the greatest count of data");
 }
 
+/* ---- The words of the fields --------------------------------------------- */
+
+/* Each member, by its name and how many words it has, in the words' order. */
+#define FIELDS(FIELD)                                                         \
+    FIELD(destination_high, 2)                                                \
+    FIELD(destination_low, 2)                                                 \
+    FIELD(source_high, 2)                                                     \
+    FIELD(source_low, 2)                                                      \
+    FIELD(time, 2)                                                            \
+    FIELD(tp_id, 1)                                                           \
+    FIELD(has_source, 1)                                                      \
+    FIELD(extended, 1)                                                        \
+    FIELD(ipv6, 1)                                                            \
+    FIELD(has_qos, 1)                                                         \
+    FIELD(precedence, 1)                                                      \
+    FIELD(routing, 1)                                                         \
+    FIELD(program, 1)                                                         \
+    FIELD(has_hop_count, 1)                                                   \
+    FIELD(hop_count, 1)                                                       \
+    FIELD(stamp_format, 1)                                                    \
+    FIELD(p_field, 1)                                                         \
+    FIELD(has_expanded, 1)                                                    \
+    FIELD(expanded, 1)                                                        \
+    FIELD(has_checksum, 1)                                                    \
+    FIELD(intermediate, 1)
+
+/* A number of its own in each word. */
+static uint32_t mark(uint32_t word)
+{
+    return 0x01020300u + word;
+}
+
+static void check_pack(void)
+{
+    uint32_t words[HJ_FIELD_WORDS], again[HJ_FIELD_WORDS];
+    hj_fields fields;
+    uint32_t at = 0;
+
+    for (uint32_t i = 0; i < HJ_FIELD_WORDS; i++)
+        words[i] = mark(i);
+    fields = hj_unpack(words);
+#define CHECK_FIELD(member, count)                                            \
+    expect(fields.member ==                                                   \
+               ((count) == 2 ? (uint64_t)mark(at) << 32 | mark(at + 1)        \
+                             : mark(at)),                                     \
+           "unpacked: " #member);                                             \
+    at += (count);
+    FIELDS(CHECK_FIELD)
+    expect(at == HJ_FIELD_WORDS, "every word is a field's");
+    hj_pack(&fields, again);
+    expect(memcmp(words, again, sizeof words) == 0, "packed again");
+}
+
+/* One field of the fields is another, and one or two words are. */
+#define CHECK_ALONE(member, count)                                            \
+    {                                                                         \
+        hj_fields fields = {0};                                               \
+        uint32_t words[HJ_FIELD_WORDS];                                       \
+        uint32_t others = 0;                                                  \
+                                                                              \
+        fields.member = ((count) == 2 ? (uint64_t)0x89abcdef << 32 : 0) |     \
+                        0x01234567;                                           \
+        hj_pack(&fields, words);                                              \
+        for (uint32_t i = 0; i < HJ_FIELD_WORDS; i++)                         \
+            others |= i < at || i >= at + (count) ? words[i] : 0;             \
+        expect(others == 0 && words[at + (count) - 1] == 0x01234567 &&        \
+                   ((count) == 1 || words[at] == 0x89abcdef),                 \
+               "packed alone: " #member);                                     \
+        at += (count);                                                        \
+    }
+
+static void check_alone(void)
+{
+    uint32_t at = 0;
+
+    FIELDS(CHECK_ALONE)
+}
+
+/* What hj_read unpacks is what hj_read_words gives, field by field. */
+static void check_read_words(void)
+{
+    uint8_t octets[HJ_OUTPUT_ROOM];
+    size_t count = hj_value(hj_build(full(), 0, octets, sizeof octets));
+    uint32_t words[HJ_READING_WORDS], again[HJ_FIELD_WORDS];
+    hj_reading reading = hj_read(octets, count);
+
+    expect(hj_read_words(octets, count, words, HJ_READING_WORDS) == HJ_DONE,
+           "read_words");
+    hj_pack(&reading.fields, again);
+    expect(words[0] == reading.length && words[1] == reading.header &&
+               memcmp(words + 2, again, sizeof again) == 0,
+           "hj_read and hj_read_words");
+    expect(hj_build_words(words + 2, HJ_FIELD_WORDS, 0, octets,
+                          sizeof octets) == count,
+           "hj_build_words of what was read");
+}
+
+/* 21 before all else, and nothing is written, not even with a good header. */
+static void check_word_counts(void)
+{
+    enum { MOST = 64 };
+    uint8_t octets[HJ_OUTPUT_ROOM], output[HJ_OUTPUT_ROOM];
+    size_t count = hj_value(hj_build(full(), 0, octets, sizeof octets));
+    uint32_t words[MOST], before[MOST];
+
+    memset(words, UNTOUCHED, sizeof words);
+    memcpy(before, words, sizeof words);
+    memset(output, UNTOUCHED, sizeof output);
+    for (size_t lent = 0; lent < MOST; lent++) {
+        if (lent != HJ_READING_WORDS)
+            expect(hj_read_words(octets, count, words, lent) == 21 &&
+                       hj_read_words(NULL, 0, words, lent) == 21,
+                   "read_words, a wrong number of words");
+        if (lent != HJ_FIELD_WORDS)
+            expect(hj_refusal(hj_build_words(words, lent, SIZE_MAX, NULL,
+                                             0)) == 21 &&
+                       hj_build_words(words, lent, 0, output,
+                                      sizeof output) ==
+                           (hj_answer)HJ_BAD_NUMBER << 32,
+                   "build_words, a wrong number of words");
+    }
+    expect(hj_read_words(octets, 2, words, HJ_READING_WORDS) == HJ_SHORT,
+           "a refused header");
+    expect(memcmp(words, before, sizeof words) == 0, "words as lent");
+    expect(output[0] == UNTOUCHED, "no octet is written");
+    expect(hj_read_words(octets, count, NULL, 0) == 21 &&
+               hj_refusal(hj_build_words(NULL, 0, 0, output, 0)) == 21,
+           "no words at all");
+}
+
 static void check_null(void)
 {
     expect(hj_read(NULL, 0).refusal == HJ_SHORT, "reading no octets");
@@ -199,6 +330,10 @@ int main(void)
     check_ranges();
     check_times();
     check_order();
+    check_pack();
+    check_alone();
+    check_read_words();
+    check_word_counts();
     check_null();
     return expect_end("calls");
 }

@@ -7,6 +7,7 @@
 
 int header_calls(void);
 int relay_calls(void);
+int read_calls(void);
 int setting_calls(void);
 int accessors(void);
 int constants(void);
@@ -16,47 +17,78 @@ int header_calls(void)
 {
     hj_reading (*read)(const uint8_t *, size_t) = hj_read;
     hj_answer (*build)(hj_fields, size_t, uint8_t *, size_t) = hj_build;
+    uint32_t (*read_words)(const uint8_t *, size_t, uint32_t *,
+                           size_t) = hj_read_words;
+    hj_answer (*build_words)(const uint32_t *, size_t, size_t, uint8_t *,
+                             size_t) = hj_build_words;
+    hj_fields (*unpack)(const uint32_t *) = hj_unpack;
+    void (*pack)(const hj_fields *, uint32_t *) = hj_pack;
     uint32_t (*class_of)(uint32_t) = hj_class;
     uint32_t (*path)(uint32_t) = hj_path;
     uint16_t (*checksum)(const uint8_t *, size_t) = hj_checksum;
 
-    return read && build && class_of && path && checksum;
+    return read && build && read_words && build_words && unpack && pack &&
+           class_of && path && checksum;
 }
 
 int relay_calls(void)
 {
-    uint32_t (*state_words)(void) = hj_state_words;
-    uint32_t (*fresh)(uint32_t *, size_t) = hj_fresh;
-    hj_verdict (*receive)(uint32_t *, size_t, uint32_t, uint16_t,
+    uint32_t (*const words[])(void) = {hj_board_words, hj_mission_words};
+    uint32_t (*board)(hj_board *, size_t) = hj_fresh_board;
+    uint32_t (*mission)(hj_mission *, size_t, uint32_t) = hj_fresh_mission;
+    hj_verdict (*receive)(const hj_board *, size_t, hj_mission *, size_t,
+                          const hj_record *, size_t, hj_arrival,
                           const uint8_t *, size_t, uint8_t *,
                           size_t) = hj_receive;
-    hj_answer (*take)(uint32_t *, size_t, uint32_t) = hj_take;
-    hj_answer (*counter)(const uint32_t *, size_t, uint32_t) = hj_counter;
-    hj_answer (*waiting)(const uint32_t *, size_t, uint32_t) = hj_waiting;
-    hj_answer (*router)(const uint32_t *, size_t) = hj_get_router;
-    hj_port (*port)(const uint32_t *, size_t, uint32_t) = hj_get_port;
-    hj_route (*route)(const uint32_t *, size_t, uint32_t) = hj_get_route;
-    hj_group (*group)(const uint32_t *, size_t, uint32_t) = hj_get_group;
-    hj_path_place (*path)(const uint32_t *, size_t, uint32_t) = hj_get_path;
-    hj_found (*search)(const uint32_t *, size_t, uint32_t) = hj_search;
+    hj_verdict (*receive_at)(const hj_board *, size_t, hj_mission *, size_t,
+                             const hj_record *, size_t, uint32_t, uint16_t,
+                             const uint8_t *, size_t, uint8_t *,
+                             size_t) = hj_receive_at;
+    hj_answer (*take)(const hj_board *, size_t, hj_mission *, size_t,
+                      uint32_t) = hj_take;
+    hj_found (*search)(const hj_board *, size_t, const hj_mission *, size_t,
+                       const hj_record *, size_t, uint32_t) = hj_search;
 
-    return state_words && fresh && receive && take && counter && waiting &&
-           router && port && route && group && path && search;
+    return words[0] && board && mission && receive && receive_at && take &&
+           search;
+}
+
+int read_calls(void)
+{
+    typedef hj_answer of_mission(const hj_mission *, size_t, uint32_t);
+    typedef hj_answer word(const hj_mission *, size_t, uint32_t, uint32_t);
+    of_mission *const looks[] = {hj_counter, hj_waiting};
+    word *const words[] = {hj_group_word, hj_path_word};
+    hj_answer (*router)(const hj_board *, size_t) = hj_get_router;
+    hj_answer (*port_word)(const hj_board *, size_t, uint32_t,
+                           uint32_t) = hj_port_word;
+    hj_answer (*route_word)(const hj_record *, size_t, uint32_t,
+                            uint32_t) = hj_route_word;
+    hj_port (*port)(const hj_board *, size_t, uint32_t) = hj_get_port;
+    hj_route (*route)(const hj_record *, size_t, uint32_t) = hj_get_route;
+    hj_group (*group)(const hj_mission *, size_t, uint32_t) = hj_get_group;
+    hj_path_place (*path)(const hj_mission *, size_t, uint32_t) = hj_get_path;
+
+    return looks[0] && words[0] && router && port_word && route_word && port &&
+           route && group && path;
 }
 
 int setting_calls(void)
 {
-    typedef uint32_t one(uint32_t *, size_t, uint32_t);
-    typedef uint32_t four(uint32_t *, size_t, uint32_t, uint32_t, uint32_t,
-                          uint32_t);
-    typedef uint32_t six(uint32_t *, size_t, uint32_t, uint32_t, uint32_t,
-                         uint32_t, uint32_t, uint32_t);
-    one *const ones[] = {hj_set_router, hj_clear_route, hj_clear_group,
-                         hj_clear_path};
-    four *const fours[] = {hj_set_port, hj_set_group, hj_set_path};
-    six *route = hj_set_route;
+    typedef uint32_t place(const hj_board *, size_t, hj_mission *, size_t,
+                           uint32_t, uint32_t, uint32_t, uint32_t);
+    typedef uint32_t clear(hj_mission *, size_t, uint32_t);
+    place *const places[] = {hj_set_group, hj_set_path};
+    clear *const clears[] = {hj_clear_group, hj_clear_path};
+    uint32_t (*router)(hj_board *, size_t, uint32_t) = hj_set_router;
+    uint32_t (*port)(hj_board *, size_t, uint32_t, uint32_t, uint32_t,
+                     uint32_t, uint32_t) = hj_set_port;
+    uint32_t (*route)(const hj_board *, size_t, hj_record *, size_t, uint32_t,
+                      uint32_t, uint32_t, uint32_t, uint32_t, uint32_t,
+                      uint32_t) = hj_set_route;
+    uint32_t (*clear_route)(hj_record *, size_t, uint32_t) = hj_clear_route;
 
-    return ones[0] && fours[0] && route;
+    return places[0] && clears[0] && router && port && route && clear_route;
 }
 
 int accessors(void)
@@ -79,9 +111,15 @@ int constants(void)
     const char version[] = HJ_VERSION;
     const int versions[] = {HJ_VERSION_MAJOR, HJ_VERSION_MINOR,
                             HJ_VERSION_PATCH};
-    const int limits[] = {HJ_STATE_WORDS, HJ_OUTPUT_ROOM, HJ_MOST_DATA,
-                          HJ_MOST_LENGTH, HJ_PORTS,       HJ_ROUTES,
-                          HJ_GROUPS,      HJ_PATHS,       HJ_QUEUE};
+    const int limits[] = {HJ_BOARD_WORDS,   HJ_MISSION_WORDS,
+                          HJ_READING_WORDS, HJ_FIELD_WORDS,
+                          HJ_OUTPUT_ROOM,   HJ_MOST_DATA,
+                          HJ_MOST_LENGTH,   HJ_MISSIONS,
+                          HJ_PORTS,         HJ_ROUTES,
+                          HJ_GROUPS,        HJ_PATHS,
+                          HJ_QUEUE,         HJ_PORT_NUMBERS,
+                          HJ_ROUTE_NUMBERS, HJ_GROUP_NUMBERS,
+                          HJ_PATH_NUMBERS};
     const int classes[] = {HJ_INVALID,        HJ_UNICAST,
                            HJ_MULTICAST,      HJ_NET_BROADCAST,
                            HJ_DOMAIN_BROADCAST, HJ_SCPS_BROADCAST,
@@ -110,7 +148,7 @@ int numbers(void)
         HJ_NOTHING_WAITING, HJ_FIELD_RANGE, HJ_DATA_TOO_LONG,
         HJ_BAD_NUMBER,    HJ_BAD_MASK,      HJ_SAME_ENTRY,
         HJ_BAD_CODE,      HJ_WRONG_CLASS,   HJ_UNKNOWN_TP_ID,
-        HJ_ENTRIES_WAIT};
+        HJ_PORT_SET_UP};
     const int counters[HJ_COUNTERS] = {
         HJ_IN_RECEIVES,       HJ_IN_BAD_LENGTH,  HJ_IN_BAD_VERSION,
         HJ_IN_BAD_ADDRESS,    HJ_IN_BAD_CHECKSUM, HJ_UNSUPPORTED,

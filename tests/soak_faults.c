@@ -20,32 +20,33 @@ static int fault(void)
     return number;
 }
 
-uint32_t __real_hj_class(uint32_t address);
-uint32_t __wrap_hj_class(uint32_t address);
-hj_answer __real_hj_take(uint32_t *state, size_t words, uint32_t port);
-hj_answer __wrap_hj_take(uint32_t *state, size_t words, uint32_t port);
-hj_answer __real_hj_counter(const uint32_t *state, size_t words,
-                            uint32_t counter);
-hj_answer __wrap_hj_counter(const uint32_t *state, size_t words,
-                            uint32_t counter);
-hj_answer __real_hj_waiting(const uint32_t *state, size_t words,
-                            uint32_t port);
-hj_answer __wrap_hj_waiting(const uint32_t *state, size_t words,
-                            uint32_t port);
-hj_found __real_hj_search(const uint32_t *state, size_t words,
-                          uint32_t address);
-hj_found __wrap_hj_search(const uint32_t *state, size_t words,
-                          uint32_t address);
-uint32_t __real_hj_set_port(uint32_t *state, size_t words, uint32_t port,
-                            uint32_t address, uint32_t mask, uint32_t mtu);
-uint32_t __wrap_hj_set_port(uint32_t *state, size_t words, uint32_t port,
-                            uint32_t address, uint32_t mask, uint32_t mtu);
-hj_verdict __real_hj_receive(uint32_t *state, size_t words, uint32_t port,
-                             uint16_t slot, const uint8_t *octets,
-                             size_t length, uint8_t *output, size_t room);
-hj_verdict __wrap_hj_receive(uint32_t *state, size_t words, uint32_t port,
-                             uint16_t slot, const uint8_t *octets,
-                             size_t length, uint8_t *output, size_t room);
+#define BOARD const hj_board *board, size_t board_words
+#define MISSION hj_mission *mission, size_t mission_words
+#define SEEN const hj_mission *mission, size_t mission_words
+#define ROUTES const hj_record *routes, size_t route_count
+#define LENT_BOARD board, board_words
+#define LENT_MISSION mission, mission_words
+#define LENT_ROUTES routes, route_count
+
+/* A call under its two names, for the linker. */
+#define WRAPPED(type, name, ...)                                              \
+    type __real_##name(__VA_ARGS__);                                          \
+    type __wrap_##name(__VA_ARGS__)
+
+WRAPPED(uint32_t, hj_class, uint32_t address);
+WRAPPED(hj_answer, hj_take, BOARD, MISSION, uint32_t port);
+WRAPPED(hj_answer, hj_counter, SEEN, uint32_t counter);
+WRAPPED(hj_answer, hj_waiting, SEEN, uint32_t port);
+WRAPPED(hj_found, hj_search, BOARD, SEEN, ROUTES, uint32_t address);
+WRAPPED(uint32_t, hj_set_port, hj_board *board, size_t board_words,
+        uint32_t port, uint32_t address, uint32_t mask, uint32_t mtu,
+        uint32_t mission);
+WRAPPED(hj_verdict, hj_receive_at, BOARD, MISSION, ROUTES, uint32_t port,
+        uint16_t slot, const uint8_t *octets, size_t length, uint8_t *output,
+        size_t room);
+
+/* Where the counters of a mission's state begin. */
+#define COUNTERS_AT 393
 
 uint32_t __wrap_hj_class(uint32_t address)
 {
@@ -54,75 +55,93 @@ uint32_t __wrap_hj_class(uint32_t address)
     return __real_hj_class(address);
 }
 
-hj_answer __wrap_hj_take(uint32_t *state, size_t words, uint32_t port)
+hj_answer __wrap_hj_take(BOARD, MISSION, uint32_t port)
 {
-    if (fault() == 2 && words != HJ_STATE_WORDS)
+    if (fault() == 2 && mission_words != HJ_MISSION_WORDS)
         return (hj_answer)HJ_BAD_NUMBER << 32;
-    if (fault() == 3 && words > 0)
-        state[-1] = port; /* a guard */
-    return __real_hj_take(state, words, port);
+    if (fault() == 3 && mission_words > 0)
+        ((uint32_t *)mission)[-1] = port; /* a guard */
+    if (fault() == 20 && board_words == HJ_BOARD_WORDS)
+        ((hj_board *)board)->words[0] ^= 1; /* the board is to be read */
+    return __real_hj_take(LENT_BOARD, LENT_MISSION, port);
 }
 
-hj_answer __wrap_hj_counter(const uint32_t *state, size_t words,
-                            uint32_t counter)
+hj_answer __wrap_hj_counter(SEEN, uint32_t counter)
 {
-    if (fault() == 4 && words < HJ_STATE_WORDS)
-        ((uint32_t *)state)[words] = counter; /* a guard, or the fence */
-    if (fault() == 5 && words == HJ_STATE_WORDS)
-        ((uint32_t *)state)[800]++;
-    return __real_hj_counter(state, words, counter);
+    if (fault() == 4 && mission_words < HJ_MISSION_WORDS)
+        ((uint32_t *)mission)[mission_words] = counter; /* guard or fence */
+    if (fault() == 5 && mission_words == HJ_MISSION_WORDS)
+        ((hj_mission *)mission)->words[400]++;
+    return __real_hj_counter(LENT_MISSION, counter);
 }
 
-hj_answer __wrap_hj_waiting(const uint32_t *state, size_t words, uint32_t port)
+hj_answer __wrap_hj_waiting(SEEN, uint32_t port)
 {
-    hj_answer answer = __real_hj_waiting(state, words, port);
+    hj_answer answer = __real_hj_waiting(LENT_MISSION, port);
 
     return fault() == 6 && hj_value(answer) == HJ_QUEUE ? answer - 1 : answer;
 }
 
-/* Whether a route for this address alone is there, and not up. */
-static int hidden(const uint32_t *state, uint32_t address)
+/* A record for this address alone, of the availability or another, whosever it
+ * is; null for none. */
+static const hj_record *alone(ROUTES, uint32_t address, int is_up)
 {
-    for (uint32_t place = 0; place < HJ_ROUTES; place++) {
-        hj_route route = hj_get_route(state, HJ_STATE_WORDS, place);
+    for (size_t place = 0; place < route_count; place++) {
+        const hj_record *record = &routes[place];
 
-        if (route.filled && route.prefix == address &&
-            route.mask == 0xffffffff && route.availability != HJ_UP)
-            return 1;
+        if (record->filled && record->prefix == address &&
+            record->mask == 0xffffffff &&
+            (record->availability == HJ_UP) == is_up)
+            return record;
     }
-    return 0;
+    return NULL;
 }
 
-hj_found __wrap_hj_search(const uint32_t *state, size_t words,
-                          uint32_t address)
+/* Whether the words are those of a relay, and the list no longer than one. */
+static int is_relay(size_t board_words, size_t mission_words,
+                    size_t route_count)
 {
-    hj_found found = __real_hj_search(state, words, address);
+    return board_words == HJ_BOARD_WORDS &&
+           mission_words == HJ_MISSION_WORDS && route_count <= HJ_ROUTES;
+}
+
+hj_found __wrap_hj_search(BOARD, SEEN, ROUTES, uint32_t address)
+{
+    hj_found found =
+        __real_hj_search(LENT_BOARD, LENT_MISSION, LENT_ROUTES, address);
 
     if (fault() == 17 && hj_is_found(found) && hj_found_ones(found) == 0)
         return 0; /* the default route taken for none */
     if (fault() == 18 && hj_is_found(found))
-        ((uint32_t *)state)[425]++;
-    if (fault() == 19 && words == HJ_STATE_WORDS && hidden(state, address))
+        ((hj_mission *)mission)->words[COUNTERS_AT]++;
+    if (!is_relay(board_words, mission_words, route_count))
+        return found;
+    if (fault() == 19 && alone(LENT_ROUTES, address, 0) != NULL)
         return 0; /* a route of 32 ones that is not up hides all others */
+    if (fault() == 21 && alone(LENT_ROUTES, address, 1) != NULL)
+        return 1u << 8 | (hj_found)32 << 32; /* whosever it is, and refused */
+    if (fault() == 22 && route_count > 0 && !hj_is_found(found))
+        ((hj_record *)routes)[route_count - 1].filled ^= 1;
     return found;
 }
 
-uint32_t __wrap_hj_set_port(uint32_t *state, size_t words, uint32_t port,
-                            uint32_t address, uint32_t mask, uint32_t mtu)
+uint32_t __wrap_hj_set_port(hj_board *board, size_t board_words, uint32_t port,
+                            uint32_t address, uint32_t mask, uint32_t mtu,
+                            uint32_t mission)
 {
-    uint32_t refusal =
-        __real_hj_set_port(state, words, port, address, mask, mtu);
+    uint32_t refusal = __real_hj_set_port(board, board_words, port, address,
+                                          mask, mtu, mission);
 
-    if (fault() == 7 && refusal == HJ_ENTRIES_WAIT)
-        state[1 + 4 * port + 3] = mtu + 1;
+    if (fault() == 7 && refusal == HJ_PORT_SET_UP)
+        board->words[1 + 5 * port + 3] = mtu + 1;
     if (fault() == 8 && refusal == HJ_DONE)
-        state[161 + 33 * port] = 0x10000; /* behind those that wait */
+        board->words[5 * (port == 0 ? 8 : port)] ^= 1; /* another's mission */
     return refusal;
 }
 
 /* What a wrong hj_receive may do to words, octets and output. */
-static void touch(hj_verdict verdict, uint32_t *state, const uint8_t *octets,
-                  size_t length, uint8_t *output)
+static void touch(hj_verdict verdict, hj_mission *mission,
+                  const uint8_t *octets, size_t length, uint8_t *output)
 {
     volatile uint8_t beyond = 0;
     uint32_t ended = hj_ended_by(verdict);
@@ -136,23 +155,26 @@ static void touch(hj_verdict verdict, uint32_t *state, const uint8_t *octets,
     if (fault() == 12 && hj_took(verdict) != 0)
         ((uint8_t *)octets)[0] ^= 1;
     if (fault() == 13 && ended == HJ_DONE && hj_onward(verdict) == HJ_NO_ROUTE)
-        state[425 + HJ_OUT_NO_ROUTES]--;
+        mission->words[COUNTERS_AT + HJ_OUT_NO_ROUTES]--;
     if (fault() == 14 && ended == HJ_SHORT_OUTPUT)
-        state[425]++;
+        mission->words[COUNTERS_AT]++;
     (void)beyond;
 }
 
-hj_verdict __wrap_hj_receive(uint32_t *state, size_t words, uint32_t port,
-                             uint16_t slot, const uint8_t *octets,
-                             size_t length, uint8_t *output, size_t room)
+hj_verdict __wrap_hj_receive_at(BOARD, MISSION, ROUTES, uint32_t port,
+                                uint16_t slot, const uint8_t *octets,
+                                size_t length, uint8_t *output, size_t room)
 {
-    hj_verdict verdict = __real_hj_receive(state, words, port, slot, octets,
-                                           length, output, room);
+    hj_verdict verdict =
+        __real_hj_receive_at(LENT_BOARD, LENT_MISSION, LENT_ROUTES, port, slot,
+                             octets, length, output, room);
 
-    touch(verdict, state, octets, length, output);
+    touch(verdict, mission, octets, length, output);
     if (fault() == 15 && hj_onward(verdict) == HJ_NO_ROUTE)
         return verdict + (1u << 16); /* 12, which is no longer given */
     if (fault() == 16 && hj_dropped(verdict) != 0)
         return verdict & ~((hj_verdict)0xff << 32);
+    if (fault() == 23 && hj_ended_by(verdict) == HJ_BAD_NUMBER)
+        return HJ_NO_PORT; /* a list over 512 records: 16 for 21 */
     return verdict;
 }

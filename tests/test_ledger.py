@@ -31,8 +31,9 @@ def ledger(lines):
 
 class Ledger(unittest.TestCase):
     def test_stored_histories(self):
-        names = glob.glob(os.path.join(ROOT, "tests/traces/relay-*.trace"))
-        self.assertGreater(len(names), 5)
+        names = glob.glob(os.path.join(ROOT, "tests/traces/*.trace"))
+        names = [name for name in names if not os.path.exists(name[:-6] + ".answers")]
+        self.assertGreater(len(names), 7)
         for name in names:
             status, output = ledger(stored(name))
             self.assertEqual(status, 0, name + ": " + output)
@@ -46,38 +47,38 @@ class Ledger(unittest.TestCase):
         self.assertIn(says, output)
 
     def test_another_entry_is_handed_out(self):
-        self.refused("relay-queues.trace", "take 1 = 0 2 5", "take 1 = 0 4 5", "slot taken: due 2, found 4")
-        self.refused("relay-queues.trace", "take 1 = 0 2 5", "take 1 = 0 2 3", "precedence taken: due 5, found 3")
-        self.refused("relay-queues.trace", "take 1 = 0 2 5", "take 1 = 18 0 0", "an entry exactly where one waits")
+        self.refused("relay-queues.trace", "take 1 0 = 0 2 5", "take 1 0 = 0 4 5", "slot taken: due 2, found 4")
+        self.refused("relay-queues.trace", "take 1 0 = 0 2 5", "take 1 0 = 0 2 3", "precedence taken: due 5, found 3")
+        self.refused("relay-queues.trace", "take 1 0 = 0 2 5", "take 1 0 = 18 0 0", "an entry exactly where one waits")
 
     def test_another_number_waits(self):
-        self.refused("relay-queues.trace", "waiting 1 = 32", "waiting 1 = 31", "took = handed out + waiting")
+        self.refused("relay-queues.trace", "waiting 1 0 = 32", "waiting 1 0 = 31", "took = handed out + waiting")
 
     def test_each_counter(self):
-        counters = "counters = 24 6 2 12 1 2 0 0 1 0 0 0 0 0 0"
-        for at in range(2, 17):
+        counters = "counters 0 = 24 6 2 12 1 2 0 0 1 0 0 0 0 0 0"
+        for at in range(3, 18):
             words = counters.split()
             words[at] = str(int(words[at]) + 1)
             self.refused("relay-refusals.trace", counters, " ".join(words), "FAILED")
 
     def test_a_full_port_that_takes_an_entry(self):
-        line = "receive 0 33 50 200c1a41c00002010a0a0004 = 0 0 15 0 -"
-        other = "receive 0 33 50 200c1a41c00002010a0a0004 = 0 0 1 2 200c1a41c00002010a0a0004"
+        line = "receive 0 33 50 200c1a41c00002010a0a0004 0 = 0 0 15 0 -"
+        other = "receive 0 33 50 200c1a41c00002010a0a0004 0 = 0 0 1 2 200c1a41c00002010a0a0004"
         self.refused("relay-queues.trace", line, other, "a full port took an entry")
 
     def test_15_without_a_full_port(self):
-        line = "receive 0 1 50 200d1a43c00002010a0a000430 = 0 0 1 2 200d1a43c00002010a0a000430"
-        other = "receive 0 1 50 200d1a43c00002010a0a000430 = 0 0 15 0 -"
+        line = "receive 0 1 50 200d1a43c00002010a0a000430 0 = 0 0 1 2 200d1a43c00002010a0a000430"
+        other = "receive 0 1 50 200d1a43c00002010a0a000430 0 = 0 0 15 0 -"
         self.refused("relay-queues.trace", line, other, "15 without a full port")
 
     def test_discards_beyond_their_bounds(self):
-        line = "counters = 34 0 0 0 0 0 0 0 0 0 33 0 2 0 0"
+        line = "counters 0 = 34 0 0 0 0 0 0 0 0 0 33 0 2 0 0"
         for discards in (0, 3):
-            other = f"counters = 34 0 0 0 0 0 0 0 0 0 33 0 {discards} 0 0"
+            other = f"counters 0 = 34 0 0 0 0 0 0 0 0 0 33 0 {discards} 0 0"
             self.refused("relay-queues.trace", line, other, "npOutDiscards within its bounds")
 
     def test_a_mark(self):
-        self.refused("relay-queues.trace", "waiting 1 = 32", "waiting 1 = 32 !", "no good answer")
+        self.refused("relay-queues.trace", "waiting 1 0 = 32", "waiting 1 0 = 32 !", "no good answer")
 
 
 class Whole(unittest.TestCase):
@@ -86,11 +87,11 @@ class Whole(unittest.TestCase):
     LINES = ["read 200f5b610a04090e0a0a0a04401d6f = 0 15 15 5 0a04090e 0a0a0a04 1 0 - - - 64 0 - - 1 0",
              "read 20 = 1", "class 0a04090f = 2", "path 0a0409fe = 0", "checksum 0001f203f4f5f6f7 = 220d",
              "build 0 49 5 0a04090e 0a0a0a04 1 0 - - - 64 0 - - 1 0 = 17 -",
-             "set_router 1 = 0", "set_port 0 0a0a0a02 ffffff00 8191 = 0", "set_route 0 0a040900 ffffff00 0 1 0 = 0",
-             "set_group 0 e0000105 1 1 = 0", "set_path 0 0a000007 1 1 = 0",
-             "receive 0 7 50 - = 1 0 0 0 -", "take 0 = 18 0 0", "waiting 0 = 0",
-             "search 0a04090e = 0 24 0", "search 0a04080e = -",
-             "counters = 1 1 0 0 0 0 0 0 0 0 0 0 0 0 0", "clear_route 0 = 0", "clear_group 0 = 0", "clear_path 0 = 0"]
+             "set_router 1 = 0", "set_port 0 0a0a0a02 ffffff00 8191 0 = 0", "set_route 0 0a040900 ffffff00 0 1 0 0 = 0",
+             "set_group 0 e0000105 1 1 0 = 0", "set_path 0 0a000007 1 1 0 = 0",
+             "receive 0 7 50 - 0 = 1 0 0 0 -", "take 0 0 = 18 0 0", "waiting 0 0 = 0",
+             "search 0a04090e 0 = 0 24 0", "search 0a04080e 0 = -",
+             "counters 0 = 1 1 0 0 0 0 0 0 0 0 0 0 0 0 0", "clear_route 0 = 0", "clear_group 0 0 = 0", "clear_path 0 0 = 0"]
     COVERAGE = ("build/coverage", "headers=0", "builds=0", "addresses=0", "checksums=0", "histories=0")
 
     def test_whole_lines(self):

@@ -92,18 +92,19 @@ def text_of(path):
 class Calls(unittest.TestCase):
     """host/shared/calls.def against what is written by hand."""
 
-    ROWS = re.findall(r"^(?:WORD|CALL)\((\w+), (\w+), \w+, \w+, \d, (\w+)", text_of("host/shared/calls.def"), re.M)
-    WORDS = [word for _, _, word in ROWS if not word.isdigit()]
+    TABLE = text_of("host/shared/calls.def")
+    ROWS = re.findall(r"^(?:WORD|CALL)\((\w+), (\w+), \w+, \w+, \w+, \d, (\w+)", TABLE, re.M)
+    WORDS = [word for _, _, word in ROWS if not word.isdigit()] + re.findall(r"^LINE\(\w+, (\w+)", TABLE, re.M)
 
     def test_each_exported_function_has_a_row(self):
         self.assertEqual(sorted(f"hj_{function}" for _, function, _ in self.ROWS), text_of("exports.txt").split())
         for name, function, _ in self.ROWS:
-            self.assertEqual(name, function.upper())
+            self.assertTrue(function.upper().startswith(name), name)
 
     def test_each_word_is_told(self):
         places = {"replay --help": run("build/replay", "--help")[1], "man/replay.1": text_of("man/replay.1"),
                   "docs/TRACE.md": text_of("docs/TRACE.md")}
-        self.assertEqual(len(self.WORDS), 19)
+        self.assertEqual(len(self.WORDS), 21)
         for place, text in places.items():
             for word in self.WORDS:
                 self.assertRegex(text, rf"\b{word}\b", place)

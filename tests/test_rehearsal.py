@@ -164,6 +164,19 @@ class Story(unittest.TestCase):
         octets = re.findall(r"Satellite port 1 to .*\n +(\d+) octets at 2400 bit/s", before)
         self.assertEqual((len(octets), sum(map(int, octets))), (6, 126))
 
+    def test_a_storm_of_the_other_mission(self):
+        """The two tables, left and right of the bar, line by line."""
+        self.has("16", "46 sent, 46 arrivals, 8 of them dropped", "Stormy counter npOutDiscards 8 mission 1",
+                 "Stormy counter npOutDiscards 0", "Stormy, mission 0", "waiting on port 1: 3 ",
+                 "as expected: mission 0 is told the same by both", "Stormy receives \"all units: STORM\"",
+                 "REFUSED (11)", "Stormy receives \"Buoy: STORM\"", "here: not delivered (0)", "REFUSED (11)",
+                 "port 1: a take gives slot 3, precedence 9 ", "as expected: mission 0 is told the same by both")
+        rows = [line[3:].split(" | ") for line in self.scenes["16"].splitlines() if " | " in line]
+        rows = [(one.rstrip(), other) for one, other in rows if one.rstrip() != "Calm"]
+        self.assertEqual(len(rows), 7 + 14)
+        for one, other in rows:
+            self.assertEqual(one, other)
+
     def test_counters_and_ledger(self):
         self.assertIn(
             "\nNorth\n   counters: npInReceives 54, npInUnknownProtos 1, npInDelivers 1, npForwDatagrams 52, "
@@ -173,8 +186,16 @@ class Story(unittest.TestCase):
             "   port 2: granted 50 = handed out 48 + waiting 0 + dropped 2\n"
             "   port 3: granted 1 = handed out 1 + waiting 0 + dropped 0\n"
             "   port 4: granted 0 = handed out 0 + waiting 0 + dropped 0\n", self.output)
+        self.assertIn(
+            "\nStormy\n   counters: npInReceives 5, npForwDatagrams 5; all others 0\n"
+            "   port 0: granted 0 = handed out 0 + waiting 0 + dropped 0\n"
+            "   port 1: granted 5 = handed out 5 + waiting 0 + dropped 0\n"
+            "   counters of mission 1: npInReceives 42, npForwDatagrams 32, npOutNoRoutes 2, npOutDiscards 8; "
+            "all others 0\n"
+            "   port 2: granted 0 = handed out 0 + waiting 0 + dropped 0\n"
+            "   port 3: granted 40 = handed out 0 + waiting 32 + dropped 8\n", self.output)
         for relay in ("ControlRoom", "NorthUnit", "Buoy", "South", "SouthUnit", "East", "West", "Office",
-                      "Satellite", "Station", "Ship"):
+                      "Satellite", "Station", "Ship", "Calm", "Works", "Works2", "Tank", "Tank2", "Harbour"):
             self.assertRegex(self.output, f"\n{relay}\n   counters: .*\n   port 0: granted ")
 
 
@@ -207,6 +228,15 @@ class Small(unittest.TestCase):
             self.assertEqual((status, complaints), (1, ""), wrong)
             self.assertIn("NOT AS EXPECTED: " + wrong + "\n", output)
             self.assertIn("1 of 2 expectations held", output)
+
+    def test_what_is_told_otherwise_is_found(self):
+        twin = SMALL.replace("Left", "Left2").replace("Middle", "Middle2").replace("Right", "Right2")
+        order = "send Left%s 0 to 10.2.2.14 from 10.1.1.4 %sdata \"dose\"\n"
+        for first, second, status in ("", "", 0), ("", "hops 1 ", 1), ("", "precedence 1 ", 1):
+            text = SMALL + twin + order % ("", first) + order % ("2", second) + "run\nbeside Middle Middle2\n"
+            ended, output, _ = fly_text(text)
+            self.assertEqual(ended, status, output)
+            self.assertEqual("NOT AS EXPECTED: mission 0 is told the same by both" in output, status == 1)
 
     def test_a_take_foretold(self):
         status, output, _ = fly_text(WAITS)
@@ -249,13 +279,19 @@ class Small(unittest.TestCase):
                            ("port Left 1 10.1.1.256 255.255.255.0 9", "the port's address, found '10.1.1.256'"),
                            ("port Left 1 10.1.1.14 255.255.0.0 9", "found '22: wrong mask or prefix bits'"),
                            ("port Left 1 10.1.1.15 255.255.255.0 9", "found '25: the wrong class of address'"),
-                           ("port Left 1 10.1.1.14 255.255.255.0 0", "found '24: a code or size out of range'"),
+                           ("port Left 1 10.1.1.14 255.255.255.0 0", "found '24: a code or size out of range"),
                            ("port Left 1 10.1.1.14 255.255.255.0", "an MTU, found the end of the line"),
                            ("port Left 1 10.1.1.14 255.255.255.0 9 9", "the end of the line, found '9'\n"),
                            ("link Left 0 Right 0 2400", "a port without a link"),
                            ("link Left 3 Right 3 2400", "a port that is set up"),
                            ("route Middle 1 10.2.2.0 255.255.255.0 1 up", "found '23: the same entry"),
-                           ("route Middle 64 0.0.0.0 0.0.0.0 1 up", "found '21: no such place"),
+                           ("route Middle 512 0.0.0.0 0.0.0.0 1 up", "found '21: no such place"),
+                           ("route Middle 1 0.0.0.0 0.0.0.0 1 up mission 1", "or the other mission's port'"),
+                           ("route Middle 1 0.0.0.0 0.0.0.0 1 up mission 2", "a mission, 0 or 1, found '2'"),
+                           ("group Middle 0 10.9.9.31 0 - mission 1", "found '21: no such place"),
+                           ("port Left 0 10.1.1.4 255.255.255.0 1500", "found '35: the port is set up already'"),
+                           ("beside Left Other", "the name of a node, found 'Other'"),
+                           ("beside Left Right 1", "the end of the line, found '1'"),
                            ("route Middle 1 0.0.0.0 0.0.0.0 1 high", "found 'high'"),
                            ("group Middle 0 10.9.9.31 0;1 -", "found '0;1'"),
                            ("path Middle 0 10.9.9.40 0,1 there", "'here' or 'on', found 'there'"),

@@ -617,7 +617,7 @@ class Bench(Tree):
 case "$*" in
 -help) echo -one-insn-per-tb ;;
 --version) echo qemu 1 ;;
-*state) echo ours 8; echo plain 4 ;;
+*state) printf 'ours\\t8\\nplain\\t4\\nours, a record\\t3\\nplain, a record\\t2\\n' ;;
 *stack) printf '{self.STACK}' ;;
 *count) cat {self.root}/log >"$5"; printf '{count}'; exit {status} ;;
 esac
@@ -633,7 +633,8 @@ esac
         self.assertEqual(status, 0, output)
         rows = [line.split() for line in output.splitlines()]
         self.assertIn(["take", "1", "8", "3", "2.67", "1.00", "1.00"], rows)
-        self.assertIn(["state,", "octets", "8", "4"], rows)
+        self.assertIn(["board", "and", "two", "missions,", "octets", "8", "4"], rows)
+        self.assertIn(["a", "record", "of", "the", "list,", "octets", "3", "2"], rows)
         self.assertIn("stack of the deepest call, octets           60       40   (take; take)", output)
 
     def test_a_measure_is_missing(self):

@@ -4,26 +4,32 @@ import os
 import subprocess
 
 PROGRAM = "build/soak_faulty"
+BOARD = "the words of the board"
+MISSION = "the words of a mission's state"
 FAULTS = [
     "plain answers otherwise",             # a class
-    "not the refusal that is due",         # a wrong length, 21 for 16
-    "the words of the state",              # the word before the state
-    "beyond what was lent|the words of the state",  # the word after it
-    "the words of the state",              # a call that only reads writes
+    "not the refusal that is due",         # wrong words, 21 for 16
+    MISSION,                               # the word before the state
+    f"beyond what was lent|{MISSION}",     # the word after it
+    MISSION,                               # a call that only reads writes
     "not what the words say",              # waiting, one too few
-    "the words of the state",              # a refused setting writes
-    "the words of the state",              # a setting writes elsewhere
+    BOARD,                                 # a refused setting writes
+    BOARD,                                 # a setting writes elsewhere
     "beyond what was lent",                # a read beyond the octets
     "the output's octets",                 # an output written by a refusal
     "the output's octets",                 # an octet behind the header
     "the octets lent to be read",          # the datagram changed
-    "the words of the state",              # a counter too low
-    "the words of the state",              # 17 counted
+    MISSION,                               # a counter too low
+    MISSION,                               # 17 counted
     "odd onward half",                     # 12 for 11
-    "copies dropped, and not|the words of the state|plain answers otherwise",
-    "not what the routes say",             # a search, 0 ones for none
-    "the words of the state",              # a search that writes
-    "not what the routes say",             # a route not up hides another
+    f"copies dropped, and not|{MISSION}|plain answers otherwise",
+    "not what the list says",              # a search, 0 ones for none
+    MISSION,                               # a search that writes
+    "not what the list says",              # a route not up hides another
+    f"{BOARD}|not the refusal that is due",  # a take that writes the board
+    "not what the list says",              # a record that does not count
+    "the records of the list",             # a search that writes the list
+    "not the refusal that is due",         # 16 for 21
 ]
 
 

@@ -14,56 +14,61 @@
 
 #include "harpjuniper.h"
 
-hj_answer __real_hj_take(uint32_t *state, size_t words, uint32_t port);
-hj_answer __wrap_hj_take(uint32_t *state, size_t words, uint32_t port);
+#define BOARD const hj_board *board, size_t board_words
+#define MISSION hj_mission *mission, size_t mission_words
+#define LENT board, board_words, mission, mission_words
+
+hj_answer __real_hj_take(BOARD, MISSION, uint32_t port);
+hj_answer __wrap_hj_take(BOARD, MISSION, uint32_t port);
 
 /* The entry that the next take of its port hands out; one at a time. */
 static struct {
-    const uint32_t *state;
+    const hj_mission *mission;
     uint32_t port;
     hj_answer entry;
 } aside;
 
-static void set_aside(const uint32_t *state, uint32_t port, hj_answer entry)
+static void set_aside(const hj_mission *mission, uint32_t port,
+                      hj_answer entry)
 {
-    aside.state = state;
+    aside.mission = mission;
     aside.port = port;
     aside.entry = entry;
 }
 
-static hj_answer lose(uint32_t *state, size_t words, uint32_t port)
+static hj_answer lose(BOARD, MISSION, uint32_t port)
 {
-    if (hj_value(hj_waiting(state, words, port)) >= 2)
-        (void)__real_hj_take(state, words, port);
-    return __real_hj_take(state, words, port);
+    if (hj_value(hj_waiting(mission, mission_words, port)) >= 2)
+        (void)__real_hj_take(LENT, port);
+    return __real_hj_take(LENT, port);
 }
 
-static hj_answer swap(uint32_t *state, size_t words, uint32_t port)
+static hj_answer swap(BOARD, MISSION, uint32_t port)
 {
-    if (aside.state == NULL && hj_value(hj_waiting(state, words, port)) >= 2)
-        set_aside(state, port, __real_hj_take(state, words, port));
-    return __real_hj_take(state, words, port);
+    if (aside.mission == NULL &&
+        hj_value(hj_waiting(mission, mission_words, port)) >= 2)
+        set_aside(mission, port, __real_hj_take(LENT, port));
+    return __real_hj_take(LENT, port);
 }
 
-static hj_answer repeat(uint32_t *state, size_t words, uint32_t port)
+static hj_answer repeat(BOARD, MISSION, uint32_t port)
 {
-    hj_answer entry = __real_hj_take(state, words, port);
+    hj_answer entry = __real_hj_take(LENT, port);
 
-    if (aside.state == NULL && hj_refusal(entry) == HJ_DONE)
-        set_aside(state, port, entry);
+    if (aside.mission == NULL && hj_refusal(entry) == HJ_DONE)
+        set_aside(mission, port, entry);
     return entry;
 }
 
-hj_answer __wrap_hj_take(uint32_t *state, size_t words, uint32_t port)
+hj_answer __wrap_hj_take(BOARD, MISSION, uint32_t port)
 {
     const char *wrong = getenv("WRONG_TAKE");
 
     if (wrong == NULL)
-        return lose(state, words, port);
-    if (aside.state == state && aside.port == port) {
-        aside.state = NULL;
+        return lose(LENT, port);
+    if (aside.mission == mission && aside.port == port) {
+        aside.mission = NULL;
         return aside.entry;
     }
-    return strcmp(wrong, "swap") == 0 ? swap(state, words, port)
-                                      : repeat(state, words, port);
+    return strcmp(wrong, "swap") == 0 ? swap(LENT, port) : repeat(LENT, port);
 }

@@ -4,7 +4,7 @@
  *
  *     bench count < TRACE    each measured call between two marks
  *     bench stack < TRACE    each measured call on a painted stack
- *     bench state            the octets of the two states
+ *     bench state            the octets of board and missions, and of a record
  *
  * `count` prints a line for each measured call, the kind of it and which side
  * made it; an emulator that logs every instruction gives the numbers to these
@@ -91,27 +91,50 @@ static bool measure(enum mode mode)
 
 /* ---- Lines --------------------------------------------------------------- */
 
-/* Numbers, and octets behind them where the last argument is such. */
+/* Numbers, and behind them octets and the mission where there are such. */
 static bool take_arguments(const char *forms, const struct trace_call *call)
 {
-    size_t count = strlen(forms);
-    const struct trace_word *last = &call->words[call->count - 1];
+    const char *octets = strchr(forms, 'o');
+    const char *mission = strchr(forms, 'M');
 
-    if (call->count != 1 + count ||
-        !trace_numbers(call->words + 1, forms, bench_call.numbers))
+    bench_call.mission = 0;
+    if (call->count != 1 + strlen(forms) ||
+        !trace_numbers(call->words + 1, forms, bench_call.numbers) ||
+        (octets != NULL &&
+         !trace_octets(call->words[1 + (octets - forms)], bench_call.octets,
+                       &bench_call.count)))
         return false;
-    return count == 0 || forms[count - 1] != 'o' ||
-           trace_octets(*last, bench_call.octets, &bench_call.count);
+    return mission == NULL || trace_mission(call->words[1 + (mission - forms)],
+                                            &bench_call.mission);
+}
+
+/* `new` and `records`. */
+static bool make_anew(void)
+{
+    bool is_new = bench_call.which == LINE_NEW;
+
+    if (!is_new && bench_call.which != LINE_RECORDS)
+        return false;
+    bench_call.records = is_new ? TRACE_RECORDS : bench_call.numbers[1];
+    if (bench_call.records > TRACE_RECORDS)
+        return false;
+    bench_plain_records();
+    bench_ours_records();
+    if (is_new) {
+        bench_plain_new();
+        bench_ours_new();
+    }
+    return true;
 }
 
 /* False where the two differ, or the bench does not make such a call. */
 static bool make_call(enum mode mode)
 {
-    enum call_kind kind = call_facts[bench_call.which].kind;
-
+    if (bench_call.which > CALLS)
+        return make_anew();
     if (bench_ours[bench_call.which] != NULL)
         return measure(mode);
-    if (kind != KIND_FRESH && kind != KIND_SETTING)
+    if (call_facts[bench_call.which].kind != KIND_SETTING)
         return false;
     bench_plain_set();
     bench_ours_set();
@@ -156,7 +179,7 @@ static const char HELP[] =
     "plain C implementation. `make bench` calls it and says what it found.\n"
     "    count  each measured call between two marks, for an emulator's log\n"
     "    stack  each measured call, with the octets of stack it has written to\n"
-    "    state  the octets of the two states\n"
+    "    state  the octets of board and missions, and of a record\n"
     "\n"
     "Status: 0 done; 1 the two answered a call differently, or a line is not\n"
     "understood, or the input failed; 2 bad usage, or the output failed.\n";
@@ -170,8 +193,10 @@ int main(int count, char **arguments)
     if (status != OPTIONS_GO_ON)
         return status;
     if (count == 2 && strcmp(arguments[1], "state") == 0) {
-        printf("ours\t%zu\nplain\t%zu\n", bench_our_state(),
-               bench_plain_state());
+        printf("ours\t%zu\nplain\t%zu\n"
+               "ours, a record\t%zu\nplain, a record\t%zu\n",
+               bench_our_state(), bench_plain_state(), bench_our_record(),
+               bench_plain_record());
         return options_end(&PROGRAM, 0);
     }
     if (count != 2 || (strcmp(arguments[1], "count") != 0 &&

@@ -25,6 +25,8 @@ struct bench_answer {
 struct bench_call {
     enum call which;
     uint32_t numbers[CALL_MOST_NUMBERS];
+    uint32_t mission; /* whose call it is */
+    size_t records;   /* of the list */
     size_t count;
     uint8_t octets[TRACE_MOST_OCTETS];
     struct bench_answer answer;

@@ -9,22 +9,32 @@
 #include "harpjuniper.h"
 #include "shared/library.h"
 
-static uint32_t state[HJ_STATE_WORDS];
+static hj_board board;
+static hj_mission missions[HJ_MISSIONS];
+static hj_record routes[TRACE_MOST_RECORDS];
 
 size_t bench_our_state(void)
 {
-    return sizeof state;
+    return sizeof board + sizeof missions;
+}
+
+size_t bench_our_record(void)
+{
+    return sizeof *routes;
 }
 
 static void receive(void)
 {
     const uint32_t *n = bench_call.numbers;
+    hj_arrival arrival = {n[0], (uint16_t)n[1], 0};
+    hj_mission *mission = &missions[bench_call.mission];
     struct bench_answer *answer = &bench_call.answer;
     hj_verdict verdict;
 
     memset(answer, 0, sizeof *answer);
     bench_begin();
-    verdict = hj_receive(state, HJ_STATE_WORDS, n[0], (uint16_t)n[1],
+    verdict = hj_receive(&board, HJ_BOARD_WORDS, mission, HJ_MISSION_WORDS,
+                         routes, bench_call.records, arrival,
                          bench_call.octets, bench_call.count, answer->output,
                          sizeof answer->output);
     bench_end();
@@ -37,12 +47,14 @@ static void receive(void)
 
 static void take(void)
 {
+    hj_mission *mission = &missions[bench_call.mission];
     struct bench_answer *answer = &bench_call.answer;
     hj_answer taken;
 
     memset(answer, 0, sizeof *answer);
     bench_begin();
-    taken = hj_take(state, HJ_STATE_WORDS, bench_call.numbers[0]);
+    taken = hj_take(&board, HJ_BOARD_WORDS, mission, HJ_MISSION_WORDS,
+                    bench_call.numbers[0]);
     bench_end();
     answer->refusal = hj_refusal(taken);
     answer->slot = hj_slot(taken);
@@ -69,7 +81,32 @@ void (*const bench_ours[CALLS])(void) = {
     [CALL_READ] = read_header,
 };
 
+static struct library_lent lent(uint32_t mission)
+{
+    struct library_lent lent = {&board, HJ_BOARD_WORDS, &missions[mission],
+                                HJ_MISSION_WORDS, routes, bench_call.records};
+
+    return lent;
+}
+
 void bench_ours_set(void)
 {
-    library_set(bench_call.which, state, HJ_STATE_WORDS, bench_call.numbers);
+    struct library_lent all = lent(bench_call.mission);
+
+    library_call(bench_call.which, &all, bench_call.numbers);
+}
+
+void bench_ours_new(void)
+{
+    for (uint32_t i = 0; i < HJ_MISSIONS; i++) {
+        struct library_lent all = lent(i);
+
+        library_call(CALL_FRESH_BOARD, &all, NULL);
+        library_call(CALL_FRESH_MISSION, &all, &i);
+    }
+}
+
+void bench_ours_records(void)
+{
+    memset(routes, 0, sizeof routes);
 }

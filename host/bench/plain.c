@@ -11,23 +11,37 @@
 #include "plain/plain_relay.h"
 #include "shared/plainly.h"
 
-static plain_relay relay;
+static struct plainly relay;
+static plain_record records[TRACE_MOST_RECORDS];
+
+static plain_list list(void)
+{
+    plain_list list = {records, bench_call.records};
+
+    return list;
+}
 
 size_t bench_plain_state(void)
 {
     return sizeof relay;
 }
 
+size_t bench_plain_record(void)
+{
+    return sizeof *records;
+}
+
 static void receive(void)
 {
     const uint32_t *n = bench_call.numbers;
     struct bench_answer *answer = &bench_call.answer;
+    plain_view view = plainly_view(&relay, bench_call.mission, list());
     plain_slot slot = {(uint16_t)n[1]};
     plain_verdict verdict;
 
     memset(answer, 0, sizeof *answer);
     bench_begin();
-    verdict = plain_receive(&relay, n[0], slot, bench_call.octets,
+    verdict = plain_receive(&view, n[0], slot, bench_call.octets,
                             bench_call.count, answer->output,
                             sizeof answer->output);
     bench_end();
@@ -41,12 +55,13 @@ static void receive(void)
 static void take(void)
 {
     struct bench_answer *answer = &bench_call.answer;
+    plain_view view = plainly_view(&relay, bench_call.mission, list());
     plain_entry entry = {{0}, 0};
     plain_refusal refusal;
 
     memset(answer, 0, sizeof *answer);
     bench_begin();
-    refusal = plain_take(&relay, bench_call.numbers[0], &entry);
+    refusal = plain_take(&view, bench_call.numbers[0], &entry);
     bench_end();
     answer->refusal = refusal;
     answer->slot = entry.slot.number;
@@ -77,5 +92,18 @@ void (*const bench_plain[CALLS])(void) = {
 
 void bench_plain_set(void)
 {
-    plainly_set(&relay, bench_call.which, bench_call.numbers);
+    plainly_set(&relay, bench_call.mission, list(), bench_call.which,
+                bench_call.numbers);
+}
+
+void bench_plain_new(void)
+{
+    plain_board_fresh(&relay.board);
+    for (uint32_t i = 0; i < PLAIN_MISSIONS; i++)
+        plain_mission_fresh(&relay.missions[i], i);
+}
+
+void bench_plain_records(void)
+{
+    memset(records, 0, sizeof records);
 }

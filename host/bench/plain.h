@@ -11,7 +11,12 @@ extern void (*const bench_plain[CALLS])(void);
 /* Makes a bench_call that sets. */
 void bench_plain_set(void);
 
-/* The octets of a state. */
+/* Makes board and missions fresh; the records of the list empty. */
+void bench_plain_new(void);
+void bench_plain_records(void);
+
+/* The octets of a board and two missions' states, and of a record. */
 size_t bench_plain_state(void);
+size_t bench_plain_record(void);
 
 #endif

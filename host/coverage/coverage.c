@@ -27,8 +27,9 @@ static bool count_line(enum call of, const struct trace_call *call,
 {
     if (of == CALLS)
         return false;
-    return call_has_state(of) ? count_relay_line(of, call, answer)
-                              : count_header_line(of, call, answer);
+    return of > CALLS || call_has_state(of)
+               ? count_relay_line(of, call, answer)
+               : count_header_line(of, call, answer);
 }
 
 enum { HEADERS, BUILDS, ADDRESSES, CHECKSUMS, HISTORIES, SETTINGS };

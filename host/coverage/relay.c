@@ -18,7 +18,7 @@
 
 #define COUNTERS 15
 
-static struct view view;
+static struct view view = {.places = TRACE_RECORDS};
 
 static uint32_t number(struct trace_word word)
 {
@@ -31,23 +31,49 @@ static bool fills(const struct view *v, uint32_t took)
 {
     for (uint32_t port = 0; port < VIEW_PORTS; port++) {
         if ((took >> port & 1) != 0 &&
-            v->ports[port].waits == VIEW_QUEUE - 1)
+            view_now(v)->waits[port] == VIEW_QUEUE - 1)
             return true;
     }
     return false;
 }
 
-/* The availability of the same entry at another place; 0 for none. */
+/* The record that the setting would write. */
+static struct view_route written(const struct asked *s)
+{
+    struct view_route route = {1,       s->n[1], s->n[2], s->n[3],
+                               s->n[4], s->n[5], s->n[6] % TRACE_MISSIONS};
+
+    return route;
+}
+
+/* The availability of the same entry at the place that holds it, where that is
+ * another; 0 for none. */
 static uint32_t same_route(const struct view *v, const struct asked *s)
 {
-    for (uint32_t place = 0; place < VIEW_ROUTES; place++) {
-        const struct view_route *route = &v->routes[place];
+    struct view_route route = written(s);
+    uint32_t holder = list_holder(v, &route);
 
-        if (place != s->n[0] && route->filled && route->prefix == s->n[1] &&
-            route->mask == s->n[2])
-            return route->availability;
+    return holder < v->places && holder != s->n[0]
+               ? v->routes[holder].availability
+               : 0;
+}
+
+/* Whether the same prefix and mask stand elsewhere, with another mission or
+ * refused, and so do not count. */
+static bool unlike_route(const struct view *v, const struct asked *s,
+                         bool other)
+{
+    for (uint32_t place = 0; place < v->places; place++) {
+        const struct view_route *route = &v->routes[place];
+        bool refused = list_refusal(v, route) != 0;
+
+        if (place != s->n[0] && route->filled != 0 &&
+            route->prefix == s->n[1] && route->mask == s->n[2] &&
+            (other ? !refused && route->mission != s->n[6]
+                   : refused && route->mission == s->n[6]))
+            return true;
     }
-    return 0;
+    return false;
 }
 
 /* ---- Tallies ------------------------------------------------------------- */
@@ -63,6 +89,7 @@ static const char *const PORT_NAMES[] = {PORT_LIST(NAME)};
 static const char *const ROUTE_NAMES[] = {ROUTE_LIST(NAME)};
 static const char *const ENTRY_NAMES[] = {ENTRY_LIST(NAME)};
 static const char *const SEARCH_NAMES[] = {SEARCH_LIST(NAME)};
+static const char *const RECORD_NAMES[] = {RECORD_LIST(NAME)};
 
 static struct {
     uint64_t calls;
@@ -79,9 +106,11 @@ static struct {
     uint64_t of_route[LENGTH(ROUTE_NAMES)];
     uint64_t of_entry[LENGTH(ENTRY_NAMES)];
     uint64_t of_search[LENGTH(SEARCH_NAMES)];
+    uint64_t of_record[LENGTH(RECORD_NAMES)];
 } tally;
 
-static uint32_t counters[COUNTERS]; /* at the last counters line */
+/* At the last counters line of each mission. */
+static uint32_t counters[TRACE_MISSIONS][COUNTERS];
 
 /* ---- Receipts ------------------------------------------------------------ */
 
@@ -106,8 +135,8 @@ static uint32_t wanted_ports(const struct receipt *r)
         return r->named.group->send & r->named.others;
     if (strcmp(r->line, "path") == 0 && r->named.path != NULL)
         return r->named.path->send & r->named.others;
-    if (strcmp(r->line, "route") == 0 && r->named.route != NULL)
-        return 1u << r->named.route->port % VIEW_PORTS;
+    if (strcmp(r->line, "route") == 0 && r->named.found.route != NULL)
+        return 1u << r->named.found.route->port % VIEW_PORTS;
     return 0;
 }
 
@@ -122,7 +151,7 @@ static void look_at_ports(struct receipt *r)
             r->foreign |= 1u << i;
         if (port->mtu < r->datagram.length)
             r->small |= 1u << i;
-        if (port->waits == VIEW_QUEUE)
+        if (view_now(&view)->waits[i] == VIEW_QUEUE)
             r->full |= 1u << i;
     }
 }
@@ -143,6 +172,7 @@ static void count_halves(const struct receipt *r)
 
 static void count_receipt(const struct receipt *r)
 {
+    const struct view *v = &view;
     uint64_t *reached = tally.of_refused;
 
     REFUSED_RECEIPT_LIST(COUNT)
@@ -177,14 +207,13 @@ static bool read_receipt(const struct trace_call *call,
 
 static void look_at_routes(uint32_t address, uint32_t place, struct sought *f)
 {
-    const struct view_route *over = view_passed_over(&view, address);
-
-    f->over = over != NULL ? over->availability : 0;
+    f->at = list_find(&view, address);
+    f->place = place;
     f->route = view.routes[place];
-    for (uint32_t i = 0; i < VIEW_ROUTES; i++) {
+    for (uint32_t i = 0; i < view.places; i++) {
         const struct view_route *route = &view.routes[i];
 
-        if (!route->filled)
+        if (route->filled == 0 || route->mission != view.mission)
             continue;
         f->filled++;
         f->matching += (address & route->mask) == route->prefix &&
@@ -201,23 +230,27 @@ static void count_sought(const struct sought *f)
     SEARCH_LIST(COUNT)
 }
 
-/* `-`, or a place, its ones and its port. One that is not up is no good
- * answer, whoever gives it. */
+/* `-`, a place with its ones and its port, or 21. One that is not the view's
+ * is no good answer, whoever gives it. */
 static bool count_search(const struct trace_call *call,
                          const struct trace_call *answer)
 {
-    struct sought f = {.found = !trace_is(answer->words[0], "-")};
-    uint32_t place = f.found ? number(answer->words[0]) : 0;
-    uint32_t address;
+    struct sought f = {.refused = view.places > TRACE_RECORDS};
+    uint32_t place = 0, address;
 
-    if (!trace_address(call->words[1], &address) || place >= VIEW_ROUTES ||
-        answer->count != (f.found ? 3 : 1))
+    f.found = !f.refused && !trace_is(answer->words[0], "-");
+    if (f.found)
+        place = number(answer->words[0]);
+    if (!trace_address(call->words[1], &address) ||
+        place >= TRACE_MOST_RECORDS || answer->count != (f.found ? 3 : 1))
         return false;
     if (f.found)
         f.ones = number(answer->words[1]);
-    look_at_routes(address, place, &f);
+    if (!f.refused)
+        look_at_routes(address, place, &f);
     count_sought(&f);
-    return !f.found || f.route.availability == 1;
+    return f.refused ? trace_is(answer->words[0], "21")
+                     : f.at.route == (f.found ? &view.routes[place] : NULL);
 }
 
 /* ---- Other calls --------------------------------------------------------- */
@@ -276,9 +309,25 @@ static bool count_counters(const struct trace_call *answer)
     for (size_t i = 0; i < COUNTERS; i++) {
         uint32_t value = number(answer->words[i]);
 
-        tally.moved[i] += value != counters[i];
-        counters[i] = value;
+        tally.moved[i] += value != counters[view.mission][i];
+        counters[view.mission][i] = value;
     }
+    return true;
+}
+
+static bool count_record(const struct trace_call *call)
+{
+    uint32_t n[CALL_MOST_NUMBERS];
+    struct view_route route;
+    const struct view *v = &view;
+    uint64_t *reached = tally.of_record;
+    uint32_t refusal;
+
+    if (!trace_numbers(call->words + 1, call_facts[LINE_RECORD].arguments, n))
+        return false;
+    memcpy(&route, n + 2, sizeof route);
+    refusal = list_refusal(v, &route);
+    RECORD_LIST(COUNT)
     return true;
 }
 
@@ -286,9 +335,13 @@ static bool count_call(enum call of, const struct trace_call *call,
                        const struct trace_call *answer)
 {
     switch (of) {
-    case CALL_FRESH:
+    case LINE_NEW:
         memset(counters, 0, sizeof counters);
         return true;
+    case LINE_RECORDS:
+        return true;
+    case LINE_RECORD:
+        return count_record(call);
     case CALL_WAITING:
         return count_waiting(answer);
     case CALL_COUNTER:
@@ -304,8 +357,10 @@ static bool count_call(enum call of, const struct trace_call *call,
 bool count_relay_line(enum call of, const struct trace_call *call,
                       const struct trace_call *answer)
 {
-    bool known = count_call(of, call, answer);
+    bool known;
 
+    view_begin(&view, of, call);
+    known = count_call(of, call, answer);
     if (known) {
         tally.calls++;
         view_note(&view, of, call, answer);
@@ -338,7 +393,7 @@ static void say_calls(void)
 {
     puts("The relay's calls:");
     for (int of = 0; of < CALLS; of++) {
-        if (call_sets((enum call)of) && of != CALL_FRESH)
+        if (call_sets((enum call)of) && call_facts[of].word != NULL)
             say_numbers((enum call)of);
     }
     say_numbers(CALL_TAKE);
@@ -376,6 +431,8 @@ static void say_settings(void)
 
 static void say_searches(void)
 {
+    puts("Records written as they stand:");
+    say_list(RECORD_NAMES, tally.of_record, LENGTH(RECORD_NAMES));
     puts("Searches:");
     say_list(SEARCH_NAMES, tally.of_search, LENGTH(SEARCH_NAMES));
 }

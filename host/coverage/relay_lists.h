@@ -1,7 +1,8 @@
 /*
  * relay_lists.h: what coverage counts of the relay's calls. Each row is a name
  * and a condition over one answered line; the line counts for the row where it
- * holds. `r` is a receipt, `s` a setting, `f` a search, `v` the view before it.
+ * holds. `r` is a receipt, `s` a setting, `f` a search, `route` a record, `v`
+ * the view before it.
  */
 #ifndef COVERAGE_RELAY_LISTS_H
 #define COVERAGE_RELAY_LISTS_H
@@ -23,18 +24,18 @@ struct receipt {
 /* A setting: its number, and its arguments as numbers, in their order. */
 struct asked {
     uint32_t number;
-    uint32_t n[6];
+    uint32_t n[CALL_MOST_NUMBERS];
 };
 
-/* A search: its answer, and what the view has of the routes. */
+/* A search: its answer, and what the view has of the mission's routes. */
 struct sought {
-    bool found;
-    uint32_t ones;
+    bool refused, found;
+    uint32_t place, ones;
     struct view_route route; /* at the place found */
+    struct list_found at;
     uint32_t matching;       /* places that match the address and are up */
     uint32_t as_long;        /* other places with as many ones as that */
     uint32_t filled;         /* places */
-    uint32_t over; /* availability of a longer one, not up; 0 for none */
 };
 
 /* The route and the group that were found; an empty one where none was, which
@@ -43,13 +44,20 @@ static inline const struct view_route *route_of(const struct receipt *r)
 {
     static const struct view_route none;
 
-    return r->named.route != NULL ? r->named.route : &none;
+    return r->named.found.route != NULL ? r->named.found.route : &none;
 }
 
 /* The availability of a longer route that was passed over; 0 for none. */
-static inline uint32_t over_of(const struct naming *named)
+static inline uint32_t over_of(const struct list_found *found)
 {
-    return named->passed_over != NULL ? named->passed_over->availability : 0;
+    return found->over != NULL ? found->over->availability : 0;
+}
+
+/* Whether a longer one was refused, by whatever. */
+static inline bool refused_of(const struct list_found *found)
+{
+    return found->refused[21] || found->refused[22] || found->refused[24] ||
+           found->by_port;
 }
 
 static inline uint32_t route_mtu(const struct view *v, const struct receipt *r)
@@ -64,9 +72,15 @@ static inline const struct view_group *group_of(const struct receipt *r)
     return r->named.group != NULL ? r->named.group : &none;
 }
 
+/* Whose port it is that is set up. */
+static inline uint32_t port_of(const struct view *v, uint32_t port)
+{
+    return v->missions[1].ports >> port % VIEW_PORTS & 1;
+}
+
 static inline bool set_up_port(const struct view *v, uint32_t port)
 {
-    return port < VIEW_PORTS && (v->set_up >> port & 1) != 0;
+    return port < VIEW_PORTS && (view_set_up(v) >> port & 1) != 0;
 }
 
 #define REFUSED_RECEIPT_LIST(ROW)                                             \
@@ -74,17 +88,25 @@ static inline bool set_up_port(const struct view *v, uint32_t port)
     ROW("6, path", r->refusal == 6 && r->named.by_path)                       \
     ROW("6, end system", r->refusal == 6 && !r->named.by_path)                \
     ROW("6, source of a good destination",                                    \
-        r->refusal == 6 && (r->named.route || r->named.own))                  \
+        r->refusal == 6 && (r->named.found.route || r->named.own))            \
     ROW("6, one octet", r->refusal == 6 && !r->datagram.extended)             \
     ROW("7, path", r->refusal == 7 && r->named.by_path)                       \
     ROW("7, end system", r->refusal == 7 && !r->named.by_path)                \
     ROW("8, routing requirements", r->refusal == 8 && r->datagram.routing)    \
     ROW("8, IPv6", r->refusal == 8 && r->datagram.ipv6)                       \
     ROW("16, port over 7", r->refusal == 16 && r->arrival >= VIEW_PORTS)      \
-    ROW("16, port not set up", r->refusal == 16 && r->arrival < VIEW_PORTS)   \
+    ROW("16, port not set up", r->refusal == 16 && r->arrival < VIEW_PORTS && \
+                                   !set_up_port(v, r->arrival))               \
+    ROW("16, the other mission's port",                                       \
+        r->refusal == 16 && set_up_port(v, r->arrival))                       \
     ROW("16 before 17", r->refusal == 16 && r->room < 50)                     \
     ROW("17, room 0", r->refusal == 17 && r->room == 0)                       \
-    ROW("17, room 49", r->refusal == 17 && r->room == 49)
+    ROW("17, room 49", r->refusal == 17 && r->room == 49)                     \
+    ROW("21, 513 records", r->refusal == 21 && v->places == 513)              \
+    ROW("21 before 16",                                                       \
+        r->refusal == 21 && (r->arrival >= VIEW_PORTS ||                      \
+                             (view_own(v) >> r->arrival & 1) == 0))           \
+    ROW("21 before 17", r->refusal == 21 && r->room < 50)
 
 /* The reasons to deliver, and that the datagram is delivered. */
 #define DELIVERED (r->local == 1)
@@ -95,6 +117,8 @@ static inline bool set_up_port(const struct view *v, uint32_t port)
 
 #define LOCAL_LIST(ROW)                                                       \
     ROW("no", r->local == 0)                                                  \
+    ROW("no, an address or broadcast of the other mission's port",            \
+        r->local == 0 && r->named.not_ours)                                   \
     ROW("delivered, a port's address", DELIVERED && r->named.own)             \
     ROW("delivered, the address of another port",                             \
         DELIVERED && r->named.own &&                                          \
@@ -164,24 +188,36 @@ static inline bool set_up_port(const struct view *v, uint32_t port)
         BY("route") && r->onward == 1 &&                                      \
             route_of(r)->mask == 0xffffffff)                                  \
     ROW("route: 11, none matches",                                            \
-        BY("route") && r->onward == 11 && over_of(&r->named) == 0)            \
+        BY("route") && r->onward == 11 && over_of(&r->named.found) == 0)      \
     ROW("route: sent on, a longer one is down",                               \
-        BY("route") && r->onward == 1 && over_of(&r->named) == 2)             \
+        BY("route") && r->onward == 1 && over_of(&r->named.found) == 2)       \
     ROW("route: sent on, a longer one is testing",                            \
-        BY("route") && r->onward == 1 && over_of(&r->named) == 3)             \
+        BY("route") && r->onward == 1 && over_of(&r->named.found) == 3)       \
     ROW("route: sent on, a longer one is out",                                \
-        BY("route") && r->onward == 1 && over_of(&r->named) == 4)             \
+        BY("route") && r->onward == 1 && over_of(&r->named.found) == 4)       \
     ROW("route: sent on by the default route, a longer one is not up",        \
         BY("route") && r->onward == 1 && route_of(r)->mask == 0 &&            \
-            over_of(&r->named) != 0)                                          \
+            over_of(&r->named.found) != 0)                                    \
     ROW("route: 11, one matches and is down",                                 \
-        BY("route") && r->onward == 11 && over_of(&r->named) == 2)            \
+        BY("route") && r->onward == 11 && over_of(&r->named.found) == 2)      \
     ROW("route: 11, one matches and is testing",                              \
-        BY("route") && r->onward == 11 && over_of(&r->named) == 3)            \
+        BY("route") && r->onward == 11 && over_of(&r->named.found) == 3)      \
     ROW("route: 11, one matches and is out",                                  \
-        BY("route") && r->onward == 11 && over_of(&r->named) == 4)            \
+        BY("route") && r->onward == 11 && over_of(&r->named.found) == 4)      \
     ROW("route: a broadcast that is not ours",                                \
-        BY("route") && r->onward == 1 && r->named.destination % 256 == 255)
+        BY("route") && r->onward == 1 && r->named.destination % 256 == 255)   \
+    ROW("route: sent on, a longer one is refused",                            \
+        BY("route") && r->onward == 1 && refused_of(&r->named.found))         \
+    ROW("route: sent on, a longer one is hidden by a lower place",            \
+        BY("route") && r->onward == 1 && r->named.found.hidden)               \
+    ROW("route: sent on, a longer one is the other mission's",                \
+        BY("route") && r->onward == 1 && r->named.found.others)               \
+    ROW("route: 11, the other mission has one",                               \
+        BY("route") && r->onward == 11 && r->named.found.others)              \
+    ROW("route: 11, one is refused",                                          \
+        BY("route") && r->onward == 11 && refused_of(&r->named.found))        \
+    ROW("route: sent on, the second mission's",                               \
+        BY("route") && r->onward == 1 && v->mission == 1)
 
 #define COPIES_LIST(ROW)                                                      \
     ROW("10, hop count 0", r->onward == 10 && r->datagram.hop_count == 0)     \
@@ -228,10 +264,14 @@ static inline bool set_up_port(const struct view *v, uint32_t port)
     ROW("no, and sent on", r->local == 0 && r->onward == 1)
 
 #define PORT_LIST(ROW)                                                        \
-    ROW("set_port: 0, a port set up",                                         \
-        s->number == 0 && !set_up_port(v, s->n[0]))                           \
-    ROW("set_port: 0, a port written again",                                  \
-        s->number == 0 && set_up_port(v, s->n[0]))                            \
+    ROW("set_port: 0, for mission 0", s->number == 0 && s->n[4] == 0)         \
+    ROW("set_port: 0, for mission 1", s->number == 0 && s->n[4] == 1)         \
+    ROW("set_port: 35, its own mission's",                                    \
+        s->number == 35 && port_of(v, s->n[0]) == s->n[4])                    \
+    ROW("set_port: 35, the other's",                                          \
+        s->number == 35 && port_of(v, s->n[0]) != s->n[4])                    \
+    ROW("set_port: 24 before 35",                                             \
+        s->number == 24 && set_up_port(v, s->n[0]))                           \
     ROW("set_port: 22, net 10 without 24 ones",                               \
         s->number == 22 && s->n[1] >> 24 == 10)                               \
     ROW("set_port: 22, host bits all ones",                                   \
@@ -246,11 +286,27 @@ static inline bool set_up_port(const struct view *v, uint32_t port)
 
 #define ROUTE_LIST(ROW)                                                       \
     ROW("set_route: 0, over what stood there",                                \
-        s->number == 0 && v->routes[s->n[0] % VIEW_ROUTES].filled)            \
-    ROW("set_route: 21, place 64", s->number == 21 && s->n[0] == 64)          \
+        s->number == 0 && v->routes[s->n[0]].filled != 0)                     \
+    ROW("set_route: 0, place 511", s->number == 0 && s->n[0] == 511)          \
+    ROW("set_route: 0, in a shorter list",                                    \
+        s->number == 0 && v->places < TRACE_RECORDS)                          \
+    ROW("set_route: 21, place 512 of 512",                                    \
+        s->number == 21 && s->n[0] == 512 && v->places == 512)                \
+    ROW("set_route: 21, beyond the end of a shorter list",                    \
+        s->number == 21 && s->n[0] == v->places && v->places < 512)           \
+    ROW("set_route: 21, a list over 512",                                     \
+        s->number == 21 && v->places > TRACE_RECORDS)                         \
     ROW("set_route: 21, port 8", s->number == 21 && s->n[3] == 8)             \
     ROW("set_route: 21, port not set up",                                     \
-        s->number == 21 && s->n[0] < 64 && s->n[3] < 8)                       \
+        s->number == 21 && s->n[0] < v->places && v->places <= 512 &&         \
+            s->n[3] < 8)                                                      \
+    ROW("set_route: 24, the other mission's port",                            \
+        s->number == 24 && set_up_port(v, s->n[3]) &&                         \
+            port_of(v, s->n[3]) != s->n[6])                                   \
+    ROW("set_route: 0, the other mission has the same prefix and mask",       \
+        s->number == 0 && unlike_route(v, s, true))                           \
+    ROW("set_route: 0, the same entry elsewhere is refused",                  \
+        s->number == 0 && unlike_route(v, s, false))                          \
     ROW("set_route: 22, prefix",                                              \
         s->number == 22 && (~s->n[2] & (~s->n[2] + 1)) == 0)                  \
     ROW("set_route: 22, mask",                                                \
@@ -266,24 +322,77 @@ static inline bool set_up_port(const struct view *v, uint32_t port)
 
 #define SEARCH_LIST(ROW)                                                      \
     ROW("search: found", f->found)                                            \
+    ROW("search: found, for mission 1", f->found && v->mission == 1)          \
     ROW("search: found, on a host", f->found && !v->router)                   \
     ROW("search: found, of 0 ones", f->found && f->ones == 0)                 \
     ROW("search: found, of 32 ones", f->found && f->ones == 32)               \
+    ROW("search: found, at place 511", f->found && f->place == 511)           \
+    ROW("search: found, in a shorter list",                                   \
+        f->found && v->places < TRACE_RECORDS)                                \
     ROW("search: found, and a shorter one matches",                           \
         f->found && f->matching > 1)                                          \
     ROW("search: found, and another has as many ones",                        \
         f->found && f->as_long > 0)                                           \
-    ROW("search: found, a longer one is down", f->found && f->over == 2)      \
-    ROW("search: found, a longer one is testing", f->found && f->over == 3)   \
-    ROW("search: found, a longer one is out", f->found && f->over == 4)       \
+    ROW("search: found, a longer one is down",                                \
+        f->found && over_of(&f->at) == 2)                                     \
+    ROW("search: found, a longer one is testing",                             \
+        f->found && over_of(&f->at) == 3)                                     \
+    ROW("search: found, a longer one is out",                                 \
+        f->found && over_of(&f->at) == 4)                                     \
     ROW("search: found, of 0 ones, a longer one is not up",                   \
-        f->found && f->ones == 0 && f->over != 0)                             \
-    ROW("search: none", !f->found)                                            \
+        f->found && f->ones == 0 && over_of(&f->at) != 0)                     \
+    ROW("search: found, filled by another number than 1",                     \
+        f->found && f->route.filled > 1)                                      \
+    ROW("search: found, the same entry at a higher place",                    \
+        f->found && f->at.doubled)                                            \
+    ROW("search: found, a longer one is hidden by a lower place",             \
+        f->found && f->at.hidden)                                             \
+    ROW("search: found, a longer one is the other mission's",                 \
+        f->found && f->at.others)                                             \
+    ROW("search: found, a longer one is refused by 21",                       \
+        f->found && f->at.refused[21])                                        \
+    ROW("search: found, a longer one is refused by 22",                       \
+        f->found && f->at.refused[22])                                        \
+    ROW("search: found, a longer one is refused by 24",                       \
+        f->found && f->at.refused[24])                                        \
+    ROW("search: found, a longer one has the other's port",                   \
+        f->found && f->at.by_port)                                            \
+    ROW("search: none", !f->found && !f->refused)                             \
     ROW("search: none, where there are routes", !f->found && f->filled > 0)   \
-    ROW("search: none, one matches and is down", !f->found && f->over == 2)   \
+    ROW("search: none, one matches and is down",                              \
+        !f->found && over_of(&f->at) == 2)                                    \
     ROW("search: none, one matches and is testing",                           \
-        !f->found && f->over == 3)                                            \
-    ROW("search: none, one matches and is out", !f->found && f->over == 4)
+        !f->found && over_of(&f->at) == 3)                                    \
+    ROW("search: none, one matches and is out",                               \
+        !f->found && over_of(&f->at) == 4)                                    \
+    ROW("search: none, the other mission has one", !f->found && f->at.others) \
+    ROW("search: none, one is refused", !f->found && refused_of(&f->at))      \
+    ROW("search: none, one is hidden by a lower place",                       \
+        !f->found && f->at.hidden)                                            \
+    ROW("search: 21, a list over 512", f->refused)
+
+#define RECORD_LIST(ROW)                                                      \
+    ROW("record: empty, whatever else it holds",                              \
+        route.filled == 0 && route.mask != 0)                                 \
+    ROW("record: filled by another number than 1",                            \
+        route.filled > 1 && refusal == 0)                                     \
+    ROW("record: good", route.filled == 1 && refusal == 0)                    \
+    ROW("record: refused by 21, port not set up",                             \
+        route.filled != 0 && refusal == 21 && route.port < VIEW_PORTS)        \
+    ROW("record: refused by 21, port over 7",                                 \
+        route.filled != 0 && refusal == 21 && route.port >= VIEW_PORTS)       \
+    ROW("record: refused by 22", route.filled != 0 && refusal == 22)          \
+    ROW("record: refused by 24", route.filled != 0 && refusal == 24)          \
+    ROW("record: refused by 24, the other's port",                            \
+        route.filled != 0 && refusal == 24 && route.availability - 1 < 4 &&   \
+            route.capabilities != 3 && route.capabilities < 5)                \
+    ROW("record: the same entry at a lower place",                            \
+        route.filled != 0 && refusal == 0 && list_holder(v, &route) < n[1])   \
+    ROW("record: the same entry at a higher place",                           \
+        route.filled != 0 && refusal == 0 &&                                  \
+            list_holder(v, &route) < v->places &&                             \
+            list_holder(v, &route) > n[1])                                    \
+    ROW("record: beyond the list's end", n[1] >= v->places)
 
 #define ENTRY_LIST(ROW)                                                       \
     ROW("set_group, set_path: 21, place 16",                                  \
@@ -291,7 +400,12 @@ static inline bool set_up_port(const struct view *v, uint32_t port)
     ROW("set_group, set_path: 21, a port over 7",                             \
         s->number == 21 && s->n[2] > 255)                                     \
     ROW("set_group, set_path: 21, a port not set up",                         \
-        s->number == 21 && s->n[2] < 256 && (s->n[2] & ~v->set_up) != 0)      \
+        s->number == 21 && s->n[2] < 256 &&                                   \
+            (s->n[2] & ~view_set_up(v)) != 0)                                 \
+    ROW("set_group, set_path: 21, the other mission's port",                  \
+        s->number == 21 && s->n[0] < 16 && s->n[2] < 256 &&                   \
+            (s->n[2] & ~view_set_up(v)) == 0 &&                               \
+            (s->n[2] & ~view_own(v)) != 0)                                    \
     ROW("set_group, set_path: 0, an empty set",                               \
         s->number == 0 && s->n[2] == 0)
 

@@ -1,6 +1,7 @@
 /*
  * view.c: noting answered calls, and what a destination names. A setting or a
- * take counts where its answer is 0; a receipt, by the ports that took.
+ * take counts where its answer is 0; a receipt, by the ports that took; a line
+ * of the list always.
  */
 #include "view.h"
 
@@ -30,20 +31,51 @@ static void note_router(struct view *view, const struct trace_word *words)
 
 static void note_port(struct view *view, const struct trace_word *words)
 {
-    struct view_port *port = &view->ports[number(words[0]) % VIEW_PORTS];
+    uint32_t which = number(words[0]) % VIEW_PORTS;
+    struct view_port port = {address(words[1]), address(words[2]),
+                             number(words[3])};
 
-    view->set_up |= 1u << number(words[0]) % VIEW_PORTS;
-    port->address = address(words[1]);
-    port->mask = address(words[2]);
-    port->mtu = number(words[3]);
+    view->ports[which] = port;
+    view->missions[number(words[4]) % TRACE_MISSIONS].ports |= 1u << which;
+}
+
+/* From the prefix on, as they stand in set_route and record. */
+static void put_route(struct view *view, uint32_t place, uint32_t filled,
+                      const struct trace_word *words)
+{
+    struct view_route route = {filled,
+                               address(words[0]),
+                               address(words[1]),
+                               number(words[2]),
+                               number(words[3]),
+                               number(words[4]),
+                               number(words[5]) % TRACE_MISSIONS};
+
+    if (place < view->places)
+        view->routes[place] = route;
 }
 
 static void note_route(struct view *view, const struct trace_word *words)
 {
-    struct view_route route = {true, address(words[1]), address(words[2]),
-                               number(words[3]), number(words[4])};
+    put_route(view, number(words[0]), 1, words + 1);
+}
 
-    view->routes[number(words[0]) % VIEW_ROUTES] = route;
+static void note_record(struct view *view, const struct trace_word *words)
+{
+    put_route(view, number(words[1]), number(words[2]), words + 3);
+}
+
+static void note_records(struct view *view, const struct trace_word *words)
+{
+    memset(view->routes, 0, sizeof view->routes);
+    view->places = number(words[1]) % (TRACE_MOST_RECORDS + 1);
+}
+
+static void note_new(struct view *view, const struct trace_word *words)
+{
+    (void)words;
+    memset(view, 0, sizeof *view);
+    view->places = TRACE_RECORDS;
 }
 
 static void note_group(struct view *view, const struct trace_word *words)
@@ -51,7 +83,8 @@ static void note_group(struct view *view, const struct trace_word *words)
     struct view_group group = {true, address(words[1]), number(words[2]),
                                number(words[3])};
 
-    view->groups[number(words[0]) % VIEW_GROUPS] = group;
+    view->missions[view->mission].groups[number(words[0]) % VIEW_GROUPS] =
+        group;
 }
 
 static void note_path(struct view *view, const struct trace_word *words)
@@ -59,39 +92,56 @@ static void note_path(struct view *view, const struct trace_word *words)
     struct view_path path = {true, address(words[1]), number(words[2]),
                              number(words[3])};
 
-    view->paths[number(words[0]) % VIEW_PATHS] = path;
+    view->missions[view->mission].paths[number(words[0]) % VIEW_PATHS] = path;
 }
 
 static void note_clear_route(struct view *view, const struct trace_word *words)
 {
-    view->routes[number(words[0]) % VIEW_ROUTES].filled = false;
+    uint32_t place = number(words[0]);
+
+    if (place < view->places)
+        view->routes[place].filled = 0;
 }
 
 static void note_clear_group(struct view *view, const struct trace_word *words)
 {
-    view->groups[number(words[0]) % VIEW_GROUPS].filled = false;
+    uint32_t place = number(words[0]) % VIEW_GROUPS;
+
+    view->missions[view->mission].groups[place].filled = false;
 }
 
 static void note_clear_path(struct view *view, const struct trace_word *words)
 {
-    view->paths[number(words[0]) % VIEW_PATHS].filled = false;
+    uint32_t place = number(words[0]) % VIEW_PATHS;
+
+    view->missions[view->mission].paths[place].filled = false;
 }
 
 static void note_take(struct view *view, const struct trace_word *words)
 {
-    view->ports[number(words[0]) % VIEW_PORTS].waits--;
+    view->missions[view->mission].waits[number(words[0]) % VIEW_PORTS]--;
 }
 
 static void note_taken(struct view *view, uint32_t took)
 {
     for (uint32_t port = 0; port < VIEW_PORTS; port++)
-        view->ports[port].waits += took >> port & 1;
+        view->missions[view->mission].waits[port] += took >> port & 1;
+}
+
+void view_begin(struct view *view, enum call of,
+                const struct trace_call *call)
+{
+    const char *arguments = call_facts[of].arguments;
+
+    if (*arguments != '\0' && arguments[strlen(arguments) - 1] == 'M')
+        view->mission =
+            number(call->words[strlen(arguments)]) % TRACE_MISSIONS;
 }
 
 void view_note(struct view *view, enum call of, const struct trace_call *call,
                const struct trace_call *answer)
 {
-    static void (*const NOTES[CALLS])(struct view *,
+    static void (*const NOTES[LINES])(struct view *,
                                       const struct trace_word *) = {
         [CALL_TAKE] = note_take,
         [CALL_SET_ROUTER] = note_router,
@@ -101,11 +151,13 @@ void view_note(struct view *view, enum call of, const struct trace_call *call,
         [CALL_SET_PATH] = note_path,
         [CALL_CLEAR_ROUTE] = note_clear_route,
         [CALL_CLEAR_GROUP] = note_clear_group,
-        [CALL_CLEAR_PATH] = note_clear_path};
+        [CALL_CLEAR_PATH] = note_clear_path,
+        [LINE_NEW] = note_new,
+        [LINE_RECORDS] = note_records,
+        [LINE_RECORD] = note_record};
 
-    if (of == CALL_FRESH)
-        memset(view, 0, sizeof *view);
-    if (answer->count == 0 || !trace_is(answer->words[0], "0"))
+    if (of < CALLS &&
+        (answer->count == 0 || !trace_is(answer->words[0], "0")))
         return;
     if (of == CALL_RECEIVE)
         note_taken(view, number(answer->words[3]));
@@ -122,48 +174,38 @@ static uint32_t class_host_bits(uint32_t of)
     return of >> 30 == 2 ? 0xffff : 0xff;
 }
 
+/* Whether the destination is the port's own address, or a broadcast of its
+ * networks; what it is of one of the mission's is noted. */
+static bool name_port(const struct view_port *port, bool own,
+                      struct naming *naming)
+{
+    uint32_t to = naming->destination;
+    bool is_own = to == port->address;
+    bool subnet = to == (port->address | ~port->mask);
+    bool all = to == 0x0affffff && port->address >> 24 == 10;
+    bool net = to != 0x0affffff &&
+               to == (port->address | class_host_bits(port->address));
+
+    naming->own |= own && is_own;
+    naming->subnet |= own && subnet;
+    naming->all_scps |= own && all;
+    naming->net |= own && net;
+    return is_own || subnet || all || net;
+}
+
 static void name_ports(const struct view *view, struct naming *naming)
 {
+    bool by_others = false, by_own = false;
+
     for (uint32_t i = 0; i < VIEW_PORTS; i++) {
-        const struct view_port *port = &view->ports[i];
-        uint32_t to = naming->destination;
+        bool own = (view_own(view) >> i & 1) != 0;
 
-        if ((view->set_up >> i & 1) == 0)
+        if ((view_set_up(view) >> i & 1) == 0)
             continue;
-        naming->own |= to == port->address;
-        if (to == 0x0affffff)
-            naming->all_scps |= port->address >> 24 == 10;
-        else
-            naming->net |=
-                to == (port->address | class_host_bits(port->address));
-        naming->subnet |= to == (port->address | ~port->mask);
+        if (name_port(&view->ports[i], own, naming))
+            *(own ? &by_own : &by_others) = true;
     }
-}
-
-#define UP 1
-
-/* Of all routes that match, or of those of them that are up. */
-static const struct view_route *longest(const struct view *view, uint32_t to,
-                                        bool of_all)
-{
-    const struct view_route *best = NULL;
-
-    for (uint32_t i = 0; i < VIEW_ROUTES; i++) {
-        const struct view_route *route = &view->routes[i];
-
-        if (route->filled && (to & route->mask) == route->prefix &&
-            (of_all || route->availability == UP) &&
-            (best == NULL || route->mask > best->mask))
-            best = route;
-    }
-    return best;
-}
-
-const struct view_route *view_passed_over(const struct view *view, uint32_t to)
-{
-    const struct view_route *route = longest(view, to, true);
-
-    return route != NULL && route->availability != UP ? route : NULL;
+    naming->not_ours = by_others && !by_own;
 }
 
 static bool is_multicast(uint32_t address)
@@ -178,7 +220,7 @@ static void name_group(const struct view *view, uint32_t arrival,
 {
     naming->multicast = is_multicast(naming->destination);
     for (uint32_t i = 0; i < VIEW_GROUPS; i++) {
-        const struct view_group *group = &view->groups[i];
+        const struct view_group *group = &view_now(view)->groups[i];
 
         if (group->filled && group->address == naming->destination)
             naming->group = group;
@@ -190,9 +232,10 @@ static void name_group(const struct view *view, uint32_t arrival,
 static void name_path(const struct view *view, struct naming *naming)
 {
     for (uint32_t i = 0; i < VIEW_PATHS; i++) {
-        if (view->paths[i].filled &&
-            view->paths[i].path == naming->destination)
-            naming->path = &view->paths[i];
+        const struct view_path *path = &view_now(view)->paths[i];
+
+        if (path->filled && path->path == naming->destination)
+            naming->path = path;
     }
 }
 
@@ -205,7 +248,7 @@ struct naming view_name(const struct view *view, uint32_t arrival,
     if (!datagram->extended)
         naming.destination |= view->ports[arrival].address & 0xffffff00;
     naming.by_path = !datagram->has_source;
-    naming.others = view->set_up & ~(1u << arrival);
+    naming.others = view_own(view) & ~(1u << arrival);
     if (naming.by_path) {
         name_path(view, &naming);
         return naming;
@@ -213,7 +256,6 @@ struct naming view_name(const struct view *view, uint32_t arrival,
     naming.limited = naming.destination == 0xffffffff;
     name_ports(view, &naming);
     name_group(view, arrival, &naming);
-    naming.route = longest(view, naming.destination, false);
-    naming.passed_over = view_passed_over(view, naming.destination);
+    naming.found = list_find(view, naming.destination);
     return naming;
 }

@@ -1,7 +1,8 @@
 /*
  * view.h: the relay as an answered trace shows it: the settings that were
- * taken, and how many entries wait on each port. It believes every answer; what
- * it is for is to say which line of the rules a datagram came to.
+ * taken, the list as it stands, and how many entries of each mission wait on
+ * each port. It believes every answer; what it is for is to say which line of
+ * the rules a datagram came to.
  */
 #ifndef VIEW_H
 #define VIEW_H
@@ -13,18 +14,16 @@
 #include "shared/trace.h"
 
 #define VIEW_PORTS 8
-#define VIEW_ROUTES 64
 #define VIEW_GROUPS 16
 #define VIEW_PATHS 16
 #define VIEW_QUEUE 32
 
 struct view_port {
-    uint32_t address, mask, mtu, waits;
+    uint32_t address, mask, mtu;
 };
 
 struct view_route {
-    bool filled;
-    uint32_t prefix, mask, port, availability;
+    uint32_t filled, prefix, mask, port, availability, capabilities, mission;
 };
 
 struct view_group {
@@ -37,33 +36,81 @@ struct view_path {
     uint32_t path, send, here;
 };
 
-struct view {
-    uint32_t router, set_up;
-    struct view_port ports[VIEW_PORTS];
-    struct view_route routes[VIEW_ROUTES];
+/* What is a mission's own. */
+struct view_mission {
+    uint32_t ports; /* a set */
+    uint32_t waits[VIEW_PORTS];
     struct view_group groups[VIEW_GROUPS];
     struct view_path paths[VIEW_PATHS];
 };
 
+struct view {
+    uint32_t router;
+    struct view_port ports[VIEW_PORTS];
+    struct view_mission missions[TRACE_MISSIONS];
+    uint32_t mission; /* whose call is looked at */
+    struct view_route routes[TRACE_MOST_RECORDS];
+    uint32_t places; /* of the list */
+};
+
+static inline const struct view_mission *view_now(const struct view *view)
+{
+    return &view->missions[view->mission];
+}
+
+/* The ports of that mission, and those of both. */
+static inline uint32_t view_own(const struct view *view)
+{
+    return view_now(view)->ports;
+}
+
+static inline uint32_t view_set_up(const struct view *view)
+{
+    return view->missions[0].ports | view->missions[1].ports;
+}
+
+/* Notes whose call it is. */
+void view_begin(struct view *view, enum call of,
+                const struct trace_call *call);
+
 /* Notes what the call did by its answer. */
 void view_note(struct view *view, enum call of, const struct trace_call *call,
                const struct trace_call *answer);
+
+/* What an address finds in the list, for the mission. */
+struct list_found {
+    const struct view_route *route;  /* the longest that counts and is up, or
+                                        null */
+    const struct view_route *over;   /* a longer one that counts and is not up,
+                                        or null */
+    /* Whether a longer one matches that does not count, or not for it: */
+    bool refused[CALL_NUMBERS]; /* by this number, its port no other's */
+    bool by_port;               /* by 24, since its port is the other's */
+    bool hidden;                /* up, and a lower place holds the entry */
+    bool others;                /* the other mission's, which counts */
+    bool doubled;               /* the same entry at a higher place */
+};
+
+struct list_found list_find(const struct view *view, uint32_t to);
+
+/* What refuses the record, by the ports as they are; 0 for nothing. */
+uint32_t list_refusal(const struct view *view, const struct view_route *route);
+
+/* The lowest place that holds the entry and is not refused; the list's places
+ * where none does. */
+uint32_t list_holder(const struct view *view, const struct view_route *route);
 
 /* What a datagram that no check refused names, arriving by a port. */
 struct naming {
     uint32_t destination; /* filled in where it has one octet */
     bool by_path, own, limited, net, subnet, all_scps, multicast;
     bool subscribed; /* on the arrival port */
-    uint32_t others; /* the set-up ports but the arrival port */
+    uint32_t others; /* the mission's ports but the arrival port */
+    bool not_ours;   /* it would be, were the other's ports its own */
     const struct view_group *group; /* null where there is none, so below */
     const struct view_path *path;
-    const struct view_route *route; /* the longest that is up */
-    const struct view_route *passed_over; /* as view_passed_over */
+    struct list_found found;
 };
-
-/* The longest route that matches the address, where it is not up; else null. */
-const struct view_route *view_passed_over(const struct view *view,
-                                          uint32_t to);
 
 struct naming view_name(const struct view *view, uint32_t arrival,
                         const struct arriving *datagram);

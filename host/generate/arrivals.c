@@ -19,9 +19,16 @@
 
 typedef uint32_t aim(const struct world *world, struct random *random);
 
+/* One of the mission's ports, and now and then one of the other's. */
+static uint32_t some_port(const struct world *world, struct random *random)
+{
+    return random_one_in(random, 8) ? random_below(random, WORLD_PORTS)
+                                    : world_port(world, random);
+}
+
 static uint32_t at_port(const struct world *world, struct random *random)
 {
-    return world->ports[world_port(world, random)].address;
+    return world->ports[some_port(world, random)].address;
 }
 
 static uint32_t at_limited_broadcast(const struct world *world,
@@ -50,7 +57,7 @@ static uint32_t at_net_broadcast(const struct world *world,
 static uint32_t at_subnet_broadcast(const struct world *world,
                                     struct random *random)
 {
-    uint32_t port = world_port(world, random);
+    uint32_t port = some_port(world, random);
 
     return world->ports[port].address | ~world->ports[port].mask;
 }
@@ -67,7 +74,9 @@ static uint32_t at_other_broadcast(const struct world *world,
 
 static uint32_t at_group(const struct world *world, struct random *random)
 {
-    uint32_t group = world->groups[random_below(random, WORLD_GROUPS)];
+    uint32_t whose = random_one_in(random, 8) ? 1 - world->mission
+                                              : world->mission;
+    uint32_t group = world->groups[whose][random_below(random, WORLD_GROUPS)];
 
     return group != 0 ? group : world_multicast(world, random);
 }
@@ -106,7 +115,8 @@ static uint32_t choose_destination(const struct world *world,
 
 static uint32_t choose_path(const struct world *world, struct random *random)
 {
-    uint32_t path = world->paths[random_below(random, WORLD_PATHS)];
+    uint32_t path =
+        world->paths[world->mission][random_below(random, WORLD_PATHS)];
 
     if (random_one_in(random, 12))
         return choose_destination(world, random);
@@ -199,13 +209,14 @@ static uint32_t choose_room(struct random *random)
 void history_receive(const struct world *world, struct random *random)
 {
     static struct datagram datagram;
-    uint32_t numbers[3]; /* arrival port, slot, room */
+    uint32_t numbers[4]; /* arrival port, slot, room, mission */
     uint32_t slots;
 
     numbers[0] = choose_arrival(world, random);
     slots = random_one_in(random, 2) ? 16 : 65536;
     numbers[1] = random_below(random, slots);
     numbers[2] = choose_room(random);
+    numbers[3] = world->mission;
     choose_form(world, &datagram.form, random);
     datagram_write(&datagram, choose_data(world, &datagram.form, random),
                    random);

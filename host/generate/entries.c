@@ -12,13 +12,13 @@
 #include "line.h"
 #include "ways.h"
 
-/* A set that names a port not set up, or one over 7. */
+/* A set that names a port not set up for the mission, or one over 7. */
 static uint32_t bad_set(const struct world *world, struct random *random)
 {
     uint32_t port = random_below(random, WORLD_PORTS);
-    uint32_t set = world->set_up & random_below(random, 256);
+    uint32_t set = world_own(world) & random_below(random, 256);
 
-    if (world_has(world->set_up, port))
+    if (world_has(world_own(world), port))
         return set | 256u << random_below(random, 24);
     return set | 1u << port;
 }
@@ -28,10 +28,11 @@ struct entry {
     uint32_t place, address, send, last;
 };
 
-static void write_entry(enum call call, const struct entry *entry)
+static void write_entry(const struct world *world, enum call call,
+                        const struct entry *entry)
 {
     const uint32_t numbers[] = {entry->place, entry->address, entry->send,
-                                entry->last};
+                                entry->last, world->mission};
 
     line_numbers(call, numbers);
 }
@@ -41,9 +42,9 @@ static uint32_t choose_set(const struct world *world, struct random *random)
 {
     static const uint32_t SMALL[] = {0, 1, 2, 4, 8};
 
-    return world->set_up & (random_one_in(random, 4)
-                                ? PICK(SMALL)
-                                : random_below(random, 256));
+    return world_own(world) & (random_one_in(random, 4)
+                                   ? PICK(SMALL)
+                                   : random_below(random, 256));
 }
 
 /* An entry of another place, or its address unchanged where there is none. */
@@ -89,8 +90,8 @@ void history_set_group(struct world *world, uint32_t place,
 {
     struct entry group = choose_group(world, place, random);
 
-    world->groups[place] = group.address;
-    write_entry(CALL_SET_GROUP, &group);
+    world->groups[world->mission][place] = group.address;
+    write_entry(world, CALL_SET_GROUP, &group);
 }
 
 void history_refused_group(struct world *world, struct random *random)
@@ -99,14 +100,15 @@ void history_refused_group(struct world *world, struct random *random)
     struct entry group =
         choose_group(world, random_below(random, WORLD_GROUPS), random);
 
-    spoil_entry(world, world->groups, WORLD_GROUPS, chosen, &group, random);
+    spoil_entry(world, world->groups[world->mission], WORLD_GROUPS, chosen,
+                &group, random);
     if (chosen & 8)
         group.last = bad_set(world, random);
     if (chosen & 16)
         group.address = random_one_in(random, 2)
                             ? world_unicast(world, random)
                             : world_invalid(random);
-    write_entry(CALL_SET_GROUP, &group);
+    write_entry(world, CALL_SET_GROUP, &group);
 }
 
 static struct entry choose_path(const struct world *world, uint32_t place,
@@ -125,8 +127,8 @@ void history_set_path(struct world *world, uint32_t place,
 {
     struct entry path = choose_path(world, place, random);
 
-    world->paths[place] = path.address;
-    write_entry(CALL_SET_PATH, &path);
+    world->paths[world->mission][place] = path.address;
+    write_entry(world, CALL_SET_PATH, &path);
 }
 
 void history_refused_path(struct world *world, struct random *random)
@@ -135,10 +137,11 @@ void history_refused_path(struct world *world, struct random *random)
     struct entry path =
         choose_path(world, random_below(random, WORLD_PATHS), random);
 
-    spoil_entry(world, world->paths, WORLD_PATHS, chosen, &path, random);
+    spoil_entry(world, world->paths[world->mission], WORLD_PATHS, chosen,
+                &path, random);
     if (chosen & 8)
         path.address = random_one_in(random, 2) ? 0x0a0409fe : 0xac100402;
     if (chosen & 16)
         path.last = beyond(2, random);
-    write_entry(CALL_SET_PATH, &path);
+    write_entry(world, CALL_SET_PATH, &path);
 }

@@ -4,10 +4,14 @@
  * the counters and the queues looked at, and routes searched for, now and then
  * and at its end.
  *
+ * Two missions share the node, and their calls come in any order. The shapes
+ * say how many of the ports are the second one's; where it has none, its calls
+ * still come now and then.
+ *
  * The awkward cases need a history to lean their way for long: a queue is full
- * only where few entries are taken, a port can be written again only where all
- * of them are. The shapes see to the first; a port that is drained and then
- * written sees to the second.
+ * only where few entries are taken, which the shapes see to. A list that is
+ * short is made at the start, one that is too long in the midst of a history,
+ * which writes its routes anew afterwards.
  */
 #include "history.h"
 
@@ -15,6 +19,7 @@
 #include "entries.h"
 #include "line.h"
 #include "ports.h"
+#include "routes.h"
 #include "setting.h"
 #include "shared/world.h"
 
@@ -26,6 +31,7 @@ struct shape {
     uint32_t router;
     enum nets nets;
     uint32_t ports;    /* set up at first */
+    uint32_t second;   /* of them the second mission's */
     uint32_t routes;   /* written at first, so for groups and paths */
     uint32_t groups;
     uint32_t paths;
@@ -34,17 +40,24 @@ struct shape {
 };
 
 static const struct shape SHAPES[] = {
-    {1, ALL_NETS, 4, 12, 6, 6, 20, 4},    /* a router in all networks */
-    {1, ONE_DOMAIN, 4, 12, 6, 6, 20, 3},  /* in one domain */
-    {1, DOMAINS, 5, 12, 6, 6, 20, 3},     /* between domains */
-    {1, INTERNET, 4, 12, 6, 4, 20, 3},    /* outside net 10 */
-    {1, ONE_DOMAIN, 3, 12, 8, 8, 2, 1},   /* hardly emptied: queues fill */
-    {1, DOMAINS, 8, 64, 16, 16, 6, 1},    /* every place written */
-    {1, ALL_NETS, 1, 4, 8, 6, 20, 0},     /* one port alone */
-    {0, ALL_NETS, 3, 6, 6, 6, 10, 3},     /* a host */
-    {1, ALL_NETS, 3, 6, 6, 6, 10, 60},    /* settings above all */
-    {1, DOMAINS, 2, 6, 6, 6, 1, 1},       /* two ports, hardly emptied */
+    {1, ALL_NETS, 6, 2, 16, 8, 8, 20, 4},   /* a router in all networks */
+    {1, ONE_DOMAIN, 6, 3, 16, 8, 8, 20, 3}, /* in one domain */
+    {1, DOMAINS, 7, 3, 16, 8, 8, 20, 3},    /* between domains */
+    {1, INTERNET, 4, 0, 12, 6, 4, 20, 3},   /* outside net 10 */
+    {1, ONE_DOMAIN, 3, 0, 12, 8, 8, 2, 1},  /* hardly emptied: queues fill */
+    {1, DOMAINS, 8, 4, 64, 16, 16, 6, 1},   /* every place written */
+    {1, ALL_NETS, 2, 1, 8, 8, 6, 20, 0},    /* one port alone for each */
+    {0, ALL_NETS, 4, 1, 6, 6, 6, 10, 3},    /* a host */
+    {1, ALL_NETS, 4, 2, 6, 6, 6, 10, 60},   /* settings above all */
+    {1, DOMAINS, 4, 2, 8, 8, 8, 1, 1},      /* two ports, hardly emptied */
 };
+
+/* Whose call comes next. */
+static void draw_mission(const struct shape *shape, struct world *world,
+                         struct random *random)
+{
+    world->mission = random_one_in(random, shape->second > 0 ? 3 : 12);
+}
 
 /* At the prefixes of routes: the first address, the one before it, the last
  * and the one behind that; or somewhere under one; or anywhere. */
@@ -71,39 +84,79 @@ static uint32_t searched_address(const struct world *world,
     }
 }
 
-static void look_at_all(const struct world *world, struct random *random)
+static void look_at_all(const struct shape *shape, struct world *world,
+                        struct random *random)
 {
-    line_numbers(CALL_COUNTER, NULL);
-    for (uint32_t port = 0; port <= WORLD_PORTS; port++)
-        line_number(CALL_WAITING, port);
-    for (uint32_t i = 0; i < SEARCHES; i++)
-        line_number(CALL_SEARCH, searched_address(world, random));
+    for (world->mission = 0; world->mission < WORLD_MISSIONS;
+         world->mission++) {
+        line_number(CALL_COUNTER, world->mission);
+        for (uint32_t port = 0; port <= WORLD_PORTS; port++)
+            line_asked(CALL_WAITING, port, world->mission);
+    }
+    for (uint32_t i = 0; i < SEARCHES; i++) {
+        draw_mission(shape, world, random);
+        line_asked(CALL_SEARCH, searched_address(world, random),
+                   world->mission);
+    }
+}
+
+/* Of both missions' routes, and some records as they stand among them. */
+static void write_routes(const struct shape *shape, struct world *world,
+                         struct random *random)
+{
+    for (uint32_t i = 0; i < shape->routes; i++) {
+        draw_mission(shape, world, random);
+        if (random_one_in(random, 8))
+            history_record(world, random);
+        else
+            history_set_route(world, i, random);
+    }
 }
 
 static void set_up(const struct shape *shape, struct world *world,
                    struct random *random)
 {
-    line_numbers(CALL_FRESH, NULL);
+    line_numbers(LINE_NEW, NULL);
+    if (world->places != WORLD_PLACES)
+        history_records(world, world->places, random);
     line_number(CALL_SET_ROUTER, shape->router);
-    for (uint32_t i = 0; i < shape->ports; i++)
+    for (uint32_t i = 0; i < shape->ports; i++) {
+        world->mission = i >= shape->ports - shape->second;
         history_set_port(world, i, random);
-    for (uint32_t i = 0; i < shape->routes; i++)
-        history_set_route(world, i, random);
-    for (uint32_t i = 0; i < shape->groups; i++)
+    }
+    write_routes(shape, world, random);
+    for (uint32_t i = 0; i < shape->groups; i++) {
+        draw_mission(shape, world, random);
         history_set_group(world, i, random);
-    for (uint32_t i = 0; i < shape->paths; i++)
+    }
+    for (uint32_t i = 0; i < shape->paths; i++) {
+        draw_mission(shape, world, random);
         history_set_path(world, i, random);
+    }
 }
 
-/* Takes more than can wait, and writes the port again. */
-static void drain(struct world *world, struct random *random)
+/* Takes more than can wait. */
+static void drain(const struct world *world, struct random *random)
 {
     uint32_t port = world_port(world, random);
 
     for (uint32_t i = 0; i <= QUEUE; i++)
-        line_number(CALL_TAKE, port);
-    if (random_one_in(random, 2))
-        history_set_port(world, port, random);
+        line_asked(CALL_TAKE, port, world->mission);
+}
+
+static void look_or_take(const struct shape *shape, struct world *world,
+                         struct random *random)
+{
+    uint32_t some = random_below(random, WORLD_PORTS + 2);
+
+    if (random_one_in(random, 16) && shape->takes > 2)
+        drain(world, random);
+    else if (random_one_in(random, 4))
+        line_number(CALL_COUNTER, world->mission);
+    else if (random_one_in(random, 2))
+        line_asked(CALL_WAITING, some, world->mission);
+    else
+        line_asked(CALL_TAKE, some, world->mission);
 }
 
 static void write_call(const struct shape *shape, struct world *world,
@@ -111,32 +164,57 @@ static void write_call(const struct shape *shape, struct world *world,
 {
     uint32_t draw = random_below(random, 100);
 
-    if (random_one_in(random, 200))
-        drain(world, random);
-    else if (random_one_in(random, 80))
-        line_numbers(CALL_COUNTER, NULL);
-    else if (random_one_in(random, 40))
-        line_number(CALL_WAITING, random_below(random, WORLD_PORTS + 2));
+    draw_mission(shape, world, random);
+    if (random_one_in(random, 25))
+        look_or_take(shape, world, random);
     else if (random_one_in(random, 20))
-        line_number(CALL_SEARCH, searched_address(world, random));
+        line_asked(CALL_SEARCH, searched_address(world, random),
+                   world->mission);
     else if (draw < shape->takes)
-        line_number(CALL_TAKE, random_one_in(random, 16)
-                                   ? random_below(random, WORLD_PORTS + 2)
-                                   : world_port(world, random));
+        line_asked(CALL_TAKE, world_port(world, random), world->mission);
     else if (draw < shape->takes + shape->settings)
         history_setting(world, random);
     else
         history_receive(world, random);
 }
 
+/* A list over 512 records: each call that is lent it is refused. */
+static void write_long_list(const struct shape *shape, struct world *world,
+                            struct random *random)
+{
+    static const uint32_t COUNTS[] = {513, 513, 514, 600, 1023, 1024};
+
+    history_records(world, PICK(COUNTS), random);
+    for (uint32_t i = 0; i < 5; i++) {
+        draw_mission(shape, world, random);
+        history_record(world, random);
+        history_receive(world, random);
+        line_asked(CALL_SEARCH, searched_address(world, random),
+                   world->mission);
+        history_set_route(world, i, random);
+        line_number(CALL_CLEAR_ROUTE, world->routes[i].place);
+        line_asked(CALL_TAKE, world_port(world, random), world->mission);
+    }
+    history_records(world, WORLD_PLACES, random);
+    write_routes(shape, world, random);
+}
+
 static void write_history(const struct shape *shape, struct random *random)
 {
-    struct world world = {.nets = shape->nets};
+    static const uint32_t SHORT[] = {0, 1, 2, 40, 64, 100, 511};
+    struct world world;
+    bool is_short = random_one_in(random, 6);
+    uint32_t at = random_below(random, 3 * CALLS);
 
+    world_begin(&world, shape->nets, is_short ? PICK(SHORT) : WORLD_PLACES,
+                random);
     set_up(shape, &world, random);
-    for (uint32_t i = 0; i < CALLS; i++)
+    for (uint32_t i = 0; i < CALLS; i++) {
+        if (i == at)
+            write_long_list(shape, &world, random);
         write_call(shape, &world, random);
-    look_at_all(&world, random);
+    }
+    look_at_all(shape, &world, random);
 }
 
 void write_histories(uint64_t count, struct random *random)

@@ -5,24 +5,31 @@
 #include "line.h"
 
 #include <stdio.h>
+#include <string.h>
 
 #include "shared/text.h"
 
 static struct text line;
 
-static void begin(enum call call, const uint32_t *numbers)
+/* The numbers of the call, up to where its octets stand; what is left of
+ * them. */
+static const uint32_t *put_numbers(const char *form, const uint32_t *numbers)
 {
-    const char *form = call_facts[call].arguments;
+    for (; *form != '\0' && *form != 'o'; form++, numbers++) {
+        text_string(&line, " ");
+        if (*form == 'x')
+            text_digits(&line, *numbers, 8);
+        else
+            text_number(&line, *numbers);
+    }
+    return numbers;
+}
 
+static const uint32_t *begin(enum call call, const uint32_t *numbers)
+{
     text_clear(&line);
     text_string(&line, call_facts[call].word);
-    for (; *form == 'd' || *form == 'x'; form++, numbers++) {
-        text_string(&line, " ");
-        if (*form == 'd')
-            text_number(&line, *numbers);
-        else
-            text_digits(&line, *numbers, 8);
-    }
+    return put_numbers(call_facts[call].arguments, numbers);
 }
 
 static void end(void)
@@ -42,11 +49,21 @@ void line_number(enum call call, uint32_t number)
     line_numbers(call, &number);
 }
 
+void line_asked(enum call call, uint32_t number, uint32_t mission)
+{
+    const uint32_t numbers[] = {number, mission};
+
+    line_numbers(call, numbers);
+}
+
 void line_octets(enum call call, const uint32_t *numbers,
                  const uint8_t *octets, size_t count)
 {
-    begin(call, numbers);
+    const uint32_t *rest = begin(call, numbers);
+    const char *form = strchr(call_facts[call].arguments, 'o');
+
     text_string(&line, " ");
     text_octets(&line, octets, count);
+    put_numbers(form + 1, rest);
     end();
 }

@@ -16,7 +16,10 @@ void line_numbers(enum call call, const uint32_t *numbers);
 /* A call of one number. */
 void line_number(enum call call, uint32_t number);
 
-/* A call of numbers and octets behind them. */
+/* A mission's call of one number. */
+void line_asked(enum call call, uint32_t number, uint32_t mission);
+
+/* A call of numbers and octets; numbers may stand behind these too. */
 void line_octets(enum call call, const uint32_t *numbers,
                  const uint8_t *octets, size_t count);
 

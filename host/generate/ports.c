@@ -1,24 +1,14 @@
 /*
- * ports.c: `set_port` and `set_route` lines. The number 35 comes by itself:
- * ports are written while entries wait.
+ * ports.c: `set_port` lines. The number 35 comes by itself: ports that are set
+ * up are written again.
  */
 #include "ports.h"
 
 #include "line.h"
 #include "ways.h"
 
-static uint32_t no_mask(struct random *random)
-{
-    static const uint32_t BAD[] = {0x00ffff00, 0xffff00ff, 0xff00ff00,
-                                   0x00000001, 0xfffffffd, 0x7fffff00};
-
-    return PICK(BAD);
-}
-
-/* ---- Ports --------------------------------------------------------------- */
-
 struct port {
-    uint32_t number, address, mask, mtu;
+    uint32_t number, address, mask, mtu, mission;
 };
 
 static uint32_t port_mask(uint32_t address, struct random *random)
@@ -95,19 +85,23 @@ static void spoil_port(struct port *port, struct random *random)
 static struct port choose_port(const struct world *world, uint32_t number,
                                struct random *random)
 {
-    struct port port = {number, world_unicast(world, random), 0, 0};
+    struct port port = {number, world_unicast(world, random), 0, 0,
+                        world->mission};
 
     port.mask = port_mask(port.address, random);
     port.mtu = choose_mtu(random);
     return port;
 }
 
-static void write_port(const struct port *port)
+static void write_port(struct world *world, const struct port *port,
+                       bool noted)
 {
     const uint32_t numbers[] = {port->number, port->address, port->mask,
-                                port->mtu};
+                                port->mtu, port->mission};
 
     line_numbers(CALL_SET_PORT, numbers);
+    if (noted)
+        world_note_port(world, numbers);
 }
 
 void history_set_port(struct world *world, uint32_t number,
@@ -115,11 +109,7 @@ void history_set_port(struct world *world, uint32_t number,
 {
     struct port port = choose_port(world, number, random);
 
-    world->set_up |= 1u << number;
-    world->ports[number].address = port.address;
-    world->ports[number].mask = port.mask;
-    world->ports[number].mtu = port.mtu;
-    write_port(&port);
+    write_port(world, &port, true);
 }
 
 void history_refused_port(struct world *world, struct random *random)
@@ -128,99 +118,5 @@ void history_refused_port(struct world *world, struct random *random)
         choose_port(world, random_below(random, WORLD_PORTS), random);
 
     spoil_port(&port, random);
-    write_port(&port);
-}
-
-/* ---- Routes -------------------------------------------------------------- */
-
-struct route {
-    uint32_t place, prefix, mask, port, availability, capabilities;
-};
-
-static struct route choose_route(const struct world *world, uint32_t place,
-                                 struct random *random)
-{
-    static const uint32_t ONES[] = {0, 8, 16, 22, 24, 24, 28, 31, 32, 32};
-    static const uint32_t AVAILABILITY[] = {1, 1, 1, 1, 1, 1, 1, 2, 3, 4};
-    static const uint32_t CAPABILITIES[] = {0, 0, 1, 2, 4};
-    struct route route = {.place = place};
-
-    route.mask = world_mask(PICK(ONES));
-    route.prefix = world_unicast(world, random) & route.mask;
-    route.port = world_port(world, random);
-    route.availability = PICK(AVAILABILITY);
-    route.capabilities = PICK(CAPABILITIES);
-    return route;
-}
-
-/* The same prefix and mask as another place has, where one has any. */
-static void same_route(const struct world *world, struct route *route,
-                       struct random *random)
-{
-    uint32_t other = random_below(random, WORLD_ROUTES);
-
-    for (uint32_t tries = 0; tries < WORLD_ROUTES; tries++) {
-        other = (other + 1) % WORLD_ROUTES;
-        if (world->routes[other].filled && other != route->place) {
-            route->prefix = world->routes[other].prefix;
-            route->mask = world->routes[other].mask;
-            return;
-        }
-    }
-}
-
-static void spoil_route(const struct world *world, struct route *route,
-                        struct random *random)
-{
-    uint32_t chosen = ways(7, random);
-
-    if (chosen & 1)
-        same_route(world, route, random);
-    if (chosen & 2)
-        route->place = beyond(WORLD_ROUTES, random);
-    if (chosen & 4)
-        route->port = random_one_in(random, 2)
-                          ? beyond(WORLD_PORTS, random)
-                          : random_below(random, WORLD_PORTS);
-    if (chosen & 8)
-        route->mask = no_mask(random);
-    if (chosen & 16) {
-        route->mask = world_mask(random_below(random, 32));
-        route->prefix |= ~route->mask & (0u - (~route->mask & 1));
-    }
-    if (chosen & 32)
-        route->availability = random_one_in(random, 2) ? 0
-                                                       : beyond(5, random);
-    if (chosen & 64)
-        route->capabilities = random_one_in(random, 2) ? 3
-                                                       : beyond(5, random);
-}
-
-static void write_route(const struct route *route)
-{
-    const uint32_t numbers[] = {route->place,        route->prefix,
-                                route->mask,         route->port,
-                                route->availability, route->capabilities};
-
-    line_numbers(CALL_SET_ROUTE, numbers);
-}
-
-void history_set_route(struct world *world, uint32_t place,
-                       struct random *random)
-{
-    struct route route = choose_route(world, place, random);
-
-    world->routes[place].filled = true;
-    world->routes[place].prefix = route.prefix;
-    world->routes[place].mask = route.mask;
-    write_route(&route);
-}
-
-void history_refused_route(struct world *world, struct random *random)
-{
-    struct route route =
-        choose_route(world, random_below(random, WORLD_ROUTES), random);
-
-    spoil_route(world, &route, random);
-    write_route(&route);
+    write_port(world, &port, false);
 }

@@ -1,6 +1,6 @@
 /*
- * ports.h: `set_port` and `set_route` lines. A good setting is noted in the
- * world as what was asked for; one that is to be refused is not.
+ * ports.h: `set_port` lines, of the mission whose calls are drawn. A good
+ * setting is noted in the world; one that is to be refused is not.
  */
 #ifndef PORTS_H
 #define PORTS_H
@@ -11,8 +11,5 @@
 void history_set_port(struct world *world, uint32_t port,
                       struct random *random);
 void history_refused_port(struct world *world, struct random *random);
-void history_set_route(struct world *world, uint32_t place,
-                       struct random *random);
-void history_refused_route(struct world *world, struct random *random);
 
 #endif

@@ -8,24 +8,28 @@
 #include "entries.h"
 #include "line.h"
 #include "ports.h"
+#include "routes.h"
 
 static void clear_route(struct world *world, struct random *random)
 {
-    uint32_t place = random_below(random, WORLD_ROUTES + 4);
+    uint32_t which = random_below(random, WORLD_ROUTES + 4);
 
-    if (place < WORLD_ROUTES)
-        world->routes[place].filled = false;
-    line_number(CALL_CLEAR_ROUTE, place);
+    if (which < WORLD_ROUTES)
+        world->routes[which].filled = false;
+    line_number(CALL_CLEAR_ROUTE, which < WORLD_ROUTES
+                                      ? world->routes[which].place
+                                      : world->places + which - WORLD_ROUTES);
 }
 
-static void clear_entry(enum call call, uint32_t *entries, uint32_t count,
+static void clear_entry(const struct world *world, enum call call,
+                        uint32_t *entries, uint32_t count,
                         struct random *random)
 {
     uint32_t place = random_below(random, count + 4);
 
     if (place < count)
         entries[place] = 0;
-    line_number(call, place);
+    line_asked(call, place, world->mission);
 }
 
 static void any_router(struct world *world, struct random *random)
@@ -39,7 +43,7 @@ static void any_router(struct world *world, struct random *random)
 static void any_port(struct world *world, struct random *random)
 {
     if (random_one_in(random, 2))
-        history_set_port(world, world_port(world, random), random);
+        history_set_port(world, random_below(random, WORLD_PORTS), random);
     else
         history_refused_port(world, random);
 }
@@ -81,10 +85,12 @@ static void any_clear(struct world *world, struct random *random)
 {
     switch (random_below(random, 4)) {
     case 0:
-        clear_entry(CALL_CLEAR_GROUP, world->groups, WORLD_GROUPS, random);
+        clear_entry(world, CALL_CLEAR_GROUP, world->groups[world->mission],
+                    WORLD_GROUPS, random);
         break;
     case 1:
-        clear_entry(CALL_CLEAR_PATH, world->paths, WORLD_PATHS, random);
+        clear_entry(world, CALL_CLEAR_PATH, world->paths[world->mission],
+                    WORLD_PATHS, random);
         break;
     default:
         clear_route(world, random);
@@ -94,8 +100,9 @@ static void any_clear(struct world *world, struct random *random)
 void history_setting(struct world *world, struct random *random)
 {
     static any_setting *const KINDS[] = {
-        any_router, any_port,  any_port, any_route,
-        any_route,  any_group, any_path, any_clear};
+        any_router, any_port, any_port, any_port,  any_route,
+        any_route,  any_group, any_path, any_clear, history_record,
+        history_record};
 
     PICK(KINDS)(world, random);
 }

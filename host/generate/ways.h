@@ -25,4 +25,13 @@ static inline uint32_t beyond(uint32_t count, struct random *random)
     return random_one_in(random, 2) ? count : 0xffffffffu;
 }
 
+/* A number that is not ones and then zeros. */
+static inline uint32_t no_mask(struct random *random)
+{
+    static const uint32_t BAD[] = {0x00ffff00, 0xffff00ff, 0xff00ff00,
+                                   0x00000001, 0xfffffffd, 0x7fffff00};
+
+    return PICK(BAD);
+}
+
 #endif

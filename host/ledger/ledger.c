@@ -4,10 +4,11 @@
  *
  *     ledger < ANSWERED
  *
- * For each port: what took an entry, one copy per port and receipt, is what was
- * handed out by takes and what waits (`waiting` lines). Each entry handed out
- * is the oldest of the highest precedence that waits, by a plain list. Each
- * counter of a `counters` line is what the answers since `new` add up to.
+ * Each mission has its own books. For each port: what took an entry, one copy
+ * per port and receipt, is what was handed out by takes and what waits
+ * (`waiting` lines). Each entry handed out is the oldest of the highest
+ * precedence that waits, by a plain list. Each counter of a `counters` line is
+ * what the answers since `new` add up to.
  *
  * The awkward counter is npOutDiscards: an answer gives the ports that took an
  * entry, not those that dropped theirs. Only a port with 32 waiting drops one,
@@ -32,14 +33,16 @@ struct entry {
     uint32_t slot, precedence;
 };
 
-static struct {
+static struct book {
     struct {
         uint64_t took, handed_out, waits;
         struct entry entries[QUEUE];
     } ports[PORTS];
     uint32_t counters[COUNTERS]; /* but for npOutDiscards */
     uint32_t least_discards, most_discards;
-} book;
+} books[TRACE_MISSIONS];
+
+static struct book *book = books; /* of the mission whose call it is */
 
 static struct {
     uint64_t receipts, takes, counters, waiting, copies, exact;
@@ -70,8 +73,8 @@ static uint32_t number(struct trace_word word)
 /* Ahead of the first entry with lower precedence, else last. */
 static void enter(uint32_t port, struct entry newcomer)
 {
-    struct entry *entries = book.ports[port].entries;
-    uint64_t waits = book.ports[port].waits;
+    struct entry *entries = book->ports[port].entries;
+    uint64_t waits = book->ports[port].waits;
     uint64_t at = 0;
 
     expect(waits < QUEUE, "a full port took an entry", QUEUE, waits);
@@ -81,8 +84,8 @@ static void enter(uint32_t port, struct entry newcomer)
         at++;
     memmove(entries + at + 1, entries + at, (waits - at) * sizeof *entries);
     entries[at] = newcomer;
-    book.ports[port].waits++;
-    book.ports[port].took++;
+    book->ports[port].waits++;
+    book->ports[port].took++;
     seen.copies++;
 }
 
@@ -91,7 +94,7 @@ static uint32_t full_ports(void)
     uint32_t full = 0;
 
     for (uint32_t port = 0; port < PORTS; port++)
-        full += book.ports[port].waits == QUEUE;
+        full += book->ports[port].waits == QUEUE;
     return full;
 }
 
@@ -104,19 +107,19 @@ static const uint8_t COUNTER_OF[CALL_NUMBERS] = {
 static void count(uint32_t refusal)
 {
     if (refusal < CALL_NUMBERS && COUNTER_OF[refusal] != 0)
-        book.counters[COUNTER_OF[refusal]]++;
+        book->counters[COUNTER_OF[refusal]]++;
 }
 
 static void count_receipt(uint32_t refusal, uint32_t local, uint32_t onward)
 {
-    if (refusal == 16 || refusal == 17)
+    if (refusal == 16 || refusal == 17 || refusal == 21)
         return;
-    book.counters[0]++;
+    book->counters[0]++;
     count(refusal);
     if (refusal != 0)
         return;
-    book.counters[8] += local == 1;
-    book.counters[10] += onward == 1;
+    book->counters[8] += local == 1;
+    book->counters[10] += onward == 1;
     if (local != 1)
         count(local);
     if (onward != 1)
@@ -130,8 +133,8 @@ static void bound_discards(uint32_t refusal, uint32_t onward)
 
     if (refusal != 0 || (onward != 1 && onward != 15))
         return;
-    book.most_discards += full;
-    book.least_discards += onward == 15;
+    book->most_discards += full;
+    book->least_discards += onward == 15;
     if (onward == 15)
         expect(full > 0, "15 without a full port", 1, full);
 }
@@ -173,20 +176,20 @@ static bool book_take(const struct trace_call *call,
     seen.takes++;
     if (port >= PORTS)
         return refusal == 16;
-    expect((book.ports[port].waits > 0) == (refusal == 0),
-           "an entry exactly where one waits", book.ports[port].waits,
+    expect((book->ports[port].waits > 0) == (refusal == 0),
+           "an entry exactly where one waits", book->ports[port].waits,
            refusal);
-    if (refusal != 0 || book.ports[port].waits == 0)
+    if (refusal != 0 || book->ports[port].waits == 0)
         return true;
-    entries = book.ports[port].entries;
+    entries = book->ports[port].entries;
     expect(entries[0].slot == number(answer->words[1]), "slot taken",
            entries[0].slot, number(answer->words[1]));
     expect(entries[0].precedence == number(answer->words[2]),
            "precedence taken", entries[0].precedence,
            number(answer->words[2]));
     memmove(entries, entries + 1, (QUEUE - 1) * sizeof *entries);
-    book.ports[port].waits--;
-    book.ports[port].handed_out++;
+    book->ports[port].waits--;
+    book->ports[port].handed_out++;
     return true;
 }
 
@@ -200,20 +203,20 @@ static bool book_waiting(const struct trace_call *call,
     if (port >= PORTS)
         return trace_is(answer->words[0], "!21");
     waiting = number(answer->words[0]);
-    expect(book.ports[port].took == book.ports[port].handed_out + waiting,
-           "took = handed out + waiting", book.ports[port].took,
-           book.ports[port].handed_out + waiting);
+    expect(book->ports[port].took == book->ports[port].handed_out + waiting,
+           "took = handed out + waiting", book->ports[port].took,
+           book->ports[port].handed_out + waiting);
     return true;
 }
 
 static void check_discards(uint32_t found)
 {
-    expect(found - book.least_discards <=
-               book.most_discards - book.least_discards,
-           "npOutDiscards within its bounds", book.least_discards, found);
-    seen.exact += book.least_discards == book.most_discards;
-    book.least_discards = found;
-    book.most_discards = found;
+    expect(found - book->least_discards <=
+               book->most_discards - book->least_discards,
+           "npOutDiscards within its bounds", book->least_discards, found);
+    seen.exact += book->least_discards == book->most_discards;
+    book->least_discards = found;
+    book->most_discards = found;
 }
 
 static bool book_counters(const struct trace_call *answer)
@@ -232,7 +235,7 @@ static bool book_counters(const struct trace_call *answer)
         if (i == OUT_DISCARDS)
             check_discards(found);
         else
-            expect(found == book.counters[i], NAMES[i], book.counters[i],
+            expect(found == book->counters[i], NAMES[i], book->counters[i],
                    found);
     }
     return true;
@@ -240,10 +243,22 @@ static bool book_counters(const struct trace_call *answer)
 
 /* ---- Lines --------------------------------------------------------------- */
 
+/* Opens the book of the mission that the line ends with. */
+static void open_book(enum call of, const struct trace_call *call)
+{
+    const char *arguments = of < LINES ? call_facts[of].arguments : NULL;
+
+    if (arguments == NULL || *arguments == '\0' ||
+        arguments[strlen(arguments) - 1] != 'M')
+        return;
+    book = &books[number(call->words[call->count - 1]) % TRACE_MISSIONS];
+}
+
 /* Other words move nothing that is booked. */
 static bool book_line(enum call of, const struct trace_call *call,
                       const struct trace_call *answer)
 {
+    open_book(of, call);
     switch (of) {
     case CALL_RECEIVE:
         return book_receive(call, answer);
@@ -253,8 +268,8 @@ static bool book_line(enum call of, const struct trace_call *call,
         return book_waiting(call, answer);
     case CALL_COUNTER:
         return book_counters(answer);
-    case CALL_FRESH:
-        memset(&book, 0, sizeof book);
+    case LINE_NEW:
+        memset(books, 0, sizeof books);
         return true;
     default:
         return true;
@@ -265,8 +280,8 @@ static const char HELP[] =
     "usage: ledger [--help | --version] < ANSWERED\n"
     "\n"
     "Recounts an answered trace (docs/TRACE.md) from its calls and answers\n"
-    "alone: for each port the copies taken, handed out and waiting, the order\n"
-    "of what is handed out, and each counter.\n"
+    "alone: for each mission and port the copies taken, handed out and\n"
+    "waiting, the order of what is handed out, and each counter.\n"
     "\n"
     "Status: 0 the books balance; 1 they do not, or a line has no good\n"
     "answer; 2 bad usage, or the output failed.\n";

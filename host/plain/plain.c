@@ -122,7 +122,7 @@ int main(int count, char **arguments)
         return answer_argument(arguments[1]);
     input.file = stdin;
     session.text.file = stdout;
-    plain_relay_fresh(&session.relay);
+    plain_session_fresh(&session);
     all_understood = answer_lines();
     plain_text_flush(&session.text);
     if (session.text.failed || ferror(stdin)) {

@@ -11,8 +11,9 @@
 #define PLAIN_NUMBERS_H
 
 enum {
+    PLAIN_MISSIONS = 2,
     PLAIN_PORTS = 8,
-    PLAIN_ROUTES = 64,
+    PLAIN_ROUTES = 512, /* records in a list, at most */
     PLAIN_GROUPS = 16,
     PLAIN_PATHS = 16,
     PLAIN_QUEUE_ENTRIES = 32,
@@ -49,7 +50,7 @@ typedef enum {
     PLAIN_SET_CODE = 24,
     PLAIN_SET_CLASS = 25,
     PLAIN_UNKNOWN_TP_ID = 26,
-    PLAIN_SET_WAITING = 35
+    PLAIN_SET_TWICE = 35 /* settings: a port is written once */
 } plain_refusal;
 
 #endif

@@ -1,10 +1,13 @@
 /*
- * The relay of page 01: its state, its settings, the verdict on a received
- * datagram, and the queues of its ports. The caller keeps the state and gives
- * it back as the last call left it.
+ * The relay of page 01 as two missions share it (page 02, W-208). Three things
+ * are kept by the caller: the operator's board, the state of each mission, and
+ * the list of routes. A mission's call sees a view: the board, its own state
+ * and the list, the ports of the other mission not set up and its routes not
+ * there.
  *
- * An empty place is all zeros, and needs no flag to say so: 0 is no
- * availability of a route, no multicast address and no path address.
+ * An empty group or path place is all zeros, and needs no flag to say so: 0 is
+ * no multicast address and no path address. A record of the list has a flag,
+ * since whoever writes the list may write anything.
  */
 #ifndef PLAIN_RELAY_H
 #define PLAIN_RELAY_H
@@ -22,7 +25,6 @@
 typedef struct { uint32_t bits; } plain_set;
 
 typedef enum {
-    PLAIN_PLACE_EMPTY = 0,
     PLAIN_UP = 1,
     PLAIN_DOWN = 2,
     PLAIN_TESTING = 3,
@@ -33,15 +35,30 @@ typedef struct {
     plain_address address;
     plain_mask mask;
     uint32_t mtu;
+    uint32_t mission;
 } plain_port;
 
+/* A route, as it stands in the list. */
 typedef struct {
+    uint32_t filled; /* 0 where the place is empty */
     plain_address prefix;
     plain_mask mask;
     uint32_t port;
     uint32_t availability;
     uint32_t capabilities; /* stored only */
-} plain_route;
+    uint32_t mission;
+} plain_record;
+
+/* A list that is lent, to be written or only to be read. */
+typedef struct {
+    plain_record *records;
+    size_t count;
+} plain_list;
+
+typedef struct {
+    const plain_record *records;
+    size_t count;
+} plain_routes;
 
 typedef struct {
     plain_address address;
@@ -57,14 +74,26 @@ typedef struct {
 
 typedef struct {
     uint32_t router;
-    plain_set set_up; /* the ports that are */
+    plain_set set_up;                /* the ports that are */
+    plain_set owned[PLAIN_MISSIONS]; /* those of each mission */
     plain_port ports[PLAIN_PORTS];
+} plain_board;
+
+typedef struct {
+    uint32_t number;
     plain_queue queues[PLAIN_PORTS];
-    plain_route routes[PLAIN_ROUTES];
     plain_group groups[PLAIN_GROUPS];
     plain_path_place paths[PLAIN_PATHS];
     plain_counters counters;
-} plain_relay;
+} plain_mission;
+
+/* What a mission's call is lent. A call that looks for no route is lent no
+ * list, and a view of it has none. */
+typedef struct {
+    const plain_board *board;
+    plain_mission *mission;
+    plain_routes routes;
+} plain_view;
 
 /* The two halves of a verdict: these numbers or a refusal's. */
 enum {
@@ -82,52 +111,63 @@ typedef struct {
     uint32_t header_length; /* of the header in the output, 0 for none */
 } plain_verdict;
 
-/* A host without ports, all places and queues empty, all counters 0. */
-void plain_relay_fresh(plain_relay *relay);
+/* A host without ports. */
+void plain_board_fresh(plain_board *board);
+
+/* All places and queues empty, all counters 0; 24 with nothing changed for a
+ * number over 1. */
+plain_refusal plain_mission_fresh(plain_mission *mission, uint32_t number);
 
 static inline bool plain_set_has(plain_set set, uint32_t port)
 {
     return port < PLAIN_PORTS && (set.bits >> port & 1) != 0;
 }
 
-/* Settings: 0, or a refusal with nothing changed. */
-plain_refusal plain_set_router(plain_relay *relay, uint32_t router);
-plain_refusal plain_set_port(plain_relay *relay, uint32_t number,
+/* The ports that the mission of a view has. */
+plain_set plain_own_ports(const plain_view *view);
+
+/* Settings: 0, or a refusal with nothing changed. The first of these are the
+ * operator's. */
+plain_refusal plain_set_router(plain_board *board, uint32_t router);
+plain_refusal plain_set_port(plain_board *board, uint32_t number,
                              const plain_port *port);
-plain_refusal plain_set_route(plain_relay *relay, uint32_t place,
-                              const plain_route *route);
-plain_refusal plain_set_group(plain_relay *relay, uint32_t place,
+plain_refusal plain_set_route(const plain_board *board, plain_list list,
+                              uint32_t place, const plain_record *record);
+plain_refusal plain_clear_route(plain_list list, uint32_t place);
+plain_refusal plain_set_group(const plain_view *view, uint32_t place,
                               const plain_group *group);
-plain_refusal plain_set_path(plain_relay *relay, uint32_t place,
+plain_refusal plain_set_path(const plain_view *view, uint32_t place,
                              const plain_path_place *path);
-plain_refusal plain_clear_route(plain_relay *relay, uint32_t place);
-plain_refusal plain_clear_group(plain_relay *relay, uint32_t place);
-plain_refusal plain_clear_path(plain_relay *relay, uint32_t place);
+plain_refusal plain_clear_group(plain_mission *mission, uint32_t place);
+plain_refusal plain_clear_path(plain_mission *mission, uint32_t place);
 
 /* One received datagram. Of the output, which must not overlap the octets,
  * only the first header_length octets of the verdict are written. */
-plain_verdict plain_receive(plain_relay *relay, uint32_t arrival,
+plain_verdict plain_receive(const plain_view *view, uint32_t arrival,
                             plain_slot slot, const uint8_t *octets,
                             size_t count, uint8_t *output, size_t room);
 
 /* The first entry of the port's queue; 16 or 18 with nothing written. */
-plain_refusal plain_take(plain_relay *relay, uint32_t port,
+plain_refusal plain_take(const plain_view *view, uint32_t port,
                          plain_entry *entry);
 
-/* The route that an address takes, of those that are up, or none. The default
- * route has 0 ones, so these say nothing of whether one was found. */
+/* The route of the mission that an address takes, of those that are up, or
+ * none. The default route has 0 ones, so these say nothing of whether one was
+ * found. */
 typedef struct {
-    bool found; /* all else is 0 where it is false */
+    plain_refusal refusal; /* 21 for a list that is too long */
+    bool found;            /* all else is 0 where it is false */
     uint32_t place;
     uint32_t ones; /* of its mask */
     uint32_t port;
 } plain_found;
 
-plain_found plain_search(const plain_relay *relay, plain_address address);
+plain_found plain_search(const plain_view *view, plain_address address);
 
-/* How many entries wait on the port; 21, with nothing written, where there is
- * no port of that number. On a port that is not set up nothing waits. */
-plain_refusal plain_waiting(const plain_relay *relay, uint32_t port,
+/* How many entries of the mission wait on the port; 21, with nothing written,
+ * where there is no port of that number. On a port that is not its own nothing
+ * waits. */
+plain_refusal plain_waiting(const plain_mission *mission, uint32_t port,
                             uint32_t *waiting);
 
 #endif

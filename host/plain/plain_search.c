@@ -1,75 +1,60 @@
 /*
  * Searches over ports and places, each a plain run through its table.
  *
- * Masks are ones and then zeros, so of two masks the one with more ones is the
- * larger unsigned number, and no ones need be counted. Two routes that match
- * and have equal masks would have equal prefixes; the settings refuse that, so
- * the longest match is one place.
- *
- * Only a route that is up is a candidate (page 02, W-204), so that one that is
- * not up hides none that is shorter.
- *
- * The awkward cases: the default route has mask 0, as an empty place has, but
- * an empty place is not up; and one that was found is told by a flag and not
- * by its ones; and the broadcast of all
- * SCPS is the net broadcast of net 10 taken as class A, so the three forms of
- * a broadcast of ours come down to two comparisons.
+ * The awkward cases: a route that was found is told by a flag and not by its
+ * ones, since the default route has none; and the broadcast of all SCPS is the
+ * net broadcast of net 10 taken as class A, so the three forms of a broadcast
+ * of ours come down to two comparisons.
  */
 #include "plain_search.h"
 
-const plain_route *plain_search_route(const plain_relay *relay,
-                                      plain_address destination)
+#include "plain_list.h"
+
+plain_found plain_search(const plain_view *view, plain_address address)
 {
-    const plain_route *best = NULL;
+    plain_found found = {PLAIN_GOOD, false, 0, 0, 0};
+    const plain_record *route;
 
-    for (uint32_t at = 0; at < PLAIN_ROUTES; at++) {
-        const plain_route *route = &relay->routes[at];
-
-        if ((destination.bits & route->mask.bits) == route->prefix.bits &&
-            route->availability == PLAIN_UP &&
-            (best == NULL || route->mask.bits > best->mask.bits))
-            best = route;
+    if (plain_list_too_long(view->routes.count)) {
+        found.refusal = PLAIN_SET_NUMBER;
+        return found;
     }
-    return best;
-}
-
-plain_found plain_search(const plain_relay *relay, plain_address address)
-{
-    const plain_route *route = plain_search_route(relay, address);
-    plain_found found = {false, 0, 0, 0};
-
+    route = plain_list_longest(view->board, view->mission->number,
+                               view->routes, address);
     if (route == NULL)
         return found;
     found.found = true;
-    found.place = (uint32_t)(route - relay->routes);
+    found.place = (uint32_t)(route - view->routes.records);
     found.ones = plain_mask_ones(route->mask);
     found.port = route->port;
     return found;
 }
 
-const plain_group *plain_search_group(const plain_relay *relay,
+const plain_group *plain_search_group(const plain_mission *mission,
                                       plain_address address)
 {
     for (uint32_t at = 0; at < PLAIN_GROUPS; at++)
-        if (relay->groups[at].address.bits == address.bits)
-            return &relay->groups[at];
+        if (mission->groups[at].address.bits == address.bits)
+            return &mission->groups[at];
     return NULL;
 }
 
-const plain_path_place *plain_search_path(const plain_relay *relay,
+const plain_path_place *plain_search_path(const plain_mission *mission,
                                           plain_path path)
 {
     for (uint32_t at = 0; at < PLAIN_PATHS; at++)
-        if (relay->paths[at].path.bits == path.bits)
-            return &relay->paths[at];
+        if (mission->paths[at].path.bits == path.bits)
+            return &mission->paths[at];
     return NULL;
 }
 
-bool plain_search_own(const plain_relay *relay, plain_address destination)
+bool plain_search_own(const plain_view *view, plain_address destination)
 {
+    plain_set own = plain_own_ports(view);
+
     for (uint32_t port = 0; port < PLAIN_PORTS; port++)
-        if (plain_set_has(relay->set_up, port) &&
-            relay->ports[port].address.bits == destination.bits)
+        if (plain_set_has(own, port) &&
+            view->board->ports[port].address.bits == destination.bits)
             return true;
     return false;
 }
@@ -84,12 +69,14 @@ static bool broadcast_of_port(const plain_port *port,
     return destination.bits == of_network || destination.bits == of_subnet;
 }
 
-bool plain_search_broadcast(const plain_relay *relay,
+bool plain_search_broadcast(const plain_view *view,
                             plain_address destination)
 {
+    plain_set own = plain_own_ports(view);
+
     for (uint32_t port = 0; port < PLAIN_PORTS; port++)
-        if (plain_set_has(relay->set_up, port) &&
-            broadcast_of_port(&relay->ports[port], destination))
+        if (plain_set_has(own, port) &&
+            broadcast_of_port(&view->board->ports[port], destination))
             return true;
     return false;
 }

@@ -4,9 +4,10 @@
  *
  * The awkward cases: capability "both" is 4, and 3 is refused; an entry is
  * compared with the other places only, so that a place may be written over
- * itself; and a port on which entries wait is refused by 35 even where the
- * same values are written, but only after everything else was found good.
+ * itself; and a port that is set up is refused by 35 whatever is written, but
+ * only after everything else was found good.
  */
+#include "plain_list.h"
 #include "plain_relay.h"
 
 static bool flag_good(uint32_t flag)
@@ -14,17 +15,17 @@ static bool flag_good(uint32_t flag)
     return flag <= 1;
 }
 
-/* Every port that the set names is set up; none of those is over 7. */
-static bool set_good(const plain_relay *relay, plain_set set)
+/* Every port that the set names is the mission's; none of those is over 7. */
+static bool set_good(const plain_view *view, plain_set set)
 {
-    return (set.bits & ~relay->set_up.bits) == 0;
+    return (set.bits & ~plain_own_ports(view).bits) == 0;
 }
 
-plain_refusal plain_set_router(plain_relay *relay, uint32_t router)
+plain_refusal plain_set_router(plain_board *board, uint32_t router)
 {
     if (!flag_good(router))
         return PLAIN_SET_CODE;
-    relay->router = router;
+    board->router = router;
     return PLAIN_GOOD;
 }
 
@@ -40,136 +41,123 @@ static bool port_mask_good(const plain_port *port)
            (port->address.bits & host_bits) != host_bits;
 }
 
-plain_refusal plain_set_port(plain_relay *relay, uint32_t number,
+plain_refusal plain_set_port(plain_board *board, uint32_t number,
                              const plain_port *port)
 {
+    uint32_t bit;
+
+
     if (number >= PLAIN_PORTS)
         return PLAIN_SET_NUMBER;
     if (plain_address_class(port->address) != PLAIN_UNICAST)
         return PLAIN_SET_CLASS;
     if (!port_mask_good(port))
         return PLAIN_SET_MASK;
-    if (port->mtu < 1 || port->mtu > PLAIN_LENGTH_MOST)
+    if (port->mtu < 1 || port->mtu > PLAIN_LENGTH_MOST ||
+        port->mission >= PLAIN_MISSIONS)
         return PLAIN_SET_CODE;
-    if (relay->queues[number].waiting > 0)
-        return PLAIN_SET_WAITING;
-    relay->ports[number] = *port;
-    relay->set_up.bits |= (uint32_t)1 << number;
+    if (plain_set_has(board->set_up, number))
+        return PLAIN_SET_TWICE;
+    bit = (uint32_t)1 << number;
+    board->ports[number] = *port;
+    board->set_up.bits |= bit;
+    board->owned[port->mission].bits |= bit;
     return PLAIN_GOOD;
 }
 
-static bool route_codes_good(const plain_route *route)
+plain_refusal plain_set_route(const plain_board *board, plain_list list,
+                              uint32_t place, const plain_record *record)
 {
-    bool capabilities_good =
-        route->capabilities <= 2 || route->capabilities == 4;
+    plain_routes before = {list.records, list.count};
+    plain_refusal refusal;
+    size_t holder;
 
-    return route->availability >= PLAIN_UP &&
-           route->availability <= PLAIN_OUT && capabilities_good;
-}
-
-static bool same_route_elsewhere(const plain_relay *relay, uint32_t place,
-                                 const plain_route *route)
-{
-    for (uint32_t at = 0; at < PLAIN_ROUTES; at++) {
-        const plain_route *other = &relay->routes[at];
-
-        if (at != place && other->availability != PLAIN_PLACE_EMPTY &&
-            other->prefix.bits == route->prefix.bits &&
-            other->mask.bits == route->mask.bits)
-            return true;
-    }
-    return false;
-}
-
-plain_refusal plain_set_route(plain_relay *relay, uint32_t place,
-                              const plain_route *route)
-{
-    if (place >= PLAIN_ROUTES || !plain_set_has(relay->set_up, route->port))
+    if (plain_list_too_long(list.count) || place >= list.count)
         return PLAIN_SET_NUMBER;
-    if (!plain_mask_contiguous(route->mask) ||
-        (route->prefix.bits & ~route->mask.bits) != 0)
-        return PLAIN_SET_MASK;
-    if (!route_codes_good(route))
-        return PLAIN_SET_CODE;
-    if (same_route_elsewhere(relay, place, route))
+    refusal = plain_record_judge(board, record);
+    if (refusal != PLAIN_GOOD)
+        return refusal;
+    holder = plain_list_holder(board, before, record);
+    if (holder < list.count && holder != place)
         return PLAIN_SET_SAME;
-    relay->routes[place] = *route;
+    list.records[place] = *record;
+    list.records[place].filled = 1;
     return PLAIN_GOOD;
 }
 
-static bool same_group_elsewhere(const plain_relay *relay, uint32_t place,
+plain_refusal plain_clear_route(plain_list list, uint32_t place)
+{
+    static const plain_record empty;
+
+    if (plain_list_too_long(list.count) || place >= list.count)
+        return PLAIN_SET_NUMBER;
+    list.records[place] = empty;
+    return PLAIN_GOOD;
+}
+
+static bool same_group_elsewhere(const plain_mission *mission, uint32_t place,
                                  plain_address address)
 {
     for (uint32_t at = 0; at < PLAIN_GROUPS; at++)
-        if (at != place && relay->groups[at].address.bits == address.bits)
+        if (at != place && mission->groups[at].address.bits == address.bits)
             return true;
     return false;
 }
 
-plain_refusal plain_set_group(plain_relay *relay, uint32_t place,
+plain_refusal plain_set_group(const plain_view *view, uint32_t place,
                               const plain_group *group)
 {
-    if (place >= PLAIN_GROUPS || !set_good(relay, group->send) ||
-        !set_good(relay, group->subscribed))
+    if (place >= PLAIN_GROUPS || !set_good(view, group->send) ||
+        !set_good(view, group->subscribed))
         return PLAIN_SET_NUMBER;
     if (plain_address_class(group->address) != PLAIN_MULTICAST)
         return PLAIN_SET_CLASS;
-    if (same_group_elsewhere(relay, place, group->address))
+    if (same_group_elsewhere(view->mission, place, group->address))
         return PLAIN_SET_SAME;
-    relay->groups[place] = *group;
+    view->mission->groups[place] = *group;
     return PLAIN_GOOD;
 }
 
-static bool same_path_elsewhere(const plain_relay *relay, uint32_t place,
+static bool same_path_elsewhere(const plain_mission *mission, uint32_t place,
                                 plain_path path)
 {
     for (uint32_t at = 0; at < PLAIN_PATHS; at++)
-        if (at != place && relay->paths[at].path.bits == path.bits)
+        if (at != place && mission->paths[at].path.bits == path.bits)
             return true;
     return false;
 }
 
-plain_refusal plain_set_path(plain_relay *relay, uint32_t place,
+plain_refusal plain_set_path(const plain_view *view, uint32_t place,
                              const plain_path_place *path)
 {
-    if (place >= PLAIN_PATHS || !set_good(relay, path->send))
+    if (place >= PLAIN_PATHS || !set_good(view, path->send))
         return PLAIN_SET_NUMBER;
     if (!plain_path_valid(path->path))
         return PLAIN_SET_CLASS;
     if (!flag_good(path->here))
         return PLAIN_SET_CODE;
-    if (same_path_elsewhere(relay, place, path->path))
+    if (same_path_elsewhere(view->mission, place, path->path))
         return PLAIN_SET_SAME;
-    relay->paths[place] = *path;
+    view->mission->paths[place] = *path;
     return PLAIN_GOOD;
 }
 
-plain_refusal plain_clear_route(plain_relay *relay, uint32_t place)
-{
-    static const plain_route empty;
-
-    if (place >= PLAIN_ROUTES)
-        return PLAIN_SET_NUMBER;
-    relay->routes[place] = empty;
-    return PLAIN_GOOD;
-}
-
-plain_refusal plain_clear_group(plain_relay *relay, uint32_t place)
+plain_refusal plain_clear_group(plain_mission *mission, uint32_t place)
 {
     static const plain_group empty;
 
     if (place >= PLAIN_GROUPS)
         return PLAIN_SET_NUMBER;
-    relay->groups[place] = empty;
+    mission->groups[place] = empty;
     return PLAIN_GOOD;
 }
 
-plain_refusal plain_clear_path(plain_relay *relay, uint32_t place)
+plain_refusal plain_clear_path(plain_mission *mission, uint32_t place)
 {
     static const plain_path_place empty;
 
     if (place >= PLAIN_PATHS)
         return PLAIN_SET_NUMBER;
-    relay->paths[place] = empty;
+    mission->paths[place] = empty;
     return PLAIN_GOOD;
 }

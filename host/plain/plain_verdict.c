@@ -13,6 +13,7 @@
  * from the arrival port, never from the port it leaves by.
  */
 #include "plain_header.h"
+#include "plain_list.h"
 #include "plain_relay.h"
 #include "plain_search.h"
 
@@ -47,10 +48,10 @@ static plain_set without(plain_set set, uint32_t port)
 }
 
 /* Steps 5 and 6: fills in what is one octet, then judges the classes. */
-static plain_refusal judge_addresses(const plain_relay *relay, datagram *d)
+static plain_refusal judge_addresses(const plain_view *view, datagram *d)
 {
     const plain_fields *fields = &d->header.fields;
-    plain_address own = relay->ports[d->arrival].address;
+    plain_address own = view->board->ports[d->arrival].address;
     uint32_t domain = fields->extended ? 0 : domain_of(own);
     uint32_t destination = domain | (uint32_t)fields->destination.low;
     plain_address source = {domain | (uint32_t)fields->source.low};
@@ -72,7 +73,7 @@ static plain_refusal judge_addresses(const plain_relay *relay, datagram *d)
 }
 
 /* Steps 2 to 6. */
-static plain_refusal judge(const plain_relay *relay, const uint8_t *octets,
+static plain_refusal judge(const plain_view *view, const uint8_t *octets,
                            size_t count, datagram *d)
 {
     plain_refusal refusal = plain_header_read(octets, count, &d->header);
@@ -81,11 +82,11 @@ static plain_refusal judge(const plain_relay *relay, const uint8_t *octets,
         return refusal;
     if (d->header.fields.routing != 0 || d->header.fields.ipv6)
         return PLAIN_NOT_CARRIED;
-    return judge_addresses(relay, d);
+    return judge_addresses(view, d);
 }
 
 /* Looks up all that either half will ask. */
-static void recognise(const plain_relay *relay, datagram *d)
+static void recognise(const plain_view *view, datagram *d)
 {
     d->for_this_node = false;
     d->our_broadcast = false;
@@ -93,14 +94,14 @@ static void recognise(const plain_relay *relay, datagram *d)
     d->group = NULL;
     d->place = NULL;
     if (d->by_path) {
-        d->place = plain_search_path(relay, d->path);
+        d->place = plain_search_path(view->mission, d->path);
         return;
     }
     d->for_this_node = d->class == PLAIN_LIMITED_BROADCAST ||
-                       plain_search_own(relay, d->destination);
-    d->our_broadcast = plain_search_broadcast(relay, d->destination);
+                       plain_search_own(view, d->destination);
+    d->our_broadcast = plain_search_broadcast(view, d->destination);
     if (d->class == PLAIN_MULTICAST)
-        d->group = plain_search_group(relay, d->destination);
+        d->group = plain_search_group(view->mission, d->destination);
     if (d->group != NULL)
         d->subscribed = plain_set_has(d->group->subscribed, d->arrival);
 }
@@ -117,10 +118,10 @@ static uint32_t local_half(const datagram *d)
     return PLAIN_LOCAL_DELIVERED;
 }
 
-static plain_refusal wanted_for_group(const plain_relay *relay,
+static plain_refusal wanted_for_group(const plain_view *view,
                                       const datagram *d, plain_set *wanted)
 {
-    if (d->subscribed && without(relay->set_up, d->arrival).bits == 0)
+    if (d->subscribed && without(plain_own_ports(view), d->arrival).bits == 0)
         return PLAIN_GOOD;
     if (d->group != NULL)
         *wanted = without(d->group->send, d->arrival);
@@ -135,10 +136,12 @@ static plain_refusal wanted_for_path(const datagram *d, plain_set *wanted)
     return wanted->bits != 0 || d->place->here ? PLAIN_GOOD : PLAIN_NO_ROUTE;
 }
 
-static plain_refusal wanted_by_route(const plain_relay *relay,
+static plain_refusal wanted_by_route(const plain_view *view,
                                      const datagram *d, plain_set *wanted)
 {
-    const plain_route *route = plain_search_route(relay, d->destination);
+    const plain_record *route =
+        plain_list_longest(view->board, view->mission->number, view->routes,
+                           d->destination);
 
     if (route == NULL)
         return PLAIN_NO_ROUTE;
@@ -148,46 +151,53 @@ static plain_refusal wanted_by_route(const plain_relay *relay,
 
 /* The first line that fits decides. The set wanted comes in empty; where it
  * stays so without a refusal, the onward half is not asked. */
-static plain_refusal wanted_ports(const plain_relay *relay, const datagram *d,
+static plain_refusal wanted_ports(const plain_view *view, const datagram *d,
                                   uint32_t local, plain_set *wanted)
 {
     if (d->for_this_node)
         return PLAIN_GOOD;
-    if (!relay->router)
+    if (!view->board->router)
         return local != PLAIN_LOCAL_NO ? PLAIN_GOOD : PLAIN_NOT_FOR_US;
     if (d->our_broadcast) {
-        *wanted = without(relay->set_up, d->arrival);
+        *wanted = without(plain_own_ports(view), d->arrival);
         return PLAIN_GOOD;
     }
     if (d->class == PLAIN_MULTICAST)
-        return wanted_for_group(relay, d, wanted);
+        return wanted_for_group(view, d, wanted);
     if (d->by_path)
         return wanted_for_path(d, wanted);
-    return wanted_by_route(relay, d, wanted);
+    return wanted_by_route(view, d, wanted);
 }
 
-static plain_set inside_domain(const plain_relay *relay, plain_set set,
+/* A port that is not the mission's has no address and no MTU for it. A group or
+ * a path names such a port only where the board was made fresh alone. */
+static plain_set inside_domain(const plain_view *view, plain_set set,
                                uint32_t arrival)
 {
-    uint32_t domain = domain_of(relay->ports[arrival].address);
+    uint32_t domain = domain_of(view->board->ports[arrival].address);
+    plain_set own = plain_own_ports(view);
 
     for (uint32_t port = 0; port < PLAIN_PORTS; port++)
-        if (domain_of(relay->ports[port].address) != domain)
+        if (!plain_set_has(own, port) ||
+            domain_of(view->board->ports[port].address) != domain)
             set = without(set, port);
     return set;
 }
 
-static plain_set large_enough(const plain_relay *relay, plain_set set,
+static plain_set large_enough(const plain_view *view, plain_set set,
                               uint32_t length)
 {
+    plain_set own = plain_own_ports(view);
+
     for (uint32_t port = 0; port < PLAIN_PORTS; port++)
-        if (relay->ports[port].mtu < length)
+        if (!plain_set_has(own, port) ||
+            view->board->ports[port].mtu < length)
             set = without(set, port);
     return set;
 }
 
 /* Leaves of the wanted ports the granted ones. */
-static plain_refusal strike_out(const plain_relay *relay, const datagram *d,
+static plain_refusal strike_out(const plain_view *view, const datagram *d,
                                 plain_set *wanted)
 {
     const plain_fields *fields = &d->header.fields;
@@ -195,15 +205,15 @@ static plain_refusal strike_out(const plain_relay *relay, const datagram *d,
     if (fields->hop_present && fields->hop <= 1)
         return PLAIN_HOPS_USED_UP;
     if (!fields->extended)
-        *wanted = inside_domain(relay, *wanted, d->arrival);
+        *wanted = inside_domain(view, *wanted, d->arrival);
     if (wanted->bits == 0)
         return PLAIN_LEAVES_DOMAIN;
-    *wanted = large_enough(relay, *wanted, d->header.length);
+    *wanted = large_enough(view, *wanted, d->header.length);
     return wanted->bits != 0 ? PLAIN_GOOD : PLAIN_TOO_BIG;
 }
 
 /* The ports of the set that took an entry; the others drop theirs. */
-static plain_set put_copies(plain_relay *relay, plain_set granted,
+static plain_set put_copies(const plain_view *view, plain_set granted,
                             plain_entry entry)
 {
     plain_set took = {0};
@@ -211,29 +221,29 @@ static plain_set put_copies(plain_relay *relay, plain_set granted,
     for (uint32_t port = 0; port < PLAIN_PORTS; port++) {
         if (!plain_set_has(granted, port))
             continue;
-        if (plain_queue_put(&relay->queues[port], entry))
+        if (plain_queue_put(&view->mission->queues[port], entry))
             took.bits |= (uint32_t)1 << port;
         else
-            plain_count(&relay->counters, PLAIN_OUT_DISCARDS);
+            plain_count(&view->mission->counters, PLAIN_OUT_DISCARDS);
     }
     return took;
 }
 
-static uint32_t onward_half(plain_relay *relay, const datagram *d,
+static uint32_t onward_half(const plain_view *view, const datagram *d,
                             uint32_t local, plain_slot slot, plain_set *took)
 {
     plain_entry entry = {slot, (uint16_t)d->header.fields.precedence};
     plain_set wanted = {0};
-    plain_refusal refusal = wanted_ports(relay, d, local, &wanted);
+    plain_refusal refusal = wanted_ports(view, d, local, &wanted);
 
     if (refusal != PLAIN_GOOD)
         return refusal;
     if (wanted.bits == 0)
         return PLAIN_ONWARD_NOT_ASKED;
-    refusal = strike_out(relay, d, &wanted);
+    refusal = strike_out(view, d, &wanted);
     if (refusal != PLAIN_GOOD)
         return refusal;
-    *took = put_copies(relay, wanted, entry);
+    *took = put_copies(view, wanted, entry);
     if (took->bits == 0)
         return PLAIN_ALL_FULL;
     return PLAIN_ONWARD_SENT;
@@ -252,33 +262,39 @@ static void count_halves(plain_counters *counters,
         plain_count_refusal(counters, (plain_refusal)verdict->onward);
 }
 
-plain_verdict plain_receive(plain_relay *relay, uint32_t arrival,
+/* The refusals that count nothing. */
+static plain_refusal judge_call(const plain_view *view, uint32_t arrival,
+                                size_t room)
+{
+    if (plain_list_too_long(view->routes.count))
+        return PLAIN_SET_NUMBER;
+    if (!plain_set_has(plain_own_ports(view), arrival))
+        return PLAIN_NO_PORT;
+    return room < PLAIN_HEADER_MOST ? PLAIN_NO_ROOM : PLAIN_GOOD;
+}
+
+plain_verdict plain_receive(const plain_view *view, uint32_t arrival,
                             plain_slot slot, const uint8_t *octets,
                             size_t count, uint8_t *output, size_t room)
 {
     plain_verdict verdict = {PLAIN_GOOD, 0, 0, {0}, 0};
     datagram d;
 
-    if (!plain_set_has(relay->set_up, arrival)) {
-        verdict.refusal = PLAIN_NO_PORT;
+    verdict.refusal = judge_call(view, arrival, room);
+    if (verdict.refusal != PLAIN_GOOD)
         return verdict;
-    }
-    if (room < PLAIN_HEADER_MOST) {
-        verdict.refusal = PLAIN_NO_ROOM;
-        return verdict;
-    }
-    plain_count(&relay->counters, PLAIN_IN_RECEIVES);
+    plain_count(&view->mission->counters, PLAIN_IN_RECEIVES);
     d.arrival = arrival;
-    verdict.refusal = judge(relay, octets, count, &d);
+    verdict.refusal = judge(view, octets, count, &d);
     if (verdict.refusal != PLAIN_GOOD) {
-        plain_count_refusal(&relay->counters, verdict.refusal);
+        plain_count_refusal(&view->mission->counters, verdict.refusal);
         return verdict;
     }
-    recognise(relay, &d);
+    recognise(view, &d);
     verdict.local = local_half(&d);
     verdict.onward =
-        onward_half(relay, &d, verdict.local, slot, &verdict.ports);
-    count_halves(&relay->counters, &verdict);
+        onward_half(view, &d, verdict.local, slot, &verdict.ports);
+    count_halves(&view->mission->counters, &verdict);
     if (verdict.ports.bits != 0) {
         plain_header_send_on(&d.header, octets, output);
         verdict.header_length = d.header.header_length;

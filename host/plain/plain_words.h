@@ -16,12 +16,16 @@
 
 enum {
     PLAIN_ROOM_MOST = 65535,
+    PLAIN_LIST_MOST = 1024, /* records that a trace may give the list */
     PLAIN_GUARD = 64 /* octets watched beyond the room */
 };
 
 /* What lasts from one call to the next. */
 typedef struct {
-    plain_relay relay;
+    plain_board board;
+    plain_mission missions[PLAIN_MISSIONS];
+    plain_record records[PLAIN_LIST_MOST];
+    size_t record_count;
     plain_octets octets;
     uint8_t output[PLAIN_ROOM_MOST + PLAIN_GUARD];
     plain_text text;
@@ -35,6 +39,9 @@ typedef struct {
     size_t arguments;
     plain_answer *answer;
 } plain_meaning;
+
+/* A fresh board and fresh missions, and a list of 512 empty records. */
+void plain_session_fresh(plain_session *session);
 
 /* The words of the relay, and those for headers, addresses and checksum; the
  * last of each has no name. */

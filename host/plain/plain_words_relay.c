@@ -1,16 +1,25 @@
 /*
- * The words of the relay: new, the settings, receive, take, counters, waiting
- * and search. Numbers are as wide as the library's, so that a place 70 or a
- * port 9 reaches it and gets its refusal; only a slot has 16 bits.
+ * The words of the relay: new, the settings, the list of routes, receive, take,
+ * counters, waiting and search. Numbers are as wide as the library's, so that a
+ * place 700 or a port 9 reaches it and gets its refusal; only a slot has 16
+ * bits, and a mission is 0 or 1.
  *
- * The awkward case: new has no answer, and so its line has no " = ".
+ * The awkward case: new, records and record have no answer, and so their lines
+ * have no " = ".
  */
+#include <string.h>
+
 #include "plain_relay.h"
 #include "plain_words.h"
 
 static bool take_number(plain_word word, uint32_t *number)
 {
     return plain_word_number(word, UINT32_MAX, number);
+}
+
+static bool take_mission(plain_word word, uint32_t *number)
+{
+    return plain_word_number(word, PLAIN_MISSIONS - 1, number);
 }
 
 static bool put_refusal(plain_session *session, plain_refusal refusal)
@@ -26,10 +35,90 @@ static void put_number(plain_session *session, uint32_t number)
     plain_text_decimal(&session->text, number);
 }
 
+/* The view of the mission that the word names, with the list as it stands. */
+static bool take_view(plain_session *session, plain_word word,
+                      plain_view *view)
+{
+    uint32_t number;
+
+    if (!take_mission(word, &number))
+        return false;
+    view->board = &session->board;
+    view->mission = &session->missions[number];
+    view->routes.records = session->records;
+    view->routes.count = session->record_count;
+    return true;
+}
+
+static plain_list the_list(plain_session *session)
+{
+    plain_list list = {session->records, session->record_count};
+    return list;
+}
+
+static void empty_list(plain_session *session, uint32_t count)
+{
+    memset(session->records, 0, sizeof session->records);
+    session->record_count = count;
+}
+
+void plain_session_fresh(plain_session *session)
+{
+    plain_board_fresh(&session->board);
+    for (uint32_t number = 0; number < PLAIN_MISSIONS; number++)
+        plain_mission_fresh(&session->missions[number], number);
+    empty_list(session, PLAIN_ROUTES);
+}
+
 static bool answer_new(plain_session *session, const plain_word *arguments)
 {
     (void)arguments;
-    plain_relay_fresh(&session->relay);
+    plain_session_fresh(session);
+    return true;
+}
+
+/* The one list there is: list 0. */
+static bool is_list(plain_word word)
+{
+    uint32_t list;
+
+    return plain_word_number(word, 0, &list);
+}
+
+static bool answer_records(plain_session *session, const plain_word *arguments)
+{
+    uint32_t count;
+
+    if (!is_list(arguments[0]) ||
+        !plain_word_number(arguments[1], PLAIN_LIST_MOST, &count))
+        return false;
+    empty_list(session, count);
+    return true;
+}
+
+static bool take_record(const plain_word *words, uint32_t codes,
+                        plain_record *record)
+{
+    return plain_word_bits(words[0], &record->prefix.bits) &&
+           plain_word_bits(words[1], &record->mask.bits) &&
+           plain_word_number(words[2], codes, &record->port) &&
+           plain_word_number(words[3], codes, &record->availability) &&
+           plain_word_number(words[4], codes, &record->capabilities) &&
+           take_mission(words[5], &record->mission);
+}
+
+static bool answer_record(plain_session *session, const plain_word *arguments)
+{
+    static const plain_record empty;
+    plain_record record;
+    uint32_t place;
+
+    if (!is_list(arguments[0]) || !take_number(arguments[1], &place) ||
+        !take_number(arguments[2], &record.filled) ||
+        !take_record(arguments + 3, UINT8_MAX, &record))
+        return false;
+    if (place < session->record_count)
+        session->records[place] = record.filled != 0 ? record : empty;
     return true;
 }
 
@@ -40,7 +129,7 @@ static bool answer_set_router(plain_session *session,
 
     if (!take_number(arguments[0], &router))
         return false;
-    return put_refusal(session, plain_set_router(&session->relay, router));
+    return put_refusal(session, plain_set_router(&session->board, router));
 }
 
 static bool answer_set_port(plain_session *session,
@@ -52,27 +141,26 @@ static bool answer_set_port(plain_session *session,
     if (!take_number(arguments[0], &number) ||
         !plain_word_bits(arguments[1], &port.address.bits) ||
         !plain_word_bits(arguments[2], &port.mask.bits) ||
-        !take_number(arguments[3], &port.mtu))
+        !take_number(arguments[3], &port.mtu) ||
+        !take_mission(arguments[4], &port.mission))
         return false;
     return put_refusal(session,
-                       plain_set_port(&session->relay, number, &port));
+                       plain_set_port(&session->board, number, &port));
 }
 
 static bool answer_set_route(plain_session *session,
                              const plain_word *arguments)
 {
     uint32_t place;
-    plain_route route;
+    plain_record record;
 
     if (!take_number(arguments[0], &place) ||
-        !plain_word_bits(arguments[1], &route.prefix.bits) ||
-        !plain_word_bits(arguments[2], &route.mask.bits) ||
-        !take_number(arguments[3], &route.port) ||
-        !take_number(arguments[4], &route.availability) ||
-        !take_number(arguments[5], &route.capabilities))
+        !take_record(arguments + 1, UINT32_MAX, &record))
         return false;
+    record.filled = 1;
     return put_refusal(session,
-                       plain_set_route(&session->relay, place, &route));
+                       plain_set_route(&session->board, the_list(session),
+                                       place, &record));
 }
 
 static bool answer_set_group(plain_session *session,
@@ -80,14 +168,15 @@ static bool answer_set_group(plain_session *session,
 {
     uint32_t place;
     plain_group group;
+    plain_view view;
 
     if (!take_number(arguments[0], &place) ||
         !plain_word_bits(arguments[1], &group.address.bits) ||
         !take_number(arguments[2], &group.send.bits) ||
-        !take_number(arguments[3], &group.subscribed.bits))
+        !take_number(arguments[3], &group.subscribed.bits) ||
+        !take_view(session, arguments[4], &view))
         return false;
-    return put_refusal(session,
-                       plain_set_group(&session->relay, place, &group));
+    return put_refusal(session, plain_set_group(&view, place, &group));
 }
 
 static bool answer_set_path(plain_session *session,
@@ -95,14 +184,15 @@ static bool answer_set_path(plain_session *session,
 {
     uint32_t place;
     plain_path_place path;
+    plain_view view;
 
     if (!take_number(arguments[0], &place) ||
         !plain_word_bits(arguments[1], &path.path.bits) ||
         !take_number(arguments[2], &path.send.bits) ||
-        !take_number(arguments[3], &path.here))
+        !take_number(arguments[3], &path.here) ||
+        !take_view(session, arguments[4], &view))
         return false;
-    return put_refusal(session,
-                       plain_set_path(&session->relay, place, &path));
+    return put_refusal(session, plain_set_path(&view, place, &path));
 }
 
 static bool answer_clear_route(plain_session *session,
@@ -112,27 +202,32 @@ static bool answer_clear_route(plain_session *session,
 
     if (!take_number(arguments[0], &place))
         return false;
-    return put_refusal(session, plain_clear_route(&session->relay, place));
+    return put_refusal(session,
+                       plain_clear_route(the_list(session), place));
 }
 
 static bool answer_clear_group(plain_session *session,
                                const plain_word *arguments)
 {
     uint32_t place;
+    plain_view view;
 
-    if (!take_number(arguments[0], &place))
+    if (!take_number(arguments[0], &place) ||
+        !take_view(session, arguments[1], &view))
         return false;
-    return put_refusal(session, plain_clear_group(&session->relay, place));
+    return put_refusal(session, plain_clear_group(view.mission, place));
 }
 
 static bool answer_clear_path(plain_session *session,
                               const plain_word *arguments)
 {
     uint32_t place;
+    plain_view view;
 
-    if (!take_number(arguments[0], &place))
+    if (!take_number(arguments[0], &place) ||
+        !take_view(session, arguments[1], &view))
         return false;
-    return put_refusal(session, plain_clear_path(&session->relay, place));
+    return put_refusal(session, plain_clear_path(view.mission, place));
 }
 
 static bool answer_receive(plain_session *session,
@@ -141,17 +236,19 @@ static bool answer_receive(plain_session *session,
     plain_octets *octets = &session->octets;
     uint32_t port, number, room;
     plain_slot slot;
+    plain_view view;
     plain_verdict verdict;
 
     if (!take_number(arguments[0], &port) ||
         !plain_word_number(arguments[1], UINT16_MAX, &number) ||
         !plain_word_number(arguments[2], PLAIN_ROOM_MOST, &room) ||
-        !plain_word_octets(arguments[3], octets))
+        !plain_word_octets(arguments[3], octets) ||
+        !take_view(session, arguments[4], &view))
         return false;
     slot.number = (uint16_t)number;
     plain_output_lend(session, room);
-    verdict = plain_receive(&session->relay, port, slot, octets->start,
-                            octets->count, session->output, room);
+    verdict = plain_receive(&view, port, slot, octets->start, octets->count,
+                            session->output, room);
     put_refusal(session, verdict.refusal);
     put_number(session, verdict.local);
     put_number(session, verdict.onward);
@@ -164,11 +261,13 @@ static bool answer_receive(plain_session *session,
 static bool answer_take(plain_session *session, const plain_word *arguments)
 {
     plain_entry entry = {{0}, 0};
+    plain_view view;
     uint32_t port;
 
-    if (!take_number(arguments[0], &port))
+    if (!take_number(arguments[0], &port) ||
+        !take_view(session, arguments[1], &view))
         return false;
-    put_refusal(session, plain_take(&session->relay, port, &entry));
+    put_refusal(session, plain_take(&view, port, &entry));
     put_number(session, entry.slot.number);
     put_number(session, entry.precedence);
     return true;
@@ -177,10 +276,13 @@ static bool answer_take(plain_session *session, const plain_word *arguments)
 static bool answer_counters(plain_session *session,
                             const plain_word *arguments)
 {
-    (void)arguments;
+    plain_view view;
+
+    if (!take_view(session, arguments[0], &view))
+        return false;
     plain_text_string(&session->text, " =");
     for (size_t at = 0; at < PLAIN_COUNTERS; at++)
-        put_number(session, session->relay.counters.counts[at]);
+        put_number(session, view.mission->counters.counts[at]);
     return true;
 }
 
@@ -189,11 +291,13 @@ static bool answer_waiting(plain_session *session,
 {
     uint32_t port;
     uint32_t waiting = 0;
+    plain_view view;
     plain_refusal refusal;
 
-    if (!take_number(arguments[0], &port))
+    if (!take_number(arguments[0], &port) ||
+        !take_view(session, arguments[1], &view))
         return false;
-    refusal = plain_waiting(&session->relay, port, &waiting);
+    refusal = plain_waiting(view.mission, port, &waiting);
     plain_text_string(&session->text, refusal == PLAIN_GOOD ? " = " : " = !");
     plain_text_decimal(&session->text,
                        refusal == PLAIN_GOOD ? waiting : (uint32_t)refusal);
@@ -203,11 +307,15 @@ static bool answer_waiting(plain_session *session,
 static bool answer_search(plain_session *session, const plain_word *arguments)
 {
     plain_address address;
+    plain_view view;
     plain_found found;
 
-    if (!plain_word_bits(arguments[0], &address.bits))
+    if (!plain_word_bits(arguments[0], &address.bits) ||
+        !take_view(session, arguments[1], &view))
         return false;
-    found = plain_search(&session->relay, address);
+    found = plain_search(&view, address);
+    if (found.refusal != PLAIN_GOOD)
+        return put_refusal(session, found.refusal);
     plain_text_string(&session->text, found.found ? " =" : " = -");
     if (!found.found)
         return true;
@@ -218,19 +326,21 @@ static bool answer_search(plain_session *session, const plain_word *arguments)
 }
 
 const plain_meaning plain_relay_words[] = {
-    {"receive", 4, answer_receive},
-    {"take", 1, answer_take},
-    {"counters", 0, answer_counters},
-    {"waiting", 1, answer_waiting},
-    {"search", 1, answer_search},
+    {"receive", 5, answer_receive},
+    {"take", 2, answer_take},
+    {"counters", 1, answer_counters},
+    {"waiting", 2, answer_waiting},
+    {"search", 2, answer_search},
+    {"record", 9, answer_record},
+    {"records", 2, answer_records},
     {"new", 0, answer_new},
     {"set_router", 1, answer_set_router},
-    {"set_port", 4, answer_set_port},
-    {"set_route", 6, answer_set_route},
-    {"set_group", 4, answer_set_group},
-    {"set_path", 4, answer_set_path},
+    {"set_port", 5, answer_set_port},
+    {"set_route", 7, answer_set_route},
+    {"set_group", 5, answer_set_group},
+    {"set_path", 5, answer_set_path},
     {"clear_route", 1, answer_clear_route},
-    {"clear_group", 1, answer_clear_group},
-    {"clear_path", 1, answer_clear_path},
+    {"clear_group", 2, answer_clear_group},
+    {"clear_path", 2, answer_clear_path},
     {NULL, 0, NULL},
 };

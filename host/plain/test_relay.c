@@ -3,7 +3,8 @@
  * e and l, its cases by program, each refusal number, each line of the onward
  * half, and where one check comes before another. Each test starts from a
  * fresh relay and looks at the answer, at what was written to the output and
- * at the counters.
+ * at the counters. All ports and routes are mission 0's; what two missions see
+ * of each other, and what a list may hold, is tried in test_missions.c.
  *
  * The awkward case is what does not happen: a refusal that writes, counts
  * twice or sends on. So every call goes through `receive` below, which looks
@@ -24,7 +25,17 @@ enum {
 
 static const uint32_t net24 = 0xffffff00;
 
-static plain_relay relay;
+/* All that lasts. */
+static struct {
+    plain_board board;
+    plain_mission mission;
+    plain_record records[PLAIN_ROUTES];
+} relay;
+
+static const plain_view view = {
+    &relay.board, &relay.mission, {relay.records, PLAIN_ROUTES}};
+static const plain_list list = {relay.records, PLAIN_ROUTES};
+
 static uint8_t output[PLAIN_HEADER_MOST + 8];
 static uint8_t octets[PLAIN_LENGTH_MOST + 8];
 
@@ -38,41 +49,48 @@ static uint8_t octets[PLAIN_LENGTH_MOST + 8];
     } while (0)
 
 #define CHECK_COUNT(counter, due) \
-    CHECK_EQUAL(relay.counters.counts[counter], due)
+    CHECK_EQUAL(relay.mission.counters.counts[counter], due)
 
 static plain_refusal set_port(uint32_t number, uint32_t address,
                               uint32_t mask, uint32_t mtu)
 {
-    plain_port port = {{address}, {mask}, mtu};
-    return plain_set_port(&relay, number, &port);
+    plain_port port = {{address}, {mask}, mtu, 0};
+    return plain_set_port(&relay.board, number, &port);
 }
 
 static plain_refusal set_route(uint32_t place, uint32_t prefix, uint32_t mask,
                                uint32_t port, uint32_t availability)
 {
-    plain_route route = {{prefix}, {mask}, port, availability, 0};
-    return plain_set_route(&relay, place, &route);
+    plain_record route = {1, {prefix}, {mask}, port, availability, 0, 0};
+    return plain_set_route(&relay.board, list, place, &route);
 }
 
 static plain_refusal set_group(uint32_t place, uint32_t address,
                                uint32_t send, uint32_t subscribed)
 {
     plain_group group = {{address}, {send}, {subscribed}};
-    return plain_set_group(&relay, place, &group);
+    return plain_set_group(&view, place, &group);
 }
 
 static plain_refusal set_path(uint32_t place, uint32_t path, uint32_t send,
                               uint32_t here)
 {
     plain_path_place setting = {{path}, {send}, here};
-    return plain_set_path(&relay, place, &setting);
+    return plain_set_path(&view, place, &setting);
+}
+
+static void fresh(void)
+{
+    plain_board_fresh(&relay.board);
+    CHECK_EQUAL(plain_mission_fresh(&relay.mission, 0), PLAIN_GOOD);
+    memset(relay.records, 0, sizeof relay.records);
 }
 
 /* A router with as many ports, 10.10.10.2, 10.10.11.2 and so on. */
 static void fresh_router(uint32_t ports)
 {
-    plain_relay_fresh(&relay);
-    CHECK_EQUAL(plain_set_router(&relay, 1), PLAIN_GOOD);
+    fresh();
+    CHECK_EQUAL(plain_set_router(&relay.board, 1), PLAIN_GOOD);
     for (uint32_t port = 0; port < ports; port++)
         CHECK_EQUAL(set_port(port, HERE + (port << 8), net24, 8191),
                     PLAIN_GOOD);
@@ -84,7 +102,7 @@ static plain_verdict receive(uint32_t arrival, uint16_t slot, size_t count)
     plain_verdict verdict;
 
     memset(output, UNTOUCHED, sizeof output);
-    verdict = plain_receive(&relay, arrival, number, octets, count, output,
+    verdict = plain_receive(&view, arrival, number, octets, count, output,
                             PLAIN_HEADER_MOST);
     CHECK_EQUAL(verdict.header_length > 0, verdict.ports.bits != 0);
     CHECK_EQUAL(verdict.onward == PLAIN_ONWARD_SENT, verdict.ports.bits != 0);
@@ -148,7 +166,7 @@ static void check_take(uint32_t port, plain_refusal refusal, uint16_t slot,
 {
     plain_entry entry = {{0}, 0};
 
-    CHECK_EQUAL(plain_take(&relay, port, &entry), refusal);
+    CHECK_EQUAL(plain_take(&view, port, &entry), refusal);
     CHECK_EQUAL(entry.slot.number, slot);
     CHECK_EQUAL(entry.precedence, precedence);
 }
@@ -156,7 +174,7 @@ static void check_take(uint32_t port, plain_refusal refusal, uint16_t slot,
 static void check_counters(const uint32_t *due)
 {
     for (size_t at = 0; at < PLAIN_COUNTERS; at++)
-        CHECK_EQUAL(relay.counters.counts[at], due[at]);
+        CHECK_EQUAL(relay.mission.counters.counts[at], due[at]);
 }
 
 static void test_marked_routes(void)
@@ -170,7 +188,7 @@ static void test_marked_routes(void)
     CHECK_VERDICT(send(4, to(0x0a040910)), 0, 0, 1, 4); /* b */
     CHECK_VERDICT(send(4, to(0x0a04080e)), 0, 0, 1, 2); /* c */
     CHECK_VERDICT(send(4, to(0xc0000201)), 0, 0, 1, 1); /* d */
-    CHECK_EQUAL(plain_clear_route(&relay, 0), 0);
+    CHECK_EQUAL(plain_clear_route(list, 0), 0);
     CHECK_VERDICT(send(4, to(0xc0000201)), 0, 0, PLAIN_NO_ROUTE, 0); /* e */
     check_counters((const uint32_t[]){5, 0, 0, 0, 0, 0, 0, 0, 0, 0, 4, 1, 0,
                                       0, 0});
@@ -180,7 +198,7 @@ static void test_marked_routes(void)
 static void test_longest_match_in_any_place(void)
 {
     fresh_router(5);
-    CHECK_EQUAL(set_route(63, 0x00000000, 0x00000000, 0, PLAIN_UP), 0);
+    CHECK_EQUAL(set_route(511, 0x00000000, 0x00000000, 0, PLAIN_UP), 0);
     CHECK_EQUAL(set_route(40, 0x0a000000, 0xff000000, 1, PLAIN_UP), 0);
     CHECK_EQUAL(set_route(9, 0x0a040900, 0xffffff00, 2, PLAIN_UP), 0);
     CHECK_EQUAL(set_route(0, 0x0a04090e, 0xffffffff, 3, PLAIN_UP), 0);
@@ -240,8 +258,9 @@ static void test_too_big(void)
     static const uint8_t header[] = {0x3f, 0xff, 0x6a, 0x41, 0x0a, 0x0a,
                                      0x0b, 0x04, 0x0a, 0x0a, 0x0a, 0x04};
 
-    fresh_router(2);
+    fresh_router(1);
     CHECK_EQUAL(set_port(1, FAR, net24, 8190), 0);
+    CHECK_EQUAL(set_port(2, FAR, net24, 12), 0);
     CHECK_EQUAL(set_route(0, 0x0a0a0b00, net24, 1, PLAIN_UP), 0);
     memcpy(octets, header, sizeof header);
     CHECK_VERDICT(receive(0, 1, 8191), 0, 0, PLAIN_TOO_BIG, 0);
@@ -250,10 +269,8 @@ static void test_too_big(void)
     CHECK_COUNT(PLAIN_TOO_BIG_COUNT, 1);
     CHECK_COUNT(PLAIN_FORW_DATAGRAMS, 1);
 
-    CHECK_EQUAL(set_port(1, FAR, net24, 12), PLAIN_SET_WAITING);
-    check_take(1, 0, 1, 0);
-    CHECK_EQUAL(set_port(1, FAR, net24, 12), 0);
-    CHECK_VERDICT(send_slot(0, 1, fields, 0), 0, 0, 1, 2);
+    CHECK_EQUAL(set_route(0, 0x0a0a0b00, net24, 2, PLAIN_UP), 0);
+    CHECK_VERDICT(send_slot(0, 1, fields, 0), 0, 0, 1, 4);
     CHECK_VERDICT(send_slot(0, 1, fields, 1), 0, 0, PLAIN_TOO_BIG, 0);
 }
 
@@ -296,7 +313,7 @@ static void test_full_queue(void)
     CHECK_EQUAL(set_route(0, 0x0a0a0b00, net24, 1, PLAIN_UP), 0);
     for (uint16_t slot = 0; slot < 32; slot++)
         CHECK_VERDICT(send_slot(0, slot, fields, 0), 0, 0, 1, 2);
-    CHECK_EQUAL(plain_waiting(&relay, 1, &waiting), 0);
+    CHECK_EQUAL(plain_waiting(&relay.mission, 1, &waiting), 0);
     CHECK_EQUAL(waiting, 32);
     CHECK_VERDICT(send_slot(0, 32, with_precedence(fields, 15), 0), 0, 0,
                   PLAIN_ALL_FULL, 0);
@@ -309,9 +326,9 @@ static void test_full_queue(void)
     for (uint16_t slot = 1; slot < 32; slot++)
         check_take(1, 0, slot, 0);
     check_take(1, PLAIN_NOTHING_WAITS, 0, 0);
-    CHECK_EQUAL(plain_waiting(&relay, 7, &waiting), 0);
+    CHECK_EQUAL(plain_waiting(&relay.mission, 7, &waiting), 0);
     CHECK_EQUAL(waiting, 0);
-    CHECK_EQUAL(plain_waiting(&relay, 8, &waiting), PLAIN_SET_NUMBER);
+    CHECK_EQUAL(plain_waiting(&relay.mission, 8, &waiting), PLAIN_SET_NUMBER);
 }
 
 static void test_group_with_one_port_full(void)
@@ -342,9 +359,9 @@ static void test_port_and_room(void)
     CHECK_VERDICT(send(1, to(HERE)), PLAIN_NO_PORT, 0, 0, 0);
     CHECK_VERDICT(send(8, to(HERE)), PLAIN_NO_PORT, 0, 0, 0);
     CHECK_VERDICT(send(4294967295, to(HERE)), PLAIN_NO_PORT, 0, 0, 0);
-    verdict = plain_receive(&relay, 0, slot, octets, 12, output, 49);
+    verdict = plain_receive(&view, 0, slot, octets, 12, output, 49);
     CHECK_VERDICT(verdict, PLAIN_NO_ROOM, 0, 0, 0);
-    verdict = plain_receive(&relay, 1, slot, octets, 12, output, 0);
+    verdict = plain_receive(&view, 1, slot, octets, 12, output, 0);
     CHECK_VERDICT(verdict, PLAIN_NO_PORT, 0, 0, 0);
     CHECK_COUNT(PLAIN_IN_RECEIVES, 0);
     CHECK_VERDICT(send(0, to(HERE)), 0, 1, 0, 0);
@@ -373,7 +390,7 @@ static void test_service_not_carried(void)
     plain_fields ipv6 = {.tp_id = 6, .source_present = 1, .ipv6 = 1};
     plain_fields octet = to_octet(0x04);
 
-    plain_relay_fresh(&relay);
+    fresh();
     CHECK_EQUAL(set_port(0, 0xc0000201, net24, 8191), 0);
     flood.basic_qos_present = 1;
     flood.routing = 3;
@@ -390,7 +407,7 @@ static void test_addresses_refused(void)
 {
     plain_fields fields = to(HERE);
 
-    plain_relay_fresh(&relay);
+    fresh();
     CHECK_EQUAL(set_port(0, 0xc0000201, net24, 8191), 0);
     CHECK_EQUAL(set_port(1, HERE, net24, 8191), 0);
     /* No domain to supply, be the octet good or not, be it a path or not. */
@@ -440,7 +457,7 @@ static void test_host(void)
     fresh_router(2);
     CHECK_EQUAL(set_route(0, 0, 0, 1, PLAIN_UP), 0);
     CHECK_EQUAL(set_group(0, 0x0a04090f, 2, 1), 0);
-    CHECK_EQUAL(plain_set_router(&relay, 0), 0);
+    CHECK_EQUAL(plain_set_router(&relay.board, 0), 0);
     CHECK_VERDICT(send(0, fields), 0, 0, PLAIN_NOT_FOR_US, 0);
     CHECK_COUNT(PLAIN_IN_ADDR_ERRORS, 1);
     fields.intermediate = 1;
@@ -542,7 +559,7 @@ static void test_multicast(void)
     CHECK_VERDICT(send(1, to(0xe0000001)), 0, 0, PLAIN_NO_ROUTE, 0);
     CHECK_EQUAL(set_group(15, 0xe0000001, 4, 0), 0);
     CHECK_VERDICT(send(1, to(0xe0000001)), 0, 0, 1, 4);
-    CHECK_EQUAL(plain_clear_group(&relay, 15), 0);
+    CHECK_EQUAL(plain_clear_group(&relay.mission, 15), 0);
     CHECK_VERDICT(send(1, to(0xe0000001)), 0, 0, PLAIN_NO_ROUTE, 0);
 }
 
@@ -571,7 +588,7 @@ static void test_paths(void)
     CHECK_VERDICT(send(0, passing), 0, 1, PLAIN_NO_ROUTE, 0);
     octet.tp_id = 15;
     CHECK_VERDICT(send(0, octet), 0, 26, 0, 0);
-    CHECK_EQUAL(plain_clear_path(&relay, 0), 0);
+    CHECK_EQUAL(plain_clear_path(&relay.mission, 0), 0);
     CHECK_VERDICT(send(0, octet), 0, 0, PLAIN_NO_ROUTE, 0);
 }
 
@@ -612,7 +629,7 @@ static void test_routes_not_up(void)
         CHECK_VERDICT(send(0, to(0xc0000301)), 0, 0, 1, 1);
         CHECK_EQUAL(set_route(2, 0xc0000000, 0xff000000, 1, PLAIN_UP), 0);
         CHECK_VERDICT(send(0, to(0xc0000301)), 0, 0, 1, 2);
-        CHECK_EQUAL(plain_clear_route(&relay, 2), 0);
+        CHECK_EQUAL(plain_clear_route(list, 2), 0);
     }
     CHECK_COUNT(PLAIN_OUT_NO_ROUTES, 3);
     CHECK_COUNT(PLAIN_FORW_DATAGRAMS, 6);
@@ -625,7 +642,7 @@ static void check_found(uint32_t address, uint32_t place, uint32_t ones,
                         uint32_t port)
 {
     plain_address asked = {address};
-    plain_found found = plain_search(&relay, asked);
+    plain_found found = plain_search(&view, asked);
 
     CHECK_EQUAL(found.found, true);
     CHECK_EQUAL(found.place, place);
@@ -636,7 +653,7 @@ static void check_found(uint32_t address, uint32_t place, uint32_t ones,
 static void check_none(uint32_t address)
 {
     plain_address asked = {address};
-    plain_found found = plain_search(&relay, asked);
+    plain_found found = plain_search(&view, asked);
 
     CHECK_EQUAL(found.found, false);
     CHECK_EQUAL(found.place | found.ones | found.port, 0);
@@ -645,24 +662,24 @@ static void check_none(uint32_t address)
 /* The marked cases a to e, by the place that serves each. */
 static void test_search(void)
 {
-    static plain_relay before;
+    static plain_record before[PLAIN_ROUTES];
 
     fresh_router(4);
     check_none(0x0a04090e);
     CHECK_EQUAL(set_route(0, 0x00000000, 0x00000000, 0, PLAIN_UP), 0);
     check_found(0x0a04090e, 0, 0, 0); /* 0 ones is not "no" */
-    CHECK_EQUAL(set_route(63, 0x0a000000, 0xff000000, 1, PLAIN_UP), 0);
+    CHECK_EQUAL(set_route(511, 0x0a000000, 0xff000000, 1, PLAIN_UP), 0);
     CHECK_EQUAL(set_route(7, 0x0a040900, 0xffffff00, 2, PLAIN_UP), 0);
     CHECK_EQUAL(set_route(9, 0x0a04090e, 0xffffffff, 3, PLAIN_UP), 0);
     CHECK_EQUAL(set_route(2, 0x80000000, 0x80000000, 2, PLAIN_UP), 0);
-    before = relay;
+    memcpy(before, relay.records, sizeof before);
     check_found(0x0a04090e, 9, 32, 3);
     check_found(0x0a040910, 7, 24, 2);
-    check_found(0x0a04080e, 63, 8, 1);
+    check_found(0x0a04080e, 511, 8, 1);
     check_found(0xc0000201, 2, 1, 2);
     check_found(0x7fffffff, 0, 0, 0); /* no class, and an answer */
-    CHECK_EQUAL(memcmp(&before, &relay, sizeof relay), 0);
-    CHECK_EQUAL(plain_clear_route(&relay, 0), 0);
+    CHECK_EQUAL(memcmp(before, relay.records, sizeof before), 0);
+    CHECK_EQUAL(plain_clear_route(list, 0), 0);
     check_none(0x7fffffff);
     check_none(0);
 }
@@ -676,7 +693,7 @@ static void test_search_of_routes_not_up(void)
         check_none(0xc0000301);
         CHECK_EQUAL(set_route(0, 0, 0, 1, PLAIN_UP), 0);
         check_found(0xc0000301, 0, 0, 1);
-        CHECK_EQUAL(plain_clear_route(&relay, 0), 0);
+        CHECK_EQUAL(plain_clear_route(list, 0), 0);
     }
     CHECK_EQUAL(set_route(1, 0xc0000300, net24, 0, PLAIN_UP), 0);
     check_found(0xc0000301, 1, 24, 0);
@@ -707,19 +724,19 @@ static void test_order_of_striking_out(void)
 {
     plain_fields fields = to_octet(0xff); /* a header of 6 octets, hop 7 */
 
-    fresh_router(2);
+    fresh_router(1);
     CHECK_EQUAL(set_port(1, FAR, net24, 6), 0);
     fields.hop_present = 1;
     fields.hop = 1;
     CHECK_VERDICT(send(0, fields), 0, 1, PLAIN_HOPS_USED_UP, 0);
     fields.hop = 2;
     CHECK_VERDICT(send(0, fields), 0, 1, PLAIN_LEAVES_DOMAIN, 0);
-    CHECK_EQUAL(set_port(1, 0x0a0a0a06, net24, 6), 0);
+    CHECK_EQUAL(set_port(2, 0x0a0a0a06, net24, 6), 0);
     CHECK_VERDICT(send(0, fields), 0, 1, PLAIN_TOO_BIG, 0);
     fields.hop_present = 0;
     fields.hop = 0;
     for (unsigned round = 0; round < 32; round++)
-        CHECK_VERDICT(send(0, fields), 0, 1, 1, 2);
+        CHECK_VERDICT(send(0, fields), 0, 1, 1, 4);
     CHECK_VERDICT(send_slot(0, 1, fields, 1), 0, 1, PLAIN_TOO_BIG, 0);
     CHECK_VERDICT(send(0, fields), 0, 1, PLAIN_ALL_FULL, 0);
     CHECK_COUNT(PLAIN_OUT_DISCARDS, 1);
@@ -729,8 +746,9 @@ static void test_order_of_striking_out(void)
 /* Ports struck out are no copies: they count nothing while one is left. */
 static void test_struck_out_counts_nothing(void)
 {
-    fresh_router(3);
+    fresh_router(1);
     CHECK_EQUAL(set_port(1, FAR, net24, 11), 0);
+    CHECK_EQUAL(set_port(2, FAR, net24, 8191), 0);
     CHECK_VERDICT(send(0, to(0x0a0a0aff)), 0, 1, 1, 4);
     check_counters((const uint32_t[]){1, 0, 0, 0, 0, 0, 0, 0, 1, 0, 1, 0, 0,
                                       0, 0});
@@ -738,7 +756,7 @@ static void test_struck_out_counts_nothing(void)
 
 static void test_port_settings(void)
 {
-    plain_relay_fresh(&relay);
+    fresh();
     CHECK_EQUAL(set_port(8, 0xe0000001, 0, 0), PLAIN_SET_NUMBER);
     CHECK_EQUAL(set_port(4294967295, HERE, net24, 1), PLAIN_SET_NUMBER);
     CHECK_EQUAL(set_port(0, 0xe0000001, 0, 0), PLAIN_SET_CLASS);
@@ -753,42 +771,43 @@ static void test_port_settings(void)
     CHECK_EQUAL(set_port(0, 0xc000027f, 0xffffff80, 1), PLAIN_SET_MASK);
     CHECK_EQUAL(set_port(0, HERE, net24, 0), PLAIN_SET_CODE);
     CHECK_EQUAL(set_port(0, HERE, net24, 8192), PLAIN_SET_CODE);
-    CHECK_EQUAL(relay.set_up.bits, 0);
+    CHECK_EQUAL(relay.board.set_up.bits, 0);
     CHECK_EQUAL(set_port(0, HERE, net24, 1), 0);
     CHECK_EQUAL(set_port(1, HERE, net24, 8191), 0); /* may be shared */
     CHECK_EQUAL(set_port(2, 0xc0000201, 0xff000000, 1), 0);
     CHECK_EQUAL(set_port(3, 0xc0000202, 0xfffffffc, 1), 0);
     CHECK_EQUAL(set_port(4, 0xc0000200, net24, 1), 0); /* host bits zero */
-    CHECK_EQUAL(relay.set_up.bits, 0x1f);
+    CHECK_EQUAL(relay.board.set_up.bits, 0x1f);
 }
 
-static void test_port_with_waiting_entries(void)
+/* 35 comes last, and whether entries wait does not matter. */
+static void test_port_written_once(void)
 {
-    uint32_t waiting = 0;
-
     fresh_router(2);
+    CHECK_EQUAL(set_port(1, FAR, net24, 8191), PLAIN_SET_TWICE);
+    CHECK_EQUAL(set_port(1, FAR, net24, 5), PLAIN_SET_TWICE);
+    CHECK_EQUAL(set_port(1, FAR, net24, 0), PLAIN_SET_CODE);
+    CHECK_EQUAL(set_port(1, FAR, 0xffff0000, 0), PLAIN_SET_MASK);
+    CHECK_EQUAL(set_port(1, 0xe0000001, net24, 0), PLAIN_SET_CLASS);
+    CHECK_EQUAL(relay.board.ports[1].mtu, 8191);
     CHECK_EQUAL(set_route(0, 0, 0, 1, PLAIN_UP), 0);
     send(0, to(0xc0000301));
-    CHECK_EQUAL(set_port(1, FAR, net24, 8191), PLAIN_SET_WAITING);
-    CHECK_EQUAL(set_port(1, FAR, net24, 0), PLAIN_SET_CODE);
-    CHECK_EQUAL(set_port(0, FAR, net24, 5), 0);
-    CHECK_EQUAL(plain_set_router(&relay, 0), 0);
-    CHECK_EQUAL(plain_waiting(&relay, 1, &waiting), 0);
-    CHECK_EQUAL(waiting, 1);
+    CHECK_EQUAL(set_port(1, FAR, net24, 8191), PLAIN_SET_TWICE);
     check_take(1, 0, 1, 0);
-    CHECK_EQUAL(set_port(1, FAR, net24, 8190), 0);
+    CHECK_EQUAL(set_port(1, FAR, net24, 8191), PLAIN_SET_TWICE);
+    CHECK_EQUAL(set_port(2, FAR, net24, 8191), 0);
 }
 
 static plain_refusal set_capabilities(uint32_t capabilities)
 {
-    plain_route route = {{0}, {0}, 0, PLAIN_UP, capabilities};
-    return plain_set_route(&relay, 0, &route);
+    plain_record route = {1, {0}, {0}, 0, PLAIN_UP, capabilities, 0};
+    return plain_set_route(&relay.board, list, 0, &route);
 }
 
 static void test_route_settings(void)
 {
     fresh_router(2);
-    CHECK_EQUAL(set_route(64, 1, 0, 9, 9), PLAIN_SET_NUMBER);
+    CHECK_EQUAL(set_route(512, 1, 0, 9, 9), PLAIN_SET_NUMBER);
     CHECK_EQUAL(set_route(0, 1, 0, 8, 9), PLAIN_SET_NUMBER);
     CHECK_EQUAL(set_route(0, 1, 0, 2, 9), PLAIN_SET_NUMBER);
     CHECK_EQUAL(set_route(0, 1, 0, 1, 9), PLAIN_SET_MASK);
@@ -800,10 +819,10 @@ static void test_route_settings(void)
     CHECK_EQUAL(set_route(1, 0x0a040900, net24, 0, 2), PLAIN_SET_SAME);
     CHECK_EQUAL(set_route(0, 0x0a040900, net24, 0, 2), 0); /* over itself */
     CHECK_EQUAL(set_route(1, 0x0a040900, 0xffffffff, 0, 2), 0);
-    CHECK_EQUAL(plain_clear_route(&relay, 64), PLAIN_SET_NUMBER);
-    CHECK_EQUAL(plain_clear_route(&relay, 0), 0);
-    CHECK_EQUAL(plain_clear_route(&relay, 0), 0);
-    CHECK_EQUAL(set_route(63, 0x0a040900, net24, 0, 2), 0);
+    CHECK_EQUAL(plain_clear_route(list, 512), PLAIN_SET_NUMBER);
+    CHECK_EQUAL(plain_clear_route(list, 0), 0);
+    CHECK_EQUAL(plain_clear_route(list, 0), 0);
+    CHECK_EQUAL(set_route(511, 0x0a040900, net24, 0, 2), 0);
     CHECK_EQUAL(set_capabilities(1), 0); /* and the default route is new */
     CHECK_EQUAL(set_capabilities(2), 0);
     CHECK_EQUAL(set_capabilities(3), PLAIN_SET_CODE);
@@ -823,9 +842,9 @@ static void test_group_settings(void)
     CHECK_EQUAL(set_group(0, 0x0a04090f, 0, 0), 0);
     CHECK_EQUAL(set_group(15, 0x0a04090f, 3, 3), PLAIN_SET_SAME);
     CHECK_EQUAL(set_group(0, 0x0a04090f, 3, 3), 0);
-    CHECK_EQUAL(plain_clear_group(&relay, 16), PLAIN_SET_NUMBER);
-    CHECK_EQUAL(plain_clear_group(&relay, 0), 0);
-    CHECK_EQUAL(plain_clear_group(&relay, 0), 0);
+    CHECK_EQUAL(plain_clear_group(&relay.mission, 16), PLAIN_SET_NUMBER);
+    CHECK_EQUAL(plain_clear_group(&relay.mission, 0), 0);
+    CHECK_EQUAL(plain_clear_group(&relay.mission, 0), 0);
     CHECK_EQUAL(set_group(15, 0x0a04090f, 3, 3), 0);
 }
 
@@ -840,28 +859,28 @@ static void test_path_settings(void)
     CHECK_EQUAL(set_path(1, 0x0a0409ff, 3, 2), PLAIN_SET_CODE);
     CHECK_EQUAL(set_path(1, 0x0a0409ff, 3, 1), PLAIN_SET_SAME);
     CHECK_EQUAL(set_path(0, 0x0a0409ff, 0, 0), 0);
-    CHECK_EQUAL(plain_clear_path(&relay, 16), PLAIN_SET_NUMBER);
-    CHECK_EQUAL(plain_clear_path(&relay, 0), 0);
-    CHECK_EQUAL(plain_clear_path(&relay, 0), 0);
+    CHECK_EQUAL(plain_clear_path(&relay.mission, 16), PLAIN_SET_NUMBER);
+    CHECK_EQUAL(plain_clear_path(&relay.mission, 0), 0);
+    CHECK_EQUAL(plain_clear_path(&relay.mission, 0), 0);
     CHECK_EQUAL(set_path(15, 0x0a0409ff, 0, 0), 0);
 }
 
 /* A place emptied is as it was when fresh, and refusals change nothing. */
 static void test_settings_leave_no_trace(void)
 {
-    static plain_relay before;
+    static uint8_t before[sizeof relay];
 
     fresh_router(2);
-    before = relay;
+    memcpy(before, &relay, sizeof relay);
     CHECK_EQUAL(set_route(5, 0x0a000000, 0xff000000, 1, PLAIN_UP), 0);
     CHECK_EQUAL(set_group(6, 0xe0000001, 3, 1), 0);
     CHECK_EQUAL(set_path(7, 0x0a040908, 3, 1), 0);
-    CHECK_EQUAL(plain_clear_route(&relay, 5), 0);
-    CHECK_EQUAL(plain_clear_group(&relay, 6), 0);
-    CHECK_EQUAL(plain_clear_path(&relay, 7), 0);
-    CHECK_EQUAL(plain_set_router(&relay, 2), PLAIN_SET_CODE);
+    CHECK_EQUAL(plain_clear_route(list, 5), 0);
+    CHECK_EQUAL(plain_clear_group(&relay.mission, 6), 0);
+    CHECK_EQUAL(plain_clear_path(&relay.mission, 7), 0);
+    CHECK_EQUAL(plain_set_router(&relay.board, 2), PLAIN_SET_CODE);
     CHECK_EQUAL(set_route(0, 1, 0, 1, PLAIN_UP), PLAIN_SET_MASK);
-    CHECK_EQUAL(memcmp(&before, &relay, sizeof relay), 0);
+    CHECK_EQUAL(memcmp(before, &relay, sizeof relay), 0);
 }
 
 int main(void)
@@ -895,7 +914,7 @@ int main(void)
     test_order_of_striking_out();
     test_struck_out_counts_nothing();
     test_port_settings();
-    test_port_with_waiting_entries();
+    test_port_written_once();
     test_route_settings();
     test_group_settings();
     test_path_settings();

@@ -16,13 +16,13 @@
 #include "names.h"
 #include "nodes.h"
 
-static void print_counters(const struct node *node)
+static void print_counters(const struct node *node, uint32_t mission)
 {
     const char *between = "";
 
-    printf("%s\n   counters:", node->name);
+    printf(mission == 0 ? "   counters:" : "   counters of mission 1:");
     for (uint32_t counter = 0; counter < HJ_COUNTERS; counter++) {
-        uint32_t value = node_counter(node, counter);
+        uint32_t value = node_counter(node, mission, counter);
 
         if (value != 0) {
             printf("%s %s %" PRIu32, between, COUNTER_NAMES[counter], value);
@@ -46,21 +46,38 @@ static bool port_closes(const struct node *node, uint32_t port)
     return closes;
 }
 
-static bool relay_closes(const struct node *node)
+/* The counters and ports of one mission. */
+static bool mission_closes(const struct node *node, uint32_t mission)
 {
     uint64_t dropped = 0;
     bool closes = true;
 
+    print_counters(node, mission);
     for (uint32_t port = 0; port < HJ_PORTS; port++) {
+        hj_port found = hj_get_port(LENT_BOARD(node), port);
+
+        if (found.mission != mission)
+            continue;
         dropped += node->wires[port].dropped;
-        if (hj_get_port(node->relay, HJ_STATE_WORDS, port).ready)
+        if (found.ready)
             closes = port_closes(node, port) && closes;
     }
-    if ((uint32_t)dropped != node_counter(node, HJ_OUT_DISCARDS)) {
+    if ((uint32_t)dropped != node_counter(node, mission, HJ_OUT_DISCARDS)) {
         printf("   dropped %" PRIu64 " by all ports, and npOutDiscards is "
                "another  DOES NOT CLOSE\n", dropped);
         return false;
     }
+    return closes;
+}
+
+static bool relay_closes(const struct node *node)
+{
+    bool closes;
+
+    puts(node->name);
+    closes = mission_closes(node, 0);
+    if (node_carries(node, 1))
+        closes = mission_closes(node, 1) && closes;
     return closes;
 }
 
@@ -69,9 +86,7 @@ bool books_close(void)
     bool closes = true;
 
     puts("\n== The counters and the ledger of each relay");
-    for (uint32_t node = 0; node < node_count; node++) {
-        print_counters(&nodes[node]);
+    for (uint32_t node = 0; node < node_count; node++)
         closes = relay_closes(&nodes[node]) && closes;
-    }
     return closes;
 }

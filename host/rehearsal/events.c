@@ -14,6 +14,7 @@
 #include <stdio.h>
 #include <string.h>
 
+#include "beside.h"
 #include "expect.h"
 #include "line.h"
 #include "names.h"
@@ -217,6 +218,7 @@ void event_run(void)
 void event_scene(void)
 {
     expect_scene();
+    beside_scene();
     told_scene(line_rest());
 }
 

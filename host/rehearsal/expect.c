@@ -29,6 +29,12 @@ uint32_t expect_failures(void)
     return failed;
 }
 
+void expect_said(bool holds)
+{
+    expected++;
+    failed += !holds;
+}
+
 uint32_t expect_count(void)
 {
     return expected;
@@ -115,12 +121,14 @@ static bool expect_dropped(uint32_t node)
 static bool expect_counter(uint32_t node)
 {
     static const char *names[HJ_COUNTERS + 1];
-    uint32_t counter;
+    uint32_t counter, value, mission = 0;
 
     memcpy(names, COUNTER_NAMES, sizeof COUNTER_NAMES);
     counter = line_choice("the name of a counter", names);
-    return line_number("the counter's value", 0, 999999999) ==
-           node_counter(&nodes[node], counter);
+    value = line_number("the counter's value", 0, 999999999);
+    if (line_is("mission"))
+        mission = line_number("a mission, 0 or 1", 0, 1);
+    return value == node_counter(&nodes[node], mission, counter);
 }
 
 static bool expect_waiting(uint32_t node)
@@ -159,7 +167,6 @@ void expect(void)
                        KINDS);
     holds = HOLDS[kind](node);
     line_end();
-    expected++;
-    failed += !holds;
+    expect_said(holds);
     printf("   %s %s\n", holds ? "as expected:" : "NOT AS EXPECTED:", line);
 }

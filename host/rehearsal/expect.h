@@ -11,6 +11,8 @@ void expect(void);
 void expect_scene(void);
 void expect_note(uint32_t node, const struct datagram *datagram,
                  hj_verdict verdict);
+/* An expectation that another word told of. */
+void expect_said(bool holds);
 uint32_t expect_failures(void);
 uint32_t expect_count(void);
 

@@ -61,7 +61,7 @@ static void tell_due(uint32_t node, uint32_t port, uint32_t slot)
     uint64_t tenths = (wire_microseconds(entry->ahead, bits) + 50) / 100;
 
     printf("%14sforetold: ", "");
-    told_data(&nodes[node].slots[slot].datagram);
+    told_data(node_kept(&nodes[node], port, slot));
     printf(" goes out at take %" PRIu32 " + %" PRIu32 " + 1 = %" PRIu32
            " of port %" PRIu32 "; made since its placing: %" PRIu32 "\n",
            entry->before, entry->higher, due(entry), port, entry->takes);
@@ -74,7 +74,7 @@ static void tell_take(uint32_t node, uint32_t port, uint32_t slot)
 {
     printf("%14stake %" PRIu32 " of port %" PRIu32 " since the placing of ", "",
            entries[node][port][slot].takes, port);
-    told_data(&nodes[node].slots[slot].datagram);
+    told_data(node_kept(&nodes[node], port, slot));
     puts("");
 }
 
@@ -86,7 +86,7 @@ static void tell_end(uint32_t node, uint32_t port, uint32_t slot, bool out)
     printf("   %s (take %" PRIu32 "): %s port %" PRIu32 " %s ",
            right ? "as foretold" : "NOT AS FORETOLD", due(entry),
            nodes[node].name, port, out ? "hands out" : "keeps");
-    told_data(&nodes[node].slots[slot].datagram);
+    told_data(node_kept(&nodes[node], port, slot));
     printf(" at take %" PRIu32 "\n", entry->takes);
 }
 
@@ -165,9 +165,10 @@ void foretold_take(uint32_t node, uint32_t port, uint32_t slot)
 
 /* ---- The word ---------------------------------------------------------- */
 
-static bool has_data(uint32_t node, uint32_t slot, const char *text)
+static bool has_data(uint32_t node, uint32_t port, uint32_t slot,
+                     const char *text)
 {
-    const struct datagram *datagram = &nodes[node].slots[slot].datagram;
+    const struct datagram *datagram = node_kept(&nodes[node], port, slot);
     uint32_t data = datagram->length - datagram->header;
 
     return strlen(text) == data &&
@@ -185,7 +186,7 @@ void foretell(void)
     if (!nodes[node].wires[port].linked)
         line_refuse("a port with a link", nodes[node].name);
     while (slot < SLOTS && !(entries[node][port][slot].waits &&
-                             has_data(node, slot, text)))
+                             has_data(node, port, slot, text)))
         slot++;
     if (slot == SLOTS)
         line_refuse("the data of an entry that waits on the port", text);

@@ -13,7 +13,7 @@ const char *const COUNTER_NAMES[HJ_COUNTERS] = {
     "npForwHopDiscard", "npForwDatagrams",   "npOutNoRoutes",
     "npOutDiscards",    "left-domain",       "too-big"};
 
-static const char *const NUMBERS[HJ_ENTRIES_WAIT + 1] = {
+static const char *const NUMBERS[HJ_PORT_SET_UP + 1] = {
     [HJ_SHORT] = "too short",
     [HJ_BAD_VERSION] = "wrong version",
     [HJ_BAD_LENGTH] = "wrong length",
@@ -37,14 +37,15 @@ static const char *const NUMBERS[HJ_ENTRIES_WAIT + 1] = {
     [HJ_BAD_NUMBER] = "no such place or port, or the port is not set up",
     [HJ_BAD_MASK] = "wrong mask or prefix bits",
     [HJ_SAME_ENTRY] = "the same entry stands in another place",
-    [HJ_BAD_CODE] = "a code or size out of range",
+    [HJ_BAD_CODE] =
+        "a code or size out of range, or the other mission's port",
     [HJ_WRONG_CLASS] = "the wrong class of address",
     [HJ_UNKNOWN_TP_ID] = "unknown transport number",
-    [HJ_ENTRIES_WAIT] = "entries wait on the port"};
+    [HJ_PORT_SET_UP] = "the port is set up already"};
 
 const char *number_name(uint32_t number)
 {
-    const char *words = number <= HJ_ENTRIES_WAIT ? NUMBERS[number] : NULL;
+    const char *words = number <= HJ_PORT_SET_UP ? NUMBERS[number] : NULL;
 
     return words != NULL ? words : "an unlisted number";
 }

@@ -22,6 +22,7 @@
 #include <stdlib.h>
 #include <string.h>
 
+#include "beside.h"
 #include "expect.h"
 #include "foretold.h"
 #include "told.h"
@@ -50,13 +51,15 @@ static void take_own(struct wire *wire)
 static bool take_entry(struct node *node, uint32_t port, hj_answer *entry)
 {
     struct wire *wire = &node->wires[port];
+    uint32_t mission = node_mission(node, port);
 
-    *entry = hj_take(node->relay, HJ_STATE_WORDS, port);
+    *entry = hj_take(LENT_BOARD(node), LENT_MISSION(node, mission), port);
+    beside_take(node, port, *entry);
     if (hj_refusal(*entry) != HJ_DONE)
         return false;
     wire->handed_out++;
-    wire->flying = node->slots[hj_slot(*entry)].datagram;
-    node->slots[hj_slot(*entry)].copies--;
+    wire->flying = node->slots[mission][hj_slot(*entry)].datagram;
+    node->slots[mission][hj_slot(*entry)].copies--;
     return true;
 }
 
@@ -109,10 +112,10 @@ void net_start_wires(void)
 /* ---- A datagram arrives ------------------------------------------------ */
 
 /* There is one: each slot in use has an entry that waits. */
-static uint16_t free_slot(const struct node *node)
+static uint16_t free_slot(const struct node *node, uint32_t mission)
 {
     for (uint16_t slot = 0; slot < SLOTS; slot++) {
-        if (node->slots[slot].copies == 0)
+        if (node->slots[mission][slot].copies == 0)
             return slot;
     }
     fputs("rehearsal: more entries wait than the ports can hold\n", stderr);
@@ -145,18 +148,22 @@ static void keep(struct datagram *kept, const struct datagram *came,
 static void arrive(uint32_t at, uint32_t port, const struct datagram *came)
 {
     struct node *node = &nodes[at];
-    uint16_t slot = free_slot(node);
+    uint32_t mission = node_mission(node, port);
+    uint16_t slot = free_slot(node, mission);
     uint8_t header[HJ_OUTPUT_ROOM];
     uint32_t before[HJ_COUNTERS];
+    hj_arrival arrival = {port, slot, (uint32_t)(now / 1000000)};
     hj_verdict verdict;
 
     for (uint32_t counter = 0; counter < HJ_COUNTERS; counter++)
-        before[counter] = node_counter(node, counter);
-    verdict = hj_receive(node->relay, HJ_STATE_WORDS, port, slot, came->octets,
+        before[counter] = node_counter(node, mission, counter);
+    verdict = hj_receive(LENT_BOARD(node), LENT_MISSION(node, mission),
+                         LENT_ROUTES(node), arrival, came->octets,
                          came->length, header, sizeof header);
-    node->slots[slot].copies = count_copies(node, verdict);
+    beside_receive(node, arrival, verdict, header);
+    node->slots[mission][slot].copies = count_copies(node, verdict);
     if (hj_took(verdict) != 0)
-        keep(&node->slots[slot].datagram, came, header,
+        keep(&node->slots[mission][slot].datagram, came, header,
              hj_header_octets(verdict));
     expect_note(at, came, verdict);
     told_arrival(at, port, came, verdict, before);

@@ -11,14 +11,39 @@ struct node nodes[MOST_NODES];
 uint32_t node_count;
 uint64_t now;
 
-uint32_t node_counter(const struct node *node, uint32_t counter)
+uint32_t node_mission(const struct node *node, uint32_t port)
 {
-    return hj_value(hj_counter(node->relay, HJ_STATE_WORDS, counter));
+    return hj_get_port(LENT_BOARD(node), port).mission;
+}
+
+bool node_carries(const struct node *node, uint32_t mission)
+{
+    for (uint32_t port = 0; port < HJ_PORTS; port++) {
+        hj_port found = hj_get_port(LENT_BOARD(node), port);
+
+        if (found.ready && found.mission == mission)
+            return true;
+    }
+    return false;
+}
+
+uint32_t node_counter(const struct node *node, uint32_t mission,
+                      uint32_t counter)
+{
+    return hj_value(hj_counter(LENT_MISSION(node, mission), counter));
+}
+
+const struct datagram *node_kept(const struct node *node, uint32_t port,
+                                 uint32_t slot)
+{
+    return &node->slots[node_mission(node, port)][slot].datagram;
 }
 
 uint32_t node_waiting(const struct node *node, uint32_t port)
 {
-    return hj_value(hj_waiting(node->relay, HJ_STATE_WORDS, port));
+    uint32_t mission = node_mission(node, port);
+
+    return hj_value(hj_waiting(LENT_MISSION(node, mission), port));
 }
 
 uint64_t wire_microseconds(uint32_t octets, uint32_t bits_per_second)

@@ -1,7 +1,8 @@
 /*
  * nodes.h: the nodes of a rehearsal, and the clock. A node is what flight
- * software would be: a relay of the library's, the datagrams it keeps by slot,
- * and a wire on each port.
+ * software would be: a relay of the library's, which two missions may share,
+ * the datagrams that it keeps for each of them by slot, and a wire on each
+ * port. A call is made for the mission that has the port.
  */
 #ifndef NODES_H
 #define NODES_H
@@ -11,7 +12,7 @@
 
 #include "harpjuniper.h"
 
-#define MOST_NODES 16
+#define MOST_NODES 24
 #define MOST_NAME 20
 /* Characters of user data in one datagram. */
 #define MOST_DATA 400
@@ -39,12 +40,14 @@ struct wire {
 
 struct node {
     char name[MOST_NAME + 1];
-    uint32_t relay[HJ_STATE_WORDS];
+    hj_board board;
+    hj_mission missions[HJ_MISSIONS];
+    hj_record routes[HJ_ROUTES];
     struct wire wires[HJ_PORTS];
     struct {
         struct datagram datagram;
         uint32_t copies; /* entries that wait with this slot; 0: free */
-    } slots[SLOTS];
+    } slots[HJ_MISSIONS][SLOTS];
     bool answered; /* whether the two below are of this scene */
     hj_verdict verdict;
     uint32_t arrivals;
@@ -55,7 +58,22 @@ extern uint32_t node_count;
 /* Microseconds since the rehearsal began. */
 extern uint64_t now;
 
-uint32_t node_counter(const struct node *node, uint32_t counter);
+/* A node's board, a mission's state and the routes, as calls are lent them. */
+#define LENT_BOARD(node) &(node)->board, HJ_BOARD_WORDS
+#define LENT_MISSION(node, which) &(node)->missions[which], HJ_MISSION_WORDS
+#define LENT_ROUTES(node) (node)->routes, HJ_ROUTES
+
+/* The mission that has the port, 0 where it is not set up. */
+uint32_t node_mission(const struct node *node, uint32_t port);
+/* Whether the mission has a port there. */
+bool node_carries(const struct node *node, uint32_t mission);
+
+uint32_t node_counter(const struct node *node, uint32_t mission,
+                      uint32_t counter);
+/* What is kept under a slot that a port handed out, or may. */
+const struct datagram *node_kept(const struct node *node, uint32_t port,
+                                 uint32_t slot);
+/* Of the mission that has the port. */
 uint32_t node_waiting(const struct node *node, uint32_t port);
 
 /* How long so many octets are on a wire. */

@@ -14,7 +14,8 @@
  *   nodes.c, names.c        the nodes; what numbers and counters are called
  *   line.c, told.c          one line as words; the timeline as it is printed
  *   expect.c, books.c       what a scenario expects; counters and ledger
- *   foretold.c              at which take each entry goes out
+ *   foretold.c, beside.c    at which take each entry goes out; what a mission
+ *                           is told by two nodes
  *   net.c                   datagrams on their way between the nodes
  *   settings.c, events.c    the words that set up; those that send and step
  */
@@ -22,6 +23,7 @@
 #include <stdio.h>
 #include <string.h>
 
+#include "beside.h"
 #include "books.h"
 #include "events.h"
 #include "expect.h"
@@ -44,14 +46,14 @@ static const struct {
     {"run", event_run},         {"scene", event_scene},
     {"say", event_say},         {"quiet", event_quiet},
     {"loud", event_loud},       {"foretell", foretell},
-    {"expect", expect},
+    {"beside", beside},         {"expect", expect},
 };
 
 static void perform_line(void)
 {
     static const char EXPECTED[] =
         "node, port, link, route, group, path, send, hold, release, take, "
-        "step, run, scene, say, quiet, loud, foretell or expect";
+        "step, run, scene, say, quiet, loud, foretell, beside or expect";
 
     for (size_t i = 0; i < sizeof WORDS / sizeof *WORDS; i++) {
         if (line_is(WORDS[i].word)) {

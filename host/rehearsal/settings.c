@@ -12,6 +12,12 @@
 #include "names.h"
 #include "net.h"
 
+/* `mission M` at the end of a line, where it is said; else mission 0. */
+static uint32_t mission_said(void)
+{
+    return line_is("mission") ? line_number("a mission, 0 or 1", 0, 1) : 0;
+}
+
 /* The library's answer to a setting. */
 static void taken(uint32_t refusal)
 {
@@ -33,7 +39,7 @@ void set_node(void)
     uint32_t router = line_choice("'router' or 'host'", KINDS);
 
     if (node_count == MOST_NODES)
-        line_refuse("at most 16 nodes", name);
+        line_refuse("at most 24 nodes", name);
     if (strlen(name) > MOST_NAME)
         line_refuse("a name of at most 20 characters", name);
     for (uint32_t other = 0; other < node_count; other++) {
@@ -41,8 +47,10 @@ void set_node(void)
             line_refuse("a name that no other node has", name);
     }
     strcpy(node->name, name);
-    taken(hj_fresh(node->relay, HJ_STATE_WORDS));
-    taken(hj_set_router(node->relay, HJ_STATE_WORDS, router));
+    taken(hj_fresh_board(LENT_BOARD(node)));
+    for (uint32_t i = 0; i < HJ_MISSIONS; i++)
+        taken(hj_fresh_mission(LENT_MISSION(node, i), i));
+    taken(hj_set_router(LENT_BOARD(node), router));
     node_count++;
 }
 
@@ -53,13 +61,14 @@ void set_port(void)
     uint32_t address = line_address("the port's address", NULL);
     uint32_t mask = line_address("the port's mask", NULL);
     uint32_t mtu = line_number("an MTU", 0, 999999);
+    uint32_t mission = mission_said();
 
-    taken(hj_set_port(node->relay, HJ_STATE_WORDS, port, address, mask, mtu));
+    taken(hj_set_port(LENT_BOARD(node), port, address, mask, mtu, mission));
 }
 
 static struct wire *free_wire(uint32_t node, uint32_t port)
 {
-    if (!hj_get_port(nodes[node].relay, HJ_STATE_WORDS, port).ready)
+    if (!hj_get_port(LENT_BOARD(&nodes[node]), port).ready)
         line_refuse("a port that is set up", nodes[node].name);
     if (nodes[node].wires[port].linked)
         line_refuse("a port without a link", nodes[node].name);
@@ -95,15 +104,16 @@ void set_route(void)
     static const char *const AVAILABLE[] = {"up", "down", "testing", "out",
                                             NULL};
     struct node *node = &nodes[line_node()];
-    uint32_t place = line_number("a place, 0 to 63", 0, 999999);
+    uint32_t place = line_number("a place, 0 to 511", 0, 999999);
     uint32_t prefix = line_address("the prefix", NULL);
     uint32_t mask = line_address("the mask", NULL);
     uint32_t port = line_port();
     uint32_t available =
         HJ_UP + line_choice("'up', 'down', 'testing' or 'out'", AVAILABLE);
+    uint32_t mission = mission_said();
 
-    taken(hj_set_route(node->relay, HJ_STATE_WORDS, place, prefix, mask, port,
-                       available, HJ_CAPABLE_NONE));
+    taken(hj_set_route(LENT_BOARD(node), LENT_ROUTES(node), place, prefix,
+                       mask, port, available, HJ_CAPABLE_NONE, mission));
 }
 
 void set_group(void)
@@ -113,9 +123,10 @@ void set_group(void)
     uint32_t address = line_address("the group's address", NULL);
     uint32_t send = line_set("the ports to send to, as 0,2 or -");
     uint32_t subscribed = line_set("the subscribed ports, as 0,2 or -");
+    uint32_t mission = mission_said();
 
-    taken(hj_set_group(node->relay, HJ_STATE_WORDS, place, address, send,
-                       subscribed));
+    taken(hj_set_group(LENT_BOARD(node), LENT_MISSION(node, mission), place,
+                       address, send, subscribed));
 }
 
 void set_path(void)
@@ -126,6 +137,8 @@ void set_path(void)
     uint32_t path = line_address("the path's address", NULL);
     uint32_t send = line_set("the ports to send to, as 0,2 or -");
     uint32_t here = line_choice("'here' or 'on'", HERE);
+    uint32_t mission = mission_said();
 
-    taken(hj_set_path(node->relay, HJ_STATE_WORDS, place, path, send, here));
+    taken(hj_set_path(LENT_BOARD(node), LENT_MISSION(node, mission), place,
+                      path, send, here));
 }

@@ -185,13 +185,14 @@ static void ports_of(hj_verdict verdict)
     }
 }
 
-static void counters_moved(const struct node *node, const uint32_t *before)
+static void counters_moved(const struct node *node, uint32_t mission,
+                           const uint32_t *before)
 {
     const char *between = "";
 
     printf("%14scounters:", "");
     for (uint32_t counter = 0; counter < HJ_COUNTERS; counter++) {
-        uint32_t after = node_counter(node, counter);
+        uint32_t after = node_counter(node, mission, counter);
 
         if (after != before[counter]) {
             printf("%s %s %" PRIu32 " (+%" PRIu32 ")", between,
@@ -223,5 +224,5 @@ void told_arrival(uint32_t node, uint32_t port,
     }
     ports_of(verdict);
     puts("");
-    counters_moved(&nodes[node], before);
+    counters_moved(&nodes[node], node_mission(&nodes[node], port), before);
 }

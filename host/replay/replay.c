@@ -19,15 +19,15 @@
 
 /* A word's function, by its call; none for a word that sets. */
 #define ANSWER_STATELESS(word) answer_##word
-#define ANSWER_FRESH(word) answer_##word
 #define ANSWER_SETTING(word) NULL
 #define ANSWER_CLEARING(word) NULL
 #define ANSWER_DATAGRAM(word) answer_##word
 #define ANSWER_LOOK(word) answer_##word
 
-static answer_word *const ANSWERS[CALLS] = {
-#define WORD(NAME, function, kind, object, numbers, word, ...)                \
+static answer_word *const ANSWERS[LINES] = {
+#define WORD(NAME, function, kind, object, lent, numbers, word, ...)          \
     [CALL_##NAME] = ANSWER_##kind(word),
+#define LINE(NAME, word, arguments) [LINE_##NAME] = answer_##word,
 #include "shared/calls.def"
 };
 
@@ -51,9 +51,10 @@ static void write_answered(const struct trace_call *call,
             putchar(' ');
         fwrite(call->words[i].text, 1, call->words[i].length, stdout);
     }
-    if (answer->used > 0)
+    if (answer->used > 0) {
         fputs(" = ", stdout);
-    fwrite(answer->start, 1, answer->used, stdout);
+        fwrite(answer->start, 1, answer->used, stdout);
+    }
     putchar('\n');
 }
 
@@ -97,8 +98,8 @@ static const char HELP[] =
     "    class 0a04090f = 2\n"
     "Words: read, build, class, path, checksum; and on one relay, fresh at\n"
     "first, new, set_router, set_port, set_route, set_group, set_path,\n"
-    "clear_route, clear_group, clear_path, receive, take, counters, waiting,\n"
-    "search.\n"
+    "clear_route, clear_group, clear_path, records, record, receive, take,\n"
+    "counters, waiting, search.\n"
     "Comments and blank lines are not written. A line that is not understood\n"
     "is answered by `? LINE`.\n"
     "\n"

@@ -4,7 +4,8 @@
  * argument is not understood, and has then called nothing.
  *
  * A word that sets has no function of its own, since its row of calls.def says
- * all that is to be known of it. Each other row has the function answer_WORD.
+ * all that is to be known of it. Each other row with a word has the function
+ * answer_WORD.
  */
 #ifndef WORDS_H
 #define WORDS_H
@@ -27,6 +28,8 @@ answer_word answer_build;
 
 /* words_relay.c: the relay. answer_new looks at no argument. */
 answer_word answer_new;
+answer_word answer_records;
+answer_word answer_record;
 answer_word answer_receive;
 answer_word answer_take;
 answer_word answer_counters;

@@ -24,7 +24,8 @@ static size_t answers_of(enum call of, const struct trace_call *answer)
 
     if (of == CALL_READ && begun && trace_is(answer->words[0], "0"))
         return READ_ANSWERS;
-    if (of == CALL_SEARCH && begun && !trace_is(answer->words[0], "-"))
+    if (of == CALL_SEARCH && begun && !trace_is(answer->words[0], "-") &&
+        !(answer->count == 1 && trace_is(answer->words[0], "21")))
         return SEARCH_ANSWERS;
     return call_facts[of].answers;
 }
@@ -50,7 +51,7 @@ static bool cut(const char *line, size_t length, struct trace_call *call,
     rest = call->words[call->count - 1].text +
            call->words[call->count - 1].length;
     if (rest == end)
-        return trace_call_of(call->words[0]) == CALL_FRESH;
+        return trace_call_of(call->words[0]) > CALLS;
     if (end - rest < 3 || memcmp(rest, " = ", 3) != 0)
         return false;
     return trace_cut(rest + 3, (size_t)(end - rest) - 3, answer) ==

@@ -1,7 +1,8 @@
 /*
  * answered.h: the lines of an answered trace, each a call and its answer. The
- * answer of `new` is nothing, and has no words. Every word that docs/TRACE.md
- * has for a call and its answer is there in a line that is handed on.
+ * answer of `new`, `records` and `record` is nothing, and has no words. Every
+ * word that docs/TRACE.md has for a call and its answer is there in a line that
+ * is handed on.
  */
 #ifndef ANSWERED_H
 #define ANSWERED_H

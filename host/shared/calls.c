@@ -6,14 +6,20 @@
 
 #include <stddef.h>
 
-const struct call_facts call_facts[CALLS] = {
-#define WORD(NAME, function, kind, object, numbers, word, arguments, answers, \
-             ...)                                                             \
-    [CALL_##NAME] = {"hj_" #function, KIND_##kind, ON_##object, numbers,      \
-                     #word,           arguments,   answers,     {__VA_ARGS__}},
-#define CALL(NAME, function, kind, object, numbers, ...)                      \
-    [CALL_##NAME] = {"hj_" #function, KIND_##kind, ON_##object, numbers,      \
-                     NULL,            NULL,        0,           {__VA_ARGS__}},
+const struct call_facts call_facts[LINES] = {
+#define WORD(NAME, function, kind, object, lent, numbers, word, arguments,    \
+             answers, ...)                                                    \
+    [CALL_##NAME] = {"hj_" #function, KIND_##kind, ON_##object, LENT_##lent,  \
+                     numbers,         #word,       arguments,   answers,      \
+                     {__VA_ARGS__}},
+#define CALL(NAME, function, kind, object, lent, numbers, ...)                \
+    [CALL_##NAME] = {"hj_" #function, KIND_##kind, ON_##object, LENT_##lent,  \
+                     numbers,         NULL,        NULL,        0,            \
+                     {__VA_ARGS__}},
+#define LINE(NAME, word, arguments)                                           \
+    [LINE_##NAME] = {NULL,  KIND_LINE, ON_NOTHING, LENT_NONE,                 \
+                     0,     #word,     arguments,  0,                         \
+                     {0}},
 #include "calls.def"
 };
 

@@ -57,7 +57,7 @@ bool trace_is(struct trace_word word, const char *text)
 
 enum call trace_call_of(struct trace_word word)
 {
-    for (int call = 0; call < CALLS; call++) {
+    for (int call = 0; call < LINES; call++) {
         if (call_facts[call].word != NULL &&
             trace_is(word, call_facts[call].word))
             return (enum call)call;
@@ -130,12 +130,19 @@ bool trace_address(struct trace_word word, uint32_t *address)
     return true;
 }
 
+bool trace_mission(struct trace_word word, uint32_t *mission)
+{
+    return trace_number_32(word, mission) && *mission < TRACE_MISSIONS;
+}
+
 bool trace_numbers(const struct trace_word *words, const char *forms,
                    uint32_t *numbers)
 {
-    for (; *forms == 'd' || *forms == 'x'; forms++, words++, numbers++) {
-        if (*forms == 'd' ? !trace_number_32(*words, numbers)
-                          : !trace_address(*words, numbers))
+    for (; strchr("dxm", *forms) != NULL && *forms != '\0';
+         forms++, words++, numbers++) {
+        if (*forms == 'x' ? !trace_address(*words, numbers)
+            : *forms == 'm' ? !trace_mission(*words, numbers)
+                            : !trace_number_32(*words, numbers))
             return false;
     }
     return true;

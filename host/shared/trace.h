@@ -19,6 +19,11 @@
 #define TRACE_MOST_OCTETS (TRACE_MOST_LINE / 2)
 /* `build` and its sixteen arguments. */
 #define TRACE_MOST_WORDS 17
+/* Missions are numbered from 0. */
+#define TRACE_MISSIONS 2
+/* Records of a fresh list, and the most that a trace may give it. */
+#define TRACE_RECORDS 512
+#define TRACE_MOST_RECORDS 1024
 
 struct trace_word {
     const char *text;
@@ -41,15 +46,16 @@ enum trace_kind trace_cut(const char *line, size_t length,
 
 bool trace_is(struct trace_word word, const char *text);
 
-/* The call that has this word; CALLS where none has. */
+/* The call or line that has this word; CALLS where none has. */
 enum call trace_call_of(struct trace_word word);
 
 /* What a word stands for; false where it is not of that form. */
 bool trace_number(struct trace_word word, uint64_t most, uint64_t *number);
 bool trace_number_32(struct trace_word word, uint32_t *number);
 bool trace_address(struct trace_word word, uint32_t *address);
-/* Several words as numbers, each by its letter (calls.def): d or x. Any other
- * letter ends them. */
+bool trace_mission(struct trace_word word, uint32_t *mission);
+/* Several words as numbers, each by its letter (calls.def): d, x or m. Any
+ * other letter ends them. */
 bool trace_numbers(const struct trace_word *words, const char *forms,
                    uint32_t *numbers);
 /* A hexadecimal number of 1 to 32 digits, as its upper and lower 64 bits. */

@@ -5,6 +5,8 @@
  */
 #include "world.h"
 
+#include <string.h>
+
 static const uint32_t DOMAIN[] = {0x0a040900, 0x0a040800, 0x0a070100};
 static const uint32_t NETWORK[] = {0xac100400, 0xac100500, 0xc0000200,
                                    0x2c010200};
@@ -63,6 +65,35 @@ uint32_t world_invalid(struct random *random)
     return PICK(INVALID);
 }
 
+/* The first and the last place, and others between them. */
+void world_begin_list(struct world *world, uint32_t places,
+                      struct random *random)
+{
+    world->places = places;
+    memset(world->routes, 0, sizeof world->routes);
+    for (uint32_t i = 1; i < WORLD_ROUTES && places > 0; i++)
+        world->routes[i].place = i == 1 ? places - 1
+                                        : random_below(random, places);
+}
+
+void world_begin(struct world *world, enum nets nets, uint32_t places,
+                 struct random *random)
+{
+    memset(world, 0, sizeof *world);
+    world->nets = nets;
+    world_begin_list(world, places, random);
+}
+
+void world_note_port(struct world *world, const uint32_t *n)
+{
+    if (world_has(world_set_up(world), n[0]))
+        return;
+    world->ports_of[n[4]] |= 1u << n[0];
+    world->ports[n[0]].address = n[1];
+    world->ports[n[0]].mask = n[2];
+    world->ports[n[0]].mtu = n[3];
+}
+
 uint32_t world_routed(const struct world *world, struct random *random)
 {
     uint32_t place = random_below(random, WORLD_ROUTES);
@@ -78,7 +109,7 @@ uint32_t world_port(const struct world *world, struct random *random)
     uint32_t port = random_below(random, WORLD_PORTS);
 
     for (uint32_t tries = 0; tries < WORLD_PORTS; tries++) {
-        if (world_has(world->set_up, port))
+        if (world_has(world_own(world), port))
             return port;
         port = (port + 1) % WORLD_PORTS;
     }

@@ -8,6 +8,7 @@
 #ifndef CALL_H
 #define CALL_H
 
+#include <stdbool.h>
 #include <stddef.h>
 #include <stdint.h>
 
@@ -18,17 +19,36 @@
 #define SOAK_PARTS 24
 #define SOAK_MOST_ROOM 400
 #define SOAK_MOST_WORDS 2000
+#define SOAK_MOST_RECORDS 1024
 
 struct soak_call {
     enum call which;
     uint32_t numbers[CALL_MOST_NUMBERS]; /* in the order of its arguments */
-    size_t words;                        /* of the state lent */
+    uint32_t mission;                    /* whose state is lent */
+    size_t board_words;                  /* of what is lent */
+    size_t mission_words;
+    size_t records;
     size_t room;                         /* of the output */
     size_t data;                         /* of a header that is built */
     hj_fields fields;                    /* likewise */
     size_t count;
     uint8_t octets[DATAGRAM_MOST_LENT];
 };
+
+/* Whether the words lent are as many as they should be. */
+static inline bool soak_words_right(const struct soak_call *call)
+{
+    enum call_lent lent = call_facts[call->which].lent;
+
+    return ((lent & LENT_B) == 0 || call->board_words == HJ_BOARD_WORDS) &&
+           ((lent & LENT_M) == 0 || call->mission_words == HJ_MISSION_WORDS);
+}
+
+static inline bool soak_list_too_long(const struct soak_call *call)
+{
+    return (call_facts[call->which].lent & LENT_R) != 0 &&
+           call->records > HJ_ROUTES;
+}
 
 /* The parts of a verdict: refusal, local, onward, took, header, how many
  * dropped. Which ports those were is told by our side alone. */
@@ -37,14 +57,15 @@ struct soak_answer {
     uint32_t dropped;
 };
 
-/* Where a state has what, in words. */
+/* Where the words have what: a port's on the board, the others in a mission's
+ * state, whose first word is its number. */
 enum {
     SOAK_PORTS_AT = 1,
-    SOAK_GROUPS_AT = 33,
-    SOAK_PATHS_AT = 97,
-    SOAK_QUEUES_AT = 161,
-    SOAK_COUNTERS_AT = 425,
-    SOAK_ROUTES_AT = 440,
+    SOAK_PORT_WORDS = 5,
+    SOAK_GROUPS_AT = 1,
+    SOAK_PATHS_AT = 65,
+    SOAK_QUEUES_AT = 129,
+    SOAK_COUNTERS_AT = 393,
     SOAK_QUEUE_WORDS = HJ_QUEUE + 1
 };
 

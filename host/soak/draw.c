@@ -13,7 +13,7 @@
 
 static uint32_t draw_set(const struct world *world, struct random *random)
 {
-    return world->set_up & random_below(random, 256);
+    return world_own(world) & random_below(random, 256);
 }
 
 static void draw_port(uint32_t *n, const struct world *world,
@@ -26,6 +26,7 @@ static void draw_port(uint32_t *n, const struct world *world,
     n[1] = world_unicast(world, random);
     n[2] = world_mask(n[1] >> 24 == 10 ? 24 : PICK(ONES));
     n[3] = PICK(MTU);
+    n[4] = world->mission;
 }
 
 static void draw_route(uint32_t *n, const struct world *world,
@@ -35,24 +36,27 @@ static void draw_route(uint32_t *n, const struct world *world,
     static const uint32_t AVAILABLE[] = {1, 1, 1, 1, 1, 1, 2, 3, 4};
     static const uint32_t CAPABLE[] = {0, 1, 2, 4};
 
-    n[0] = random_below(random, HJ_ROUTES);
+    n[0] = world->routes[random_below(random, WORLD_ROUTES)].place;
     n[2] = world_mask(PICK(ONES));
     n[1] = world_unicast(world, random) & n[2];
     n[3] = world_port(world, random);
     n[4] = PICK(AVAILABLE);
     n[5] = PICK(CAPABLE);
+    n[6] = world->mission;
 }
 
-uint32_t soak_places(enum call which)
+uint32_t soak_places(enum call which, const struct world *world)
 {
     static const uint32_t PLACES[CALL_OBJECTS] = {
-        [ON_RELAY] = HJ_GROUPS, /* any: the number is not looked at */
-        [ON_PORT] = HJ_PORTS,       [ON_ROUTE] = HJ_ROUTES,
+        [ON_BOARD] = HJ_GROUPS, /* any: the number is not looked at */
+        [ON_MISSION] = HJ_MISSIONS, [ON_PORT] = HJ_PORTS,
         [ON_GROUP] = HJ_GROUPS,     [ON_PATH] = HJ_PATHS,
         [ON_COUNTER] = HJ_COUNTERS, [ON_QUEUE] = HJ_PORTS,
-        [ON_ADDRESS] = HJ_ROUTES /* the prefix of each */};
+        [ON_ADDRESS] = WORLD_ROUTES /* the prefix of each */};
 
-    return PLACES[call_facts[which].object];
+    return call_facts[which].object == ON_ROUTE
+               ? world->places
+               : PLACES[call_facts[which].object];
 }
 
 static void spoil(struct soak_call *call, const struct world *world,
@@ -74,8 +78,10 @@ void soak_draw_setting(struct soak_call *call, enum call which,
     uint32_t *n = call->numbers;
 
     call->which = which;
-    n[0] = random_below(random, soak_places(which));
-    if (which == CALL_SET_ROUTER) {
+    n[0] = random_below(random, soak_places(which, world) + 1);
+    if (which == CALL_FRESH_MISSION) {
+        n[0] = world->mission;
+    } else if (which == CALL_SET_ROUTER) {
         n[0] = !random_one_in(random, 8);
     } else if (which == CALL_SET_PORT) {
         draw_port(n, world, random);
@@ -110,7 +116,9 @@ static void draw_receive(struct soak_call *call, const struct world *world,
 static void draw_look(struct soak_call *call, const struct world *world,
                       struct random *random)
 {
-    call->numbers[0] = random_below(random, soak_places(call->which) + 1);
+    call->numbers[0] =
+        random_below(random, soak_places(call->which, world) + 1);
+    call->numbers[1] = random_below(random, HJ_ROUTE_NUMBERS + 1);
     if (call->which == CALL_TAKE && !random_one_in(random, 12))
         call->numbers[0] = world_port(world, random);
     if (call->which == CALL_SEARCH)
@@ -152,6 +160,22 @@ void soak_draw_call(struct soak_call *call, enum call which,
     }
 }
 
+/* The place of a list that was written or emptied. */
+static void note_route(const struct soak_call *call, struct world *world,
+                       bool filled)
+{
+    const uint32_t *n = call->numbers;
+
+    for (uint32_t i = 0; i < WORLD_ROUTES; i++) {
+        if (world->routes[i].place != n[0])
+            continue;
+        world->routes[i].filled = filled;
+        world->routes[i].prefix = n[1];
+        world->routes[i].mask = n[2];
+        world->routes[i].mission = n[6];
+    }
+}
+
 /* A place that was written or emptied. */
 static void note_place(const struct soak_call *call, struct world *world)
 {
@@ -160,15 +184,13 @@ static void note_place(const struct soak_call *call, struct world *world)
 
     switch (call_facts[call->which].object) {
     case ON_GROUP:
-        world->groups[n[0]] = filled ? n[1] : 0;
+        world->groups[call->mission][n[0]] = filled ? n[1] : 0;
         break;
     case ON_PATH:
-        world->paths[n[0]] = filled ? n[1] : 0;
+        world->paths[call->mission][n[0]] = filled ? n[1] : 0;
         break;
     case ON_ROUTE:
-        world->routes[n[0]].filled = filled;
-        world->routes[n[0]].prefix = n[1];
-        world->routes[n[0]].mask = n[2];
+        note_route(call, world, filled);
         break;
     default:
         break;
@@ -177,19 +199,33 @@ static void note_place(const struct soak_call *call, struct world *world)
 
 void soak_note(const struct soak_call *call, struct world *world)
 {
-    const uint32_t *n = call->numbers;
-
-    if (call->which == CALL_FRESH) {
-        enum nets nets = world->nets;
-
-        memset(world, 0, sizeof *world);
-        world->nets = nets;
+    if (call->which == CALL_FRESH_BOARD) {
+        memset(world->ports_of, 0, sizeof world->ports_of);
+    } else if (call->which == CALL_FRESH_MISSION) {
+        memset(world->groups[call->mission], 0, sizeof *world->groups);
+        memset(world->paths[call->mission], 0, sizeof *world->paths);
     } else if (call->which == CALL_SET_PORT) {
-        world->set_up |= 1u << n[0];
-        world->ports[n[0]].address = n[1];
-        world->ports[n[0]].mask = n[2];
-        world->ports[n[0]].mtu = n[3];
+        world_note_port(world, call->numbers);
     } else if (call_sets(call->which)) {
         note_place(call, world);
     }
+}
+
+void soak_draw_record(hj_record *record, const struct world *world,
+                      struct random *random)
+{
+    static const uint32_t FILLED[] = {0, 1, 1, 1, 1, 2, 255, 0xffffffff};
+    uint32_t n[CALL_MOST_NUMBERS];
+    uint32_t which = random_below(random, WORLD_ROUTES);
+
+    draw_route(n, world, random);
+    n[0] = PICK(FILLED);
+    if (world->routes[which].filled && random_one_in(random, 2)) {
+        n[1] = world->routes[which].prefix;
+        n[2] = world->routes[which].mask;
+    }
+    if (random_one_in(random, 3))
+        n[random_below(random, HJ_ROUTE_NUMBERS)] =
+            soak_odd_number(world, random);
+    memcpy(record, n, sizeof *record);
 }

@@ -7,13 +7,17 @@
 #include "shared/world.h"
 
 /* How many there are of what the call's first number names. */
-uint32_t soak_places(enum call which);
+uint32_t soak_places(enum call which, const struct world *world);
 
 void soak_draw_call(struct soak_call *call, enum call which,
                     const struct world *world, struct random *random);
 /* A good setting. */
 void soak_draw_setting(struct soak_call *call, enum call which,
                        const struct world *world, struct random *random);
+/* A record as anyone may have written it: good, the same entry as another
+ * place's, or with an odd number in it. */
+void soak_draw_record(hj_record *record, const struct world *world,
+                      struct random *random);
 /* Notes a setting that was taken. */
 void soak_note(const struct soak_call *call, struct world *world);
 

@@ -9,7 +9,8 @@ uint32_t soak_odd_number(const struct world *world, struct random *random)
 {
     static const uint32_t EDGES[] = {0,  1,   2,   3,    4,    5,     7,
                                      8,  9,   15,  16,   31,   32,    33,
-                                     63, 64,  255, 256,  8190, 8191,  8192,
+                                     63, 64,  255, 256,  511,  512,   513,
+                                     8190, 8191, 8192,
                                      0x80000000, 0xfffffffe, 0xffffffff};
 
     switch (random_below(random, 5)) {

@@ -18,8 +18,9 @@
 static uint32_t at_place(const struct world *world, struct random *random)
 {
     uint32_t place = random_below(random, WORLD_ROUTES);
-    uint32_t group = world->groups[place % WORLD_GROUPS];
-    uint32_t path = world->paths[place % WORLD_PATHS];
+    uint32_t whose = world->mission;
+    uint32_t group = world->groups[whose][place % WORLD_GROUPS];
+    uint32_t path = world->paths[whose][place % WORLD_PATHS];
 
     if (world->routes[place].filled)
         return world->routes[place].prefix |
@@ -31,7 +32,9 @@ static uint32_t at_place(const struct world *world, struct random *random)
 
 static uint32_t at_broadcast(const struct world *world, struct random *random)
 {
-    uint32_t port = world_port(world, random);
+    uint32_t port = random_one_in(random, 8)
+                        ? random_below(random, WORLD_PORTS)
+                        : world_port(world, random);
     uint32_t address = world->ports[port].address;
 
     switch (random_below(random, 4)) {
@@ -66,7 +69,8 @@ static uint32_t draw_address(const struct world *world, struct random *random)
 /* Of a path that was set, mostly. */
 static uint32_t draw_path(const struct world *world, struct random *random)
 {
-    uint32_t path = world->paths[random_below(random, WORLD_PATHS)];
+    uint32_t path =
+        world->paths[world->mission][random_below(random, WORLD_PATHS)];
 
     if (random_one_in(random, 8))
         return draw_address(world, random);

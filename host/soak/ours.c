@@ -65,22 +65,26 @@ static void stateless(const struct soak_call *call, const uint8_t *octets,
     case CALL_CHECKSUM:
         parts[1] = hj_checksum(octets, call->count);
         break;
-    case CALL_STATE_WORDS:
-        parts[1] = hj_state_words();
+    case CALL_BOARD_WORDS:
+        parts[1] = hj_board_words();
+        break;
+    case CALL_MISSION_WORDS:
+        parts[1] = hj_mission_words();
         break;
     default:
         abort(); /* a row of calls.def that has no code here */
     }
 }
 
-static void receive(const struct soak_call *call, uint32_t *state,
-                    const uint8_t *octets, uint8_t *output,
-                    struct soak_answer *answer)
+static void receive(const struct soak_call *call,
+                    const struct library_lent *lent, const uint8_t *octets,
+                    uint8_t *output, struct soak_answer *answer)
 {
+    hj_arrival arrival = {call->numbers[0], (uint16_t)call->numbers[1], 0};
     hj_verdict verdict =
-        hj_receive(state, call->words, call->numbers[0],
-                   (uint16_t)call->numbers[1], octets, call->count, output,
-                   call->room);
+        hj_receive(lent->board, lent->board_words, lent->mission,
+                   lent->mission_words, lent->routes, lent->route_count,
+                   arrival, octets, call->count, output, call->room);
 
     answer->parts[0] = hj_ended_by(verdict);
     answer->parts[1] = hj_local(verdict);
@@ -92,43 +96,15 @@ static void receive(const struct soak_call *call, uint32_t *state,
     answer->parts[6] = verdict >> 48;
 }
 
-static void take(const struct soak_call *call, uint32_t *state,
-                 uint64_t *parts)
+static void put_taken(uint64_t *parts, hj_answer taken)
 {
-    hj_answer taken = hj_take(state, call->words, call->numbers[0]);
-
     parts[0] = hj_refusal(taken);
     parts[1] = hj_slot(taken);
     parts[2] = hj_precedence(taken);
 }
 
-static void get_record(const struct soak_call *call, const uint32_t *state,
-                       uint64_t *parts)
+static void put_found(uint64_t *parts, hj_found found)
 {
-    uint32_t number = call->numbers[0];
-
-    if (call->which == CALL_GET_PORT) {
-        hj_port port = hj_get_port(state, call->words, number);
-        put_row(parts, &port, sizeof port);
-    } else if (call->which == CALL_GET_ROUTE) {
-        hj_route route = hj_get_route(state, call->words, number);
-        put_row(parts, &route, sizeof route);
-    } else if (call->which == CALL_GET_GROUP) {
-        hj_group group = hj_get_group(state, call->words, number);
-        put_row(parts, &group, sizeof group);
-    } else if (call->which == CALL_GET_PATH) {
-        hj_path_place path = hj_get_path(state, call->words, number);
-        put_row(parts, &path, sizeof path);
-    } else {
-        abort(); /* as above */
-    }
-}
-
-static void search(const struct soak_call *call, const uint32_t *state,
-                   uint64_t *parts)
-{
-    hj_found found = hj_search(state, call->words, call->numbers[0]);
-
     parts[0] = hj_found_refusal(found);
     parts[1] = hj_is_found(found);
     parts[2] = hj_found_place(found);
@@ -137,37 +113,31 @@ static void search(const struct soak_call *call, const uint32_t *state,
     parts[5] = found >> 48;
 }
 
-static void look(const struct soak_call *call, const uint32_t *state,
-                 uint64_t *parts)
+/* The calls that are lent something and take numbers alone. */
+static void by_numbers(const struct soak_call *call,
+                       const struct library_lent *lent, uint64_t *parts)
 {
-    uint32_t number = call->numbers[0];
+    uint64_t got = library_call(call->which, lent, call->numbers);
 
-    if (call->which == CALL_COUNTER)
-        put_answer(parts, hj_counter(state, call->words, number));
-    else if (call->which == CALL_WAITING)
-        put_answer(parts, hj_waiting(state, call->words, number));
-    else if (call->which == CALL_GET_ROUTER)
-        put_answer(parts, hj_get_router(state, call->words));
+    if (call_sets(call->which))
+        parts[0] = got;
+    else if (call->which == CALL_TAKE)
+        put_taken(parts, got);
     else if (call->which == CALL_SEARCH)
-        search(call, state, parts);
+        put_found(parts, got);
     else
-        get_record(call, state, parts);
+        put_answer(parts, got);
 }
 
-void soak_ours(const struct soak_call *call, uint32_t *state,
+void soak_ours(const struct soak_call *call, const struct library_lent *lent,
                const uint8_t *octets, uint8_t *output,
                struct soak_answer *answer)
 {
     memset(answer, 0, sizeof *answer);
     if (!call_has_state(call->which))
         stateless(call, octets, output, answer->parts);
-    else if (call_sets(call->which))
-        answer->parts[0] =
-            library_set(call->which, state, call->words, call->numbers);
     else if (call->which == CALL_RECEIVE)
-        receive(call, state, octets, output, answer);
-    else if (call->which == CALL_TAKE)
-        take(call, state, answer->parts);
+        receive(call, lent, octets, output, answer);
     else
-        look(call, state, answer->parts);
+        by_numbers(call, lent, answer->parts);
 }

@@ -3,9 +3,10 @@
 #define OURS_H
 
 #include "call.h"
+#include "shared/library.h"
 
-/* The call made on what is lent, its answer written. */
-void soak_ours(const struct soak_call *call, uint32_t *state,
+/* Makes the call on what is lent. */
+void soak_ours(const struct soak_call *call, const struct library_lent *lent,
                const uint8_t *octets, uint8_t *output,
                struct soak_answer *answer);
 

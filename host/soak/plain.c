@@ -1,6 +1,7 @@
 /*
  * plain.c: the calls of the soak on host/plain, whose relay has lived through
- * the same history. Its answers are put into the form of the library's.
+ * the same history. Its answers are put into the form of the library's. The
+ * list is copied to plain's records and back, since they are another type.
  *
  * The awkward case is the copies that were dropped: plain's verdict does not
  * name them, but its counter grows by one for each.
@@ -15,7 +16,8 @@
 #include "plain/plain_relay.h"
 #include "shared/plainly.h"
 
-static plain_relay relay;
+static struct plainly relay;
+static plain_record records[SOAK_MOST_RECORDS];
 
 /* In the order of hj_fields. */
 static void put_fields(uint64_t *parts, const plain_fields *fields)
@@ -94,19 +96,30 @@ static void stateless(const struct soak_call *call, uint8_t *output,
         parts[1] = plain_path_valid(path);
     else if (call->which == CALL_CHECKSUM)
         parts[1] = plain_checksum(call->octets, call->count);
-    else if (call->which == CALL_STATE_WORDS)
-        parts[1] = HJ_STATE_WORDS;
+    else if (call->which == CALL_BOARD_WORDS)
+        parts[1] = HJ_BOARD_WORDS;
+    else if (call->which == CALL_MISSION_WORDS)
+        parts[1] = HJ_MISSION_WORDS;
     else
         abort(); /* a row of calls.def that has no code here */
+}
+
+static plain_list list_of(const struct soak_call *call)
+{
+    plain_list list = {records, call->records};
+
+    return list;
 }
 
 static void receive(const struct soak_call *call, uint8_t *output,
                     uint64_t *parts)
 {
+    plain_view view = plainly_view(&relay, call->mission, list_of(call));
+    const uint32_t *counts = view.mission->counters.counts;
+    uint32_t discards = counts[PLAIN_OUT_DISCARDS];
     plain_slot slot = {(uint16_t)call->numbers[1]};
-    uint32_t discards = relay.counters.counts[PLAIN_OUT_DISCARDS];
     plain_verdict verdict =
-        plain_receive(&relay, call->numbers[0], slot, call->octets,
+        plain_receive(&view, call->numbers[0], slot, call->octets,
                       call->count, output, call->room);
 
     parts[0] = verdict.refusal;
@@ -114,30 +127,32 @@ static void receive(const struct soak_call *call, uint8_t *output,
     parts[2] = verdict.onward;
     parts[3] = verdict.ports.bits;
     parts[4] = verdict.header_length;
-    parts[5] = relay.counters.counts[PLAIN_OUT_DISCARDS] - discards;
+    parts[5] = counts[PLAIN_OUT_DISCARDS] - discards;
 }
 
 static void take(const struct soak_call *call, uint64_t *parts)
 {
+    plain_view view = plainly_view(&relay, call->mission, list_of(call));
     plain_entry entry = {{0}, 0};
 
-    parts[0] = plain_take(&relay, call->numbers[0], &entry);
+    parts[0] = plain_take(&view, call->numbers[0], &entry);
     parts[1] = entry.slot.number;
     parts[2] = entry.precedence;
 }
 
 static void look(const struct soak_call *call, uint64_t *parts)
 {
+    const plain_mission *mission = &relay.missions[call->mission];
     uint32_t number = call->numbers[0];
     uint32_t waiting = 0;
 
     if (call->which == CALL_GET_ROUTER) {
-        parts[1] = relay.router;
+        parts[1] = relay.board.router;
     } else if (call->which == CALL_WAITING) {
-        parts[0] = plain_waiting(&relay, number, &waiting);
+        parts[0] = plain_waiting(mission, number, &waiting);
         parts[1] = waiting;
     } else if (number < PLAIN_COUNTERS) {
-        parts[1] = relay.counters.counts[number];
+        parts[1] = mission->counters.counts[number];
     } else {
         parts[0] = PLAIN_SET_NUMBER;
     }
@@ -145,72 +160,112 @@ static void look(const struct soak_call *call, uint64_t *parts)
 
 static void search(const struct soak_call *call, uint64_t *parts)
 {
+    plain_view view = plainly_view(&relay, call->mission, list_of(call));
     plain_address address = {call->numbers[0]};
-    plain_found found = plain_search(&relay, address);
+    plain_found found = plain_search(&view, address);
 
+    parts[0] = found.refusal;
     parts[1] = found.found;
     parts[2] = found.place;
     parts[3] = found.ones;
     parts[4] = found.port;
 }
 
-static void put_four(uint64_t *parts, uint32_t filled, uint32_t first,
-                     uint32_t second, uint32_t third)
+/* One of the numbers; 21 where there is none such. */
+static void put_word(const struct soak_call *call, const uint32_t *all,
+                     uint32_t count, uint64_t *parts)
 {
-    parts[1] = filled;
-    parts[2] = first;
-    parts[3] = second;
-    parts[4] = third;
+    if (call->numbers[1] < count)
+        parts[1] = all[call->numbers[1]];
+    else
+        parts[0] = PLAIN_SET_NUMBER;
 }
 
-static void get_route(const plain_route *route, uint64_t *parts)
+static void port_word(const struct soak_call *call, uint64_t *parts)
 {
-    put_four(parts, route->availability != PLAIN_PLACE_EMPTY,
-             route->prefix.bits, route->mask.bits, route->port);
-    parts[5] = route->availability;
-    parts[6] = route->capabilities;
+    const plain_port *port = &relay.board.ports[call->numbers[0]];
+    const uint32_t all[] = {
+        plain_set_has(relay.board.set_up, call->numbers[0]),
+        port->address.bits, port->mask.bits, port->mtu, port->mission};
+
+    put_word(call, all, 5, parts);
 }
 
-static void get_setting(const struct soak_call *call, uint64_t *parts)
+static void route_word(const struct soak_call *call, uint64_t *parts)
+{
+    const plain_record *x = &records[call->numbers[0]];
+    const uint32_t all[] = {x->filled,       x->prefix.bits,
+                            x->mask.bits,    x->port,
+                            x->availability, x->capabilities,
+                            x->mission};
+
+    put_word(call, all, 7, parts);
+}
+
+static void place_word(const struct soak_call *call, uint64_t *parts)
+{
+    const plain_mission *mission = &relay.missions[call->mission];
+    const plain_group *group = &mission->groups[call->numbers[0]];
+    const plain_path_place *path = &mission->paths[call->numbers[0]];
+    const uint32_t groups[] = {group->address.bits != 0, group->address.bits,
+                               group->send.bits, group->subscribed.bits};
+    const uint32_t paths[] = {path->path.bits != 0, path->path.bits,
+                              path->send.bits, path->here};
+
+    put_word(call, call->which == CALL_GROUP_WORD ? groups : paths, 4, parts);
+}
+
+static void setting_word(const struct soak_call *call, uint64_t *parts)
 {
     uint32_t number = call->numbers[0];
 
-    if (call->which == CALL_GET_PORT && number < PLAIN_PORTS) {
-        const plain_port *port = &relay.ports[number];
-        put_four(parts, plain_set_has(relay.set_up, number),
-                 port->address.bits, port->mask.bits, port->mtu);
-    } else if (call->which == CALL_GET_ROUTE && number < PLAIN_ROUTES) {
-        get_route(&relay.routes[number], parts);
-    } else if (call->which == CALL_GET_GROUP && number < PLAIN_GROUPS) {
-        const plain_group *group = &relay.groups[number];
-        put_four(parts, group->address.bits != 0, group->address.bits,
-                 group->send.bits, group->subscribed.bits);
-    } else if (call->which == CALL_GET_PATH && number < PLAIN_PATHS) {
-        const plain_path_place *path = &relay.paths[number];
-        put_four(parts, path->path.bits != 0, path->path.bits,
-                 path->send.bits, path->here);
-    } else {
+    if (call->which == CALL_PORT_WORD && number < PLAIN_PORTS)
+        port_word(call, parts);
+    else if (call->which == CALL_ROUTE_WORD && number < call->records &&
+             call->records <= PLAIN_ROUTES)
+        route_word(call, parts);
+    else if ((call->which == CALL_GROUP_WORD ||
+              call->which == CALL_PATH_WORD) &&
+             number < PLAIN_GROUPS)
+        place_word(call, parts);
+    else
         parts[0] = PLAIN_SET_NUMBER;
-    }
 }
 
-void soak_plain(const struct soak_call *call, uint8_t *output,
-                struct soak_answer *answer)
+static void with_state(const struct soak_call *call, uint8_t *output,
+                       uint64_t *parts)
 {
-    memset(answer, 0, sizeof *answer);
-    if (!call_has_state(call->which))
-        stateless(call, output, answer->parts);
-    else if (call_sets(call->which))
-        answer->parts[0] = plainly_set(&relay, call->which, call->numbers);
+    if (call_sets(call->which))
+        parts[0] = plainly_set(&relay, call->mission, list_of(call),
+                               call->which, call->numbers);
     else if (call->which == CALL_RECEIVE)
-        receive(call, output, answer->parts);
+        receive(call, output, parts);
     else if (call->which == CALL_TAKE)
-        take(call, answer->parts);
+        take(call, parts);
     else if (call->which == CALL_COUNTER || call->which == CALL_WAITING ||
              call->which == CALL_GET_ROUTER)
-        look(call, answer->parts);
+        look(call, parts);
     else if (call->which == CALL_SEARCH)
-        search(call, answer->parts);
+        search(call, parts);
     else
-        get_setting(call, answer->parts);
+        setting_word(call, parts);
+}
+
+void soak_plain(const struct soak_call *call, hj_record *routes,
+                uint8_t *output, struct soak_answer *answer)
+{
+    size_t octets = (call_facts[call->which].lent & LENT_R) != 0
+                        ? call->records * sizeof *records
+                        : 0;
+
+    memset(answer, 0, sizeof *answer);
+    if (!call_has_state(call->which)) {
+        stateless(call, output, answer->parts);
+        return;
+    }
+    if (octets > 0)
+        memcpy(records, routes, octets);
+    with_state(call, output, answer->parts);
+    if (octets > 0)
+        memcpy(routes, records, octets);
 }

@@ -1,12 +1,12 @@
-/* plain.h: the calls of the soak on host/plain, on a relay of its own. */
+/* plain.h: the calls of the soak on host/plain. */
 #ifndef PLAIN_H
 #define PLAIN_H
 
 #include "call.h"
 
-/* The call made, its answer written. Plain writes its header over the output
- * that is due. */
-void soak_plain(const struct soak_call *call, uint8_t *output,
-                struct soak_answer *answer);
+/* Makes the call on plain's own relay and on the list, which it may write. Of
+ * the output it writes what is due. */
+void soak_plain(const struct soak_call *call, hj_record *routes,
+                uint8_t *output, struct soak_answer *answer);
 
 #endif

@@ -3,18 +3,19 @@
  *
  *     soak [seed=N] [calls=N]
  *
- * The run goes round by threes. First a history: a fresh relay, settings, and
- * then datagrams, takes and other calls, each made on host/plain too, which
- * must answer the same; at its end every number that can be asked is compared,
- * and the ledger of each port must close. Then the state that it left, with a
- * few words changed, and calls on it. Then a state of garbage words, and calls
- * on it. One call in eight is lent a state of a wrong length, and others are
- * lent none.
+ * The run goes round by threes. First a history: a fresh board and two fresh
+ * missions, settings, and then datagrams, takes and other calls of both, each
+ * made on host/plain too, which must answer the same; at its end every number
+ * that can be asked is compared, and the ledger of each mission's ports must
+ * close. Then what it left, with a few words changed, and calls on it. Then
+ * garbage words and records, and calls on them. One call in eight is lent words
+ * of a wrong number, one in six of those with a list another list, of the next
+ * length in turn, and others are lent nothing.
  *
- * After each call the state, the octets and the output, with the guards around
- * them, must be what is due (rules.c). The first call that fails is said,
- * with the seed, and ends the run with status 1. The same seed makes the same
- * calls, so that it fails again.
+ * After each call the board, both missions' states, the list, the octets and
+ * the output, with the guards around them, must be what is due (rules.c). The
+ * first call that fails is said, with the seed, and ends the run with status 1.
+ * The same seed makes the same calls, so that it fails again.
  *
  * The awkward case is a call that reads beyond what was lent. No guard shows
  * that. So half of the pieces end where memory that can be read ends, and the
@@ -30,9 +31,9 @@
 
 #include "call.h"
 #include "draw.h"
-#include "lent.h"
-#include "numbers.h"
+#include "list.h"
 #include "ours.h"
+#include "pieces.h"
 #include "plain.h"
 #include "rules.h"
 #include "shared/options.h"
@@ -52,12 +53,10 @@ static struct world world;
 static struct soak_tally tally;
 static struct soak_call call;
 static struct soak_answer answer;
-static struct soak_lent state, other_state, octets, output;
-
-/* What the verdicts and takes of a history said, by port. */
+/* What the verdicts and takes of a history said, by mission and port. */
 static struct {
     uint64_t took, dropped, handed_out;
-} books[HJ_PORTS];
+} books[HJ_MISSIONS][HJ_PORTS];
 
 static bool fail(const char *what)
 {
@@ -78,47 +77,27 @@ static void fail_by_signal(int number)
 
 /* ---- One call ------------------------------------------------------------ */
 
-static void lend_octets(void)
-{
-    soak_lent_begin(&octets, call.count, random_one_in(random, 2), 0);
-    if (call.count > 0)
-        memcpy(octets.at, call.octets, call.count);
-    soak_lent_keep(&octets);
-}
-
-/* Octets of any one value. */
-static void lend_filled(struct soak_lent *lent, size_t count)
-{
-    bool fenced = random_one_in(random, 2);
-
-    soak_lent_begin(lent, count, fenced, (uint8_t)random_below(random, 256));
-}
-
-/* Words of the state, or as many as there are of it. */
-static void lend_other_state(void)
-{
-    size_t words = call.words < HJ_STATE_WORDS ? call.words : HJ_STATE_WORDS;
-
-    soak_lent_begin(&other_state, call.words * sizeof(uint32_t),
-                    random_one_in(random, 2), 1);
-    memcpy(other_state.at, state.at, words * sizeof(uint32_t));
-    soak_lent_keep(&other_state);
-}
-
 static void count_call(void)
 {
+    enum call_lent lent = call_facts[call.which].lent;
+
     tally.calls++;
     tally.made[call.which]++;
-    if (call_has_state(call.which) && call.words != HJ_STATE_WORDS) {
-        tally.wrong_made[call.which]++;
-        tally.wrong[call.words]++;
-    }
+    if (lent & LENT_R)
+        tally.lists[call.records]++;
+    if (soak_words_right(&call))
+        return;
+    tally.wrong_made[call.which]++;
+    if ((lent & LENT_B) && call.board_words != HJ_BOARD_WORDS)
+        tally.wrong_boards[call.board_words]++;
+    if ((lent & LENT_M) && call.mission_words != HJ_MISSION_WORDS)
+        tally.wrong_missions[call.mission_words]++;
 }
 
 /* Odd numbers are a failure that was found before. */
 static void count_end(void)
 {
-    if (call_has_state(call.which) && call.words != HJ_STATE_WORDS)
+    if (!soak_words_right(&call))
         return;
     if (answer.parts[0] < CALL_NUMBERS)
         tally.ends[call.which][answer.parts[0]]++;
@@ -126,83 +105,80 @@ static void count_end(void)
         tally.onward[answer.parts[2]]++;
 }
 
-static bool plain_agrees(void)
+static bool plain_agrees(const struct soak_pieces *due)
 {
     struct soak_answer plain;
 
-    soak_plain(&call, (uint8_t *)soak_lent_due(&output), &plain);
+    soak_plain(&call, due->lent.routes, due->output, &plain);
     return memcmp(plain.parts, answer.parts, sizeof plain.parts) == 0;
 }
 
-static bool make_on(struct soak_lent *lent, bool compared)
+/* The call, on what is lent. */
+static bool make_on_pieces(bool compared)
 {
+    struct soak_pieces lent, due;
     const char *wrong;
 
     count_call();
-    if (call.words != HJ_STATE_WORDS)
-        lend_other_state();
-    lend_octets();
-    lend_filled(&output, call.room);
-    soak_ours(&call, (uint32_t *)soak_lent_piece(lent),
-              (const uint8_t *)soak_lent_piece(&octets),
-              (uint8_t *)soak_lent_piece(&output), &answer);
-    wrong = soak_rules(&call, &answer, (uint32_t *)soak_lent_due(lent),
-                       (uint8_t *)soak_lent_due(&output));
+    pieces_lend_octets(&call, random);
+    lent = pieces_lent(&call);
+    due = pieces_due(&call);
+    soak_ours(&call, &lent.lent, lent.octets, lent.output, &answer);
+    wrong = soak_rules(&call, &answer, &due.lent, due.output);
     if (wrong != NULL)
         return fail(wrong);
     count_end();
-    if ((compared || !call_has_state(call.which)) && !plain_agrees())
+    if ((compared || !call_has_state(call.which)) && !plain_agrees(&due))
         return fail("plain answers otherwise");
-    if (!soak_lent_is_due(lent))
-        return fail("the words of the state, or those around it");
-    if (!soak_lent_is_due(&output))
-        return fail("the output's octets, or those around it");
-    return soak_lent_is_due(&octets) || fail("the octets lent to be read");
+    wrong = pieces_changed(&call);
+    return wrong == NULL || fail(wrong);
 }
 
-/* The lengths come one after the other, so that none is left out. */
 static bool make_wrong_length(void)
 {
-    static size_t next;
-    size_t words = next++ % 832;
-
-    if (words == HJ_STATE_WORDS)
-        words = next++ % 832;
-    if (words == 831)
-        words = 831 + random_below(random, SOAK_MOST_WORDS - 830);
-    call.words = words;
-    return make_on(&other_state, false);
+    pieces_lend_wrong(&call, &world, random);
+    return make_on_pieces(false);
 }
 
 static void note_in_books(void)
 {
     for (uint32_t port = 0; port < HJ_PORTS && call.which == CALL_RECEIVE;
          port++) {
-        books[port].took += answer.parts[3] >> port & 1;
-        books[port].dropped += answer.dropped >> port & 1;
+        books[call.mission][port].took += answer.parts[3] >> port & 1;
+        books[call.mission][port].dropped += answer.dropped >> port & 1;
     }
     if (call.which == CALL_TAKE && answer.parts[0] == HJ_DONE)
-        books[call.numbers[0]].handed_out++;
+        books[call.mission][call.numbers[0]].handed_out++;
+    if (call.which == CALL_FRESH_MISSION && answer.parts[0] == HJ_DONE)
+        memset(books[call.mission], 0, sizeof *books);
 }
 
 static void count_search(void)
 {
-    uint32_t *words = (uint32_t *)soak_lent_piece(&state);
+    struct soak_pieces lent = pieces_lent(&call);
+    const hj_record *longest =
+        list_longest(&lent.lent, call.numbers[0], true);
     bool found = answer.parts[1] != 0;
 
     tally.found[found]++;
-    tally.over[found] += soak_passes_over(words, call.numbers[0]);
+    tally.over[found] += longest != NULL && longest->availability != HJ_UP;
 }
 
 static bool make(enum soak_state sort)
 {
-    call.words = HJ_STATE_WORDS;
-    if (!make_on(&state, sort == SOAK_HISTORY))
+    bool other_list = (call_facts[call.which].lent & LENT_R) != 0 &&
+                      random_one_in(random, 6);
+
+    pieces_lend(&call, &world);
+    if (other_list)
+        pieces_lend_other_list(&call, &world, random);
+    if (!make_on_pieces(sort == SOAK_HISTORY))
         return false;
     tally.calls_on[sort] += call_has_state(call.which);
-    if (call.which == CALL_SEARCH && sort == SOAK_HISTORY)
+    if (call.which == CALL_SEARCH && sort == SOAK_HISTORY &&
+        answer.parts[0] == HJ_DONE)
         count_search();
-    if (answer.parts[0] == HJ_DONE)
+    if (answer.parts[0] == HJ_DONE && !other_list)
         soak_note(&call, &world);
     note_in_books();
     return true;
@@ -227,6 +203,8 @@ static enum call draw_which(void)
 {
     uint32_t draw = random_below(random, 100);
 
+    if (random_one_in(random, 400))
+        return draw_of(KIND_FRESH, KIND_FRESH);
     if (draw < 12)
         return draw_of(KIND_STATELESS, KIND_STATELESS);
     if (draw < 24)
@@ -238,6 +216,9 @@ static enum call draw_which(void)
 
 static bool make_any(enum soak_state sort)
 {
+    world.mission = random_below(random, HJ_MISSIONS);
+    if (random_one_in(random, 24))
+        pieces_write_record(&world, random);
     if (random_one_in(random, 8)) {
         soak_draw_call(&call, draw_of(KIND_FRESH, KIND_LOOK), &world, random);
         return make_wrong_length();
@@ -248,36 +229,60 @@ static bool make_any(enum soak_state sort)
 
 /* ---- Histories ----------------------------------------------------------- */
 
-static bool make_look(enum call which, uint32_t number)
+static bool make_look(enum call which, uint32_t number, uint32_t word)
 {
     call.which = which;
     call.numbers[0] = number;
+    call.numbers[1] = word;
     return make(SOAK_HISTORY);
 }
 
-/* What a reading call is asked for: the prefix of a route, or the number. */
+/* What a reading call is asked for: the prefix of a route, or its place; or the
+ * number. */
 static uint32_t looked_for(enum call which, uint32_t n)
 {
-    if (call_facts[which].object != ON_ADDRESS)
-        return n;
-    return n < WORLD_ROUTES ? world.routes[n].prefix : 0xffffffff;
+    enum call_object object = call_facts[which].object;
+
+    if (object == ON_ADDRESS)
+        return n < WORLD_ROUTES ? world.routes[n].prefix : 0xffffffff;
+    if (object == ON_ROUTE)
+        return n < WORLD_ROUTES ? world.routes[n].place : world.places;
+    return n;
 }
 
-/* Every number of every call that only reads, and one beyond the last. */
+/* Every number of one call, and one beyond the last; so for its words. */
+static bool compare_by(enum call which)
+{
+    static const uint32_t WORDS[CALL_OBJECTS] = {
+        [ON_PORT] = HJ_PORT_NUMBERS,   [ON_ROUTE] = HJ_ROUTE_NUMBERS,
+        [ON_GROUP] = HJ_GROUP_NUMBERS, [ON_PATH] = HJ_PATH_NUMBERS};
+    uint8_t numbers = call_facts[which].numbers;
+    uint32_t most = numbers == 0 ? 0
+                    : call_facts[which].object == ON_ROUTE
+                        ? WORLD_ROUTES
+                        : soak_places(which, &world);
+    uint32_t words = WORDS[call_facts[which].object];
+    bool good = true;
+
+    for (uint32_t n = 0; good && n <= most; n++) {
+        for (uint32_t word = 0; good && word <= words; word++)
+            good = make_look(which, looked_for(which, n), word);
+    }
+    return good;
+}
+
+/* All calls that only read, for each mission. */
 static bool compare_all(void)
 {
     bool good = true;
 
-    for (int which = 0; which < CALLS; which++) {
-        uint32_t most = call_facts[which].numbers == 0
-                            ? 0
-                            : soak_places((enum call)which);
+    for (int which = 0; good && which < CALLS * HJ_MISSIONS; which++) {
+        enum call look = (enum call)(which / HJ_MISSIONS);
 
-        if (call_facts[which].kind != KIND_LOOK)
-            continue;
-        for (uint32_t n = 0; good && n <= most; n++)
-            good = make_look((enum call)which,
-                             looked_for((enum call)which, n));
+        world.mission = which % HJ_MISSIONS;
+        if (call_facts[look].kind == KIND_LOOK &&
+            (world.mission == 0 || call_facts[look].lent & LENT_M))
+            good = compare_by(look);
     }
     return good;
 }
@@ -289,38 +294,73 @@ static bool close_books(void)
     uint64_t dropped = 0;
 
     for (uint32_t port = 0; port < HJ_PORTS; port++) {
-        if (!make_look(CALL_WAITING, port))
+        if (!make_look(CALL_WAITING, port, 0))
             return false;
-        if (books[port].took != books[port].handed_out + answer.parts[1])
+        if (books[world.mission][port].took !=
+            books[world.mission][port].handed_out + answer.parts[1])
             return fail("the port's ledger does not close");
-        dropped += books[port].dropped;
+        dropped += books[world.mission][port].dropped;
         tally.ledgers++;
     }
-    if (!make_look(CALL_COUNTER, HJ_OUT_DISCARDS))
+    if (!make_look(CALL_COUNTER, HJ_OUT_DISCARDS, 0))
         return false;
     return answer.parts[1] == dropped || fail("the dropped copies' counter");
 }
 
+static bool close_all_books(void)
+{
+    bool good = true;
+
+    for (world.mission = 0; good && world.mission < HJ_MISSIONS;
+         world.mission++)
+        good = close_books();
+    world.mission = 0;
+    return good;
+}
+
+static bool make_setting(enum call which)
+{
+    soak_draw_setting(&call, which, &world, random);
+    return make(SOAK_HISTORY);
+}
+
+/* So many of them, of either mission. */
 static bool make_settings(enum call which, uint32_t count)
 {
     bool good = true;
 
     while (good && count-- > 0) {
-        soak_draw_setting(&call, which, &world, random);
-        good = make(SOAK_HISTORY);
+        world.mission = random_below(random, HJ_MISSIONS);
+        good = make_setting(which);
+    }
+    return good;
+}
+
+static bool begin_missions(void)
+{
+    bool good = true;
+
+    for (uint32_t i = 0; good && i < HJ_MISSIONS; i++) {
+        world.mission = i;
+        good = make_setting(CALL_FRESH_MISSION);
     }
     return good;
 }
 
 static bool begin_history(void)
 {
-    world.nets = (enum nets)random_below(random, ALL_NETS + 1);
+    static const uint32_t PLACES[] = {8, 64, 64, 64, 64, 200, HJ_ROUTES};
+    enum nets nets = (enum nets)random_below(random, ALL_NETS + 1);
+
+    world_begin(&world, nets, PICK(PLACES), random);
+    pieces_begin(world.places, random);
     memset(books, 0, sizeof books);
-    return make_settings(CALL_FRESH, 1) && make_settings(CALL_SET_ROUTER, 1) &&
-           make_settings(CALL_SET_PORT, 1 + random_below(random, 12)) &&
-           make_settings(CALL_SET_ROUTE, random_below(random, 40)) &&
-           make_settings(CALL_SET_GROUP, random_below(random, 20)) &&
-           make_settings(CALL_SET_PATH, random_below(random, 20));
+    return make_settings(CALL_FRESH_BOARD, 1) && begin_missions() &&
+           make_settings(CALL_SET_ROUTER, 1) &&
+           make_settings(CALL_SET_PORT, 2 + random_below(random, 20)) &&
+           make_settings(CALL_SET_ROUTE, random_below(random, 60)) &&
+           make_settings(CALL_SET_GROUP, random_below(random, 24)) &&
+           make_settings(CALL_SET_PATH, random_below(random, 24));
 }
 
 /* Some are left with little taken, so that queues fill. */
@@ -333,6 +373,7 @@ static bool run_history(void)
 
     for (uint32_t i = 0; good && i < calls; i++) {
         if (!takes && i % 4 != 0) {
+            world.mission = random_one_in(random, 3);
             soak_draw_call(&call, CALL_RECEIVE, &world, random);
             good = make(SOAK_HISTORY);
         } else {
@@ -340,24 +381,10 @@ static bool run_history(void)
         }
     }
     tally.states[SOAK_HISTORY]++;
-    return good && compare_all() && close_books();
+    return good && compare_all() && close_all_books();
 }
 
 /* ---- Other states -------------------------------------------------------- */
-
-static void change_word(void)
-{
-    uint32_t *words = (uint32_t *)soak_lent_piece(&state);
-    uint32_t *word = words + random_below(random, HJ_STATE_WORDS);
-
-    if (random_one_in(random, 4))
-        word = words + SOAK_QUEUES_AT +
-               SOAK_QUEUE_WORDS * random_below(random, HJ_PORTS) + HJ_QUEUE;
-    *word = random_one_in(random, 2)
-                ? soak_odd_number(&world, random)
-                : *word ^ 1u << random_below(random, 32);
-    soak_lent_keep(&state);
-}
 
 static bool run_changed(void)
 {
@@ -366,7 +393,7 @@ static bool run_changed(void)
     for (uint32_t i = 0; good && i < OTHER_CALLS; i++) {
         if (i % CALLS_ON_ONE == 0) {
             for (uint32_t n = 1 + random_below(random, 8); n > 0; n--)
-                change_word();
+                pieces_change_word(&world, random);
             tally.states[SOAK_CHANGED]++;
         }
         good = make_any(SOAK_CHANGED);
@@ -374,35 +401,15 @@ static bool run_changed(void)
     return good;
 }
 
-/* Random words, or numbers that mean something somewhere, or one number in
- * all words. */
-static void fill_with_garbage(void)
-{
-    uint32_t *words = (uint32_t *)soak_lent_piece(&state);
-    uint32_t way = random_below(random, 8);
-    uint32_t same = soak_odd_number(&world, random);
-
-    for (uint32_t i = 0; i < HJ_STATE_WORDS; i++) {
-        if (way == 0)
-            words[i] = same;
-        else if (way < 3)
-            words[i] = (uint32_t)random_number(random);
-        else if (way < 5)
-            words[i] = random_below(random, 40);
-        else
-            words[i] = soak_odd_number(&world, random);
-    }
-    soak_lent_keep(&state);
-    tally.states[SOAK_GARBAGE]++;
-}
-
 static bool run_garbage(void)
 {
     bool good = true;
 
     for (uint32_t i = 0; good && i < OTHER_CALLS; i++) {
-        if (i % CALLS_ON_ONE == 0)
-            fill_with_garbage();
+        if (i % CALLS_ON_ONE == 0) {
+            pieces_fill_with_garbage(&world, random);
+            tally.states[SOAK_GARBAGE]++;
+        }
         good = make_any(SOAK_GARBAGE);
     }
     return good;
@@ -412,7 +419,6 @@ static bool run_garbage(void)
 
 static bool run_three(void)
 {
-    lend_filled(&state, HJ_STATE_WORDS * sizeof(uint32_t));
     return run_history() && run_changed() && run_garbage();
 }
 
@@ -423,19 +429,15 @@ static bool prepare(void)
     memset(&action, 0, sizeof action);
     action.sa_handler = fail_by_signal;
     return sigaction(SIGSEGV, &action, NULL) == 0 &&
-           sigaction(SIGBUS, &action, NULL) == 0 &&
-           soak_lent_make(&state, HJ_STATE_WORDS * sizeof(uint32_t)) &&
-           soak_lent_make(&other_state, SOAK_MOST_WORDS * sizeof(uint32_t)) &&
-           soak_lent_make(&octets, sizeof call.octets) &&
-           soak_lent_make(&output, SOAK_MOST_ROOM);
+           sigaction(SIGBUS, &action, NULL) == 0 && pieces_make();
 }
 
 static const struct program PROGRAM = {
     "soak",
     "usage: soak [--help | --version] [seed=N] [calls=N]\n"
     "\n"
-    "Makes random calls of the library, 5000000 where no number is given, with\n"
-    "good states and garbage, and looks at each from outside (docs/SOAK.md).\n"
+    "Makes random calls of the library, 5000000 where no number is given, on\n"
+    "good words and garbage, and looks at each from outside (docs/SOAK.md).\n"
     "The seed, 1 where none is given, begins the random numbers.\n"
     "\n"
     "Status: 0 not one failure; 1 a call failed, or too little was met; 2 bad\n"

@@ -33,8 +33,13 @@ void soak_say_call(const struct soak_call *call)
     printf("%s", call_facts[call->which].name);
     for (uint32_t i = 0; i < call_facts[call->which].numbers; i++)
         printf(" %08" PRIx32, call->numbers[i]);
-    if (call_has_state(call->which))
-        printf(", %zu words", call->words);
+    if (call_facts[call->which].lent & LENT_B)
+        printf(", a board of %zu words", call->board_words);
+    if (call_facts[call->which].lent & LENT_M)
+        printf(", mission %" PRIu32 " of %zu words", call->mission,
+               call->mission_words);
+    if (call_facts[call->which].lent & LENT_R)
+        printf(", %zu records", call->records);
     if (call->which == CALL_RECEIVE || call->which == CALL_BUILD)
         printf(", room %zu", call->room);
     if (call->which == CALL_BUILD)
@@ -47,13 +52,13 @@ void soak_say_call(const struct soak_call *call)
     putchar('\n');
 }
 
-/* How many of the lengths from 0 to 830, but the right one. */
-static uint32_t lengths_met(const struct soak_tally *tally)
+/* How many of the lengths up to the most were met. */
+static uint32_t lengths_met(const uint64_t *lengths, uint32_t most)
 {
     uint32_t met = 0;
 
-    for (uint32_t words = 0; words <= 830; words++)
-        met += words != HJ_STATE_WORDS && tally->wrong[words] > 0;
+    for (uint32_t length = 0; length <= most; length++)
+        met += lengths[length] > 0;
     return met;
 }
 
@@ -142,8 +147,9 @@ static bool say_ends(const struct ends *ends, bool aloud)
 
 static bool all_ends(const struct soak_tally *tally, bool aloud)
 {
-    static const char *const GROUPS[] = {"hj_read",    "hj_build", SETTINGS,
-                                         "hj_receive", "hj_take",  READING};
+    static const char *const GROUPS[] = {"hj_read_words", "hj_build_words",
+                                         SETTINGS,        "hj_receive_at",
+                                         "hj_take",       READING};
     struct ends ends = onward_ends(tally);
     bool met = say_ends(&ends, aloud);
 
@@ -158,13 +164,18 @@ static bool all_ends(const struct soak_tally *tally, bool aloud)
 
 void soak_say_tally(const struct soak_tally *tally)
 {
-    printf("%-22s%12s%22s\n", "call", "calls", "of them wrong length");
+    printf("%-22s%12s%22s\n", "call", "calls", "of them wrong words");
     for (int which = 0; which < CALLS; which++)
         printf("%-22s%12" PRIu64 "%22" PRIu64 "\n", call_facts[which].name,
                tally->made[which], tally->wrong_made[which]);
     printf("%-22s%12" PRIu64 "%22" PRIu64 "\n\n", "all", tally->calls,
            wrong_calls(tally));
-    say("wrong lengths of 0 to 830 tried, of 830", lengths_met(tally));
+    say("boards of 0 to 100 words tried, but 41",
+        lengths_met(tally->wrong_boards, MOST_BOARDS));
+    say("missions of 0 to 420 words tried, but 408",
+        lengths_met(tally->wrong_missions, MOST_MISSIONS));
+    say("lists of 0 to 530 records tried",
+        lengths_met(tally->lists, MOST_LISTS));
     say("histories", tally->states[SOAK_HISTORY]);
     say("  calls on them, plain's answers the same",
         tally->calls_on[SOAK_HISTORY]);
@@ -173,18 +184,23 @@ void soak_say_tally(const struct soak_tally *tally)
     say("    a longer one is not up", tally->over[1]);
     say("  searches that found none", tally->found[0]);
     say("    one matches, and is not up", tally->over[0]);
-    say("states with a few words changed", tally->states[SOAK_CHANGED]);
+    say("relays with a few words changed", tally->states[SOAK_CHANGED]);
     say("  calls on them", tally->calls_on[SOAK_CHANGED]);
-    say("garbage states", tally->states[SOAK_GARBAGE]);
+    say("garbage relays", tally->states[SOAK_GARBAGE]);
     say("  calls on them", tally->calls_on[SOAK_GARBAGE]);
-    puts("numbers that calls not lent a wrong length ended in, each with how "
+    puts("numbers that calls on the right words ended in, each with how "
          "often:");
     all_ends(tally, true);
 }
 
 bool soak_is_whole(const struct soak_tally *tally)
 {
-    bool whole = lengths_met(tally) == 830 && tally->ledgers > 0 &&
+    bool whole = lengths_met(tally->wrong_boards, MOST_BOARDS) ==
+                     MOST_BOARDS &&
+                 lengths_met(tally->wrong_missions, MOST_MISSIONS) ==
+                     MOST_MISSIONS &&
+                 lengths_met(tally->lists, MOST_LISTS) == MOST_LISTS + 1 &&
+                 tally->ledgers > 0 &&
                  tally->found[0] > tally->over[0] && tally->over[0] > 0 &&
                  tally->found[1] > tally->over[1] && tally->over[1] > 0 &&
                  all_ends(tally, false);
@@ -193,7 +209,7 @@ bool soak_is_whole(const struct soak_tally *tally)
         whole = whole && tally->calls_on[sort] > 0;
     for (int which = 0; which < CALLS; which++)
         whole = whole && tally->made[which] > 0 &&
-                (!call_has_state((enum call)which) ||
+                ((call_facts[which].lent & LENT_BM) == 0 ||
                  tally->wrong_made[which] > 0);
     return whole;
 }

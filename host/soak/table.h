@@ -11,16 +11,25 @@
 
 enum soak_state { SOAK_HISTORY, SOAK_CHANGED, SOAK_GARBAGE, SOAK_STATES };
 
+/* Every length up to these is to be met. */
+#define MOST_BOARDS 100
+#define MOST_MISSIONS 420
+#define MOST_LISTS 530
+
 struct soak_tally {
     uint64_t calls;
     uint64_t made[CALLS];
-    uint64_t wrong_made[CALLS];           /* of them with a wrong length */
-    uint64_t wrong[SOAK_MOST_WORDS + 1];  /* calls by the words lent */
-    uint64_t states[SOAK_STATES];         /* made, of each sort */
-    uint64_t calls_on[SOAK_STATES];       /* on their 824 words */
-    uint64_t ledgers;                     /* ports whose ledger closed */
-    /* Calls on 824 words, or on none, that ended in each number; the onward
-     * halves of the verdicts beside them. */
+    uint64_t wrong_made[CALLS]; /* of them on a wrong number of words */
+    /* Calls by the words that were lent, where they were wrong, and by the
+     * records. */
+    uint64_t wrong_boards[SOAK_MOST_WORDS + 1];
+    uint64_t wrong_missions[SOAK_MOST_WORDS + 1];
+    uint64_t lists[SOAK_MOST_RECORDS + 1];
+    uint64_t states[SOAK_STATES];   /* made, of each sort */
+    uint64_t calls_on[SOAK_STATES]; /* on the right words */
+    uint64_t ledgers;               /* ports whose ledger closed */
+    /* Calls on the right words, or on none, that ended in each number; the
+     * onward halves of the verdicts beside them. */
     uint64_t ends[CALLS][CALL_NUMBERS];
     uint64_t onward[CALL_NUMBERS];
     uint64_t found[2]; /* searches in histories, without a route and with one */

@@ -1,6 +1,7 @@
 // The settings calls of group and path places: filling one and emptying one.
 //
-// As at the root of this crate, each call asks first what refuses it and writes one place only where nothing does. A set names ports that are set up while it is written; a port is never emptied, so it stays so.
+// As at the root of this crate, each call asks first what refuses it and writes one place only where nothing does. A set names ports of the mission
+// that are set up while it is written; a port is never emptied and never given to another mission, so they stay so. Emptying needs no board.
 use address::Address;
 use address::PathAddress;
 use checks::Check;
@@ -10,19 +11,33 @@ ghost use mathlib.Core.Path.{_≡_};
 ghost use lib.ListN.{length};
 ghost use Rattle.checks.specs.Order.{firstOf};
 ghost use Rattle.sets.specs.Limits.{groupPlaces, pathPlaces};
-ghost use Rattle.state.specs.Relay.{onRelay};
-ghost use Rattle.state.specs.Layout.{stateWords, decode};
+ghost use Rattle.state.specs.Seen.{seated, onMission, onSeated};
+ghost use Rattle.state.specs.Layout.{boardWords, decodeBoard, missionWords, decode};
 ghost use Rattle.refusals.specs.Lists.{groupChecks, pathChecks, clearChecks};
 ghost use Rattle.adjust.specs.Settled.{settledGroup, settledPath, clearedGroup, clearedPath};
 
 // Fills a group place.
-pub fn set_group(state: &mut [u32], place: u32, address: Address, send: u32, subscribed: u32) -> u32
-    requires { ⌜ length (now state) ≡ stateWords ⌝ }
-    ensures answer { λ r. ⌜ r ≡ firstOf (groupChecks (decode (now (state .entry)) .relay) place address send subscribed) ⌝ }
-    ensures left { λ _. ⌜ decode (now (state .exit)) ≡ onRelay (λ r. settledGroup r place address send subscribed) (decode (now (state .entry))) ⌝ }
+pub fn set_group(
+    board: &[u32],
+    mission: &mut [u32],
+    place: u32,
+    address: Address,
+    send: u32,
+    subscribed: u32,
+) -> u32
+    requires { ⌜ (length (now board) ≡ boardWords) × (length (now mission) ≡ missionWords) ⌝ }
+    ensures answer { λ r. ⌜
+        r
+        ≡ firstOf (groupChecks (seated (decodeBoard (now (board .entry))) (decode (now (mission .entry)))) place address send subscribed)
+        ⌝ }
+    ensures left { λ _. ⌜
+        decode (now (mission .exit))
+        ≡ onSeated (decodeBoard (now (board .entry))) (λ r. settledGroup r place address send subscribed) (decode (now (mission .entry)))
+        ⌝ }
 {
     let refusal = refusals::groups_and_paths::group_refusal(
-        state,
+        board,
+        mission,
         place,
         address,
         send,
@@ -37,17 +52,30 @@ pub fn set_group(state: &mut [u32], place: u32, address: Address, send: u32, sub
         send,
         subscribed,
     };
-    state_places::put_group(state, place as usize, x);
+    state_places::put_group(mission, place as usize, x);
     0
 }
 
 // Fills a path place.
-pub fn set_path(state: &mut [u32], place: u32, path: PathAddress, send: u32, here: u32) -> u32
-    requires { ⌜ length (now state) ≡ stateWords ⌝ }
-    ensures answer { λ r. ⌜ r ≡ firstOf (pathChecks (decode (now (state .entry)) .relay) place path send here) ⌝ }
-    ensures left { λ _. ⌜ decode (now (state .exit)) ≡ onRelay (λ r. settledPath r place path send here) (decode (now (state .entry))) ⌝ }
+pub fn set_path(
+    board: &[u32],
+    mission: &mut [u32],
+    place: u32,
+    path: PathAddress,
+    send: u32,
+    here: u32,
+) -> u32
+    requires { ⌜ (length (now board) ≡ boardWords) × (length (now mission) ≡ missionWords) ⌝ }
+    ensures answer { λ r. ⌜
+        r
+        ≡ firstOf (pathChecks (seated (decodeBoard (now (board .entry))) (decode (now (mission .entry)))) place path send here)
+        ⌝ }
+    ensures left { λ _. ⌜
+        decode (now (mission .exit))
+        ≡ onSeated (decodeBoard (now (board .entry))) (λ r. settledPath r place path send here) (decode (now (mission .entry)))
+        ⌝ }
 {
-    let refusal = refusals::groups_and_paths::path_refusal(state, place, path, send, here);
+    let refusal = refusals::groups_and_paths::path_refusal(board, mission, place, path, send, here);
     if refusal != 0 {
         return refusal;
     }
@@ -57,15 +85,15 @@ pub fn set_path(state: &mut [u32], place: u32, path: PathAddress, send: u32, her
         send,
         here,
     };
-    state_places::put_path(state, place as usize, x);
+    state_places::put_path(mission, place as usize, x);
     0
 }
 
 // Empties a group place.
-pub fn clear_group(state: &mut [u32], place: u32) -> u32
-    requires { ⌜ length (now state) ≡ stateWords ⌝ }
+pub fn clear_group(mission: &mut [u32], place: u32) -> u32
+    requires { ⌜ length (now mission) ≡ missionWords ⌝ }
     ensures answer { λ r. ⌜ r ≡ firstOf (clearChecks place groupPlaces) ⌝ }
-    ensures left { λ _. ⌜ decode (now (state .exit)) ≡ onRelay (λ r. clearedGroup r place) (decode (now (state .entry))) ⌝ }
+    ensures left { λ _. ⌜ decode (now (mission .exit)) ≡ onMission (λ m. clearedGroup m place) (decode (now (mission .entry))) ⌝ }
 {
     let Check::Passed = settings::check_place(place, sets::GROUPS) else {
         return 21;
@@ -76,15 +104,15 @@ pub fn clear_group(state: &mut [u32], place: u32) -> u32
         send: 0,
         subscribed: 0,
     };
-    state_places::put_group(state, place as usize, x);
+    state_places::put_group(mission, place as usize, x);
     0
 }
 
 // Empties a path place.
-pub fn clear_path(state: &mut [u32], place: u32) -> u32
-    requires { ⌜ length (now state) ≡ stateWords ⌝ }
+pub fn clear_path(mission: &mut [u32], place: u32) -> u32
+    requires { ⌜ length (now mission) ≡ missionWords ⌝ }
     ensures answer { λ r. ⌜ r ≡ firstOf (clearChecks place pathPlaces) ⌝ }
-    ensures left { λ _. ⌜ decode (now (state .exit)) ≡ onRelay (λ r. clearedPath r place) (decode (now (state .entry))) ⌝ }
+    ensures left { λ _. ⌜ decode (now (mission .exit)) ≡ onMission (λ m. clearedPath m place) (decode (now (mission .entry))) ⌝ }
 {
     let Check::Passed = settings::check_place(place, sets::PATHS) else {
         return 21;
@@ -95,6 +123,6 @@ pub fn clear_path(state: &mut [u32], place: u32) -> u32
         send: 0,
         here: 0,
     };
-    state_places::put_path(state, place as usize, x);
+    state_places::put_path(mission, place as usize, x);
     0
 }

@@ -1,117 +1,76 @@
-// The settings calls: router or host, a port, a route, and the emptying of a route place. Groups and paths stand in the module `groups_and_paths`.
+// The settings calls: router or host, a port, and a mission made fresh. Groups and paths stand in the module `groups_and_paths`; routes, which stand in a
+// list of their own, in the crate `route_calls`.
 //
-// Each call asks first what refuses it (crate `refusals`), and writes one place of the state only where nothing does: a refused call
+// Each call asks first what refuses it (crate `refusals`), and writes one place of the board or of the mission only where nothing does: a refused call
 // answers its number and changes nothing, a taken one answers 0 and its record stands in the place. A filled record has 1 as its flag,
-// an emptied place is the record of a fresh relay, so that equal settings are equal states. Any number is an argument and any 824
-// words are a state: a place that is none is refused by 21, and emptying an empty place is taken.
+// an emptied place is the record of a fresh mission, so that equal settings are equal states. Any number is an argument and any words of the right
+// number are a board or a mission: a place that is none is refused by 21, and emptying an empty place is taken.
 pub mod groups_and_paths;
 
 use address::Address;
 use address::Mask;
 use checks::Check;
+use records::OwnedPort;
 use records::Port;
-use routes::Route;
 ghost use mathlib.Core.Path.{_≡_};
 ghost use lib.ListN.{length};
 ghost use Rattle.checks.specs.Order.{firstOf};
-ghost use Rattle.sets.specs.Limits.{routePlaces};
-ghost use Rattle.state.specs.Relay.{onRelay};
-ghost use Rattle.state.specs.Layout.{stateWords, decode};
-ghost use Rattle.refusals.specs.Lists.{portChecks, routeChecks, routerChecks, clearChecks};
-ghost use Rattle.adjust.specs.Settled.{newRoute, settledRouter, settledPort, settledRoute, clearedRoute};
+ghost use Rattle.state.specs.Layout.{boardWords, decodeBoard, missionWords, decode};
+ghost use Rattle.refusals.specs.Lists.{portChecks, routerChecks, missionChecks};
+ghost use Rattle.adjust.specs.Settled.{settledRouter, settledPort, settledFresh};
 
 // 1 makes the node a router, 0 a host.
-pub fn set_router(state: &mut [u32], router: u32) -> u32
-    requires { ⌜ length (now state) ≡ stateWords ⌝ }
+pub fn set_router(board: &mut [u32], router: u32) -> u32
+    requires { ⌜ length (now board) ≡ boardWords ⌝ }
     ensures answer { λ r. ⌜ r ≡ firstOf (routerChecks router) ⌝ }
-    ensures left { λ _. ⌜ decode (now (state .exit)) ≡ onRelay (λ r. settledRouter r router) (decode (now (state .entry))) ⌝ }
+    ensures left { λ _. ⌜ decodeBoard (now (board .exit)) ≡ settledRouter (decodeBoard (now (board .entry))) router ⌝ }
 {
     let Check::Passed = settings::check_flag(router) else {
         return 24;
     };
-    state_ports::put_router(state, router);
+    state_board::put_router(board, router);
     0
 }
 
-// Sets a port up, or anew.
-pub fn set_port(state: &mut [u32], port: u32, address: Address, mask: Mask, mtu: u32) -> u32
-    requires { ⌜ length (now state) ≡ stateWords ⌝ }
-    ensures answer { λ r. ⌜ r ≡ firstOf (portChecks (decode (now (state .entry)) .relay) port address mask mtu) ⌝ }
-    ensures left { λ _. ⌜ decode (now (state .exit)) ≡ onRelay (λ r. settledPort r port address mask mtu) (decode (now (state .entry))) ⌝ }
-{
-    let refusal = refusals::port_refusal(state, port, address, mask, mtu);
-    if refusal != 0 {
-        return refusal;
-    }
-    let x = Port {
-        ready: 1,
-        address,
-        mask,
-        mtu,
-    };
-    state_ports::put_port(state, port as usize, x);
-    0
-}
-
-// Puts a record in a place that may be filled; the record's own flag says that it is a route.
-fn fill_route(state: &mut [u32], place: u32, x: Route) -> u32
-    requires { ⌜ length (now state) ≡ stateWords ⌝ }
-    ensures answer { λ r. ⌜ r ≡ firstOf (routeChecks (decode (now (state .entry)) .relay) place x) ⌝ }
-    ensures left { λ _. ⌜ decode (now (state .exit)) ≡ onRelay (λ r. settledRoute r place x) (decode (now (state .entry))) ⌝ }
-{
-    let refusal = refusals::route_refusal(state, place, x);
-    if refusal != 0 {
-        return refusal;
-    }
-    state_routes::put_route(state, place as usize, x);
-    0
-}
-
-// Fills a route place.
-pub fn set_route(
-    state: &mut [u32],
-    place: u32,
-    prefix: Address,
-    mask: Mask,
+// Sets a port up, for that mission. A port is written once.
+pub fn set_port(
+    board: &mut [u32],
     port: u32,
-    availability: u32,
-    capabilities: u32,
+    address: Address,
+    mask: Mask,
+    mtu: u32,
+    mission: u32,
 ) -> u32
-    requires { ⌜ length (now state) ≡ stateWords ⌝ }
-    ensures answer { λ r. ⌜ r ≡ firstOf (routeChecks (decode (now (state .entry)) .relay) place (newRoute prefix mask port availability capabilities)) ⌝ }
-    ensures left { λ _. ⌜
-        decode (now (state .exit))
-        ≡ onRelay (λ r. settledRoute r place (newRoute prefix mask port availability capabilities)) (decode (now (state .entry)))
-        ⌝ }
+    requires { ⌜ length (now board) ≡ boardWords ⌝ }
+    ensures answer { λ r. ⌜ r ≡ firstOf (portChecks (decodeBoard (now (board .entry))) port address mask mtu mission) ⌝ }
+    ensures left { λ _. ⌜ decodeBoard (now (board .exit)) ≡ settledPort (decodeBoard (now (board .entry))) port address mask mtu mission ⌝ }
 {
-    let x = Route {
-        filled: 1,
-        prefix,
-        mask,
-        port,
-        availability,
-        capabilities,
+    let refusal = refusals::port_refusal(board, port, address, mask, mtu, mission);
+    if refusal != 0 {
+        return refusal;
+    }
+    let x = OwnedPort {
+        port: Port {
+            ready: 1,
+            address,
+            mask,
+            mtu,
+        },
+        mission,
     };
-    fill_route(state, place, x)
+    state_board::put_owned(board, port as usize, x);
+    0
 }
 
-// Empties a route place.
-pub fn clear_route(state: &mut [u32], place: u32) -> u32
-    requires { ⌜ length (now state) ≡ stateWords ⌝ }
-    ensures answer { λ r. ⌜ r ≡ firstOf (clearChecks place routePlaces) ⌝ }
-    ensures left { λ _. ⌜ decode (now (state .exit)) ≡ onRelay (λ r. clearedRoute r place) (decode (now (state .entry))) ⌝ }
+// Makes a mission of this number fresh, whatever stood there.
+pub fn fresh_mission(mission: &mut [u32], number: u32) -> u32
+    requires { ⌜ length (now mission) ≡ missionWords ⌝ }
+    ensures answer { λ r. ⌜ r ≡ firstOf (missionChecks number) ⌝ }
+    ensures left { λ _. ⌜ decode (now (mission .exit)) ≡ settledFresh (decode (now (mission .entry))) number ⌝ }
 {
-    let Check::Passed = settings::check_place(place, sets::ROUTES) else {
-        return 21;
+    let Check::Passed = settings::check_place(number, sets::MISSIONS) else {
+        return 24;
     };
-    let x = Route {
-        filled: 0,
-        prefix: Address(0),
-        mask: Mask(0),
-        port: 0,
-        availability: 0,
-        capabilities: 0,
-    };
-    state_routes::put_route(state, place as usize, x);
+    state_mission::clear_mission(mission, number);
     0
 }

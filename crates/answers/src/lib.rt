@@ -8,7 +8,7 @@ use judge::Ending;
 use taking::Taking;
 ghost use mathlib.Core.Path.{_≡_};
 ghost use Prim.Native.Nat.{_%_, _<_};
-ghost use Rattle.answers.specs.Answers.{sentSize, partsOf, receiveNumber, entryNumber, takingNumber};
+ghost use Rattle.answers.specs.Answers.{sentSize, partsOf, receiveNumber, takingNumber};
 
 // One part of an answer.
 fn part(x: u32) -> u64

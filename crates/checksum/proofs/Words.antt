@@ -1,12 +1,11 @@
 -- What the sum of a list of words keeps, and what the words of octets are where the list grows or is cut: the steps behind
--- `Laws` and behind the loop of `ones_sum`. Each follows the recursion of `words`, two octets at a time, or of `sumFrom`.
+-- `Laws` and `TwoAtOnce`. Each follows the recursion of `words`, two octets at a time, or of `sumFrom`.
 -- Assumes nothing.
 use Prim.Native.Nat.{ℕ, zero, suc, _+_, _*_, _%_, _<_}
 use mathlib.Core.Path.{_≡_, refl, ap}
 use mathlib.Core.List.{List, [], _∷_, _++_}
 use native.Mathlib.Omega.{arith}
-use native.Mathlib.Numerals.{add-one}
-use lib.ListN.{getD, length, drop, drop-of-length-le}
+use lib.ListN.{getD, length, drop}
 use lib.Seq.{drop-cons}
 use Rattle.checksum.specs.Sum.{word, words, around, sumFrom}
 
@@ -78,20 +77,30 @@ sumFrom-zero v [] e i = refl
 sumFrom-zero v (w ∷ ws) e zero = omega (arith, sumFrom-start (around (v + w)) ws e)
 sumFrom-zero v (w ∷ ws) e (suc i) = sumFrom-zero (around (v + w)) ws e i
 
--- what is left of l from its octet 2 * i on, where two octets or more are left
-pub sum-two : (v : ℕ) (l : List ℕ) (i : ℕ) → 2 * i + 1 < length l
-    → sumFrom v (words (drop (2 * i) l)) ≡ sumFrom (around (v + word (getD l (2 * i) 0) (getD l (2 * i + 1) 0))) (words (drop (2 * (i + 1)) l))
-unfolding words sumFrom
-sum-two v l i h =
-    let e : 2 * (i + 1) ≡ suc (suc (2 * i)) = omega arith in
-    rw (e, drop-cons l (2 * i) 0 (omega arith), drop-cons l (suc (2 * i)) 0 (omega arith), add-one (2 * i))
+-- a plain sum is 0 where each word is, and then so is the sum
+pub plain-zero : (ws : List ℕ) → ((i : ℕ) → getD ws i 0 ≡ 0) → plain ws ≡ 0
+unfolding plain
+plain-zero [] h = refl
+plain-zero (w ∷ ws) h = omega (arith, h 0, plain-zero ws (λ i. h (suc i)))
 
--- where one is left
-pub sum-one : (v : ℕ) (l : List ℕ) (n : ℕ) → length l ≡ n + 1 → sumFrom v (words (drop n l)) ≡ around (v + word (getD l n 0) 0)
-unfolding words sumFrom
-sum-one v l n e = rw (drop-cons l n 0 (omega arith), drop-of-length-le l {i = suc n} (omega arith))
+pub sumFrom-none : (ws : List ℕ) → plain ws ≡ 0 → sumFrom 0 ws ≡ 0
+unfolding plain sumFrom
+sumFrom-none [] h = refl
+sumFrom-none (w ∷ ws) h =
+    let e : w ≡ 0 = omega arith in
+    let rest : plain ws ≡ 0 = omega arith in
+    rw e (sumFrom-none ws rest)
 
--- where none is left
-pub sum-none : (v : ℕ) (l : List ℕ) (n : ℕ) → length l ≡ n → sumFrom v (words (drop n l)) ≡ v
-unfolding words sumFrom
-sum-none v l n e = rw (drop-of-length-le l {i = n} (omega arith))
+-- what is left of l from its octet 4 * i on, where four octets or more are left
+pub plain-four : (l : List ℕ) (i : ℕ) → 4 * i + 3 < length l
+    → plain (words (drop (4 * i) l))
+    ≡ word (getD l (4 * i) 0) (getD l (4 * i + 1) 0) + (word (getD l (4 * i + 2) 0) (getD l (4 * i + 3) 0) + plain (words (drop (4 * (i + 1)) l)))
+unfolding words plain
+plain-four l i h =
+    let n : ℕ = 4 * i in
+    let e : 4 * (i + 1) ≡ suc (suc (suc (suc n))) = omega arith in
+    let e₁ : n + 1 ≡ suc n = omega arith in
+    let e₂ : n + 2 ≡ suc (suc n) = omega arith in
+    let e₃ : n + 3 ≡ suc (suc (suc n)) = omega arith in
+    rw
+    (e, e₁, e₂, e₃, drop-cons l n 0 (omega arith), drop-cons l (suc n) 0 (omega arith), drop-cons l (suc (suc n)) 0 (omega arith), drop-cons l (suc (suc (suc n))) 0 (omega arith))

@@ -1,114 +1,203 @@
 -- The contract of each call from C can be kept: whatever the call is passed and lent, there is a result that its contract lets it give back. Assumes
 -- nothing.
-use Prim.Native.Nat.{ℕ}
+use Prim.Native.Nat.{ℕ, _<_}
 use mathlib.Core.Path.{_≡_, refl}
 use mathlib.Core.Bool.{Bool, true, false}
 use mathlib.Core.List.{List, []}
 use lib.ListN.{length}
 use lib.Dec.{eqb}
 use borrow.Author.Tests.{eqb-true, eqb-false}
-use Rattle.state.specs.Relay.{Relay, State}
-use Rattle.state.specs.Layout.{stateWords, decode, encode}
-use Rattle.adjust.specs.Settled.{newRoute}
-use Rattle.judge.specs.Ending.{endingOf}
-use Rattle.lent_state.specs.View.{Lent, lent, changed, changedRelay}
-use Rattle.lent_state.proofs.Calls.{held-changed, other-changed}
+use Rattle.routes.specs.declared.Record.{Record}
+use Rattle.state.specs.Relay.{Mission, Relay}
+use Rattle.state.specs.Seen.{Board, State, freshBoard, onMission, onSeated}
+use Rattle.state.specs.Layout.{boardWords, decodeBoard, encodeBoard, missionWords, decode, encode}
+use Rattle.state.proofs.Sizes.{SizedBoard, board-sized}
+use Rattle.adjust.specs.Settled.{settledFresh, settledRouter, settledPort, settledGroup, settledPath, clearedGroup, clearedPath}
+use Rattle.taking.specs.Taking.{takenRelay}
+use Rattle.relay.specs.Received.{heardEnding, receivedState}
+use Rattle.lent_state.specs.View.{Lent, Held, Other, byLent, lentBoard, lent, toldBoard, changedBoard, changed, changedBoth, changedRelay}
+use Rattle.lent_state.proofs.Calls.{board-held-changed, board-other-changed, held-changed, other-changed}
+use Rattle.harpjuniper_receive.specs.Face.{receiveWords}
 use Rattle.contracts.specs.Promised.{
   Result,
   Exported,
-  hj-read,
-  hj-build,
+  hj-read-words,
+  hj-build-words,
   hj-class,
   hj-path,
   hj-checksum,
-  hj-state-words,
-  hj-fresh,
+  hj-board-words,
+  hj-mission-words,
+  hj-fresh-board,
+  hj-fresh-mission,
   hj-set-router,
   hj-set-port,
   hj-set-route,
+  hj-clear-route,
   hj-set-group,
   hj-set-path,
-  hj-clear-route,
   hj-clear-group,
   hj-clear-path,
   hj-get-router,
-  hj-get-port,
-  hj-get-route,
-  hj-get-group,
-  hj-get-path,
+  hj-port-word,
+  hj-route-word,
+  hj-group-word,
+  hj-path-word,
   hj-search,
-  hj-receive,
+  hj-receive-at,
   hj-take,
   hj-counter,
   hj-waiting,
   promised,
 }
 use Rattle.contracts.specs.Contracts.{Spot, Lying, Contract, Says, Passable}
-use Rattle.contracts.proofs.Formed.{FormedRelay, Formed, decode-formed, words-length, words-hold}
-use Rattle.contracts.proofs.Kept.{set-router-kept, set-port-kept, set-route-kept, set-group-kept, set-path-kept}
-use Rattle.contracts.proofs.Kept.{clear-route-kept, clear-group-kept, clear-path-kept, taken-kept, received-kept, relay-kept, fresh-kept}
+use Rattle.contracts.proofs.Formed.{Formed, decode-formed, words-length, words-hold, board-length, board-holds}
+use Rattle.contracts.proofs.Kept.{KeptIn, set-router-kept, set-port-kept, fresh-board-kept, set-group-kept, set-path-kept}
+use Rattle.contracts.proofs.Kept.{clear-group-kept, clear-path-kept, taken-kept, received-kept, mission-kept, seated-kept, fresh-kept}
 use Rattle.contracts.proofs.Rows.{row-contract}
 
--- words that have this view
-abbrev SomeWords : Lent → Type 0
-SomeWords view = (v : List ℕ) × (lent v ≡ view)
+-- ---- the board: words that have this view
+abbrev BoardSome : Lent Board → Type 0
+BoardSome view = (v : List ℕ) × (lentBoard v ≡ view)
 
--- the words of the state changed, or the words as they were
-left-by : (w : List ℕ) {f : State → State} → ((s : State) → Formed s → Formed (f s)) → SomeWords (changed f w)
-left-by w {f} keeps = by-length (eqb (length w) stateWords) refl
+-- the words of the board changed, or the words as they were
+board-left-by : (w : List ℕ) (f : Board → Board) → ((b : Board) → SizedBoard b → SizedBoard (f b)) → BoardSome (changedBoard f w)
+board-left-by w f keeps = by-length (eqb (length w) boardWords) refl
   where
-    held : length w ≡ stateWords → SomeWords (changed f w)
+    held : length w ≡ boardWords → BoardSome (changedBoard f w)
+    held right =
+        let b = f (decodeBoard w) in
+        let sized = keeps (decodeBoard w) (board-sized w) in
+        (encodeBoard b, board-held-changed w right f (encodeBoard b) (board-length b sized) (board-holds b sized))
+
+    by-length : (t : Bool) → eqb (length w) boardWords ≡ t → BoardSome (changedBoard f w)
+    by-length true e = held (eqb-true (length w) boardWords e)
+    by-length false e = (w, board-other-changed w (eqb-false (length w) boardWords e) f)
+
+board-left : (c : Exported) → Passable c → BoardSome (promised c .board)
+board-left (hj-read-words octets n) fits = ([], refl)
+board-left (hj-build-words n size o) fits = ([], refl)
+board-left (hj-class a) fits = ([], refl)
+board-left (hj-path p) fits = ([], refl)
+board-left (hj-checksum octets) fits = ([], refl)
+board-left hj-board-words fits = ([], refl)
+board-left hj-mission-words fits = ([], refl)
+board-left (hj-fresh-board b) fits = board-left-by b (λ (x : Board). freshBoard) (λ x h. fresh-board-kept)
+board-left (hj-fresh-mission m number) fits = ([], refl)
+board-left (hj-set-router b router) fits = board-left-by b (λ (x : Board). settledRouter x router) (λ x h. set-router-kept x h router)
+board-left (hj-set-port b p address mask mtu mission) fits =
+    board-left-by b (λ (x : Board). settledPort x p (record { 0 = address }) (record { 0 = mask }) mtu mission)
+    (λ x h. set-port-kept x h p (record { 0 = address }) (record { 0 = mask }) mtu mission)
+board-left (hj-set-route b rs i prefix mask p availability capabilities mission) fits = (b, refl)
+board-left (hj-clear-route rs i) fits = ([], refl)
+board-left (hj-set-group b m i address send subscribed) fits = (b, refl)
+board-left (hj-set-path b m i to send here) fits = (b, refl)
+board-left (hj-clear-group m i) fits = ([], refl)
+board-left (hj-clear-path m i) fits = ([], refl)
+board-left (hj-get-router b) fits = (b, refl)
+board-left (hj-port-word b p word) fits = (b, refl)
+board-left (hj-route-word rs i word) fits = ([], refl)
+board-left (hj-group-word m i word) fits = ([], refl)
+board-left (hj-path-word m i word) fits = ([], refl)
+board-left (hj-search b m rs a) fits = (b, refl)
+board-left (hj-receive-at b m rs p slot octets o) fits = (b, refl)
+board-left (hj-take b m p) fits = (b, refl)
+board-left (hj-counter m i) fits = ([], refl)
+board-left (hj-waiting m p) fits = ([], refl)
+
+-- ---- a mission: likewise
+abbrev StateSome : Lent State → Type 0
+StateSome view = (v : List ℕ) × (lent v ≡ view)
+
+left-by : (w : List ℕ) (f : State → State) → ((s : State) → Formed s → Formed (f s)) → StateSome (changed f w)
+left-by w f keeps = by-length (eqb (length w) missionWords) refl
+  where
+    held : length w ≡ missionWords → StateSome (changed f w)
     held right =
         let formed = keeps (decode w) (decode-formed w right) in
         let s = f (decode w) in
         (encode s, held-changed w right f (encode s) (words-length s formed) (words-hold s formed))
 
-    by-length : (t : Bool) → eqb (length w) stateWords ≡ t → SomeWords (changed f w)
-    by-length true e = held (eqb-true (length w) stateWords e)
-    by-length false e = (w, other-changed w (eqb-false (length w) stateWords e) f)
+    by-length : (t : Bool) → eqb (length w) missionWords ≡ t → StateSome (changed f w)
+    by-length true e = held (eqb-true (length w) missionWords e)
+    by-length false e = (w, other-changed w (eqb-false (length w) missionWords e) f)
 
--- the same of a call that leaves the counters
-relay-left-by : (w : List ℕ) {f : Relay → Relay} → ((r : Relay) → FormedRelay r → FormedRelay (f r)) → SomeWords (changedRelay f w)
-relay-left-by w keeps = left-by w (relay-kept keeps)
+-- the same of a call that is lent the board to read
+both-left-by : (b w : List ℕ) (f : Board → State → State) → ((x : Board) (s : State) → Formed s → Formed (f x s)) → StateSome (changedBoth f b w)
+unfolding toldBoard
+both-left-by b w f keeps = by-view (lentBoard b)
+  where
+    by-view : (l : Lent Board) → StateSome (byLent (λ (x : Board). changed (f x) w) (lent w) l)
+    by-view (Held x) = left-by w (f x) (keeps x)
+    by-view (Other v) = (w, refl)
 
-words-left : (c : Exported) → Passable c → SomeWords (promised c .words)
-words-left (hj-read l) fits = ([], refl)
-words-left (hj-build fields size o) fits = ([], refl)
-words-left (hj-class a) fits = ([], refl)
-words-left (hj-path p) fits = ([], refl)
-words-left (hj-checksum l) fits = ([], refl)
-words-left hj-state-words fits = ([], refl)
-words-left (hj-fresh w) fits = left-by w (λ x h. fresh-kept)
-words-left (hj-set-router w router) fits = relay-left-by w (λ x h. set-router-kept x h router)
-words-left (hj-set-port w p address mask mtu) fits = relay-left-by w (λ x h. set-port-kept x h p (record { 0 = address }) (record { 0 = mask }) mtu)
-words-left (hj-set-route w i prefix mask p availability capabilities) fits = relay-left-by w (λ x h. set-route-kept x h i (newRoute (record { 0 = prefix }) (record { 0 = mask }) p availability capabilities))
-words-left (hj-set-group w i address send subscribed) fits = relay-left-by w (λ x h. set-group-kept x h i (record { 0 = address }) send subscribed)
-words-left (hj-set-path w i to send here) fits = relay-left-by w (λ x h. set-path-kept x h i (record { 0 = to }) send here)
-words-left (hj-clear-route w i) fits = relay-left-by w (λ x h. clear-route-kept x h i)
-words-left (hj-clear-group w i) fits = relay-left-by w (λ x h. clear-group-kept x h i)
-words-left (hj-clear-path w i) fits = relay-left-by w (λ x h. clear-path-kept x h i)
-words-left (hj-get-router w) fits = (w, refl)
-words-left (hj-get-port w p) fits = (w, refl)
-words-left (hj-get-route w i) fits = (w, refl)
-words-left (hj-get-group w i) fits = (w, refl)
-words-left (hj-get-path w i) fits = (w, refl)
-words-left (hj-search w a) fits = (w, refl)
-words-left (hj-receive w p slot l o) fits = left-by w (λ x h. received-kept x h (record { 0 = slot }) (fits w p slot l o refl) (endingOf (x .relay) p l (length o)))
-words-left (hj-take w p) fits = relay-left-by w (λ x h. taken-kept x h p)
-words-left (hj-counter w i) fits = (w, refl)
-words-left (hj-waiting w p) fits = (w, refl)
+seated-left-by : (b w : List ℕ) (f : Relay → Relay) → ((r : Relay) → KeptIn r → KeptIn (f r)) → StateSome (changedRelay f b w)
+seated-left-by b w f keeps = both-left-by b w (λ (x : Board) (s : State). onSeated x f s) (λ x s h. seated-kept f keeps x s h)
+
+received-left : (b m : List ℕ) (rs : List Record) (p slot : ℕ) (octets o : List ℕ) → slot < 65536
+    → StateSome (receiveWords b m rs p slot octets (length o))
+unfolding receiveWords
+received-left b m rs p slot octets o fits =
+    both-left-by b m (λ (x : Board) (s : State). receivedState x s (record { 0 = slot }) (heardEnding x s rs p octets (length o)))
+    (λ x s h. received-kept x s h (record { 0 = slot }) fits (heardEnding x s rs p octets (length o)))
+
+mission-left : (c : Exported) → Passable c → StateSome (promised c .mission)
+mission-left (hj-read-words octets n) fits = ([], refl)
+mission-left (hj-build-words n size o) fits = ([], refl)
+mission-left (hj-class a) fits = ([], refl)
+mission-left (hj-path p) fits = ([], refl)
+mission-left (hj-checksum octets) fits = ([], refl)
+mission-left hj-board-words fits = ([], refl)
+mission-left hj-mission-words fits = ([], refl)
+mission-left (hj-fresh-board b) fits = ([], refl)
+mission-left (hj-fresh-mission m number) fits = left-by m (λ (x : State). settledFresh x number) (λ x h. fresh-kept x h number)
+mission-left (hj-set-router b router) fits = ([], refl)
+mission-left (hj-set-port b p address mask mtu mission) fits = ([], refl)
+mission-left (hj-set-route b rs i prefix mask p availability capabilities mission) fits = ([], refl)
+mission-left (hj-clear-route rs i) fits = ([], refl)
+mission-left (hj-set-group b m i address send subscribed) fits =
+    seated-left-by b m (λ (x : Relay). settledGroup x i (record { 0 = address }) send subscribed)
+    (λ x h. set-group-kept x h i (record { 0 = address }) send subscribed)
+mission-left (hj-set-path b m i to send here) fits =
+    seated-left-by b m (λ (x : Relay). settledPath x i (record { 0 = to }) send here) (λ x h. set-path-kept x h i (record { 0 = to }) send here)
+mission-left (hj-clear-group m i) fits = left-by m (onMission (λ (x : Mission). clearedGroup x i)) (mission-kept (λ x h. clear-group-kept x h i))
+mission-left (hj-clear-path m i) fits = left-by m (onMission (λ (x : Mission). clearedPath x i)) (mission-kept (λ x h. clear-path-kept x h i))
+mission-left (hj-get-router b) fits = ([], refl)
+mission-left (hj-port-word b p word) fits = ([], refl)
+mission-left (hj-route-word rs i word) fits = ([], refl)
+mission-left (hj-group-word m i word) fits = (m, refl)
+mission-left (hj-path-word m i word) fits = (m, refl)
+mission-left (hj-search b m rs a) fits = (m, refl)
+mission-left (hj-receive-at b m rs p slot octets o) fits = received-left b m rs p slot octets o (fits b m rs p slot octets o refl)
+mission-left (hj-take b m p) fits = seated-left-by b m (λ (x : Relay). takenRelay x p) (λ x h. taken-kept x h p)
+mission-left (hj-counter m i) fits = (m, refl)
+mission-left (hj-waiting m p) fits = (m, refl)
 
 -- Wherever what is lent lies, each call has a result that its contract allows.
 pub answer-there : (y : Lying) (c : Exported) → Passable c → (x : Result) × Contract y c x
 answer-there y c fits =
-    let left = words-left c fits in
-    let x : Result = record { answer = promised c .answer; words = left .0; output = promised c .output } in
-    (x, row-contract y x c (refl, (left .1, refl)))
+    let p = promised c in
+    let b = board-left c fits in
+    let m = mission-left c fits in
+    let x : Result =
+    record {
+      answer = p .answer;
+      left = record { board = b .0; mission = m .0; routes = p .routes; output = p .output; numbers = p .numbers };
+    } in
+    (x, row-contract y x c (record { answer = refl; board = b .1; mission = m .1; routes = refl; output = refl; numbers = refl }))
 
 anywhere : Lying
 anywhere =
     let spot : Spot = record { ptr = (0, 0); name = 0 } in
-    record { lifetimes = ([], ([], ([], tt))); state = spot; octets = spot; output = spot }
+    record {
+      lifetimes = ([], ([], ([], ([], ([], tt)))));
+      board = spot;
+      mission = spot;
+      routes = spot;
+      octets = spot;
+      output = spot;
+      numbers = spot;
+    }
 
 -- Each call has a result that its contract allows; by `one-result-by-contract` it has one alone.
 pub each-call-answers : (c : Exported) → Passable c → (x : Result) × Says c x

@@ -1,5 +1,5 @@
--- Which states words hold: those in which each list is as long as the layout says and each slot is one that its type holds (page 01, "Numbers that
--- hold everywhere"). Any 824 words hold such a state, and each such state has its words. Assumes nothing.
+-- Which boards and states words hold: those in which each list is as long as the layout says and each slot is one that its type holds (page 01,
+-- "Numbers that hold everywhere"). Any 41 words hold such a board, any 408 such a state, and each of these has its words. Assumes nothing.
 use native.Mathlib.Omega.{arith}
 use native.Mathlib.Nat.{suc-mul, zero-mul}
 use Prim.Native.Nat.{ℕ, zero, suc, _+_, _*_, _<_}
@@ -13,12 +13,13 @@ use Rattle.queue.specs.declared.Entry.{Entry}
 use Rattle.queue.specs.declared.Queue.{Queue}
 use Rattle.queue.proofs.Each.{each, each-so}
 use Rattle.words.specs.Cut.{total, cuts, cut, joined, pieces, rows, flat}
-use Rattle.state.specs.Relay.{Relay, State}
-use Rattle.state.specs.Layout.{sections, stateWords, stateOf, decode, encode, entryOfWord}
-use Rattle.state.specs.Layout.{portOf, portWords, groupOf, groupWords, pathOf, pathWords, queueOf, queueWords, routeOf, routeWords}
+use Rattle.state.specs.Relay.{Mission}
+use Rattle.state.specs.Seen.{Board, State}
+use Rattle.state.specs.Layout.{boardSections, boardWords, boardOf, decodeBoard, encodeBoard, sections, missionWords, stateOf, decode, encode, entryOfWord}
+use Rattle.state.specs.Layout.{ownedOf, ownedWords, groupOf, groupWords, pathOf, pathWords, queueOf, queueWords}
 use Rattle.state.proofs.Records.{Slots, queue-record, queue-length}
 use Rattle.state.proofs.Words.{section-length}
-use Rattle.state.proofs.Sizes.{Sized, many, counters-length, decode-sized}
+use Rattle.state.proofs.Sizes.{Sized, SizedBoard, many, counters-length, decode-sized}
 
 -- ---- the definition
 abbrev pub SlotFits : Entry → Type 0
@@ -27,15 +28,15 @@ SlotFits e = e .slot .0 < 65536
 abbrev pub FormedQueue : Queue → Type 0
 FormedQueue q = (length (q .entries) ≡ 32) × Each SlotFits (q .entries)
 
-pub record FormedRelay (r : Relay) : Type 0 where
-  pub sized : Sized r
-  pub queues : Each FormedQueue (r .mission .queues)
+pub record FormedMission (m : Mission) : Type 0 where
+  pub sized : Sized m
+  pub queues : Each FormedQueue (m .queues)
 
 abbrev pub FormedCounters : List ℕ → Type 0
 FormedCounters l = length l ≡ counterCount
 
 pub record Formed (s : State) : Type 0 where
-  pub relay : FormedRelay (s .relay)
+  pub mission : FormedMission (s .mission)
   pub counters : FormedCounters (s .counters)
 
 -- ---- lists joined, and cut again
@@ -90,15 +91,15 @@ queue-formed : (l : List ℕ) → length l ≡ 33 → FormedQueue (queueOf l)
 unfolding queueOf
 queue-formed l h = (length-map (take 32 l) entryOfWord ∙ length-take-le 32 l (omega arith), slots-of (take 32 l))
 
-pub decode-formed : (w : List ℕ) → length w ≡ stateWords → Formed (decode w)
+pub decode-formed : (w : List ℕ) → length w ≡ missionWords → Formed (decode w)
 unfolding decode stateOf
 decode-formed w l =
     record {
-      relay =
+      mission =
           record {
             sized = decode-sized w;
             queues =
-                rows-each queueOf queueWords 33 FormedQueue queue-formed 8 (cut sections w 4) (section-length w l 4 (omega arith) (omega arith));
+                rows-each queueOf queueWords 33 FormedQueue queue-formed 8 (cut sections w 3) (section-length w l 3 (omega arith) (omega arith));
           };
       counters = counters-length w l;
     }
@@ -112,43 +113,29 @@ queues-spelt : (qs : List Queue) → Each FormedQueue qs → Each (Spelt queueOf
 queues-spelt qs = each-so qs (λ q h. (queue-length q (h .0), queue-record q (h .0) (slots-fit (q .entries) (h .1))))
 
 module _ (s : State) (formed : Formed s) where
-  abbrev r : Relay
-  r = s .relay
+  abbrev m : Mission
+  m = s .mission
 
-  abbrev sized : Sized r
-  sized = formed .relay .sized
+  abbrev sized : Sized m
+  sized = formed .mission .sized
 
-  ports : Kept portOf portWords 4 8 (r .ports)
-  ports = kept portOf portWords 4 8 (r .ports) (many r sized 0) (each (r .ports) (λ x. (refl, refl)))
+  groups : Kept groupOf groupWords 4 16 (m .groups)
+  groups = kept groupOf groupWords 4 16 (m .groups) (many m sized 0) (each (m .groups) (λ x. (refl, refl)))
 
-  groups : Kept groupOf groupWords 4 16 (r .mission .groups)
-  groups = kept groupOf groupWords 4 16 (r .mission .groups) (many r sized 1) (each (r .mission .groups) (λ x. (refl, refl)))
+  paths : Kept pathOf pathWords 4 16 (m .paths)
+  paths = kept pathOf pathWords 4 16 (m .paths) (many m sized 1) (each (m .paths) (λ x. (refl, refl)))
 
-  paths : Kept pathOf pathWords 4 16 (r .mission .paths)
-  paths = kept pathOf pathWords 4 16 (r .mission .paths) (many r sized 2) (each (r .mission .paths) (λ x. (refl, refl)))
-
-  queues : Kept queueOf queueWords 33 8 (r .mission .queues)
-  queues = kept queueOf queueWords 33 8 (r .mission .queues) (many r sized 3) (queues-spelt (r .mission .queues) (formed .relay .queues))
-
-  routes : Kept routeOf routeWords 6 64 (r .routes)
-  routes = kept routeOf routeWords 6 64 (r .routes) (many r sized 4) (each (r .routes) (λ x. (refl, refl)))
+  queues : Kept queueOf queueWords 33 8 (m .queues)
+  queues = kept queueOf queueWords 33 8 (m .queues) (many m sized 2) (queues-spelt (m .queues) (formed .mission .queues))
 
   written : List (List ℕ)
-  written =
-      (r .router ∷ [])
-      ∷ flat portWords (r .ports)
-      ∷ flat groupWords (r .mission .groups)
-      ∷ flat pathWords (r .mission .paths)
-      ∷ flat queueWords (r .mission .queues)
-      ∷ s .counters
-      ∷ flat routeWords (r .routes)
-      ∷ []
+  written = (s .number ∷ []) ∷ flat groupWords (m .groups) ∷ flat pathWords (m .paths) ∷ flat queueWords (m .queues) ∷ s .counters ∷ []
 
   lengths : map length written ≡ sections
   unfolding written
-  lengths = rw (ports .0, groups .0, paths .0, queues .0, formed .counters, routes .0)
+  lengths = rw (groups .0, paths .0, queues .0, formed .counters)
 
-  pub words-length : length (encode s) ≡ stateWords
+  pub words-length : length (encode s) ≡ missionWords
   unfolding encode total written
   words-length = joined-length written ∙ ap total lengths
 
@@ -156,4 +143,26 @@ module _ (s : State) (formed : Formed s) where
   unfolding decode encode stateOf written
   words-hold =
       ap stateOf (ap (λ (ns : List ℕ). cuts ns (joined written)) (sym lengths) ∙ cut-again written)
-      ∙ rw (ports .1, groups .1, paths .1, queues .1, routes .1)
+      ∙ rw (groups .1, paths .1, queues .1)
+
+-- ---- and a board with eight ports
+module _ (b : Board) (sized : SizedBoard b) where
+  ports : Kept ownedOf ownedWords 5 8 (b .ports)
+  ports = kept ownedOf ownedWords 5 8 (b .ports) sized (each (b .ports) (λ x. (refl, refl)))
+
+  board-written : List (List ℕ)
+  board-written = (b .router ∷ []) ∷ flat ownedWords (b .ports) ∷ []
+
+  board-lengths : map length board-written ≡ boardSections
+  unfolding board-written
+  board-lengths = rw (ports .0)
+
+  pub board-length : length (encodeBoard b) ≡ boardWords
+  unfolding encodeBoard total board-written
+  board-length = joined-length board-written ∙ ap total board-lengths
+
+  pub board-holds : decodeBoard (encodeBoard b) ≡ b
+  unfolding decodeBoard encodeBoard boardOf board-written
+  board-holds =
+      ap boardOf (ap (λ (ns : List ℕ). cuts ns (joined board-written)) (sym board-lengths) ∙ cut-again board-written)
+      ∙ rw (ports .1)

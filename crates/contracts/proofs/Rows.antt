@@ -1,112 +1,202 @@
 -- The contract of each call from C, as it stands in the source, says what its row of the table says, and no more: so what is proved of the rows holds
 -- of whatever the functions give back. Assumes nothing.
 use Prim.Native.Nat.{ℕ}
-use mathlib.Core.Path.{_≡_, refl, ap, _∙_}
+use mathlib.Core.Path.{_≡_, ap}
 use mathlib.Core.Logic.{_↔_}
-use mathlib.Core.List.{List, []}
-use Rattle.lent_state.specs.View.{Lent, lent}
-use Rattle.lent_state.proofs.Same.{lent-injective}
+use mathlib.Core.List.{List}
+use Rattle.routes.specs.declared.Record.{Record}
+use Rattle.state.specs.Seen.{Board, State}
+use Rattle.lent_state.specs.View.{Lent, lentBoard, lent}
+use Rattle.lent_state.proofs.Same.{board-injective, lent-injective}
 use Rattle.contracts.specs.Promised.{
-  Told,
-  number,
-  reading,
-  port,
-  route,
-  group,
-  path,
+  Things,
   Result,
   Allows,
+  looking,
+  boardLeft,
+  missionLeft,
+  routesLeft,
+  outputLeft,
+  numbersLeft,
+  lentTo,
   Exported,
-  hj-read,
-  hj-build,
+  hj-read-words,
+  hj-build-words,
   hj-class,
   hj-path,
   hj-checksum,
-  hj-state-words,
-  hj-fresh,
+  hj-board-words,
+  hj-mission-words,
+  hj-fresh-board,
+  hj-fresh-mission,
   hj-set-router,
   hj-set-port,
   hj-set-route,
+  hj-clear-route,
   hj-set-group,
   hj-set-path,
-  hj-clear-route,
   hj-clear-group,
   hj-clear-path,
   hj-get-router,
-  hj-get-port,
-  hj-get-route,
-  hj-get-group,
-  hj-get-path,
+  hj-port-word,
+  hj-route-word,
+  hj-group-word,
+  hj-path-word,
   hj-search,
-  hj-receive,
+  hj-receive-at,
   hj-take,
   hj-counter,
   hj-waiting,
   promised,
 }
-use Rattle.contracts.specs.Contracts.{Tells, Looks, Writes, Lying, Contract, Says}
-use Rattle.contracts.proofs.OneResult.{one-result-each}
+use Rattle.contracts.specs.Contracts.{BoardAlone, MissionAlone, RoutesAlone, OutputAlone, NumbersAlone, HearsAlone, Lying, Contract, Says}
+use Rattle.contracts.proofs.OneResult.{same-things, one-result-each}
 
--- ---- each form of contract, and its form of row
-module _ (x : Result) where
-  looks : {A : Type 0} (of : A → Told) (w : List ℕ) (m : A)
-      → Looks w of x (λ (n : A). n ≡ m) ↔ Allows (record { answer = of m; words = lent w; output = [] }) x
-  looks of w m = (
-    λ h. (h .1 .1 .1 .0 ∙ ap of (h .1 .1 .1 .1), (ap lent (h .0), h .1 .0)),
-    λ h. (lent-injective (x .words) w (h .1 .0), (h .1 .1, (m, (h .0, refl)))),
+-- ---- each form of contract, and its form of row: t is what is lent
+module _ (x : Result) (t : Things) (answer : ℕ) where
+  -- words with one view are the same
+  board-as : lentBoard (x .left .board) ≡ lentBoard (t .board) → x .left .board ≡ t .board
+  board-as e = board-injective (x .left .board) (t .board) e
+
+  mission-as : lent (x .left .mission) ≡ lent (t .mission) → x .left .mission ≡ t .mission
+  mission-as e = lent-injective (x .left .mission) (t .mission) e
+
+  looks : ((x .left ≡ t) × (x .answer ≡ answer)) ↔ Allows (looking t answer) x
+  looks = (
+    λ h.
+        record {
+          answer = h .1;
+          board = ap (λ (u : Things). lentBoard (u .board)) (h .0);
+          mission = ap (λ (u : Things). lent (u .mission)) (h .0);
+          routes = ap (λ (u : Things). u .routes) (h .0);
+          output = ap (λ (u : Things). u .output) (h .0);
+          numbers = ap (λ (u : Things). u .numbers) (h .0);
+        },
+    λ h. (same-things (board-as (h .board)) (mission-as (h .mission)) (h .routes) (h .output) (h .numbers), h .answer),
   )
 
-  writes : (m : ℕ) (left : Lent)
-      → Writes x (λ (n : ℕ). (n ≡ m) × (lent (x .words) ≡ left)) ↔ Allows (record { answer = number m; words = left; output = [] }) x
-  writes m left = (
-    λ h. (h .1 .1 .0 ∙ ap number (h .1 .1 .1 .0), (h .1 .1 .1 .1, h .0)),
-    λ h. (h .1 .1, (m, (h .0, (refl, h .1 .0)))),
+  on-board : (left : Lent Board)
+      → (BoardAlone t (x .left) × ((x .answer ≡ answer) × (lentBoard (x .left .board) ≡ left))) ↔ Allows (boardLeft (looking t answer) left) x
+  on-board left = (
+    λ h.
+        record {
+          answer = h .1 .0;
+          board = h .1 .1;
+          mission = ap lent (h .0 .0);
+          routes = h .0 .1 .0;
+          output = h .0 .1 .1 .0;
+          numbers = h .0 .1 .1 .1;
+        },
+    λ h. ((mission-as (h .mission), (h .routes, (h .output, h .numbers))), (h .answer, h .board)),
   )
 
-  builds : (m : ℕ) (output : List ℕ)
-      → ((x .words ≡ []) × Tells number x (λ (n : ℕ). (n ≡ m) × (x .output ≡ output)))
-      ↔ Allows (record { answer = number m; words = lent []; output = output }) x
-  builds m output = (
-    λ h. (h .1 .1 .0 ∙ ap number (h .1 .1 .1 .0), (ap lent (h .0), h .1 .1 .1 .1)),
-    λ h. (lent-injective (x .words) [] (h .1 .0), (m, (h .0, (refl, h .1 .1)))),
+  on-mission : (left : Lent State)
+      → (MissionAlone t (x .left) × ((x .answer ≡ answer) × (lent (x .left .mission) ≡ left))) ↔ Allows (missionLeft (looking t answer) left) x
+  on-mission left = (
+    λ h.
+        record {
+          answer = h .1 .0;
+          board = ap lentBoard (h .0 .0);
+          mission = h .1 .1;
+          routes = h .0 .1 .0;
+          output = h .0 .1 .1 .0;
+          numbers = h .0 .1 .1 .1;
+        },
+    λ h. ((board-as (h .board), (h .routes, (h .output, h .numbers))), (h .answer, h .mission)),
   )
 
-  receives : (m : ℕ) (left : Lent) (output : List ℕ)
-      → Tells number x (λ (n : ℕ). (n ≡ m) × ((lent (x .words) ≡ left) × (x .output ≡ output)))
-      ↔ Allows (record { answer = number m; words = left; output = output }) x
-  receives m left output = (
-    λ h. (h .1 .0 ∙ ap number (h .1 .1 .0), (h .1 .1 .1 .0, h .1 .1 .1 .1)),
-    λ h. (m, (h .0, (refl, (h .1 .0, h .1 .1)))),
+  on-routes : (left : List Record)
+      → (RoutesAlone t (x .left) × ((x .answer ≡ answer) × (x .left .routes ≡ left))) ↔ Allows (routesLeft (looking t answer) left) x
+  on-routes left = (
+    λ h.
+        record {
+          answer = h .1 .0;
+          board = ap lentBoard (h .0 .0);
+          mission = ap lent (h .0 .1 .0);
+          routes = h .1 .1;
+          output = h .0 .1 .1 .0;
+          numbers = h .0 .1 .1 .1;
+        },
+    λ h. ((board-as (h .board), (mission-as (h .mission), (h .output, h .numbers))), (h .answer, h .routes)),
+  )
+
+  on-output : (left : List ℕ)
+      → (OutputAlone t (x .left) × ((x .answer ≡ answer) × (x .left .output ≡ left))) ↔ Allows (outputLeft (looking t answer) left) x
+  on-output left = (
+    λ h.
+        record {
+          answer = h .1 .0;
+          board = ap lentBoard (h .0 .0);
+          mission = ap lent (h .0 .1 .0);
+          routes = h .0 .1 .1 .0;
+          output = h .1 .1;
+          numbers = h .0 .1 .1 .1;
+        },
+    λ h. ((board-as (h .board), (mission-as (h .mission), (h .routes, h .numbers))), (h .answer, h .output)),
+  )
+
+  on-numbers : (left : List ℕ)
+      → (NumbersAlone t (x .left) × ((x .answer ≡ answer) × (x .left .numbers ≡ left))) ↔ Allows (numbersLeft (looking t answer) left) x
+  on-numbers left = (
+    λ h.
+        record {
+          answer = h .1 .0;
+          board = ap lentBoard (h .0 .0);
+          mission = ap lent (h .0 .1 .0);
+          routes = h .0 .1 .1 .0;
+          output = h .0 .1 .1 .1;
+          numbers = h .1 .1;
+        },
+    λ h. ((board-as (h .board), (mission-as (h .mission), (h .routes, h .output))), (h .answer, h .numbers)),
+  )
+
+  hears : (left : Lent State) (output : List ℕ)
+      → (HearsAlone t (x .left) × ((x .answer ≡ answer) × ((lent (x .left .mission) ≡ left) × (x .left .output ≡ output))))
+      ↔ Allows (outputLeft (missionLeft (looking t answer) left) output) x
+  hears left output = (
+    λ h.
+        record {
+          answer = h .1 .0;
+          board = ap lentBoard (h .0 .0);
+          mission = h .1 .1 .0;
+          routes = h .0 .1 .0;
+          output = h .1 .1 .1;
+          numbers = h .0 .1 .1;
+        },
+    λ h. ((board-as (h .board), (h .routes, h .numbers)), (h .answer, (h .mission, h .output))),
   )
 
 -- ---- the table
 module _ (y : Lying) (x : Result) where
   pub contract-is-row : (c : Exported) → Contract y c x ↔ Allows (promised c) x
-  contract-is-row (hj-read l) = looks x reading [] _
-  contract-is-row (hj-build fields size o) = builds x _ _
-  contract-is-row (hj-class a) = looks x number [] _
-  contract-is-row (hj-path p) = looks x number [] _
-  contract-is-row (hj-checksum l) = looks x number [] _
-  contract-is-row hj-state-words = looks x number [] _
-  contract-is-row (hj-fresh w) = writes x _ _
-  contract-is-row (hj-set-router w router) = writes x _ _
-  contract-is-row (hj-set-port w p address mask mtu) = writes x _ _
-  contract-is-row (hj-set-route w i prefix mask p availability capabilities) = writes x _ _
-  contract-is-row (hj-set-group w i address send subscribed) = writes x _ _
-  contract-is-row (hj-set-path w i to send here) = writes x _ _
-  contract-is-row (hj-clear-route w i) = writes x _ _
-  contract-is-row (hj-clear-group w i) = writes x _ _
-  contract-is-row (hj-clear-path w i) = writes x _ _
-  contract-is-row (hj-get-router w) = looks x number w _
-  contract-is-row (hj-get-port w p) = looks x port w _
-  contract-is-row (hj-get-route w i) = looks x route w _
-  contract-is-row (hj-get-group w i) = looks x group w _
-  contract-is-row (hj-get-path w i) = looks x path w _
-  contract-is-row (hj-search w a) = looks x number w _
-  contract-is-row (hj-receive w p slot l o) = receives x _ _ _
-  contract-is-row (hj-take w p) = writes x _ _
-  contract-is-row (hj-counter w i) = looks x number w _
-  contract-is-row (hj-waiting w p) = looks x number w _
+  contract-is-row (hj-read-words octets n) = on-numbers x (lentTo (hj-read-words octets n)) _ _
+  contract-is-row (hj-build-words n size o) = on-output x (lentTo (hj-build-words n size o)) _ _
+  contract-is-row (hj-class a) = looks x (lentTo (hj-class a)) _
+  contract-is-row (hj-path p) = looks x (lentTo (hj-path p)) _
+  contract-is-row (hj-checksum octets) = looks x (lentTo (hj-checksum octets)) _
+  contract-is-row hj-board-words = looks x (lentTo hj-board-words) _
+  contract-is-row hj-mission-words = looks x (lentTo hj-mission-words) _
+  contract-is-row (hj-fresh-board b) = on-board x (lentTo (hj-fresh-board b)) _ _
+  contract-is-row (hj-fresh-mission m number) = on-mission x (lentTo (hj-fresh-mission m number)) _ _
+  contract-is-row (hj-set-router b router) = on-board x (lentTo (hj-set-router b router)) _ _
+  contract-is-row (hj-set-port b p address mask mtu mission) = on-board x (lentTo (hj-set-port b p address mask mtu mission)) _ _
+  contract-is-row (hj-set-route b rs i prefix mask p availability capabilities mission) =
+      on-routes x (lentTo (hj-set-route b rs i prefix mask p availability capabilities mission)) _ _
+  contract-is-row (hj-clear-route rs i) = on-routes x (lentTo (hj-clear-route rs i)) _ _
+  contract-is-row (hj-set-group b m i address send subscribed) = on-mission x (lentTo (hj-set-group b m i address send subscribed)) _ _
+  contract-is-row (hj-set-path b m i to send here) = on-mission x (lentTo (hj-set-path b m i to send here)) _ _
+  contract-is-row (hj-clear-group m i) = on-mission x (lentTo (hj-clear-group m i)) _ _
+  contract-is-row (hj-clear-path m i) = on-mission x (lentTo (hj-clear-path m i)) _ _
+  contract-is-row (hj-get-router b) = looks x (lentTo (hj-get-router b)) _
+  contract-is-row (hj-port-word b p word) = looks x (lentTo (hj-port-word b p word)) _
+  contract-is-row (hj-route-word rs i word) = looks x (lentTo (hj-route-word rs i word)) _
+  contract-is-row (hj-group-word m i word) = looks x (lentTo (hj-group-word m i word)) _
+  contract-is-row (hj-path-word m i word) = looks x (lentTo (hj-path-word m i word)) _
+  contract-is-row (hj-search b m rs a) = looks x (lentTo (hj-search b m rs a)) _
+  contract-is-row (hj-receive-at b m rs p slot octets o) = hears x (lentTo (hj-receive-at b m rs p slot octets o)) _ _ _
+  contract-is-row (hj-take b m p) = on-mission x (lentTo (hj-take b m p)) _ _
+  contract-is-row (hj-counter m i) = looks x (lentTo (hj-counter m i)) _
+  contract-is-row (hj-waiting m p) = looks x (lentTo (hj-waiting m p)) _
 
 -- What a call's contract lets it give back is what its row promises,
 pub says-row : (c : Exported) (x : Result) → Says c x → Allows (promised c) x
@@ -116,6 +206,6 @@ says-row c x h = contract-is-row (h .0) x c .0 (h .1)
 pub row-contract : (y : Lying) (x : Result) (c : Exported) → Allows (promised c) x → Contract y c x
 row-contract y x c h = contract-is-row y x c .1 h
 
--- So the contract of each call leaves no choice: the answer, every word and every octet of the output.
+-- So the contract of each call leaves no choice: the answer, every word, every record and every octet of the output.
 pub one-result-by-contract : (c : Exported) (x z : Result) → Says c x → Says c z → x ≡ z
 one-result-by-contract c x z h k = one-result-each c x z (says-row c x h) (says-row c z k)

@@ -1,78 +1,69 @@
 -- The contract of each call from C, as it stands in the source (crates harpjuniper*, src/): what it says of what is told and left, for whatever is
--- lent. No clause is written again here: `Learnt` of a function's `Reads` is what the clauses of its contract tell its caller (page 01, "What a promise
--- has to shut out": "No public function lacks such a promise"). Assumes nothing.
+-- lent. No clause is written again here: `Learnt` of a function's `Reads` is what the clauses of its contract tell its caller, and of the five that are
+-- lent a list specs/Walked.antt names it (page 01, "What a promise has to shut out": "No public function lacks such a promise"). Assumes nothing.
 use Prim.Native.Nat.{ℕ, _<_}
 use mathlib.Core.Path.{_≡_}
-use mathlib.Core.List.{List, []}
+use mathlib.Core.List.{List}
 use base.Fml.{GName}
 use contract.Lifetimes.{Lfts}
 use denote.Ref.{RefT}
-use Rattle.harpjuniper.specs.declared.Reading.{Reading}
-use Rattle.harpjuniper_reads.specs.declared.PortBack.{PortBack}
-use Rattle.harpjuniper_reads.specs.declared.RouteBack.{RouteBack}
-use Rattle.harpjuniper_reads.specs.declared.GroupBack.{GroupBack}
-use Rattle.harpjuniper_reads.specs.declared.PathBack.{PathBack}
-use Rattle.harpjuniper.proofs.hj_read as read
-use Rattle.harpjuniper.proofs.hj_build as build
+use Rattle.routes.specs.declared.Record.{Record}
+use Rattle.harpjuniper.proofs.hj_read_words as read-words
+use Rattle.harpjuniper.proofs.hj_build_words as build-words
 use Rattle.harpjuniper_address.proofs.hj_class as class
 use Rattle.harpjuniper_address.proofs.hj_path as form
 use Rattle.harpjuniper_address.proofs.hj_checksum as checksum
-use Rattle.harpjuniper_relay.proofs.hj_state_words as state-words
-use Rattle.harpjuniper_settings.proofs.hj_fresh as fresh
+use Rattle.harpjuniper_settings.proofs.hj_board_words as board-words
+use Rattle.harpjuniper_settings.proofs.hj_mission_words as mission-words
+use Rattle.harpjuniper_settings.proofs.hj_fresh_board as fresh-board
+use Rattle.harpjuniper_settings.proofs.hj_fresh_mission as fresh-mission
 use Rattle.harpjuniper_settings.proofs.hj_set_router as set-router
 use Rattle.harpjuniper_settings.proofs.hj_set_port as set-port
-use Rattle.harpjuniper_settings.proofs.hj_set_route as set-route
 use Rattle.harpjuniper_settings.proofs.groups_and_paths.hj_set_group as set-group
 use Rattle.harpjuniper_settings.proofs.groups_and_paths.hj_set_path as set-path
-use Rattle.harpjuniper_settings.proofs.hj_clear_route as clear-route
 use Rattle.harpjuniper_settings.proofs.groups_and_paths.hj_clear_group as clear-group
 use Rattle.harpjuniper_settings.proofs.groups_and_paths.hj_clear_path as clear-path
 use Rattle.harpjuniper_reads.proofs.hj_get_router as get-router
-use Rattle.harpjuniper_reads.proofs.hj_get_port as get-port
-use Rattle.harpjuniper_reads.proofs.hj_get_route as get-route
-use Rattle.harpjuniper_reads.proofs.hj_get_group as get-group
-use Rattle.harpjuniper_reads.proofs.hj_get_path as get-path
-use Rattle.harpjuniper_reads.proofs.search.hj_search as search-route
-use Rattle.harpjuniper_receive.proofs.hj_receive as receive
+use Rattle.harpjuniper_reads.proofs.hj_port_word as port-word
+use Rattle.harpjuniper_reads.proofs.hj_group_word as group-word
+use Rattle.harpjuniper_reads.proofs.hj_path_word as path-word
 use Rattle.harpjuniper_relay.proofs.hj_take as take
 use Rattle.harpjuniper_relay.proofs.hj_counter as counter
 use Rattle.harpjuniper_relay.proofs.hj_waiting as waiting
 use Rattle.contracts.specs.Promised.{
-  Told,
-  number,
-  reading,
-  port,
-  route,
-  group,
-  path,
+  Things,
   Result,
+  lentTo,
   Exported,
-  hj-read,
-  hj-build,
+  hj-read-words,
+  hj-build-words,
   hj-class,
   hj-path,
   hj-checksum,
-  hj-state-words,
-  hj-fresh,
+  hj-board-words,
+  hj-mission-words,
+  hj-fresh-board,
+  hj-fresh-mission,
   hj-set-router,
   hj-set-port,
   hj-set-route,
+  hj-clear-route,
   hj-set-group,
   hj-set-path,
-  hj-clear-route,
   hj-clear-group,
   hj-clear-path,
   hj-get-router,
-  hj-get-port,
-  hj-get-route,
-  hj-get-group,
-  hj-get-path,
+  hj-port-word,
+  hj-route-word,
+  hj-group-word,
+  hj-path-word,
   hj-search,
-  hj-receive,
+  hj-receive-at,
   hj-take,
   hj-counter,
   hj-waiting,
 }
+use Rattle.contracts.specs.Walked.{searches, sets-route, clears-route, reads-word, receives}
 
 -- ---- where lent slices lie, and until when: whatever the caller chose
 pub record Spot : Type 0 where
@@ -80,33 +71,56 @@ pub record Spot : Type 0 where
   pub name : GName
 
 pub record Lying : Type 0 where
-  pub lifetimes : Lfts 3
-  pub state : Spot
+  pub lifetimes : Lfts 5
+  pub board : Spot
+  pub mission : Spot
+  pub routes : Spot
   pub octets : Spot
   pub output : Spot
+  pub numbers : Spot
 
-abbrev pub lies : Spot → List ℕ → RefT (List ℕ)
+abbrev pub lies : {A : Type 0} → Spot → List A → RefT (List A)
 lies s l = record { ptr = s .ptr; name = s .name; now = l }
 
 abbrev once : Lying → Lfts 1
 once y = (y .lifetimes .0, tt)
 
--- ---- what is told is an answer of which P holds
-abbrev pub Tells : {A : Type 0} → (A → Told) → Result → (A → Type 0) → Type 0
-Tells {A} of x P = (n : A) × ((x .answer ≡ of n) × P n)
+abbrev twice : Lying → Lfts 2
+twice y = (y .lifetimes .0, (y .lifetimes .1 .0, tt))
 
--- words w are lent to be read or none are, and no output is
-abbrev pub Looks : {A : Type 0} → List ℕ → (A → Told) → Result → (A → Type 0) → Type 0
-Looks w of x P = (x .words ≡ w) × ((x .output ≡ []) × Tells of x P)
+abbrev thrice : Lying → Lfts 3
+thrice y = (y .lifetimes .0, (y .lifetimes .1 .0, (y .lifetimes .1 .1 .0, tt)))
 
--- words are lent to be written, and no output is
-abbrev pub Writes : Result → (ℕ → Type 0) → Type 0
-Writes x P = (x .output ≡ []) × Tells number x P
+-- ---- what is lent to be read alone is left as it was lent: of the things lent, t, and those left, u, all but the board, the mission, the list, the
+-- output or the numbers; and, of a datagram, all but the mission and the output
+abbrev pub BoardAlone : Things → Things → Type 0
+BoardAlone t u = (u .mission ≡ t .mission) × ((u .routes ≡ t .routes) × ((u .output ≡ t .output) × (u .numbers ≡ t .numbers)))
+
+abbrev pub MissionAlone : Things → Things → Type 0
+MissionAlone t u = (u .board ≡ t .board) × ((u .routes ≡ t .routes) × ((u .output ≡ t .output) × (u .numbers ≡ t .numbers)))
+
+abbrev pub RoutesAlone : Things → Things → Type 0
+RoutesAlone t u = (u .board ≡ t .board) × ((u .mission ≡ t .mission) × ((u .output ≡ t .output) × (u .numbers ≡ t .numbers)))
+
+abbrev pub OutputAlone : Things → Things → Type 0
+OutputAlone t u = (u .board ≡ t .board) × ((u .mission ≡ t .mission) × ((u .routes ≡ t .routes) × (u .numbers ≡ t .numbers)))
+
+abbrev pub NumbersAlone : Things → Things → Type 0
+NumbersAlone t u = (u .board ≡ t .board) × ((u .mission ≡ t .mission) × ((u .routes ≡ t .routes) × (u .output ≡ t .output)))
+
+abbrev pub HearsAlone : Things → Things → Type 0
+HearsAlone t u = (u .board ≡ t .board) × ((u .routes ≡ t .routes) × (u .numbers ≡ t .numbers))
 
 -- ---- the contracts
 module _ (y : Lying) where
   abbrev at : List ℕ → RefT (List ℕ)
-  at w = lies (y .state) w
+  at b = lies (y .board) b
+
+  abbrev of : List ℕ → RefT (List ℕ)
+  of m = lies (y .mission) m
+
+  abbrev listed : List Record → RefT (List Record)
+  listed rs = lies (y .routes) rs
 
   abbrev from : List ℕ → RefT (List ℕ)
   from l = lies (y .octets) l
@@ -114,43 +128,138 @@ module _ (y : Lying) where
   abbrev into : List ℕ → RefT (List ℕ)
   into l = lies (y .output) l
 
+  abbrev among : List ℕ → RefT (List ℕ)
+  among l = lies (y .numbers) l
+
   abbrev pub Contract : Exported → Result → Type 0
-  Contract (hj-read l) x = Looks [] reading x (λ (n : Reading). read.Reads.Learnt (once y) (from l, tt) n (from l, tt))
-  Contract (hj-build fields size o) x =
-      (x .words ≡ []) × Tells number x (λ (n : ℕ). build.Reads.Learnt (once y) (fields, (size, (into o, tt))) n (fields, (size, (into (x .output), tt))))
-  Contract (hj-class a) x = Looks [] number x (λ (n : ℕ). class.Reads.Learnt tt (a, tt) n (a, tt))
-  Contract (hj-path p) x = Looks [] number x (λ (n : ℕ). form.Reads.Learnt tt (p, tt) n (p, tt))
-  Contract (hj-checksum l) x = Looks [] number x (λ (n : ℕ). checksum.Reads.Learnt (once y) (from l, tt) n (from l, tt))
-  Contract hj-state-words x = Looks [] number x (λ (n : ℕ). state-words.Reads.Learnt tt tt n tt)
-  Contract (hj-fresh w) x = Writes x (λ (n : ℕ). fresh.Reads.Learnt (once y) (at w, tt) n (at (x .words), tt))
-  Contract (hj-set-router w router) x = Writes x (λ (n : ℕ). set-router.Reads.Learnt (once y) (at w, (router, tt)) n (at (x .words), (router, tt)))
-  Contract (hj-set-port w p address mask mtu) x =
-      Writes x (λ (n : ℕ). set-port.Reads.Learnt (once y) (at w, (p, (address, (mask, (mtu, tt))))) n (at (x .words), (p, (address, (mask, (mtu, tt))))))
-  Contract (hj-set-route w i prefix mask p availability capabilities) x =
-      Writes x (λ (n : ℕ). set-route.Reads.Learnt (once y) (at w, (i, (prefix, (mask, (p, (availability, (capabilities, tt))))))) n (at (x .words), (i, (prefix, (mask, (p, (availability, (capabilities, tt))))))))
-  Contract (hj-set-group w i address send subscribed) x =
-      Writes x (λ (n : ℕ). set-group.Reads.Learnt (once y) (at w, (i, (address, (send, (subscribed, tt))))) n (at (x .words), (i, (address, (send, (subscribed, tt))))))
-  Contract (hj-set-path w i to send here) x =
-      Writes x (λ (n : ℕ). set-path.Reads.Learnt (once y) (at w, (i, (to, (send, (here, tt))))) n (at (x .words), (i, (to, (send, (here, tt))))))
-  Contract (hj-clear-route w i) x = Writes x (λ (n : ℕ). clear-route.Reads.Learnt (once y) (at w, (i, tt)) n (at (x .words), (i, tt)))
-  Contract (hj-clear-group w i) x = Writes x (λ (n : ℕ). clear-group.Reads.Learnt (once y) (at w, (i, tt)) n (at (x .words), (i, tt)))
-  Contract (hj-clear-path w i) x = Writes x (λ (n : ℕ). clear-path.Reads.Learnt (once y) (at w, (i, tt)) n (at (x .words), (i, tt)))
-  Contract (hj-get-router w) x = Looks w number x (λ (n : ℕ). get-router.Reads.Learnt (once y) (at w, tt) n (at w, tt))
-  Contract (hj-get-port w p) x = Looks w port x (λ (n : PortBack). get-port.Reads.Learnt (once y) (at w, (p, tt)) n (at w, (p, tt)))
-  Contract (hj-get-route w i) x = Looks w route x (λ (n : RouteBack). get-route.Reads.Learnt (once y) (at w, (i, tt)) n (at w, (i, tt)))
-  Contract (hj-get-group w i) x = Looks w group x (λ (n : GroupBack). get-group.Reads.Learnt (once y) (at w, (i, tt)) n (at w, (i, tt)))
-  Contract (hj-get-path w i) x = Looks w path x (λ (n : PathBack). get-path.Reads.Learnt (once y) (at w, (i, tt)) n (at w, (i, tt)))
-  Contract (hj-search w a) x = Looks w number x (λ (n : ℕ). search-route.Reads.Learnt (once y) (at w, (a, tt)) n (at w, (a, tt)))
-  Contract (hj-receive w p slot l o) x =
-      Tells number x (λ (n : ℕ).
-      receive.Reads.Learnt
+  Contract (hj-read-words octets n) x =
+      let c = hj-read-words octets n in
+      NumbersAlone (lentTo c) (x .left)
+      × read-words.Reads.Learnt (twice y) (from octets, (among n, tt)) (x .answer) (from octets, (among (x .left .numbers), tt))
+  Contract (hj-build-words n size o) x =
+      let c = hj-build-words n size o in
+      OutputAlone (lentTo c) (x .left)
+      × build-words.Reads.Learnt (twice y) (among n, (size, (into o, tt))) (x .answer) (among n, (size, (into (x .left .output), tt)))
+  Contract (hj-class a) x =
+      let c = hj-class a in
+      (x .left ≡ lentTo c)
+      × class.Reads.Learnt tt (a, tt) (x .answer) (a, tt)
+  Contract (hj-path p) x =
+      let c = hj-path p in
+      (x .left ≡ lentTo c)
+      × form.Reads.Learnt tt (p, tt) (x .answer) (p, tt)
+  Contract (hj-checksum octets) x =
+      let c = hj-checksum octets in
+      (x .left ≡ lentTo c)
+      × checksum.Reads.Learnt (once y) (from octets, tt) (x .answer) (from octets, tt)
+  Contract hj-board-words x =
+      let c = hj-board-words in
+      (x .left ≡ lentTo c)
+      × board-words.Reads.Learnt tt tt (x .answer) tt
+  Contract hj-mission-words x =
+      let c = hj-mission-words in
+      (x .left ≡ lentTo c)
+      × mission-words.Reads.Learnt tt tt (x .answer) tt
+  Contract (hj-fresh-board b) x =
+      let c = hj-fresh-board b in
+      BoardAlone (lentTo c) (x .left)
+      × fresh-board.Reads.Learnt (once y) (at b, tt) (x .answer) (at (x .left .board), tt)
+  Contract (hj-fresh-mission m number) x =
+      let c = hj-fresh-mission m number in
+      MissionAlone (lentTo c) (x .left)
+      × fresh-mission.Reads.Learnt (once y) (of m, (number, tt)) (x .answer) (of (x .left .mission), (number, tt))
+  Contract (hj-set-router b router) x =
+      let c = hj-set-router b router in
+      BoardAlone (lentTo c) (x .left)
+      × set-router.Reads.Learnt (once y) (at b, (router, tt)) (x .answer) (at (x .left .board), (router, tt))
+  Contract (hj-set-port b p address mask mtu mission) x =
+      let c = hj-set-port b p address mask mtu mission in
+      BoardAlone (lentTo c) (x .left)
+      × set-port.Reads.Learnt
+      (once y)
+      (at b, (p, (address, (mask, (mtu, (mission, tt))))))
+      (x .answer)
+      (at (x .left .board), (p, (address, (mask, (mtu, (mission, tt))))))
+  Contract (hj-set-route b rs i prefix mask p availability capabilities mission) x =
+      let c = hj-set-route b rs i prefix mask p availability capabilities mission in
+      RoutesAlone (lentTo c) (x .left)
+      × sets-route
+      (twice y)
+      (at b, (listed rs, (i, (prefix, (mask, (p, (availability, (capabilities, (mission, tt)))))))))
+      (x .answer)
+      (at b, (listed (x .left .routes), (i, (prefix, (mask, (p, (availability, (capabilities, (mission, tt)))))))))
+  Contract (hj-clear-route rs i) x =
+      let c = hj-clear-route rs i in
+      RoutesAlone (lentTo c) (x .left)
+      × clears-route (once y) (listed rs, (i, tt)) (x .answer) (listed (x .left .routes), (i, tt))
+  Contract (hj-set-group b m i address send subscribed) x =
+      let c = hj-set-group b m i address send subscribed in
+      MissionAlone (lentTo c) (x .left)
+      × set-group.Reads.Learnt
+      (twice y)
+      (at b, (of m, (i, (address, (send, (subscribed, tt))))))
+      (x .answer)
+      (at b, (of (x .left .mission), (i, (address, (send, (subscribed, tt))))))
+  Contract (hj-set-path b m i to send here) x =
+      let c = hj-set-path b m i to send here in
+      MissionAlone (lentTo c) (x .left)
+      × set-path.Reads.Learnt
+      (twice y)
+      (at b, (of m, (i, (to, (send, (here, tt))))))
+      (x .answer)
+      (at b, (of (x .left .mission), (i, (to, (send, (here, tt))))))
+  Contract (hj-clear-group m i) x =
+      let c = hj-clear-group m i in
+      MissionAlone (lentTo c) (x .left)
+      × clear-group.Reads.Learnt (once y) (of m, (i, tt)) (x .answer) (of (x .left .mission), (i, tt))
+  Contract (hj-clear-path m i) x =
+      let c = hj-clear-path m i in
+      MissionAlone (lentTo c) (x .left)
+      × clear-path.Reads.Learnt (once y) (of m, (i, tt)) (x .answer) (of (x .left .mission), (i, tt))
+  Contract (hj-get-router b) x =
+      let c = hj-get-router b in
+      (x .left ≡ lentTo c)
+      × get-router.Reads.Learnt (once y) (at b, tt) (x .answer) (at b, tt)
+  Contract (hj-port-word b p word) x =
+      let c = hj-port-word b p word in
+      (x .left ≡ lentTo c)
+      × port-word.Reads.Learnt (once y) (at b, (p, (word, tt))) (x .answer) (at b, (p, (word, tt)))
+  Contract (hj-route-word rs i word) x =
+      let c = hj-route-word rs i word in
+      (x .left ≡ lentTo c)
+      × reads-word (once y) (listed rs, (i, (word, tt))) (x .answer) (listed rs, (i, (word, tt)))
+  Contract (hj-group-word m i word) x =
+      let c = hj-group-word m i word in
+      (x .left ≡ lentTo c)
+      × group-word.Reads.Learnt (once y) (of m, (i, (word, tt))) (x .answer) (of m, (i, (word, tt)))
+  Contract (hj-path-word m i word) x =
+      let c = hj-path-word m i word in
+      (x .left ≡ lentTo c)
+      × path-word.Reads.Learnt (once y) (of m, (i, (word, tt))) (x .answer) (of m, (i, (word, tt)))
+  Contract (hj-search b m rs a) x =
+      let c = hj-search b m rs a in
+      (x .left ≡ lentTo c)
+      × searches (thrice y) (at b, (of m, (listed rs, (a, tt)))) (x .answer) (at b, (of m, (listed rs, (a, tt))))
+  Contract (hj-receive-at b m rs p slot octets o) x =
+      let c = hj-receive-at b m rs p slot octets o in
+      HearsAlone (lentTo c) (x .left)
+      × receives
       (y .lifetimes)
-      (at w, (p, (slot, (from l, (into o, tt)))))
-      n
-      (at (x .words), (p, (slot, (from l, (into (x .output), tt))))))
-  Contract (hj-take w p) x = Writes x (λ (n : ℕ). take.Reads.Learnt (once y) (at w, (p, tt)) n (at (x .words), (p, tt)))
-  Contract (hj-counter w i) x = Looks w number x (λ (n : ℕ). counter.Reads.Learnt (once y) (at w, (i, tt)) n (at w, (i, tt)))
-  Contract (hj-waiting w p) x = Looks w number x (λ (n : ℕ). waiting.Reads.Learnt (once y) (at w, (p, tt)) n (at w, (p, tt)))
+      (at b, (of m, (listed rs, (p, (slot, (from octets, (into o, tt)))))))
+      (x .answer)
+      (at b, (of (x .left .mission), (listed rs, (p, (slot, (from octets, (into (x .left .output), tt)))))))
+  Contract (hj-take b m p) x =
+      let c = hj-take b m p in
+      MissionAlone (lentTo c) (x .left)
+      × take.Reads.Learnt (twice y) (at b, (of m, (p, tt))) (x .answer) (at b, (of (x .left .mission), (p, tt)))
+  Contract (hj-counter m i) x =
+      let c = hj-counter m i in
+      (x .left ≡ lentTo c)
+      × counter.Reads.Learnt (once y) (of m, (i, tt)) (x .answer) (of m, (i, tt))
+  Contract (hj-waiting m p) x =
+      let c = hj-waiting m p in
+      (x .left ≡ lentTo c)
+      × waiting.Reads.Learnt (once y) (of m, (p, tt)) (x .answer) (of m, (p, tt))
 
 -- what a call's contract lets it give back, wherever what is lent lies
 abbrev pub Says : Exported → Result → Type 0
@@ -158,4 +267,4 @@ Says c x = (y : Lying) × Contract y c x
 
 -- What C can pass: numbers here have no end and C's have, which matters of one argument alone, the slot, a number of 16 bits.
 abbrev pub Passable : Exported → Type 0
-Passable c = (w : List ℕ) (p slot : ℕ) (l o : List ℕ) → c ≡ hj-receive w p slot l o → slot < 65536
+Passable c = (b m : List ℕ) (rs : List Record) (p slot : ℕ) (l o : List ℕ) → c ≡ hj-receive-at b m rs p slot l o → slot < 65536

@@ -1,143 +1,230 @@
--- The promises of all calls from C in one table: what each answers, the view of the words that it leaves, and the octets of the output that it leaves
--- (page 01, "What a promise has to shut out": a promise "determines the answer, the state and each lent octet"). Words that are lent to be read alone
--- are left as they are. That each row is what the function's own contract states (crates harpjuniper*, src/) is proved: `contract-is-row`, in
--- proofs/Rows.antt. Assumes nothing.
+-- The promises of all calls from C in one table: what each answers, the view of the words that it leaves, and the records and octets that it leaves
+-- (page 01, "What a promise has to shut out": a promise "determines the answer, the state and each lent octet"). What is lent to be read alone is left as
+-- it is. That each row is what the function's own contract states (crates harpjuniper*, src/) is proved: `contract-is-row`, in proofs/Rows.antt. Assumes
+-- nothing.
 use Prim.Native.Nat.{ℕ}
 use mathlib.Core.Path.{_≡_}
 use mathlib.Core.List.{List, []}
 use lib.ListN.{length}
 use Rattle.checks.specs.Order.{firstOf}
+use Rattle.checks.specs.Answer.{refusalNumber}
 use Rattle.address.specs.Class.{classOf, classNumber}
 use Rattle.address.specs.Path.{pathForm, pathNumber}
 use Rattle.checksum.specs.Sum.{checksumOf}
 use Rattle.header.specs.Read.{readOf}
-use Rattle.numbers.specs.declared.Numbers.{Numbers}
-use Rattle.sets.specs.Limits.{routePlaces, groupPlaces, pathPlaces}
-use Rattle.state.specs.Relay.{Relay, State, freshState}
-use Rattle.state.specs.Layout.{stateWords}
-use Rattle.refusals.specs.Lists.{portChecks, routeChecks, groupChecks, pathChecks, routerChecks, clearChecks}
-use Rattle.adjust.specs.Settled.{newRoute, settledRouter, settledPort, settledRoute, settledGroup, settledPath, clearedRoute, clearedGroup, clearedPath}
+use Rattle.sets.specs.Limits.{groupPlaces, pathPlaces}
+use Rattle.routes.specs.declared.Record.{Record}
+use Rattle.state.specs.Relay.{Relay, Mission}
+use Rattle.state.specs.Seen.{Board, State, freshBoard, onMission}
+use Rattle.state.specs.Layout.{boardWords, missionWords}
+use Rattle.lent_state.specs.View.{Lent, lent, lentBoard, toldBoard, changedBoard, told, changed, toldRelay, changedRelay}
+use Rattle.refusals.specs.Lists.{portChecks, routeChecks, clearRouteChecks, groupChecks, pathChecks, routerChecks, clearChecks, missionChecks}
+use Rattle.adjust.specs.Settled.{newRecord, settledFresh, settledRouter, settledPort, settledRoute, clearedRoute, settledGroup, settledPath, clearedGroup, clearedPath}
 use Rattle.taking.specs.Taking.{takenRelay}
-use Rattle.checks.specs.Answer.{refusalNumber}
-use Rattle.lent_state.specs.View.{Lent, lent, told, changed, toldRelay, changedRelay}
-use Rattle.harpjuniper.specs.Face.{readingOf, buildAnswer, buildOutput}
-use Rattle.harpjuniper.specs.declared.Reading.{Reading}
-use Rattle.harpjuniper_reads.specs.Back.{portBack, routeBack, groupBack, pathBack, noPortBack, noRouteBack, noGroupBack, noPathBack}
-use Rattle.harpjuniper_reads.specs.Search.{searchAnswer}
-use Rattle.harpjuniper_reads.specs.declared.PortBack.{PortBack}
-use Rattle.harpjuniper_reads.specs.declared.RouteBack.{RouteBack}
-use Rattle.harpjuniper_reads.specs.declared.GroupBack.{GroupBack}
-use Rattle.harpjuniper_reads.specs.declared.PathBack.{PathBack}
-use Rattle.harpjuniper_receive.specs.Face.{receiveAnswer, receiveState, receiveOutput}
+use Rattle.harpjuniper.specs.Face.{readingOf, readAnswer, readLeft, buildWordsAnswer, buildWordsOutput}
+use Rattle.harpjuniper_reads.specs.Back.{portAnswer, groupAnswer, pathAnswer}
+use Rattle.harpjuniper_routes.specs.Face.{searchTold, routeWordTold}
+use Rattle.harpjuniper_receive.specs.Face.{receiveAnswer, receiveWords, receiveOutput}
 use Rattle.harpjuniper_relay.specs.Face.{takeAnswer, counterAnswer, waitingAnswer}
 
--- ---- what a call gives back: its answer, the words and the output after it
-pub data Told : Type 0 where
-  number : ℕ → Told
-  reading : Reading → Told
-  port : PortBack → Told
-  route : RouteBack → Told
-  group : GroupBack → Told
-  path : PathBack → Told
-
-pub record Result : Type 0 where
-  pub answer : Told
-  pub words : List ℕ
-  pub output : List ℕ
-
--- what a promise says of them: of the words their view
-pub record Promise : Type 0 where
-  pub answer : Told
-  pub words : Lent
-  pub output : List ℕ
-
-abbrev pub Allows : Promise → Result → Type 0
-Allows p x = (x .answer ≡ p .answer) × ((lent (x .words) ≡ p .words) × (x .output ≡ p .output))
-
--- ---- the calls, each with what it is lent and told: w is words, o an output
+-- ---- the calls, each with what it is lent and told: b is a board's words, m a mission's, rs a list of routes, o an output, n the words of a header's
+-- numbers
 pub data Exported : Type 0 where
-  hj-read : List ℕ → Exported
-  hj-build : Numbers → ℕ → List ℕ → Exported
+  hj-read-words : List ℕ → List ℕ → Exported
+  hj-build-words : List ℕ → ℕ → List ℕ → Exported
   hj-class : ℕ → Exported
   hj-path : ℕ → Exported
   hj-checksum : List ℕ → Exported
-  hj-state-words : Exported
-  hj-fresh : List ℕ → Exported
+  hj-board-words : Exported
+  hj-mission-words : Exported
+  hj-fresh-board : List ℕ → Exported
+  hj-fresh-mission : List ℕ → ℕ → Exported
   hj-set-router : List ℕ → ℕ → Exported
-  hj-set-port : List ℕ → ℕ → ℕ → ℕ → ℕ → Exported
-  hj-set-route : List ℕ → ℕ → ℕ → ℕ → ℕ → ℕ → ℕ → Exported
-  hj-set-group : List ℕ → ℕ → ℕ → ℕ → ℕ → Exported
-  hj-set-path : List ℕ → ℕ → ℕ → ℕ → ℕ → Exported
-  hj-clear-route : List ℕ → ℕ → Exported
+  hj-set-port : List ℕ → ℕ → ℕ → ℕ → ℕ → ℕ → Exported
+  hj-set-route : List ℕ → List Record → ℕ → ℕ → ℕ → ℕ → ℕ → ℕ → ℕ → Exported
+  hj-clear-route : List Record → ℕ → Exported
+  hj-set-group : List ℕ → List ℕ → ℕ → ℕ → ℕ → ℕ → Exported
+  hj-set-path : List ℕ → List ℕ → ℕ → ℕ → ℕ → ℕ → Exported
   hj-clear-group : List ℕ → ℕ → Exported
   hj-clear-path : List ℕ → ℕ → Exported
   hj-get-router : List ℕ → Exported
-  hj-get-port : List ℕ → ℕ → Exported
-  hj-get-route : List ℕ → ℕ → Exported
-  hj-get-group : List ℕ → ℕ → Exported
-  hj-get-path : List ℕ → ℕ → Exported
-  hj-search : List ℕ → ℕ → Exported
-  hj-receive : List ℕ → ℕ → ℕ → List ℕ → List ℕ → Exported
-  hj-take : List ℕ → ℕ → Exported
+  hj-port-word : List ℕ → ℕ → ℕ → Exported
+  hj-route-word : List Record → ℕ → ℕ → Exported
+  hj-group-word : List ℕ → ℕ → ℕ → Exported
+  hj-path-word : List ℕ → ℕ → ℕ → Exported
+  hj-search : List ℕ → List ℕ → List Record → ℕ → Exported
+  hj-receive-at : List ℕ → List ℕ → List Record → ℕ → ℕ → List ℕ → List ℕ → Exported
+  hj-take : List ℕ → List ℕ → ℕ → Exported
   hj-counter : List ℕ → ℕ → Exported
   hj-waiting : List ℕ → ℕ → Exported
 
--- ---- the table
--- nothing is lent to be written
-abbrev looking : List ℕ → Told → Promise
-looking w answer = record { answer = answer; words = lent w; output = [] }
+-- ---- what is lent to a call and may be written, and what is lent beside it; what a call is not lent is empty here
+pub record Things : Type 0 where
+  pub board : List ℕ
+  pub mission : List ℕ
+  pub routes : List Record
+  pub output : List ℕ
+  pub numbers : List ℕ
 
--- a setting: a number, 21 where the words hold no relay, and the relay changed; the counters stay
-abbrev setting : List ℕ → (Relay → ℕ) → (Relay → Relay) → Promise
-setting w answer change = record { answer = number (toldRelay answer 21 w); words = changedRelay change w; output = [] }
+-- what a call gives back: its answer, and these things after it
+pub record Result : Type 0 where
+  pub answer : ℕ
+  pub left : Things
+
+-- what a promise says of them: of the words their view
+pub record Promise : Type 0 where
+  pub answer : ℕ
+  pub board : Lent Board
+  pub mission : Lent State
+  pub routes : List Record
+  pub output : List ℕ
+  pub numbers : List ℕ
+
+pub record Allows (p : Promise) (x : Result) : Type 0 where
+  pub answer : x .answer ≡ p .answer
+  pub board : lentBoard (x .left .board) ≡ p .board
+  pub mission : lent (x .left .mission) ≡ p .mission
+  pub routes : x .left .routes ≡ p .routes
+  pub output : x .left .output ≡ p .output
+  pub numbers : x .left .numbers ≡ p .numbers
+
+-- ---- what each call is lent
+abbrev nothing : Things
+nothing = record { board = []; mission = []; routes = []; output = []; numbers = [] }
+
+abbrev aBoard : List ℕ → Things
+aBoard b = record { board = b; mission = []; routes = []; output = []; numbers = [] }
+
+abbrev aMission : List ℕ → Things
+aMission m = record { board = []; mission = m; routes = []; output = []; numbers = [] }
+
+abbrev aList : List Record → Things
+aList rs = record { board = []; mission = []; routes = rs; output = []; numbers = [] }
+
+abbrev both : List ℕ → List ℕ → Things
+both b m = record { board = b; mission = m; routes = []; output = []; numbers = [] }
+
+abbrev pub lentTo : Exported → Things
+lentTo (hj-read-words octets n) = record { board = []; mission = []; routes = []; output = []; numbers = n }
+lentTo (hj-build-words n size o) = record { board = []; mission = []; routes = []; output = o; numbers = n }
+lentTo (hj-class a) = nothing
+lentTo (hj-path p) = nothing
+lentTo (hj-checksum octets) = nothing
+lentTo hj-board-words = nothing
+lentTo hj-mission-words = nothing
+lentTo (hj-fresh-board b) = aBoard b
+lentTo (hj-fresh-mission m number) = aMission m
+lentTo (hj-set-router b router) = aBoard b
+lentTo (hj-set-port b p address mask mtu mission) = aBoard b
+lentTo (hj-set-route b rs i prefix mask p availability capabilities mission) =
+    record { board = b; mission = []; routes = rs; output = []; numbers = [] }
+lentTo (hj-clear-route rs i) = aList rs
+lentTo (hj-set-group b m i address send subscribed) = both b m
+lentTo (hj-set-path b m i to send here) = both b m
+lentTo (hj-clear-group m i) = aMission m
+lentTo (hj-clear-path m i) = aMission m
+lentTo (hj-get-router b) = aBoard b
+lentTo (hj-port-word b p word) = aBoard b
+lentTo (hj-route-word rs i word) = aList rs
+lentTo (hj-group-word m i word) = aMission m
+lentTo (hj-path-word m i word) = aMission m
+lentTo (hj-search b m rs a) = record { board = b; mission = m; routes = rs; output = []; numbers = [] }
+lentTo (hj-receive-at b m rs p slot octets o) = record { board = b; mission = m; routes = rs; output = o; numbers = [] }
+lentTo (hj-take b m p) = both b m
+lentTo (hj-counter m i) = aMission m
+lentTo (hj-waiting m p) = aMission m
+
+-- ---- the table
+-- all is left as it was lent
+abbrev pub looking : Things → ℕ → Promise
+looking t answer =
+    record {
+      answer = answer;
+      board = lentBoard (t .board);
+      mission = lent (t .mission);
+      routes = t .routes;
+      output = t .output;
+      numbers = t .numbers;
+    }
+
+-- one thing is left otherwise
+abbrev pub boardLeft : Promise → Lent Board → Promise
+boardLeft p x = record { answer = p .answer; board = x; mission = p .mission; routes = p .routes; output = p .output; numbers = p .numbers }
+
+abbrev pub missionLeft : Promise → Lent State → Promise
+missionLeft p x = record { answer = p .answer; board = p .board; mission = x; routes = p .routes; output = p .output; numbers = p .numbers }
+
+abbrev pub routesLeft : Promise → List Record → Promise
+routesLeft p x = record { answer = p .answer; board = p .board; mission = p .mission; routes = x; output = p .output; numbers = p .numbers }
+
+abbrev pub outputLeft : Promise → List ℕ → Promise
+outputLeft p x = record { answer = p .answer; board = p .board; mission = p .mission; routes = p .routes; output = x; numbers = p .numbers }
+
+abbrev pub numbersLeft : Promise → List ℕ → Promise
+numbersLeft p x = record { answer = p .answer; board = p .board; mission = p .mission; routes = p .routes; output = p .output; numbers = x }
+
+-- the kinds of call: on the board, 21 where the words are no board's;
+abbrev onBoard : Exported → List ℕ → (Board → ℕ) → (Board → Board) → Promise
+onBoard c b answer change = boardLeft (looking (lentTo c) (toldBoard answer 21 b)) (changedBoard change b)
+
+-- a mission's setting, on the relay that it sees
+abbrev onRelay : Exported → List ℕ → List ℕ → (Relay → ℕ) → (Relay → Relay) → Promise
+onRelay c b m answer change = missionLeft (looking (lentTo c) (toldRelay answer 21 b m)) (changedRelay change b m)
+
+-- and on its own state alone
+abbrev onState : Exported → List ℕ → (State → ℕ) → (State → State) → Promise
+onState c m answer change = missionLeft (looking (lentTo c) (told answer 21 m)) (changed change m)
 
 abbrev pub promised : Exported → Promise
-promised (hj-read octets) = looking [] (reading (readingOf (readOf octets)))
-promised (hj-build fields size o) =
-    record { answer = number (buildAnswer fields size (length o)); words = lent []; output = buildOutput fields size o }
-promised (hj-class a) = looking [] (number (classNumber (classOf a)))
-promised (hj-path p) = looking [] (number (pathNumber (pathForm p)))
-promised (hj-checksum octets) = looking [] (number (checksumOf octets))
-promised hj-state-words = looking [] (number stateWords)
-promised (hj-fresh w) =
-    record { answer = number (told (λ (x : State). 0) 21 w); words = changed (λ (x : State). freshState) w; output = [] }
-promised (hj-set-router w router) = setting w (λ (x : Relay). firstOf (routerChecks router)) (λ (x : Relay). settledRouter x router)
-promised (hj-set-port w p address mask mtu) =
-    setting w
-    (λ (x : Relay). firstOf (portChecks x p (record { 0 = address }) (record { 0 = mask }) mtu))
-    (λ (x : Relay). settledPort x p (record { 0 = address }) (record { 0 = mask }) mtu)
-promised (hj-set-route w i prefix mask p availability capabilities) =
-    setting w
-    (λ (x : Relay). firstOf (routeChecks x i (newRoute (record { 0 = prefix }) (record { 0 = mask }) p availability capabilities)))
-    (λ (x : Relay). settledRoute x i (newRoute (record { 0 = prefix }) (record { 0 = mask }) p availability capabilities))
-promised (hj-set-group w i address send subscribed) =
-    setting w
+promised (hj-read-words octets n) =
+    let c = hj-read-words octets n in
+    numbersLeft (looking (lentTo c) (readAnswer (length n) (readingOf (readOf octets)))) (readLeft (readingOf (readOf octets)) n)
+promised (hj-build-words n size o) =
+    let c = hj-build-words n size o in
+    outputLeft (looking (lentTo c) (buildWordsAnswer n size (length o))) (buildWordsOutput n size o)
+promised (hj-class a) = looking nothing (classNumber (classOf a))
+promised (hj-path p) = looking nothing (pathNumber (pathForm p))
+promised (hj-checksum octets) = looking nothing (checksumOf octets)
+promised hj-board-words = looking nothing boardWords
+promised hj-mission-words = looking nothing missionWords
+promised (hj-fresh-board b) = onBoard (hj-fresh-board b) b (λ (x : Board). 0) (λ (x : Board). freshBoard)
+promised (hj-fresh-mission m number) =
+    onState (hj-fresh-mission m number) m (λ (x : State). firstOf (missionChecks number)) (λ (x : State). settledFresh x number)
+promised (hj-set-router b router) =
+    onBoard (hj-set-router b router) b (λ (x : Board). firstOf (routerChecks router)) (λ (x : Board). settledRouter x router)
+promised (hj-set-port b p address mask mtu mission) =
+    onBoard (hj-set-port b p address mask mtu mission) b
+    (λ (x : Board). firstOf (portChecks x p (record { 0 = address }) (record { 0 = mask }) mtu mission))
+    (λ (x : Board). settledPort x p (record { 0 = address }) (record { 0 = mask }) mtu mission)
+promised (hj-set-route b rs i prefix mask p availability capabilities mission) =
+    let c = hj-set-route b rs i prefix mask p availability capabilities mission in
+    let x = newRecord prefix mask p availability capabilities mission in
+    routesLeft (looking (lentTo c) (toldBoard (λ (y : Board). firstOf (routeChecks y rs i x)) 21 b)) (toldBoard (λ (y : Board). settledRoute y rs i x) rs b)
+promised (hj-clear-route rs i) = routesLeft (looking (aList rs) (firstOf (clearRouteChecks rs i))) (clearedRoute rs i)
+promised (hj-set-group b m i address send subscribed) =
+    onRelay (hj-set-group b m i address send subscribed) b m
     (λ (x : Relay). firstOf (groupChecks x i (record { 0 = address }) send subscribed))
     (λ (x : Relay). settledGroup x i (record { 0 = address }) send subscribed)
-promised (hj-set-path w i to send here) =
-    setting w
+promised (hj-set-path b m i to send here) =
+    onRelay (hj-set-path b m i to send here) b m
     (λ (x : Relay). firstOf (pathChecks x i (record { 0 = to }) send here))
     (λ (x : Relay). settledPath x i (record { 0 = to }) send here)
-promised (hj-clear-route w i) = setting w (λ (x : Relay). firstOf (clearChecks i routePlaces)) (λ (x : Relay). clearedRoute x i)
-promised (hj-clear-group w i) = setting w (λ (x : Relay). firstOf (clearChecks i groupPlaces)) (λ (x : Relay). clearedGroup x i)
-promised (hj-clear-path w i) = setting w (λ (x : Relay). firstOf (clearChecks i pathPlaces)) (λ (x : Relay). clearedPath x i)
-promised (hj-get-router w) = looking w (number (toldRelay (λ (x : Relay). x .router) (refusalNumber 21) w))
-promised (hj-get-port w p) = looking w (port (toldRelay (λ (x : Relay). portBack x p) noPortBack w))
-promised (hj-get-route w i) = looking w (route (toldRelay (λ (x : Relay). routeBack x i) noRouteBack w))
-promised (hj-get-group w i) = looking w (group (toldRelay (λ (x : Relay). groupBack x i) noGroupBack w))
-promised (hj-get-path w i) = looking w (path (toldRelay (λ (x : Relay). pathBack x i) noPathBack w))
-promised (hj-search w a) = looking w (number (toldRelay (λ (x : Relay). searchAnswer x (record { 0 = a })) 21 w))
-promised (hj-receive w p slot octets o) =
-    record {
-      answer = number (toldRelay (λ (x : Relay). receiveAnswer x p octets (length o)) 16 w);
-      words = changed (λ (x : State). receiveState x p slot octets (length o)) w;
-      output = toldRelay (λ (x : Relay). receiveOutput x p octets o) o w;
-    }
-promised (hj-take w p) =
-    record {
-      answer = number (toldRelay (λ (x : Relay). takeAnswer x p) (refusalNumber 16) w);
-      words = changedRelay (λ (x : Relay). takenRelay x p) w;
-      output = [];
-    }
-promised (hj-counter w i) = looking w (number (told (λ (x : State). counterAnswer (x .counters) i) (refusalNumber 21) w))
-promised (hj-waiting w p) = looking w (number (toldRelay (λ (x : Relay). waitingAnswer x p) (refusalNumber 21) w))
+promised (hj-clear-group m i) =
+    onState (hj-clear-group m i) m (λ (x : State). firstOf (clearChecks i groupPlaces)) (onMission (λ (x : Mission). clearedGroup x i))
+promised (hj-clear-path m i) =
+    onState (hj-clear-path m i) m (λ (x : State). firstOf (clearChecks i pathPlaces)) (onMission (λ (x : Mission). clearedPath x i))
+promised (hj-get-router b) = looking (aBoard b) (toldBoard (λ (x : Board). x .router) (refusalNumber 21) b)
+promised (hj-port-word b p word) = looking (aBoard b) (toldBoard (λ (x : Board). portAnswer x p word) (refusalNumber 21) b)
+promised (hj-route-word rs i word) = looking (aList rs) (routeWordTold rs i word)
+promised (hj-group-word m i word) = looking (aMission m) (told (λ (x : State). groupAnswer (x .mission) i word) (refusalNumber 21) m)
+promised (hj-path-word m i word) = looking (aMission m) (told (λ (x : State). pathAnswer (x .mission) i word) (refusalNumber 21) m)
+promised (hj-search b m rs a) = looking (lentTo (hj-search b m rs a)) (searchTold b m rs a)
+promised (hj-receive-at b m rs p slot octets o) =
+    let c = hj-receive-at b m rs p slot octets o in
+    outputLeft
+    (missionLeft (looking (lentTo c) (receiveAnswer b m rs p octets (length o))) (receiveWords b m rs p slot octets (length o)))
+    (receiveOutput b m rs p octets o)
+promised (hj-take b m p) =
+    missionLeft (looking (both b m) (toldRelay (λ (x : Relay). takeAnswer x p) (refusalNumber 16) b m)) (changedRelay (λ (x : Relay). takenRelay x p) b m)
+promised (hj-counter m i) = looking (aMission m) (told (λ (x : State). counterAnswer (x .counters) i) (refusalNumber 21) m)
+promised (hj-waiting m p) = looking (aMission m) (told (λ (x : State). waitingAnswer (x .mission) p) (refusalNumber 21) m)

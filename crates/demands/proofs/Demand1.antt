@@ -1,97 +1,158 @@
 -- Demand 1 is kept. Assumes nothing.
+use native.Mathlib.Omega.{arith}
 use Prim.Native.Nat.{ℕ, _+_, _%_, _^_}
-use mathlib.Core.Path.{_≡_, refl, sym, ap, _∙_}
-use mathlib.Core.Bool.{Bool, true, false, not}
+use mathlib.Core.Path.{_≡_, refl, sym, ap, subst, _∙_}
+use mathlib.Core.Bool.{Bool, true, false}
 use mathlib.Core.Logic.{_⊎_, inl, inr, ⊎-elim}
 use mathlib.Core.List.{List, []}
 use lib.ListN.{length}
-use lib.Dec.{eqb}
-use Rattle.tally.specs.Tally.{countedAll}
-use Rattle.demands.proofs.Lasts.{gives-lasts}
-use Rattle.checks.specs.Order.{pick, firstOf}
+use borrow.Author.Tests.{ne-eqb}
+use Rattle.checks.specs.Order.{pick}
+use Rattle.checks.specs.Answer.{refusalNumber}
 use Rattle.checks.proofs.Bools.{true-false}
 use Rattle.header.specs.Read.{readOf}
 use Rattle.header.specs.declared.Header.{Header}
 use Rattle.header.specs.declared.Read.the-variants.{Good}
 use Rattle.address.specs.declared.Slot.{Slot}
-use Rattle.state.specs.Relay.{Relay, State, freshState}
-use Rattle.state.specs.Layout as layout
-use Rattle.lent_state.specs.View.{told}
-use Rattle.lent_state.proofs.Calls.{other-told}
+use Rattle.numbers.specs.InWords.{fieldWords}
+use Rattle.routes.specs.declared.Record.{Record}
+use Rattle.state.specs.Relay.{Relay}
+use Rattle.state.specs.Seen.{State, freshBoard, freshState}
+use Rattle.state.specs.Layout.{decode}
+use Rattle.lent_state.specs.View.{lent, tooLong}
+use Rattle.lent_state.proofs.Same.{board-injective}
 use Rattle.verdict.specs.Numbers.{localNumber, onwardNumber}
-use Rattle.taking.specs.Taking.{takeOutcome, takenRelay}
-use Rattle.taking.specs.declared.Taking.{Taking}
-use Rattle.taking.specs.declared.Taking.the-variants.{Handed, Refused}
-use Rattle.judge.specs.Ending.{endingOf}
+use Rattle.taking.specs.Taking.{takeOutcome}
+use Rattle.tally.specs.Tally.{Move, countedAll}
 use Rattle.judge.specs.declared.Ending.{Ending}
 use Rattle.relay.specs.Received.{receivedRelay}
-use Rattle.harpjuniper.specs.Face.{numbersChecks, buildOutput}
-use Rattle.contracts.specs.Promised.{Told, number, port, route, group, path, Result, hj-fresh}
+use Rattle.answers.specs.Answers.{partAt, refusalIn}
+use Rattle.harpjuniper.specs.Face.{Reading, readingCount, readAnswer, readLeft, buildWordsAnswer, buildWordsOutput}
+use Rattle.contracts.specs.Promised.{Things, Result, Promise, Allows, lentTo, looking, hj-read-words, hj-build-words}
 use Rattle.contracts.specs.Contracts.{Says}
 use Rattle.contracts.proofs.Answers.{each-call-answers}
 use Rattle.contracts.proofs.Rows.{says-row, one-result-by-contract, row-contract}
 use Rattle.contracts.proofs.Given as given
-use Rattle.history.specs.Calls.{Setting, setRouter, setPort, setRoute, setGroup, setPath, clearRoute, clearGroup, clearPath, theRouter, thePort, theRoute, theGroup, thePath, Look, setting, search, counter, waiting, read, build, class, form, checksum, stateWords, Call, sets, hears, takes, looks, checksOf}
-use Rattle.history.specs.Outcome.{isRefusal, ofTaking, next, relayAfter}
+use Rattle.history.specs.Calls.{
+  orders,
+  views,
+  groupWord,
+  pathWord,
+  search,
+  counter,
+  waiting,
+  read,
+  build,
+  class,
+  form,
+  checksum,
+  boardSize,
+  missionSize,
+  MissionCall,
+  sets,
+  hears,
+  takes,
+  looks,
+  Call,
+  operator,
+  own,
+}
+use Rattle.history.specs.Seat.{Seat, relayIn, heardBy}
 use Rattle.history.specs.Outcome as outcome
-use Rattle.history.specs.Tally.{stateAfter}
 use Rattle.history.specs.Answers.{answersOf, stands}
 use Rattle.history.specs.Transport.{SameButTpid, SameButLocal, localBy}
 use Rattle.history.proofs.Answered.{every-answer-is-listed}
 use Rattle.history.proofs.ReadBack.{ReadBack, read-back}
 use Rattle.history.proofs.Untaken.{took-none}
-use Rattle.history.proofs.Refusals.{nobody-took, output-as-lent, refused-take-leaves}
+use Rattle.history.proofs.Refusals.{nobody-took, output-as-lent}
 use Rattle.history.proofs.Sums.{moves-as-written}
 use Rattle.history.proofs.Transport as transport
-use Rattle.demands.specs.Trace.{Step, starts, calls, made, wordsAfter, historyOf, Gives}
-use Rattle.demands.proofs.Promised.{promisedOf}
-use Rattle.demands.specs.ReadOut.{numberIn, looksAtState, readOut, outputOf, relayIn, hearsNothing, tookIn, counterAt}
-use Rattle.demands.specs.Demand1.{LocalAlone, WithoutState, Demand1}
-use Rattle.demands.proofs.Traced.{step-stays, fresh-answers, fresh-holds, held-words}
-use Rattle.demands.proofs.Told.{gives-row, gives-before, gives-next, counters-move, receive-told}
+use Rattle.demands.specs.Trace.{Customer, Step, operates, flies, stepOf, Words, missionOf, made, wordsAfter, seatOf, relayOf, Gives}
+use Rattle.demands.specs.ReadOut.{ownOut, readOut, ownIn, hearsNothing, counterAt}
+use Rattle.demands.specs.Demand1.{Unchanged, LocalAlone, Lacks, lackNumber, refusedOwn, AnswersLack, HasLong, refusedAs, MissionLacks, Demand1}
+use Rattle.demands.proofs.Lane.{madeBy}
+use Rattle.demands.proofs.Promised.{promisedBy, nextState}
+use Rattle.demands.proofs.Held.{quiet-taking}
+use Rattle.demands.proofs.Fresh.{fresh-board-holds, fresh-board-answers, fresh-board-refused, fresh-mission-holds, fresh-mission-answers, fresh-mission-refused}
+use Rattle.demands.proofs.Traced.{held-board, held-words, words-hold}
+use Rattle.demands.proofs.Lasts.{gives-lasts}
+use Rattle.demands.proofs.Told.{gives-row, gives-next, before-own, counters, counters-move}
+use Rattle.demands.proofs.Fitting.{refusal-out}
 use Rattle.demands.proofs.ReadOut.{read-out}
+use Rattle.demands.proofs.Whole.{whole, left-whole, operator-refused, own-refused, lackAnswer, operator-lacks, own-lacks, longAnswer, long-left}
 
--- ---- a refusal leaves the relay
-module _ (r : Relay) where
-  settle-case : (n : ℕ) (s : Relay) (t : Bool) → eqb n 0 ≡ t → not (eqb n 0) ≡ true → pick t s r ≡ r
-  settle-case n s true e h = true-false (sym (sym (ap not e) ∙ h))
-  settle-case n s false e h = refl
+-- ---- a refusal leaves all but the counters of a datagram
+-- where all is left, so is this
+all-unchanged : (t u : Things) → u ≡ t → Unchanged t u
+all-unchanged t u e =
+    subst (Unchanged t) (sym e) (record { board = refl; mission = refl; number = refl; routes = refl; output = refl; numbers = refl })
 
-  taken-case : (p : ℕ) (x : Taking) → takeOutcome r p ≡ x → isRefusal (ofTaking p x .answer) ≡ true → takenRelay r p ≡ r
-  taken-case p (Handed e) is h = true-false (sym h)
-  taken-case p (Refused n) is h = refused-take-leaves r p n is
+module _ (who : Customer) (steps : List Step) where
+  abbrev seat : Seat
+  seat = seatOf who steps
 
-  refused-next : (c : Call) → isRefusal (outcome.outcome r c .answer) ≡ true → next r c ≡ r
-  refused-next (sets s) h = settle-case (firstOf (checksOf r s)) _ (eqb (firstOf (checksOf r s)) 0) refl h
-  refused-next (hears p slot octets output) h =
-      nobody-took r slot (endingOf r p octets (length output)) (took-none r p octets (length output) h)
-  refused-next (takes p) h = taken-case p (takeOutcome r p) refl h
-  refused-next (looks l) h = refl
+  -- a row that is that of a look
+  looked : (c : Call) (x : Result) (g : Gives steps (stepOf who c) x)
+      → promisedBy seat (counters who steps) c
+      ≡ looking (lentTo (madeBy (g .before .board) (missionOf who (g .before)) c)) (promisedBy seat (counters who steps) c .answer)
+      → Unchanged (lentTo (madeBy (g .before .board) (missionOf who (g .before)) c)) (x .left)
+  looked c x g is =
+      all-unchanged (lentTo (madeBy (g .before .board) (missionOf who (g .before)) c)) (x .left)
+      (whole _ (promisedBy seat (counters who steps) c .answer) x (subst (λ (p : Promise). Allows p x) is (gives-row who steps c x g)))
 
-build-case : (n : ℕ) (left lent : List ℕ) (t : Bool) → eqb n 0 ≡ t → not (eqb n 0) ≡ true → pick t left lent ≡ lent
-build-case n left lent true e h = true-false (sym (sym (ap not e) ∙ h))
-build-case n left lent false e h = refl
+  -- a datagram of which no port took an entry
+  module _ (rs : List Record) (p : ℕ) (slot : Slot) (octets output : List ℕ) (x : Result) (g : Gives steps (flies who (hears rs p slot octets output)) x) where
+    abbrev e : Ending
+    e = heardBy seat rs p octets (length output)
 
--- ---- and the output
-module _ (s : State) where
-  refused-output : (c : Call) → isRefusal (outcome.outcome (s .relay) c .answer) ≡ true → promisedOf s (calls c) .output ≡ outputOf c
-  unfolding buildOutput
-  refused-output (sets x) h = refl
-  refused-output (hears p slot octets output) h =
-      output-as-lent (endingOf (s .relay) p octets (length output)) octets output (took-none (s .relay) p octets (length output) h)
-  refused-output (takes p) h = refl
-  refused-output (looks (setting part)) h = refl
-  refused-output (looks (search a)) h = refl
-  refused-output (looks (counter i)) h = refl
-  refused-output (looks (waiting p)) h = refl
-  refused-output (looks (read octets)) h = refl
-  refused-output (looks (build fields size output)) h =
-      let n = firstOf (numbersChecks fields size (length output)) in
-      build-case n _ output (eqb n 0) refl h
-  refused-output (looks (class a)) h = refl
-  refused-output (looks (form p)) h = refl
-  refused-output (looks (checksum octets)) h = refl
-  refused-output (looks stateWords) h = refl
+    heard-unchanged : e .ruling .took ≡ 0 → Unchanged (lentTo (made (g .before) (flies who (hears rs p slot octets output)))) (x .left)
+    heard-unchanged none =
+        let c = hears rs p slot octets output in
+        let row = gives-row who steps (own c) x g in
+        let before = before-own who steps (flies who c) x g in
+        let hold = words-hold who (g .lent) steps (g .before) (g .begun) in
+        let left = held-words (x .left .mission) (nextState seat (counters who steps) (own c)) (row .mission) .1 in
+        record {
+          board = board-injective (x .left .board) (g .before .board) (row .board ∙ sym (hold .0));
+          mission =
+              ap (λ (s : State). s .mission) left
+              ∙ ap (λ (r : Relay). r .mission) (nobody-took (relayIn seat) slot e none)
+              ∙ ap (λ (s : State). s .mission) (sym before);
+          number = ap (λ (s : State). s .number) left ∙ ap (λ (s : State). s .number) (sym before);
+          routes = row .routes;
+          output = row .output ∙ output-as-lent e octets output none;
+          numbers = row .numbers;
+        }
+
+    answered : ReadBack (x .answer) e
+    answered = rw (gives-row who steps (own (hears rs p slot octets output)) x g .answer) (read-back seat rs p octets (length output))
+
+  quiet-leaves : (c : MissionCall) → hearsNothing c ≡ true → (x : Result) (g : Gives steps (flies who c) x)
+      → outcome.isRefusal (outcome.ownOutcome seat c .answer) ≡ true → Unchanged (lentTo (made (g .before) (flies who c))) (x .left)
+  quiet-leaves c quiet x g h =
+      let hold = words-hold who (g .lent) steps (g .before) (g .begun) in
+      looked (own c) x g
+      (own-refused (g .before .board) (missionOf who (g .before)) seat (counters who steps) (hold .0) (hold .1) c quiet h)
+
+  own-leaves : (c : MissionCall) (x : Result) (g : Gives steps (flies who c) x) → outcome.isRefusal (outcome.ownOutcome seat c .answer) ≡ true
+      → Unchanged (lentTo (made (g .before) (flies who c))) (x .left)
+  own-leaves (sets s) x g h = quiet-leaves (sets s) refl x g h
+  own-leaves (hears rs p slot octets output) x g h =
+      heard-unchanged rs p slot octets output x g (took-none seat rs p octets (length output) h)
+  own-leaves (takes p) x g h = quiet-leaves (takes p) refl x g h
+  own-leaves (looks l) x g h = quiet-leaves (looks l) refl x g h
+
+  call-leaves : (c : Call) (x : Result) (g : Gives steps (stepOf who c) x) → outcome.isRefusal (outcome.outcome seat c .answer) ≡ true
+      → Unchanged (lentTo (made (g .before) (stepOf who c))) (x .left)
+  call-leaves (operator c) x g h =
+      let hold = words-hold who (g .lent) steps (g .before) (g .begun) in
+      looked (operator c) x g
+      (operator-refused (g .before .board) (missionOf who (g .before)) seat (counters who steps) (hold .0) (hold .1) c h)
+  call-leaves (own c) x g h = own-leaves c x g h
+
+  refusal-leaves : (c : Call) (x : Result) (g : Gives steps (stepOf who c) x) → outcome.isRefusal (readOut c (x .answer)) ≡ true
+      → Unchanged (lentTo (made (g .before) (stepOf who c))) (x .left)
+  refusal-leaves c x g h = call-leaves c x g (ap outcome.isRefusal (sym (read-out who steps c x g)) ∙ h)
 
 -- ---- two datagrams
 local-numbers : (a b : ℕ) (e f : Ending) → SameButLocal a b e f
@@ -103,131 +164,136 @@ local-numbers a b e f same =
     (λ each. inr (ap localNumber (each .0), ap localNumber (each .1)))
     (same .local)
 
-module _ (steps : List Step) (p : ℕ) (slot : Slot) (output : List ℕ) where
-  abbrev r : Relay
-  r = relayAfter (historyOf steps)
-
-  -- the parts of an answer are those of the ending, and the words hold what it leaves
-  module _ (octets : List ℕ) (x : Result) (g : Gives steps (calls (hears p slot octets output)) x) where
-    answered : ReadBack (numberIn (x .answer)) (endingOf r p octets (length output))
-    answered = rw (receive-told steps x p slot octets output g .0) (read-back r p octets (length output))
-
-    left : relayIn (x .words) ≡ receivedRelay r slot (endingOf r p octets (length output))
-    left =
-        ap (λ (s : State). s .relay) (gives-next steps (calls (hears p slot octets output)) x g)
-        ∙ ap (λ (s : State). receivedRelay (s .relay) slot (endingOf (s .relay) p octets (length output))) (gives-before steps (calls (hears p slot octets output)) x g)
+module _ (who : Customer) (steps : List Step) (rs : List Record) (p : ℕ) (slot : Slot) (output : List ℕ) where
+  left : (octets : List ℕ) (x : Result) → Gives steps (flies who (hears rs p slot octets output)) x
+      → ownIn (x .left .mission) ≡ receivedRelay (relayOf who steps) slot (heardBy (seatOf who steps) rs p octets (length output)) .mission
+  left octets x g =
+      let c = own (hears rs p slot octets output) in
+      ap (λ (s : State). s .mission)
+      (held-words (x .left .mission) (nextState (seatOf who steps) (counters who steps) c) (gives-row who steps c x g .mission) .1)
 
   alone : (s t : List ℕ) (h k : Header) (x y : Result) → readOf s ≡ Good h → readOf t ≡ Good k → SameButTpid h k
-      → Gives steps (calls (hears p slot s output)) x → Gives steps (calls (hears p slot t output)) y → LocalAlone (h .fields .tpid) (k .fields .tpid) x y
+      → Gives steps (flies who (hears rs p slot s output)) x → Gives steps (flies who (hears rs p slot t output)) y
+      → LocalAlone (h .fields .tpid) (k .fields .tpid) x y
   alone s t h k x y good other same g i =
-      let e = endingOf r p s (length output) in
-      let f = endingOf r p t (length output) in
-      let but = transport.transport-alone r p s t (length output) h k good other same in
-      let one = answered s x g in
-      let two = answered t y i in
+      let seat = seatOf who steps in
+      let room = length output in
+      let e = heardBy seat rs p s room in
+      let f = heardBy seat rs p t room in
+      let but = transport.transport-alone p s t room h k good other same seat rs in
+      let one = answered who steps rs p slot s output x g in
+      let two = answered who steps rs p slot t output y i in
       record {
         refusal = two .refusal ∙ sym (but .refusal) ∙ sym (one .refusal);
         onward = two .onward ∙ ap onwardNumber (sym (but .onward)) ∙ sym (one .onward);
         took = two .took ∙ sym (but .took) ∙ sym (one .took);
         dropped = two .dropped ∙ sym (but .dropped) ∙ sym (one .dropped);
-        relay = left t y i ∙ sym (transport.leaves-the-same r p s t (length output) h k good other same slot) ∙ sym (left s x g);
+        mission = left t y i
+            ∙ ap (λ (r : Relay). r .mission) (sym (transport.leaves-the-same p s t room h k good other same seat rs slot))
+            ∙ sym (left s x g);
         local = rw (one .local, two .local) (local-numbers (h .fields .tpid) (k .fields .tpid) e f but);
       }
 
-  untaken : (octets : List ℕ) (x : Result) (g : Gives steps (calls (hears p slot octets output)) x) → tookIn x ≡ 0
-      → (relayIn (x .words) ≡ relayIn (g .before)) × (x .output ≡ output)
-  untaken octets x g none =
-      let e = endingOf r p octets (length output) in
-      let took = sym (answered octets x g .took) ∙ none in
-      let before = ap (λ (s : State). s .relay) (gives-before steps (calls (hears p slot octets output)) x g) in
-      (left octets x g ∙ nobody-took r slot e took ∙ sym before, receive-told steps x p slot octets output g .1 ∙ output-as-lent e octets output took)
+-- ---- words of the wrong number, and too long a list: what is read out of the answer
+ended-lack : (t : Bool) → outcome.ended (partAt 0 (pick t 21 16)) (partAt 8 (pick t 21 16)) (partAt 16 (pick t 21 16)) (partAt 24 (pick t 21 16))
+    ≡ outcome.ended (pick t 21 16) 0 0 0
+ended-lack true = refl
+ended-lack false = refl
 
-untaken-leaves : (steps : List Step) (p : ℕ) (slot : Slot) (octets output : List ℕ) (x : Result) (g : Gives steps (calls (hears p slot octets output)) x)
-    → tookIn x ≡ 0 → (relayIn (x .words) ≡ relayIn (g .before)) × (x .output ≡ output)
-untaken-leaves steps p slot octets output = untaken steps p slot output octets
+read-21 : refusalIn (refusalNumber 21) ≡ 21
+read-21 = refusal-out 21 (omega arith)
 
--- ---- words that hold no state
-module _ (w : List ℕ) (wrong : length w ≡ layout.stateWords → ⊥) (x : Result) where
-  none : {A : Type 0} (f : State → A) (d : A) → told f d w ≡ d
-  none f d = sym (other-told w wrong f d)
+read-16 : refusalIn (refusalNumber 16) ≡ 16
+read-16 = refusal-out 16 (omega arith)
 
-  told-none : {A : Type 0} (of : A → Told) (f : State → A) (d : A) → x .answer ≡ of (told f d w) → x .answer ≡ of d
-  told-none of f d is = is ∙ ap of (none f d)
+own-lack-out : (b m : List ℕ) (c : MissionCall) → MissionLacks b m c → ownOut c (lackAnswer (own c)) ≡ refusedOwn c (lackNumber c)
+own-lack-out b m (sets s) w = refl
+own-lack-out b m (hears rs p slot octets output) w = ended-lack (tooLong rs)
+own-lack-out b m (takes p) w = rw read-16
+own-lack-out b m (looks (groupWord i word)) w = rw read-21
+own-lack-out b m (looks (pathWord i word)) w = rw read-21
+own-lack-out b m (looks (search rs a)) w = refl
+own-lack-out b m (looks (counter i)) w = rw read-21
+own-lack-out b m (looks (waiting p)) w = rw read-21
+own-lack-out b m (looks (read octets)) w = absurd w
+own-lack-out b m (looks (build fields size output)) w = absurd w
+own-lack-out b m (looks (class a)) w = absurd w
+own-lack-out b m (looks (form p)) w = absurd w
+own-lack-out b m (looks (checksum octets)) w = absurd w
+own-lack-out b m (looks boardSize) w = absurd w
+own-lack-out b m (looks missionSize) w = absurd w
 
-  setting-none : (s : Setting) → Says (made w (calls (sets s))) x → x .answer ≡ number 21
-  setting-none (setRouter y) says = told-none number _ 21 (says-row (made w (calls (sets (setRouter y)))) x says .0)
-  setting-none (setPort p address mask mtu) says = told-none number _ 21 (says-row (made w (calls (sets (setPort p address mask mtu)))) x says .0)
-  setting-none (setRoute i prefix mask p availability capabilities) says = told-none number _ 21 (says-row (made w (calls (sets (setRoute i prefix mask p availability capabilities)))) x says .0)
-  setting-none (setGroup i address send subscribed) says = told-none number _ 21 (says-row (made w (calls (sets (setGroup i address send subscribed)))) x says .0)
-  setting-none (setPath i to send here) says = told-none number _ 21 (says-row (made w (calls (sets (setPath i to send here)))) x says .0)
-  setting-none (clearRoute i) says = told-none number _ 21 (says-row (made w (calls (sets (clearRoute i)))) x says .0)
-  setting-none (clearGroup i) says = told-none number _ 21 (says-row (made w (calls (sets (clearGroup i)))) x says .0)
-  setting-none (clearPath i) says = told-none number _ 21 (says-row (made w (calls (sets (clearPath i)))) x says .0)
+other-words : (w : Words) (c : Step) (x : Result) → Lacks w c → Says (made w c) x → AnswersLack c x × (x .left ≡ lentTo (made w c))
+other-words w (operates (orders o)) x lacks says =
+    let c = operator (orders o) in
+    let is = left-whole (w .board) [] c (lackAnswer c) (operator-lacks (w .board) [] (orders o) lacks) x (says-row (madeBy (w .board) [] c) x says) in
+    (ap outcome.number (is .0), is .1)
+other-words w (operates (views v)) x lacks says =
+    let c = operator (views v) in
+    let is = left-whole (w .board) [] c (lackAnswer c) (operator-lacks (w .board) [] (views v) lacks) x (says-row (madeBy (w .board) [] c) x says) in
+    (ap (λ (n : ℕ). outcome.number (refusalIn n)) (is .0) ∙ ap outcome.number read-21, is .1)
+other-words w (flies who c) x lacks says =
+    let b = w .board in
+    let m = missionOf who w in
+    let is = left-whole b m (own c) (lackAnswer (own c)) (own-lacks b m c lacks) x (says-row (madeBy b m (own c)) x says) in
+    (ap (ownOut c) (is .0) ∙ own-lack-out b m c lacks, is .1)
 
-  -- what is told of words that hold no state, read out
-  look-none : (l : Look) → Says (made w (calls (looks l))) x → looksAtState l ≡ true → readOut (looks l) (x .answer) ≡ outcome.number 21
-  look-none (setting theRouter) says h = ap (readOut (looks (setting theRouter))) (told-none number _ _ (says-row (made w (calls (looks (setting theRouter)))) x says .0))
-  look-none (setting (thePort p)) says h = ap (readOut (looks (setting (thePort p)))) (told-none port _ _ (says-row (made w (calls (looks (setting (thePort p))))) x says .0))
-  look-none (setting (theRoute i)) says h = ap (readOut (looks (setting (theRoute i)))) (told-none route _ _ (says-row (made w (calls (looks (setting (theRoute i))))) x says .0))
-  look-none (setting (theGroup i)) says h = ap (readOut (looks (setting (theGroup i)))) (told-none group _ _ (says-row (made w (calls (looks (setting (theGroup i))))) x says .0))
-  look-none (setting (thePath i)) says h = ap (readOut (looks (setting (thePath i)))) (told-none path _ _ (says-row (made w (calls (looks (setting (thePath i))))) x says .0))
-  look-none (search a) says h = ap (readOut (looks (search a))) (told-none number _ _ (says-row (made w (calls (looks (search a)))) x says .0))
-  look-none (counter i) says h = ap (readOut (looks (counter i))) (told-none number _ _ (says-row (made w (calls (looks (counter i)))) x says .0))
-  look-none (waiting p) says h = ap (readOut (looks (waiting p))) (told-none number _ _ (says-row (made w (calls (looks (waiting p)))) x says .0))
-  look-none (read octets) says h = true-false (sym h)
-  look-none (build fields size output) says h = true-false (sym h)
-  look-none (class a) says h = true-false (sym h)
-  look-none (form p) says h = true-false (sym h)
-  look-none (checksum octets) says h = true-false (sym h)
-  look-none stateWords says h = true-false (sym h)
+long-out : (c : Call) → HasLong c → readOut c (longAnswer c) ≡ refusedAs c 21
+long-out (operator (orders o)) h = refl
+long-out (operator (views v)) h = ap outcome.number read-21
+long-out (own (sets s)) h = absurd h
+long-out (own (hears rs p slot octets output)) h = refl
+long-out (own (takes p)) h = absurd h
+long-out (own (looks (groupWord i word))) h = absurd h
+long-out (own (looks (pathWord i word))) h = absurd h
+long-out (own (looks (search rs a))) h = refl
+long-out (own (looks (counter i))) h = absurd h
+long-out (own (looks (waiting p))) h = absurd h
+long-out (own (looks (read octets))) h = absurd h
+long-out (own (looks (build fields size output))) h = absurd h
+long-out (own (looks (class a))) h = absurd h
+long-out (own (looks (form p))) h = absurd h
+long-out (own (looks (checksum octets))) h = absurd h
+long-out (own (looks boardSize)) h = absurd h
+long-out (own (looks missionSize)) h = absurd h
 
-  without : (c : Step) → Says (made w c) x → WithoutState c x
-  without starts says = told-none number _ 21 (says-row (hj-fresh w) x says .0)
-  without (calls (sets s)) says = setting-none s says
-  without (calls (hears p slot octets output)) says =
-      let row = says-row (made w (calls (hears p slot octets output))) x says in
-      (told-none number _ 16 (row .0), row .1 .1 ∙ none _ output)
-  without (calls (takes p)) says = ap (readOut (takes p)) (told-none number _ _ (says-row (made w (calls (takes p))) x says .0))
-  without (calls (looks l)) says = look-none l says
+long-lists : (w : Words) (who : Customer) (c : Call) (x : Result) → HasLong c → Says (made w (stepOf who c)) x
+    → (readOut c (x .answer) ≡ refusedAs c 21) × (x .left ≡ lentTo (made w (stepOf who c)))
+long-lists w who (operator c) x h says =
+    let b = w .board in
+    let row = says-row (madeBy b [] (operator c)) x says in
+    let is = left-whole b [] (operator c) (longAnswer (operator c)) (long-left b [] (operator c) h) x row in
+    (ap (readOut (operator c)) (is .0) ∙ long-out (operator c) h, is .1)
+long-lists w who (own c) x h says =
+    let b = w .board in
+    let m = missionOf who w in
+    let is = left-whole b m (own c) 21 (long-left b m (own c) h) x (says-row (madeBy b m (own c)) x says) in
+    (ap (readOut (own c)) (is .0) ∙ long-out (own c) h, is .1)
 
--- ---- the demand
-module _ (steps : List Step) (c : Call) (x : Result) (g : Gives steps (calls c) x) where
-  refused-rules : isRefusal (readOut c (x .answer)) ≡ true → isRefusal (outcome.outcome (stateAfter (historyOf steps) .relay) c .answer) ≡ true
-  refused-rules h = ap isRefusal (sym (read-out steps c x g)) ∙ h
+-- ---- words of numbers that are not as many as those have
+module _ (n : List ℕ) where
+  read-other : (length n ≡ readingCount → ⊥) → (r : Reading) → (readAnswer (length n) r ≡ 21) × (readLeft r n ≡ n)
+  unfolding readAnswer readLeft
+  read-other wrong r = (rw (ne-eqb (length n) readingCount wrong), rw (ne-eqb (length n) readingCount wrong))
 
-  refusal-leaves : isRefusal (readOut c (x .answer)) ≡ true
-      → (relayIn (wordsAfter (g .before) (calls c) x) ≡ relayIn (g .before)) × (x .output ≡ outputOf c)
-  refusal-leaves h =
-      let s = stateAfter (historyOf steps) in
-      let before = ap (λ (s : State). s .relay) (gives-before steps (calls c) x g) in (
-        ap (λ (s : State). s .relay) (gives-next steps (calls c) x g)
-            ∙ ap (λ (r : Relay). next r c) before
-            ∙ refused-next (s .relay) c (refused-rules h)
-            ∙ sym before,
-        gives-row steps (calls c) x g .1 .1 ∙ refused-output s c (refused-rules h),
-      )
+  build-other : (length n ≡ fieldWords → ⊥) → (size room : ℕ) (o : List ℕ)
+      → (buildWordsAnswer n size room ≡ refusalNumber 21) × (buildWordsOutput n size o ≡ o)
+  unfolding buildWordsAnswer buildWordsOutput
+  build-other wrong size room o = (rw (ne-eqb (length n) fieldWords wrong), rw (ne-eqb (length n) fieldWords wrong))
 
 -- ---- a call that hears no datagram counts nothing
-quiet-taking : (p : ℕ) (t : Taking) → ofTaking p t .moves ≡ []
-quiet-taking p (Handed e) = refl
-quiet-taking p (Refused n) = refl
+no-moves : (x : Seat) (c : MissionCall) → hearsNothing c ≡ true → outcome.ownOutcome x c .moves ≡ []
+no-moves x (sets s) h = refl
+no-moves x (hears rs p slot octets output) h = true-false (sym h)
+no-moves x (takes p) h = quiet-taking p (takeOutcome (relayIn x) p)
+no-moves x (looks l) h = refl
 
-no-moves : (r : Relay) (c : Call) → hearsNothing c ≡ true → outcome.outcome r c .moves ≡ []
-no-moves r (sets s) h = refl
-no-moves r (hears p slot octets output) h = true-false (sym h)
-no-moves r (takes p) h = quiet-taking p (takeOutcome r p)
-no-moves r (looks l) h = refl
-
-counters-stay : (steps : List Step) (c : Call) (x : Result) (g : Gives steps (calls c) x) → hearsNothing c ≡ true
-    → layout.decode (wordsAfter (g .before) (calls c) x) .counters ≡ layout.decode (g .before) .counters
-counters-stay steps c x g none =
-    let s = layout.decode (g .before) in
-    ap (λ (t : State). t .counters) (gives-next steps (calls c) x g) ∙ ap (countedAll (s .counters)) (no-moves (s .relay) c none)
-
--- a history of no calls leaves a fresh state
-fresh-is : stateAfter [] ≡ freshState
-unfolding freshState
-fresh-is = refl
+counters-stay : (who : Customer) (steps : List Step) (c : MissionCall) (x : Result) (g : Gives steps (flies who c) x) → hearsNothing c ≡ true
+    → decode (missionOf who (wordsAfter (g .before) (flies who c) x)) .counters ≡ decode (missionOf who (g .before)) .counters
+counters-stay who steps c x g none =
+    ap (λ (s : State). s .counters) (gives-next who steps (own c) x g)
+    ∙ ap (λ (moves : List Move). countedAll (counters who steps) moves) (no-moves (seatOf who steps) c none)
+    ∙ ap (λ (s : State). s .counters) (sym (before-own who steps (flies who c) x g))
 
 pub demand-1 : Demand1
 demand-1 =
@@ -235,20 +301,38 @@ demand-1 =
       ends = λ c passable.
           let a = each-call-answers c passable in
           (a .0, (λ y. row-contract y (a .0) c (says-row c (a .0) (a .1)), λ y says. one-result-by-contract c y (a .0) says (a .1)));
-      fresh = λ w x right says.
-          let told = fresh-answers w x right says in
-          (told, held-words (x .words) (stateAfter []) (fresh-holds w x says told) .1 ∙ fresh-is);
+      fresh-board = λ w x says. (
+        λ right.
+            let told = fresh-board-answers w x says right in
+            (told, held-board (x .left .board) freshBoard (fresh-board-holds w x says told) .1),
+        fresh-board-refused w x says,
+      );
+      fresh-mission = λ w n x says. (
+        λ right. (
+          fresh-mission-answers w n x says right,
+          λ told. held-words (x .left .mission) (freshState n) (fresh-mission-holds w n x says told) .1,
+        ),
+        fresh-mission-refused w n x says,
+      );
       lasts = gives-lasts;
-      stated = λ steps c x g.
-          let is = read-out steps c x g in
-          (is, ap (stands (answersOf c)) is ∙ every-answer-is-listed (relayAfter (historyOf steps)) c);
-      other-words = λ w wrong c x says. (step-stays w x wrong c says, without w wrong x c says);
+      stated = λ who steps c x g.
+          let is = read-out who steps c x g in
+          (is, ap (stands (answersOf c)) is ∙ every-answer-is-listed (seatOf who steps) c);
+      other-words = other-words;
+      long-lists = long-lists;
+      other-numbers = λ octets n size o x y reads builds.
+          let read = says-row (hj-read-words octets n) x reads in
+          let built = says-row (hj-build-words n size o) y builds in (
+            λ wrong. (read .answer ∙ read-other n wrong _ .0, read .numbers ∙ read-other n wrong _ .1),
+            λ wrong. (built .answer ∙ build-other n wrong size (length o) o .0, built .output ∙ build-other n wrong size (length o) o .1),
+          );
       nobody-checks-first = given.nobody-checks-first;
       refusal-leaves = refusal-leaves;
-      untaken-leaves = untaken-leaves;
-      counters-move = λ steps c x g i inside.
-          counters-move steps c x g i inside
-          ∙ ap (λ (n : ℕ). (counterAt (g .before) i + n) % 2 ^ 32) (moves-as-written (relayIn (g .before)) c i inside);
+      untaken-leaves = λ who steps rs p slot octets output x g none.
+          heard-unchanged who steps rs p slot octets output x g (sym (answered who steps rs p slot octets output x g .took) ∙ none);
+      counters-move = λ who steps c x g i inside.
+          counters-move who steps c x g i inside
+          ∙ ap (λ (n : ℕ). (counterAt (missionOf who (g .before)) i + n) % 2 ^ 32) (moves-as-written (seatOf who steps) (own c) i inside);
       counters-stay = counters-stay;
-      transport-alone = λ steps p slot s t output h k x y. alone steps p slot output s t h k x y;
+      transport-alone = λ who steps rs p slot s t output h k x y. alone who steps rs p slot output s t h k x y;
     }

@@ -4,14 +4,14 @@ use Prim.Native.Nat.{ℕ, _+_, _^_, _<_, _≤_}
 use mathlib.Core.Path.{_≡_, refl, sym, ap, subst, _∙_}
 use mathlib.Core.Logic.{_↔_, _≢_, ⊎-elim}
 use mathlib.Core.Bool.{Bool, true, false, _||_, not}
-use mathlib.Core.List.{List, [], _∷_, _++_, map, append-nil, append-assoc}
-use lib.ListN.{length, take, drop}
+use mathlib.Core.List.{List, [], _∷_, _++_}
+use lib.ListN.{length, take, drop, replicate}
 use lib.Dec.{eqb}
 use borrow.Author.Tests.{eqb-true, ltb-false, ne-eqb, eqb-false}
+use lib.Seq.{take-append-seam}
 use Rattle.header.specs.declared.Read.{Read}
 use Rattle.header.proofs.Refusals.{read-good}
 use Rattle.header.proofs.SentOn.{sent-size}
-use lib.Seq.{take-append-seam}
 use Rattle.history.specs.SearchBack.{LongestOrNo}
 use Rattle.history.proofs.SearchBack.{search-names-the-longest}
 use Rattle.address.specs.Class.{classOf}
@@ -20,6 +20,7 @@ use Rattle.checks.specs.Order.{pick, Checks, firstOf, noneHolds, firstHolds}
 use Rattle.checks.specs.Answer.{refusalNumber}
 use Rattle.checks.proofs.Bools.{true-false, and-true, or-true}
 use Rattle.refusals.proofs.Chains.{Decided, decided}
+use Rattle.sets.specs.Limits.{portCount}
 use Rattle.sets.specs.Sets.{inSet}
 use Rattle.address.specs.declared.Slot.{Slot}
 use Rattle.header.specs.Build.{sizeOf}
@@ -34,26 +35,29 @@ use Rattle.header.proofs.Promises.{read-what-was-sent-on}
 use Rattle.header.specs.Shortest.{noneShorter}
 use Rattle.header.proofs.Shortest.{shortest-exactly}
 use Rattle.numbers.specs.Fields.{fieldsFrom}
+use Rattle.numbers.specs.InWords.{numbersWords, numbersFrom}
 use Rattle.numbers.specs.Words.{Words}
 use Rattle.numbers.specs.declared.Numbers.{Numbers}
+use Rattle.numbers.proofs.in_words.Halves.{numbers-again}
 use Rattle.queue.specs.Order.{Each}
 use Rattle.queue.specs.Waits.{Chosen, nobody, one, chosen, rankBy}
 use Rattle.queue.specs.declared.Entry.{Entry}
 use Rattle.queue.proofs.Each.{each-so}
 use Rattle.queue.proofs.Waits.{EachOf, chosen-each, chosen-nobody}
-use Rattle.state.specs.Relay.{Relay, State, freshRelay, portIn, portSetUp}
+use Rattle.routes.specs.declared.Record.{Record}
+use Rattle.state.specs.Relay.{Relay, portIn, portSetUp}
+use Rattle.state.specs.Seen.{Board, State}
 use Rattle.taking.specs.Taking.{takeOutcome}
 use Rattle.taking.specs.declared.Taking.{Taking}
 use Rattle.taking.specs.declared.Taking.the-variants as taking
 use Rattle.judge.specs.Ending.{orElse, callChecks, octetsEnding, arrivalAt, endingOf}
 use Rattle.judge.specs.declared.Ending.{Ending}
 use Rattle.relay.specs.Outgoing.{sentOutput}
-use Rattle.relay.specs.Received.{receivedState}
-use Rattle.lent_state.specs.View.{Lent, Held}
+use Rattle.relay.specs.Received.{heardEnding, receivedState}
+use Rattle.lent_state.specs.View.{Lent, Held, lent, tooLong}
 use Rattle.lent_state.proofs.Same.{lent-injective}
 use Rattle.answers.specs.Answers.{receiveNumber, takingNumber}
-use Rattle.harpjuniper.specs.Face.{readingOf, dataRead, fieldsOut, numbersChecks, buildAnswer, buildOutput}
-use Rattle.harpjuniper.specs.declared.Reading.{Reading}
+use Rattle.harpjuniper.specs.Face.{Reading, readingOf, readingWords, readingCount, dataRead, fieldsOut, numbersChecks, buildAnswer, buildOutput}
 use Rattle.harpjuniper.proofs.Promises.{fields-in, hj-build-then-hj-read}
 use Rattle.harpjuniper.proofs.RoundTrip as trip
 use Rattle.page.specs.Table.{hasRoom, verdictOf, moreOnes, GivenBy, stepRows, localRows, aimAt}
@@ -61,44 +65,101 @@ use Rattle.page.proofs.Exactly.{took-exactly, dropped-exactly}
 use Rattle.page.proofs.Exactly as exactly
 use Rattle.page.proofs.Sought.{sought-taken, sought-no-route}
 use Rattle.page.proofs.Verdict.{verdict-is-the-page, ones-choose}
-use Rattle.contracts.specs.Promised.{Told, number, reading, Result, hj-read, hj-build}
+use Rattle.contracts.specs.Promised.{Result, hj-read-words, hj-build-words}
+use Rattle.contracts.specs.Contracts.{Passable}
 use Rattle.contracts.proofs.Answers.{each-call-answers}
 use Rattle.contracts.proofs.Rows.{says-row}
-use Rattle.history.specs.Calls.{Setting, setRouter, setPort, setRoute, setGroup, setPath, clearRoute, clearGroup, clearPath, Part, read, Call, sets, hears, takes, looks, checksOf, settle}
-use Rattle.history.specs.Outcome.{entry, ofTaking, outcome, next, runFrom, relayAfter}
-use Rattle.history.specs.Tally.{stateAfter}
+use Rattle.history.specs.Calls.{
+  Order,
+  setRouter,
+  setPort,
+  setRoute,
+  clearRoute,
+  orders,
+  views,
+  portWord,
+  routerFlag,
+  recordWord,
+  Setting,
+  setGroup,
+  setPath,
+  clearGroup,
+  clearPath,
+  groupWord,
+  pathWord,
+  sets,
+  hears,
+  takes,
+  looks,
+  Call,
+  operator,
+  own,
+  orderChecks,
+  boardLeft,
+  checksOf,
+  settle,
+}
 use Rattle.history.specs.Calls as look
-use Rattle.history.specs.Parts.{About, settingIn}
+use Rattle.history.specs.Seat.{Seat, freshSeat, stateOf, heardBy}
+use Rattle.history.specs.Outcome.{entry, ofTaking, outcome, next, runFrom, seatAfter}
+use Rattle.history.specs.Parts.{Part, theRouter, thePort, theGroup, thePath, About, settingIn}
 use Rattle.history.specs.Line.{Copy, entryOf, takingOf, lineAt}
 use Rattle.history.specs.Marked.{Marked, markedCases}
 use Rattle.history.specs.Ranges.{Octets, EntryFits, CopyFits}
 use Rattle.history.proofs.Domain.{NamesTheSame, waiting-copies-name-the-same, took-read}
+use Rattle.history.proofs.Heard.{heard-is}
 use Rattle.history.proofs.Holds.{holds-until-changed}
 use Rattle.history.proofs.Keys.{keys-unique}
 use Rattle.history.proofs.Marked.{marked-cases}
 use Rattle.history.proofs.Ranges.{in-range, waiting-fits, taken-fits}
 use Rattle.history.proofs.Reach.{reached}
 use Rattle.history.proofs.ReadBack.{ReadBack, read-back}
-use Rattle.history.proofs.Search.{masks-contiguous}
+use Rattle.listing.proofs.Counting.{seen-contiguous}
 use Rattle.history.proofs.Takes.{take-is, is-port}
-use Rattle.demands.specs.Trace.{Step, calls, withStep, withSteps, historyOf, Gives}
-use Rattle.demands.specs.ReadOut.{numberIn, tookIn, droppedIn, relayIn, Reads, Builds, readOut, headerIn}
-use Rattle.demands.specs.Demand2.{ToldAs, Answered, Demand2, ExactlyAs, GoesOut}
-use Rattle.demands.proofs.Lasts.{passable}
-use Rattle.demands.proofs.Told.{gives-before, gives-next, setting-told, receive-told, take-told, part-told, gives-row, search-told}
-use Rattle.demands.proofs.ReadOut.{history-passed, read-out}
+use Rattle.demands.specs.Trace.{Customer, first, second, numberOf, Step, flies, historyOf, boardOf, seatOf, relayOf, relayFor, Gives}
+use Rattle.demands.specs.ReadOut.{ownOut, tookIn, droppedIn, ownIn, asksFor, partTold, Reads, Builds, headerIn}
+use Rattle.demands.specs.Demand2.{ToldAs, Answered, DecidedBy, Demand2, ExactlyAs, GoesOut}
+use Rattle.demands.proofs.Promised.{nextState}
+use Rattle.demands.proofs.Held.{reading-left, reading-answer, build-answer, build-output}
+use Rattle.demands.proofs.Traced.{history-more, board-is, held-words}
+use Rattle.demands.proofs.Told.{gives-row, gives-board, counters, setting-told, order-told}
+use Rattle.demands.proofs.Fitting.{history-passed}
+use Rattle.demands.proofs.ReadOut.{read-out}
 
 -- ---- reading
+no-slot : (s n : List ℕ) → Passable (hj-read-words s n)
+no-slot s n b m rs p slot l o e = true-false cc
+
 reads : (s : List ℕ) → Reads s (readingOf (readOf s))
 reads s =
-    let a = each-call-answers (hj-read s) (passable [] (calls (looks (read s))) tt) in
-    (a .0, (a .1, says-row (hj-read s) (a .0) (a .1) .0))
+    let lent : List ℕ = replicate readingCount 0 in
+    let a = each-call-answers (hj-read-words s lent) (no-slot s lent) in
+    let row = says-row (hj-read-words s lent) (a .0) (a .1) in
+    (a .0, (a .1, (row .answer ∙ reading-answer (readingOf (readOf s)), row .numbers ∙ reading-left (readOf s))))
 
-same-reading : (a b : Reading) → reading a ≡ reading b → a ≡ b
-same-reading a b e = cc
+-- the words of a reading, and its refusal, are the reading
+abbrev reading : ℕ → ℕ → ℕ → Numbers → Reading
+reading refusal length header fields = record { refusal = refusal; length = length; header = header; fields = fields }
+
+same-parts : {n n′ l l′ k k′ : ℕ} {f f′ : Numbers} → n ≡ n′ → l ≡ l′ → k ≡ k′ → f ≡ f′ → reading n l k f ≡ reading n′ l′ k′ f′
+same-parts e f g h = rw (e, f, g, h)
+
+cons-parts : (a b : ℕ) (l m : List ℕ) → (a ∷ l) ≡ (b ∷ m) → (a ≡ b) × (l ≡ m)
+cons-parts a b l m e = (cc, cc)
+
+same-reading : (r q : Reading) → r .refusal ≡ q .refusal → readingWords r ≡ readingWords q → r ≡ q
+unfolding readingWords
+same-reading r q e w =
+    let one = cons-parts (r .length) (q .length) (r .header ∷ numbersWords (r .fields)) (q .header ∷ numbersWords (q .fields)) w in
+    let two = cons-parts (r .header) (q .header) (numbersWords (r .fields)) (numbersWords (q .fields)) (one .1) in
+    same-parts e (one .0) (two .0) (sym (numbers-again (r .fields)) ∙ ap numbersFrom (two .1) ∙ numbers-again (q .fields))
 
 read-is : (s : List ℕ) (r : Reading) → Reads s r → r ≡ readingOf (readOf s)
-read-is s r h = same-reading r _ (sym (h .1 .1) ∙ says-row (hj-read s) (h .0) (h .1 .0) .0)
+read-is s r h =
+    let row = says-row (hj-read-words s (replicate readingCount 0)) (h .0) (h .1 .0) in
+    same-reading r (readingOf (readOf s))
+    (sym (h .1 .1 .0) ∙ row .answer ∙ reading-answer (readingOf (readOf s)))
+    (sym (h .1 .1 .1) ∙ row .numbers ∙ reading-left (readOf s))
 
 reads-as : (s : List ℕ) (r : Reading) → readingOf (readOf s) ≡ r → Reads s r
 reads-as s r e = rw (← e) (reads s)
@@ -116,26 +177,24 @@ reader-decided : (s : List ℕ) → Decided (readChecks s)
 unfolding readChecks
 reader-decided s = decided (readChecks s) refl
 
--- ---- an answer that is a number
-same-told : (a b : ℕ) → number a ≡ number b → a ≡ b
-same-told a b e = cc
-
-by-answer : {a : Told} {m : ℕ} → a ≡ number m → (n : ℕ) {P : Type 0} → (m ≡ n) ↔ P → (a ≡ number n) ↔ P
-by-answer {a} {m} said n by = (λ e. by .0 (same-told m n (sym said ∙ e)), λ p. said ∙ ap number (by .1 p))
+-- ---- an answer that is this number
+by-answer : {a m : ℕ} → a ≡ m → (n : ℕ) {P : Type 0} → (m ≡ n) ↔ P → (a ≡ n) ↔ P
+by-answer {a} {m} said n by = (λ e. by .0 (sym said ∙ e), λ p. said ∙ by .1 p)
 
 -- ---- building
 module _ (fields : Numbers) (size : ℕ) where
   builds : (lent : List ℕ) → Builds fields size lent (buildAnswer fields size (length lent)) (buildOutput fields size lent)
   builds lent =
-      let a = each-call-answers (hj-build fields size lent) (λ w p slot l o e. true-false cc) in
-      let row = says-row (hj-build fields size lent) (a .0) (a .1) in
-      (a .0, (a .1, (row .0, row .1 .1)))
+      let c = hj-build-words (numbersWords fields) size lent in
+      let a = each-call-answers c (λ b m rs p slot l o e. true-false cc) in
+      let row = says-row c (a .0) (a .1) in
+      (a .0, (a .1, (row .answer ∙ build-answer fields size (length lent), row .output ∙ build-output fields size lent)))
 
   build-is : (lent left : List ℕ) (answer : ℕ) → Builds fields size lent answer left
       → (answer ≡ buildAnswer fields size (length lent)) × (left ≡ buildOutput fields size lent)
   build-is lent left answer h =
-      let row = says-row (hj-build fields size lent) (h .0) (h .1 .0) in
-      (same-told answer _ (sym (h .1 .1 .0) ∙ row .0), sym (h .1 .1 .1) ∙ row .1 .1)
+      let row = says-row (hj-build-words (numbersWords fields) size lent) (h .0) (h .1 .0) in
+      (sym (h .1 .1 .0) ∙ row .answer ∙ build-answer fields size (length lent), sym (h .1 .1 .1) ∙ row .output ∙ build-output fields size lent)
 
   abbrev checks : ℕ → Checks
   checks room = (noRoom room, 17) ∷ (fieldsOut fields, 19) ∷ (tooMuchData size, 20) ∷ []
@@ -178,7 +237,7 @@ module _ (fields : Numbers) (size : ℕ) where
 
 build-then-read : (fields : Numbers) (size : ℕ) (lent left userData : List ℕ) (answer : ℕ) → Words fields → Builds fields size lent answer left
     → answer < 2 ^ 32 → size ≤ length userData
-    → Reads (take answer left ++ userData) (record { refusal = 0; length = answer + size; header = answer; reserved = 0; fields = fields })
+    → Reads (take answer left ++ userData) (record { refusal = 0; length = answer + size; header = answer; fields = fields })
 build-then-read fields size lent left userData answer words built low enough =
     let is = build-is fields size lent left answer built in
     let none = passed fields size words (length lent) (rw (is .0) at low) in
@@ -193,38 +252,43 @@ read-then-build s r lent octets h good few room short =
     let is = read-is s r h in
     let back = trip.read-then-build s octets r is good (shortest-exactly s octets .1 short) few lent room in
     let b = builds (r .fields) (dataRead r) lent in
-    (b .0, (b .1 .0, (b .1 .1 .0 ∙ ap number (back .0), b .1 .1 .1 ∙ back .1)))
+    (b .0, (b .1 .0, (b .1 .1 .0 ∙ back .0, b .1 .1 .1 ∙ back .1)))
 
 -- ---- settings
-checks-decided : (r : Relay) (s : Setting) → Decided (checksOf r s)
-checks-decided r (setRouter x) = decided (checksOf r (setRouter x)) refl
-checks-decided r (setPort p address mask mtu) = decided (checksOf r (setPort p address mask mtu)) refl
-checks-decided r (setRoute i prefix mask port availability capabilities) =
-    decided (checksOf r (setRoute i prefix mask port availability capabilities)) refl
-checks-decided r (setGroup i address send subscribed) = decided (checksOf r (setGroup i address send subscribed)) refl
-checks-decided r (setPath i path send here) = decided (checksOf r (setPath i path send here)) refl
-checks-decided r (clearRoute i) = decided (checksOf r (clearRoute i)) refl
-checks-decided r (clearGroup i) = decided (checksOf r (clearGroup i)) refl
-checks-decided r (clearPath i) = decided (checksOf r (clearPath i)) refl
+decided-by : (checks : Checks) → Decided checks → (answer : ℕ) → answer ≡ firstOf checks → DecidedBy checks answer
+decided-by checks by answer said = (λ n some. by-answer said n (by .1 n some), by-answer said 0 (by .0))
 
-heard-later : (h later : List Call) → withSteps h (map calls later) ≡ h ++ later
-heard-later h [] = sym (append-nil h)
-heard-later h (c ∷ later) = heard-later (h ++ (c ∷ [])) later ∙ append-assoc h (c ∷ []) later
+orders-decided : (b : Board) (o : Order) → Decided (orderChecks b o)
+orders-decided b (setRouter x) = decided (orderChecks b (setRouter x)) refl
+orders-decided b (setPort p address mask mtu mission) = decided (orderChecks b (setPort p address mask mtu mission)) refl
+orders-decided b (setRoute rs i prefix mask port availability capabilities mission) =
+    decided (orderChecks b (setRoute rs i prefix mask port availability capabilities mission)) refl
+orders-decided b (clearRoute rs i) = decided (orderChecks b (clearRoute rs i)) refl
 
-heard-both : (xs ys : List Step) (h : List Call) → withSteps h (xs ++ ys) ≡ withSteps (withSteps h xs) ys
-heard-both [] ys h = refl
-heard-both (c ∷ xs) ys h = heard-both xs ys (withStep h c)
+settings-decided : (r : Relay) (s : Setting) → Decided (checksOf r s)
+settings-decided r (setGroup i address send subscribed) = decided (checksOf r (setGroup i address send subscribed)) refl
+settings-decided r (setPath i path send here) = decided (checksOf r (setPath i path send here)) refl
+settings-decided r (clearGroup i) = decided (checksOf r (clearGroup i)) refl
+settings-decided r (clearPath i) = decided (checksOf r (clearPath i)) refl
 
-run-both : (cs ds : List Call) (r : Relay) → runFrom r (cs ++ ds) ≡ runFrom (runFrom r cs) ds
-run-both [] ds r = refl
-run-both (c ∷ cs) ds r = run-both cs ds (next r c)
+run-both : (cs ds : List Call) (x : Seat) → runFrom x (cs ++ ds) ≡ runFrom (runFrom x cs) ds
+run-both [] ds x = refl
+run-both (c ∷ cs) ds x = run-both cs ds (next x c)
 
-settings-hold : (steps : List Step) (later : List Call) (part : Part) → Each (λ (c : Call). About c part → ⊥) later
-    → settingIn (relayAfter (historyOf (steps ++ map calls later))) part ≡ settingIn (relayAfter (historyOf steps)) part
-settings-hold steps later part others =
-    ap (λ (cs : List Call). settingIn (relayAfter cs) part) (heard-both steps (map calls later) [] ∙ heard-later (historyOf steps) later)
-    ∙ ap (λ (r : Relay). settingIn r part) (run-both (historyOf steps) later freshRelay)
-    ∙ holds-until-changed part later (relayAfter (historyOf steps)) others
+settings-hold : (who : Customer) (steps later : List Step) (part : Part) → Each (λ (c : Call). About c part → ⊥) (historyOf who later)
+    → settingIn (seatOf who (steps ++ later)) part ≡ settingIn (seatOf who steps) part
+settings-hold who steps later part others =
+    let n = numberOf who in
+    ap (λ (cs : List Call). settingIn (seatAfter n cs) part) (history-more who steps later)
+    ∙ ap (λ (x : Seat). settingIn x part) (run-both (historyOf who steps) (historyOf who later) (freshSeat n))
+    ∙ holds-until-changed part (historyOf who later) (seatOf who steps) others
+
+settings-back : (who : Customer) (steps : List Step) (part : Part) (word : ℕ) (x : Result) → Gives steps (asksFor who part word) x
+    → x .answer ≡ partTold (seatOf who steps) part word
+settings-back who steps theRouter word x g = gives-row who steps (operator (views routerFlag)) x g .answer
+settings-back who steps (thePort p) word x g = gives-row who steps (operator (views (portWord p word))) x g .answer
+settings-back who steps (theGroup i) word x g = gives-row who steps (own (looks (groupWord i word))) x g .answer
+settings-back who steps (thePath i) word x g = gives-row who steps (own (looks (pathWord i word))) x g .answer
 
 -- ---- takings
 module _ (line : List Copy) where
@@ -244,79 +308,53 @@ module _ (line : List Copy) where
   )
 
 -- ---- after a trace
-module _ (steps : List Step) where
+module _ (who : Customer) (steps : List Step) where
   abbrev h : List Call
-  h = historyOf steps
+  h = historyOf who steps
+
+  abbrev m : ℕ
+  m = numberOf who
+
+  abbrev seat : Seat
+  seat = seatOf who steps
 
   abbrev r : Relay
-  r = relayAfter h
+  r = relayOf who steps
 
   -- a datagram
-  module _ (at : ℕ) (slot : Slot) (octets output : List ℕ) (x : Result) (g : Gives steps (calls (hears at slot octets output)) x) where
-    told : ReadBack (numberIn (x .answer)) (endingOf r at octets (length output))
-    told = rw (receive-told steps x at slot octets output g .0) (read-back r at octets (length output))
+  module _ (rs : List Record) (at : ℕ) (slot : Slot) (octets output : List ℕ) (x : Result) (g : Gives steps (flies who (hears rs at slot octets output)) x) where
+    abbrev e : Ending
+    e = heardBy seat rs at octets (length output)
+
+    told : ReadBack (x .answer) e
+    told = rw (gives-row who steps (own (hears rs at slot octets output)) x g .answer) (read-back seat rs at octets (length output))
+
+    sent : x .left .output ≡ sentOutput (e .ruling .took) octets output
+    sent = gives-row who steps (own (hears rs at slot octets output)) x g .output
 
     -- the header's size is told where a port took an entry
-    size-case : (e : Ending) → e ≡ endingOf r at octets (length output) → (t : Bool) → eqb (e .ruling .took) 0 ≡ t
-        → pick t 0 (e .size) ≡ pick t 0 (headerOf octets .size)
-    size-case e same true z = refl
-    size-case e same false z =
-        let was = took-read r at octets (length output) (rw same at (eqb-false (e .ruling .took) 0 z)) in
-        ap (λ (y : Ending). y .size) same ∙ was .size ∙ ap (λ (y : Header). y .size) (read-good octets (was .header) .0 (was .read) .1)
-
-    told-as : ToldAs octets x (verdictOf r at octets (length output))
-    told-as =
-        let page = verdict-is-the-page r (masks-contiguous h) at octets (length output) in
-        let e = endingOf r at octets (length output) in
-        record {
-          refusal = told .refusal ∙ page .refusal;
-          local = told .local ∙ page .ruling .local;
-          onward = told .onward ∙ page .ruling .onward;
-          took = λ p inside. ap (inSet p) (told .took) ∙ page .ruling .took p inside;
-          dropped = λ p inside. ap (inSet p) (told .dropped) ∙ page .ruling .dropped p inside;
-          header = told .header
-              ∙ size-case e refl (eqb (e .ruling .took) 0) refl
-              ∙ ap (λ (took : ℕ). pick (eqb took 0) 0 (headerOf octets .size)) (sym (told .took));
-          above = told .above;
-          alone = λ some. told .alone (λ z. some (told .refusal ∙ z)) ∙ sym (told .refusal);
-        }
-
-    exactly-as : ExactlyAs r at octets (length output) x
-    exactly-as =
-        record {
-          refusal = subst (GivenBy (stepRows r at octets (length output))) (sym (told .refusal)) (exactly.refusal-exactly r at octets (length output));
-          local = λ none.
-              subst (GivenBy (localRows r at (aimAt r at octets) (headerOf octets .fields))) (sym (told .local))
-              (exactly.local-exactly r at octets (length output) none);
-          onward = λ none n.
-              let by = exactly.onward-exactly r at octets (length output) moreOnes (ones-choose r (masks-contiguous h)) none n in
-              (λ e. by .0 (sym (told .onward) ∙ e), λ d. told .onward ∙ by .1 d);
-        }
-
-    verdict : ToldAs octets x (verdictOf r at octets (length output))
-        × (ExactlyAs r at octets (length output) x × (x .output ≡ sentOutput (tookIn x) octets output))
-    verdict = (
-      told-as,
-      (exactly-as, receive-told steps x at slot octets output g .1 ∙ ap (λ (took : ℕ). sentOutput took octets output) (sym (told .took))),
-    )
+    size-case : (t : Bool) → eqb (e .ruling .took) 0 ≡ t → pick t 0 (e .size) ≡ pick t 0 (headerOf octets .size)
+    size-case true z = refl
+    size-case false z =
+        let was = took-read seat rs at octets (length output) (eqb-false (e .ruling .took) 0 z) in
+        was .size ∙ ap (λ (y : Header). y .size) (read-good octets (was .header) .0 (was .read) .1)
 
     -- the header sent on, as C finds it
     sent-on : tookIn x ≢ 0
         → (k : Header) × ((readOf octets ≡ Good k)
-        × (readOf (take (headerIn x) (x .output) ++ drop (headerIn x) octets) ≡ Good (withHops (oneLess (k .fields .hops)) k)))
+        × (readOf (take (headerIn x) (x .left .output) ++ drop (headerIn x) octets) ≡ Good (withHops (oneLess (k .fields .hops)) k)))
     unfolding sentOutput
     sent-on some =
-        let e = endingOf r at octets (length output) in
         let took : e .ruling .took ≢ 0 = λ z. some (told .took ∙ z) in
-        let was = took-read r at octets (length output) took in
+        let was = took-read seat rs at octets (length output) took in
         let k = was .header in
         let none = ne-eqb (e .ruling .took) 0 took in
         let size : headerIn x ≡ k .size = told .header ∙ ap (λ (t : Bool). pick t 0 (e .size)) none ∙ was .size in
-        let out : x .output ≡ headerSentOn octets ++ drop (length (headerSentOn octets)) output =
-        receive-told steps x at slot octets output g .1 ∙ ap (λ (t : Bool). pick t output (headerSentOn octets ++ drop (length (headerSentOn octets)) output)) none in
+        let out : x .left .output ≡ headerSentOn octets ++ drop (length (headerSentOn octets)) output =
+        sent ∙ ap (λ (t : Bool). pick t output (headerSentOn octets ++ drop (length (headerSentOn octets)) output)) none in
         let long = sent-size octets k (g .passes .1) (was .read) in
-        let front : take (headerIn x) (x .output) ≡ headerSentOn octets =
-        ap (λ (n : ℕ). take n (x .output)) (size ∙ sym long) ∙ ap (take (length (headerSentOn octets))) out ∙ take-append-seam (headerSentOn octets) _ in (
+        let front : take (headerIn x) (x .left .output) ≡ headerSentOn octets =
+        ap (λ (n : ℕ). take n (x .left .output)) (size ∙ sym long) ∙ ap (take (length (headerSentOn octets))) out ∙ take-append-seam (headerSentOn octets) _ in (
           k,
           (
             was .read,
@@ -326,83 +364,133 @@ module _ (steps : List Step) where
           ),
         )
 
-    granted : (p : ℕ) → p < 8 → (inSet p (tookIn x) || inSet p (droppedIn x)) ≡ true
-        → inSet p (endingOf r at octets (length output) .ruling .granted) ≡ true
-    granted p inside some =
-        let e = endingOf r at octets (length output) .ruling in
-        ⊎-elim
-        (λ took.
-        and-true (inSet p (e .granted)) (hasRoom r p)
-        (sym (took-exactly r at octets (length output) p inside) ∙ ap (inSet p) (sym (told .took)) ∙ took) .0)
-        (λ dropped.
-        and-true (inSet p (e .granted)) (not (hasRoom r p))
-        (sym (dropped-exactly r at octets (length output) p inside) ∙ ap (inSet p) (sym (told .dropped)) ∙ dropped) .0)
-        (or-true (inSet p (tookIn x)) (inSet p (droppedIn x)) some)
+    -- with a list that is not too long: page 01's relay, as the customer sees it
+    module _ (short : tooLong rs ≡ false) where
+      abbrev q : Relay
+      q = relayFor who steps rs
+
+      abbrev p : Ending
+      p = endingOf q at octets (length output)
+
+      is : e ≡ p
+      is = heard-is seat rs at octets (length output) false short
+
+      seen : ReadBack (x .answer) p
+      seen = subst (ReadBack (x .answer)) is told
+
+      told-as : ToldAs octets x (verdictOf q at octets (length output))
+      told-as =
+          let page = verdict-is-the-page q (seen-contiguous (seat .board) rs (seat .number)) at octets (length output) in
+          record {
+            refusal = seen .refusal ∙ page .refusal;
+            local = seen .local ∙ page .ruling .local;
+            onward = seen .onward ∙ page .ruling .onward;
+            took = λ i inside. ap (inSet i) (seen .took) ∙ page .ruling .took i inside;
+            dropped = λ i inside. ap (inSet i) (seen .dropped) ∙ page .ruling .dropped i inside;
+            header = told .header
+                ∙ size-case (eqb (e .ruling .took) 0) refl
+                ∙ ap (λ (took : ℕ). pick (eqb took 0) 0 (headerOf octets .size)) (sym (told .took));
+            above = told .above;
+            alone = λ some. told .alone (λ z. some (told .refusal ∙ z)) ∙ sym (told .refusal);
+          }
+
+      exactly-as : ExactlyAs q at octets (length output) x
+      exactly-as =
+          record {
+            refusal = subst (GivenBy (stepRows q at octets (length output))) (sym (seen .refusal)) (exactly.refusal-exactly q at octets (length output));
+            local = λ none.
+                subst (GivenBy (localRows q at (aimAt q at octets) (headerOf octets .fields))) (sym (seen .local))
+                (exactly.local-exactly q at octets (length output) none);
+            onward = λ none n.
+                by-answer (seen .onward) n
+                (exactly.onward-exactly q at octets (length output) moreOnes (ones-choose q (seen-contiguous (seat .board) rs (seat .number))) none n);
+          }
+
+      verdict : ToldAs octets x (verdictOf q at octets (length output))
+          × (ExactlyAs q at octets (length output) x × (x .left .output ≡ sentOutput (tookIn x) octets output))
+      verdict = (told-as, (exactly-as, sent ∙ ap (λ (took : ℕ). sentOutput took octets output) (sym (told .took))))
+
+      granted : (i : ℕ) → i < portCount → (inSet i (tookIn x) || inSet i (droppedIn x)) ≡ true → inSet i (p .ruling .granted) ≡ true
+      granted i inside some =
+          ⊎-elim
+          (λ took.
+          and-true (inSet i (p .ruling .granted)) (hasRoom q i)
+          (sym (took-exactly q at octets (length output) i inside) ∙ ap (inSet i) (sym (seen .took)) ∙ took) .0)
+          (λ dropped.
+          and-true (inSet i (p .ruling .granted)) (not (hasRoom q i))
+          (sym (dropped-exactly q at octets (length output) i inside) ∙ ap (inSet i) (sym (seen .dropped)) ∙ dropped) .0)
+          (or-true (inSet i (tookIn x)) (inSet i (droppedIn x)) some)
 
   -- two datagrams that are read alike
-  module _ (at : ℕ) (slot : Slot) (output : List ℕ) where
+  module _ (rs : List Record) (at : ℕ) (slot : Slot) (output : List ℕ) where
     abbrev ending : List ℕ → Ending
-    ending octets = endingOf r at octets (length output)
+    ending octets = heardBy seat rs at octets (length output)
 
     read-alike : (s t : List ℕ) → readOf t ≡ readOf s → ending t ≡ ending s
-    unfolding endingOf
-    read-alike s t same = ap (λ (z : Read). orElse (firstOf (callChecks r at (length output))) (octetsEnding r (arrivalAt r at) z)) same
+    unfolding heardEnding endingOf
+    read-alike s t same =
+        let q = relayFor who steps rs in
+        ap (λ (z : Read). orElse (pick (tooLong rs) 21 0) (orElse (firstOf (callChecks q at (length output))) (octetsEnding q (arrivalAt q at) z))) same
 
-    hears-alike : (s t : List ℕ) (x y : Result) → readOf t ≡ readOf s → Gives steps (calls (hears at slot s output)) x
-        → Gives steps (calls (hears at slot t output)) y → (y .answer ≡ x .answer) × (y .words ≡ x .words)
+    hears-alike : (s t : List ℕ) (x y : Result) → readOf t ≡ readOf s → Gives steps (flies who (hears rs at slot s output)) x
+        → Gives steps (flies who (hears rs at slot t output)) y → (y .answer ≡ x .answer) × (y .left .mission ≡ x .left .mission)
     hears-alike s t x y same g k =
-        let one = gives-row steps (calls (hears at slot s output)) x g in
-        let two = gives-row steps (calls (hears at slot t output)) y k in
+        let one = gives-row who steps (own (hears rs at slot s output)) x g in
+        let two = gives-row who steps (own (hears rs at slot t output)) y k in
         let is = read-alike s t same in
-        let left : Ending → Lent = λ (e : Ending). Held (receivedState (stateAfter h) slot e) in (
-          two .0 ∙ ap (λ (e : Ending). number (receiveNumber e)) is ∙ sym (one .0),
-          lent-injective (y .words) (x .words) (two .1 .0 ∙ ap left is ∙ sym (one .1 .0)),
+        let left : Ending → Lent State = λ (e : Ending). Held (receivedState (seat .board) (stateOf seat (counters who steps)) slot e) in (
+          two .answer ∙ ap receiveNumber is ∙ sym (one .answer),
+          lent-injective (y .left .mission) (x .left .mission) (two .mission ∙ ap left is ∙ sym (one .mission)),
         )
 
-  -- a setting
-  module _ (s : Setting) (x : Result) (g : Gives steps (calls (sets s)) x) where
-    said : x .answer ≡ number (firstOf (checksOf r s))
-    said = setting-told steps x s g
+  -- a setting of the customer's
+  set-left : (s : Setting) (x : Result) → lent (x .left .mission) ≡ Held (nextState seat (counters who steps) (own (sets s)))
+      → ownIn (x .left .mission) ≡ settle r s .mission
+  set-left s x is =
+      ap (λ (t : State). t .mission) (held-words (x .left .mission) (nextState seat (counters who steps) (own (sets s))) is .1)
 
-    settled : relayIn (x .words) ≡ settle r s
-    settled =
-        ap (λ (t : State). t .relay) (gives-next steps (calls (sets s)) x g)
-        ∙ ap (λ (t : State). settle (t .relay) s) (gives-before steps (calls (sets s)) x g)
+  settled : (s : Setting) (x : Result) → Gives steps (flies who (sets s)) x → ownIn (x .left .mission) ≡ settle r s .mission
+  settled (setGroup i address send subscribed) x g =
+      let s = setGroup i address send subscribed in
+      set-left s x (gives-row who steps (own (sets s)) x g .mission)
+  settled (setPath i path send here) x g = set-left (setPath i path send here) x (gives-row who steps (own (sets (setPath i path send here))) x g .mission)
+  settled (clearGroup i) x g = set-left (clearGroup i) x (gives-row who steps (own (sets (clearGroup i))) x g .mission)
+  settled (clearPath i) x g = set-left (clearPath i) x (gives-row who steps (own (sets (clearPath i))) x g .mission)
 
   -- a take
-  module _ (p : ℕ) (x : Result) (g : Gives steps (calls (takes p)) x) where
-    fits : EachOf (rankBy entryOf) CopyFits (chosen (rankBy entryOf) (lineAt p h))
-    fits = chosen-each (rankBy entryOf) CopyFits (lineAt p h) (waiting-fits p h (history-passed steps (g .begun .passed)))
+  module _ (p : ℕ) (x : Result) (g : Gives steps (flies who (takes p)) x) where
+    fits : EachOf (rankBy entryOf) CopyFits (chosen (rankBy entryOf) (lineAt p m h))
+    fits = chosen-each (rankBy entryOf) CopyFits (lineAt p m h) (waiting-fits p m h (history-passed who steps (g .begun .passed)))
 
-    handed : x .answer ≡ number (takingNumber (takingOf (portSetUp r p) (chosen (rankBy entryOf) (lineAt p h))))
-    handed = take-told steps x p g ∙ ap (λ t. number (takingNumber t)) (take-is h p)
+    handed : x .answer ≡ takingNumber (takingOf (portSetUp r p) (chosen (rankBy entryOf) (lineAt p m h)))
+    handed = gives-row who steps (own (takes p)) x g .answer ∙ ap takingNumber (take-is m h p)
 
-    takings : ((x .answer ≡ number (refusalNumber 16)) ↔ (portSetUp r p ≡ false))
-        × ((x .answer ≡ number (refusalNumber 18)) ↔ ((portSetUp r p ≡ true) × (lineAt p h ≡ [])))
+    takings : ((x .answer ≡ refusalNumber 16) ↔ (portSetUp r p ≡ false))
+        × ((x .answer ≡ refusalNumber 18) ↔ ((portSetUp r p ≡ true) × (lineAt p m h ≡ [])))
     takings = (
-      by-answer handed (refusalNumber 16) (told-16 (lineAt p h) (portSetUp r p) (chosen (rankBy entryOf) (lineAt p h)) fits),
-      by-answer handed (refusalNumber 18) (told-18 (lineAt p h) (portSetUp r p) (chosen (rankBy entryOf) (lineAt p h)) refl fits),
+      by-answer handed (refusalNumber 16) (told-16 (lineAt p m h) (portSetUp r p) (chosen (rankBy entryOf) (lineAt p m h)) fits),
+      by-answer handed (refusalNumber 18) (told-18 (lineAt p m h) (portSetUp r p) (chosen (rankBy entryOf) (lineAt p m h)) refl fits),
     )
 
     taken-entry : (t : Taking) (e : Entry) → ofTaking p t .answer ≡ entry e → t ≡ taking.Handed e
     taken-entry (taking.Handed y) e is = let same : y ≡ e = cc in ap taking.Handed same
     taken-entry (taking.Refused n) e is = true-false cc
 
-    takings-fit : (e : Entry) → readOut (takes p) (x .answer) ≡ entry e → EntryFits e
+    takings-fit : (e : Entry) → ownOut (takes p) (x .answer) ≡ entry e → EntryFits e
     takings-fit e is =
-        taken-fits p h (history-passed steps (g .begun .passed)) e (taken-entry (takeOutcome r p) e (sym (read-out steps (takes p) x g) ∙ is))
+        taken-fits p m h (history-passed who steps (g .begun .passed)) e (taken-entry (takeOutcome r p) e (sym (read-out who steps (own (takes p)) x g) ∙ is))
 
     -- the copy that goes out
     same-header : (a b : Header) → Good a ≡ Good b → a ≡ b
     same-header a b e = cc
 
-    goes-case : (up : Bool) → portSetUp r p ≡ up → (c : Chosen Copy) → chosen (rankBy entryOf) (lineAt p h) ≡ c → (e : Entry) → takingOf up c ≡ taking.Handed e
-        → GoesOut r p (lineAt p h) e
+    goes-case : (up : Bool) → portSetUp r p ≡ up → (c : Chosen Copy) → chosen (rankBy entryOf) (lineAt p m h) ≡ c → (e : Entry)
+        → takingOf up c ≡ taking.Handed e → GoesOut r p (lineAt p m h) e
     goes-case false is c out e handed = true-false cc
     goes-case true is nobody out e handed = true-false cc
     goes-case true is (one c others) out e handed =
         let inside = is-port r p is in
-        let names = (rw out at (chosen-each (rankBy entryOf) (NamesTheSame (portIn r p)) (lineAt p h) (waiting-copies-name-the-same p inside h))) .0 in
+        let names = (rw out at (chosen-each (rankBy entryOf) (NamesTheSame (portIn r p)) (lineAt p m h) (waiting-copies-name-the-same p inside m h))) .0 in
         let came = (rw out at fits) .0 .1 in
         record {
           copy = c;
@@ -417,26 +505,33 @@ module _ (steps : List Step) where
           origin = names .origin;
         }
 
-    goes-out : (e : Entry) → readOut (takes p) (x .answer) ≡ entry e → GoesOut r p (lineAt p h) e
+    goes-out : (e : Entry) → ownOut (takes p) (x .answer) ≡ entry e → GoesOut r p (lineAt p m h) e
     goes-out e is =
-        goes-case (portSetUp r p) refl (chosen (rankBy entryOf) (lineAt p h)) refl e
-        (sym (take-is h p) ∙ taken-entry (takeOutcome r p) e (sym (read-out steps (takes p) x g) ∙ is))
+        goes-case (portSetUp r p) refl (chosen (rankBy entryOf) (lineAt p m h)) refl e
+        (sym (take-is m h p) ∙ taken-entry (takeOutcome r p) e (sym (read-out who steps (own (takes p)) x g) ∙ is))
 
 -- ---- the marked cases
-marked : Each Answered markedCases
-marked =
-    each-so {P = λ (m : Marked). outcome (relayAfter (m .calls)) (m .asked) .answer ≡ m .answer} {Q = Answered} markedCases
-    (λ m is steps x same g. read-out steps (m .asked) x g ∙ ap (λ (cs : List Call). outcome (relayAfter cs) (m .asked) .answer) same ∙ is)
-    marked-cases
+below-two : (who : Customer) → numberOf who < 2
+below-two first = omega arith
+below-two second = omega arith
+
+marked : (who : Customer) → Each (Answered who) (markedCases (numberOf who))
+marked who =
+    let n = numberOf who in
+    each-so {P = λ (c : Marked). outcome (seatAfter n (c .calls)) (c .asked) .answer ≡ c .answer} {Q = Answered who} (markedCases n)
+    (λ c is steps x same g. read-out who steps (c .asked) x g ∙ ap (λ (cs : List Call). outcome (seatAfter n cs) (c .asked) .answer) same ∙ is)
+    (marked-cases n (below-two who))
+
+-- ---- a search
+short-search : (t : Bool) (n : ℕ) → t ≡ false → pick t 21 n ≡ n
+short-search true n e = true-false e
+short-search false n e = refl
 
 pub demand-2 : Demand2
 demand-2 =
     record {
       reads = reads;
-      reads-refuses = λ s r read n some.
-          let is = ap (λ (y : Reading). y .refusal) (read-is s r read) ∙ refusal-is s in
-          let by = reader-decided s .1 n some in
-          (λ e. by .0 (sym is ∙ e), λ d. is ∙ by .1 d);
+      reads-refuses = λ s r read n some. by-answer (ap (λ (y : Reading). y .refusal) (read-is s r read) ∙ refusal-is s) n (reader-decided s .1 n some);
       reads-no-further = λ s t n r long control agree read. reads-as t r (trip.hj-read-agrees s t n long control agree ∙ sym (read-is s r read));
       builds = builds;
       builds-refuses = λ fields size lent left answer n words built some.
@@ -448,27 +543,38 @@ demand-2 =
       build-then-read = build-then-read;
       read-then-build = read-then-build;
       verdict = verdict;
-      hears-no-further = λ steps at slot s t output n x y long control agree g k.
-          hears-alike steps at slot output s t x y (agree-up-to-the-length s t n long control agree) g k;
+      hears-no-further = λ who steps rs at slot s t output n x y long control agree g k.
+          hears-alike who steps rs at slot output s t x y (agree-up-to-the-length s t n long control agree) g k;
       sent-on = sent-on;
       marked = marked;
-      settings = λ steps s x g.
-          let by = checks-decided (relayAfter (historyOf steps)) s in
-          (λ n some. by-answer (said steps s x g) n (by .1 n some), (by-answer (said steps s x g) 0 (by .0), settled steps s x g));
+      orders-follow = λ steps o x g.
+          let told = order-told first steps x o g in (
+            decided-by (orderChecks (boardOf steps) o) (orders-decided (boardOf steps) o) (x .answer) (told .0),
+            (gives-board first steps (operator (orders o)) x g ∙ ap (λ (b : Board). boardLeft b o) (board-is first steps), told .1),
+          );
+      settings = λ who steps s x g. (
+        decided-by (checksOf (relayOf who steps) s) (settings-decided (relayOf who steps) s) (x .answer) (setting-told who steps x s g),
+        settled who steps s x g,
+      );
       settings-hold = settings-hold;
-      settings-back = λ steps part x g. part-told steps x part g;
-      settings-good = λ steps. (reached (historyOf steps), (keys-unique (historyOf steps), in-range (historyOf steps)));
+      settings-back = settings-back;
+      record-back = λ steps rs i word x g. gives-row first steps (operator (views (recordWord rs i word))) x g .answer;
+      settings-good = λ who steps.
+          let n = numberOf who in
+          let cs = historyOf who steps in
+          (reached n cs, (keys-unique n cs, in-range n cs));
       takings = takings;
-      takings-fit = λ steps p x e g. takings-fit steps p x g e;
-      route-taken = λ steps at slot octets output a p x g sought inside some.
-          sought-taken (relayAfter (historyOf steps)) at octets (length output) a sought (masks-contiguous (historyOf steps)) p inside
-          (granted steps at slot octets output x g p inside some);
-      no-route = λ steps at slot octets output a x g sought.
-          let by = sought-no-route (relayAfter (historyOf steps)) at octets (length output) a sought in
-          let is = told steps at slot octets output x g .onward in
-          (λ e. by .0 (sym is ∙ e), λ none. is ∙ by .1 none);
-      search = λ steps a n x g is.
-          subst (LongestOrNo (relayAfter (historyOf steps)) a) (same-told _ n (sym (search-told steps x a g) ∙ is)) (search-names-the-longest (historyOf steps) a);
-      class = λ steps a x small g. (classOf (a .0), (gives-row steps (calls (looks (look.class a))) x g .0, class-row (a .0) small));
-      domain = λ steps p x e g. goes-out steps p x g e;
+      takings-fit = λ who steps p x e g. takings-fit who steps p x g e;
+      route-taken = λ who steps rs at slot octets output a p x g short sought inside some.
+          let seat = seatOf who steps in
+          sought-taken (relayFor who steps rs) at octets (length output) a sought (seen-contiguous (seat .board) rs (seat .number)) p inside
+          (granted who steps rs at slot octets output x g short p inside some);
+      no-route = λ who steps rs at slot octets output a x g short sought.
+          by-answer (seen who steps rs at slot octets output x g short .onward) 11 (sought-no-route (relayFor who steps rs) at octets (length output) a sought);
+      search = λ who steps rs a x g short.
+          subst (LongestOrNo (relayFor who steps rs) a)
+          (sym (gives-row who steps (own (looks (look.search rs a))) x g .answer ∙ short-search (tooLong rs) _ short))
+          (search-names-the-longest (seatOf who steps) rs short a);
+      class = λ who steps a x small g. (classOf (a .0), (gives-row who steps (own (looks (look.class a))) x g .answer, class-row (a .0) small));
+      domain = λ who steps p x e g. goes-out who steps p x g e;
     }

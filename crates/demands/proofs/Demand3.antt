@@ -1,9 +1,9 @@
 -- Demand 3 is kept. Assumes nothing.
 use native.Mathlib.Omega.{arith}
 use Prim.Native.Nat.{ℕ, _+_, _<_}
-use mathlib.Core.Path.{_≡_, refl, sym, ap, _∙_}
+use mathlib.Core.Path.{_≡_, refl, sym, ap, subst, _∙_}
 use mathlib.Core.Bool.{false, Bool, true}
-use mathlib.Core.List.{List, [], _∷_, _++_, map}
+use mathlib.Core.List.{List, [], _∷_, _++_, append-nil}
 use lib.ListN.{length}
 use lib.Dec.{ltb}
 use borrow.Author.Tests.{lt-ltb, ltb-false}
@@ -12,159 +12,207 @@ use Rattle.checks.proofs.Bools.{true-false}
 use Rattle.header.proofs.Refusals.{read-good}
 use Rattle.address.specs.declared.Slot.{Slot}
 use Rattle.judge.specs.declared.Ending.{Ending}
-use Rattle.history.proofs.Domain.{took-read}
-use Rattle.history.proofs.Search.{masks-contiguous}
 use Rattle.page.proofs.Verdict.{verdict-is-the-page}
 use Rattle.page.proofs.Bits.{in-none}
+use Rattle.sets.specs.Limits.{portCount, counterCount}
 use Rattle.sets.specs.Sets.{inSet}
+use Rattle.queue.specs.Queue.{entryPlaces}
 use Rattle.queue.specs.Waits.{rankBy}
 use Rattle.queue.proofs.Waits.{chosen-asked, waits-count, waits-fits}
 use Rattle.queue.specs.declared.Entry.{Entry}
-use Rattle.state.specs.Relay.{Relay, freshRelay, counterIn, queueIn}
-use Rattle.answers.specs.Answers.{partAt, takingNumber}
-use Rattle.judge.specs.Ending.{endingOf}
+use Rattle.routes.specs.declared.Record.{Record}
+use Rattle.state.specs.Relay.{Mission, counterIn, queueAt}
+use Rattle.answers.specs.Answers.{takingNumber}
 use Rattle.harpjuniper_relay.specs.Face.{counterAnswer, waitingAnswer}
-use Rattle.contracts.specs.Promised.{number, Result}
+use Rattle.contracts.specs.Promised.{Result}
 use Rattle.contracts.specs.Contracts.{Says}
-use Rattle.history.specs.Calls.{counter, waiting, Call, looks, hears}
-use Rattle.history.specs.Outcome.{Answer, outcome, relayAfter}
-use Rattle.history.specs.Tally.{stateAfter}
+use Rattle.history.specs.Calls.{counter, waiting, takes, Call, operator, own, looks, hears}
+use Rattle.history.specs.Seat.{Seat, freshSeat, heardBy}
+use Rattle.history.specs.Outcome.{Answer, ownOutcome, seatAfter, next}
 use Rattle.history.specs.Ledger.{dropped}
-use Rattle.history.specs.Line.{entryOf, lineAt, copyOf, takenBy}
-use Rattle.history.specs.Foretold.{andThen, answeredBy, answeredFrom, answeredSince}
+use Rattle.history.specs.Line.{entryOf, lineAt, copyOf, takenOwn}
+use Rattle.history.specs.Foretold.{answeredOwn, answeredFrom}
+use Rattle.history.proofs.Domain.{took-read}
+use Rattle.listing.proofs.Counting.{seen-contiguous}
+use Rattle.history.proofs.Heard.{heard-is}
 use Rattle.history.proofs.Sums.{counted-as-written}
 use Rattle.history.proofs.Ledger as ledgers
 use Rattle.history.proofs.Line.{queue-waits, out-or-waiting, taken-in-turn, line-in-turn}
-use Rattle.history.proofs.Foretold.{relay-then, foretold-over-histories, answers-are-handed, stands-behind, refused-idle, other-take-idle, idle-counts-nothing, not-taken-idle, setting-idle, look-idle}
+use Rattle.history.proofs.Foretold.{seat-then, foretold-over-histories, answers-are-handed, stands-behind, refused-idle, other-take-idle, idle-counts-nothing, not-taken-idle, setting-idle, look-idle, operator-idle}
 use Rattle.history.proofs.Takes.{take-is}
 use Rattle.history.proofs.Fair.{fair}
 use Rattle.history.proofs.ReadBack.{read-back, ReadBack}
-use Rattle.demands.specs.Trace.{Step, calls, made, wordsAfter, Trace, Passes, AllPass, Begun, withStep, withSteps, historyOf, Gives}
-use Rattle.demands.specs.ReadOut.{numberIn, droppedIn, entriesIn, tookIn}
+use Rattle.demands.specs.Trace.{Customer, first, second, numberOf, Step, operates, flies, stepOf, Words, made, wordsAfter, Trace, Passes, AllPass, Begun, historyOf, seatOf, relayFor, Gives}
+use Rattle.demands.specs.ReadOut.{entriesIn, tookIn}
 use Rattle.demands.specs.Demand3.{placedBy, Demand3}
-use Rattle.demands.proofs.Told.{receive-told, take-told, counter-told, waiting-told}
+use Rattle.demands.proofs.Traced.{history-more}
+use Rattle.demands.proofs.Told.{gives-row, counters}
 use Rattle.demands.proofs.ReadOut.{read-out}
 
 -- ---- what hj_counter and hj_waiting answer
-counter-is : (l : List ℕ) (i : ℕ) → i < 15 → counterAnswer l i ≡ counterIn l i
+counter-is : (l : List ℕ) (i : ℕ) → i < counterCount → counterAnswer l i ≡ counterIn l i
 unfolding counterAnswer
-counter-is l i h = simp (lt-ltb i 15 h)
+counter-is l i h = simp (lt-ltb i counterCount h)
 
-waiting-is : (r : Relay) (p : ℕ) → p < 8 → waitingAnswer r p ≡ queueIn r p .count
+waiting-is : (m : Mission) (p : ℕ) → p < portCount → waitingAnswer m p ≡ queueAt m p .count
 unfolding waitingAnswer
-waiting-is r p h = simp (lt-ltb p 8 h)
+waiting-is m p h = simp (lt-ltb p portCount h)
 
-module _ (steps : List Step) where
+module _ (who : Customer) (steps : List Step) where
   abbrev h : List Call
-  h = historyOf steps
+  h = historyOf who steps
 
-  abbrev r : Relay
-  r = relayAfter h
+  abbrev m : ℕ
+  m = numberOf who
 
-  counter-reads : (i : ℕ) (x : Result) → i < 15 → Gives steps (calls (looks (counter i))) x → x .answer ≡ number (counterIn (stateAfter h .counters) i)
-  counter-reads i x inside g = counter-told steps x i g ∙ ap number (counter-is (stateAfter h .counters) i inside)
+  abbrev seat : Seat
+  seat = seatOf who steps
 
-  waiting-reads : (p : ℕ) (x : Result) → p < 8 → Gives steps (calls (looks (waiting p))) x → x .answer ≡ number (queueIn r p .count)
-  waiting-reads p x inside g = waiting-told steps x p g ∙ ap number (waiting-is r p inside)
+  counter-reads : (i : ℕ) (x : Result) → i < counterCount → Gives steps (flies who (looks (counter i))) x → x .answer ≡ counterIn (counters who steps) i
+  counter-reads i x inside g = gives-row who steps (own (looks (counter i))) x g .answer ∙ counter-is (counters who steps) i inside
 
-  many-wait : (p : ℕ) → p < 8 → queueIn r p .count ≡ length (lineAt p h)
-  many-wait p inside = waits-count entryOf (queue-waits p inside h)
+  waiting-reads : (p : ℕ) (x : Result) → p < portCount → Gives steps (flies who (looks (waiting p))) x → x .answer ≡ queueAt (seat .mission) p .count
+  waiting-reads p x inside g = gives-row who steps (own (looks (waiting p))) x g .answer ∙ waiting-is (seat .mission) p inside
+
+  many-wait : (p : ℕ) → p < portCount → queueAt (seat .mission) p .count ≡ length (lineAt p m h)
+  many-wait p inside = waits-count entryOf (queue-waits p inside m h)
 
   -- a queue that is not under 32 has 32
-  full-is : (p : ℕ) → p < 8 → ltb (queueIn r p .count) 32 ≡ false → queueIn r p .count ≡ 32
+  full-is : (p : ℕ) → p < portCount → ltb (queueAt (seat .mission) p .count) entryPlaces ≡ false → queueAt (seat .mission) p .count ≡ entryPlaces
   full-is p inside full =
-      let fits = waits-fits entryOf (queue-waits p inside h) in
-      let over = ltb-false (queueIn r p .count) 32 full in
+      let fits = waits-fits entryOf (queue-waits p inside m h) in
+      let over = ltb-false (queueAt (seat .mission) p .count) entryPlaces full in
       omega (arith, fits, over, many-wait p inside)
 
 -- ---- what is handed out is told
 -- one step more
-trace-more : (xs : List Step) (c : Step) (w v : List ℕ) → Trace w xs v → (x : Result) → Says (made v c) x → Trace w (xs ++ (c ∷ [])) (wordsAfter v c x)
-trace-more [] c w v t x says = rw (← t) (x, (says, refl))
+trace-more : (xs : List Step) (c : Step) (w v : Words) → Trace w xs v → (x : Result) → Says (made v c) x → Trace w (xs ++ (c ∷ [])) (wordsAfter v c x)
+trace-more [] c w v t x says = subst (λ (z : Words). Trace z (c ∷ []) (wordsAfter v c x)) t (x, (says, refl))
 trace-more (d ∷ xs) c w v t x says = (t .0, (t .1 .0, trace-more xs c (wordsAfter w d (t .0)) v (t .1 .1) x says))
 
-pass-more : (xs : List Step) (c : Step) → AllPass xs → Passes c → AllPass (xs ++ (c ∷ []))
+pub pass-more : (xs : List Step) (c : Step) → AllPass xs → Passes c → AllPass (xs ++ (c ∷ []))
 pass-more [] c all p = (p, tt)
 pass-more (d ∷ xs) c all p = (all .0, pass-more xs c (all .1) p)
 
-begun-more : (w v : List ℕ) (steps : List Step) (c : Step) (x : Result) → Begun w steps v → Says (made v c) x → Passes c
+begun-more : (w v : Words) (steps : List Step) (c : Step) (x : Result) → Begun w steps v → Says (made v c) x → Passes c
     → Begun w (steps ++ (c ∷ [])) (wordsAfter v c x)
 begun-more w v steps c x b says p =
     record {
-      first = b .first;
-      fresh = b .fresh;
-      done = b .done;
-      then = trace-more steps c (b .first .words) v (b .then) x says;
+      board = b .board;
+      zero = b .zero;
+      one = b .one;
+      fresh-board = b .fresh-board;
+      fresh-zero = b .fresh-zero;
+      fresh-one = b .fresh-one;
+      then = trace-more steps c _ v (b .then) x says;
       passed = pass-more steps c (b .passed) p;
     }
 
-heard-more : (steps : List Step) (c : Call) (h : List Call) → withSteps h (steps ++ (calls c ∷ [])) ≡ andThen (withSteps h steps) c
-heard-more [] c h = refl
-heard-more (d ∷ steps) c h = heard-more steps c (withStep h d)
+-- the entries that the answers of a history give, from its seat on
+abbrev answersOf : Customer → ℕ → List Step → List Step → List Entry
+answersOf who p steps ds = answeredFrom p (seatOf who steps) (historyOf who ds)
 
-entries-told : (p : ℕ) (ds : List Call) (steps : List Step) (w v u : List ℕ) → Begun w steps v → (t : Trace v (map calls ds) u) → AllPass (map calls ds)
-    → entriesIn p ds v u t ≡ answeredSince p (historyOf steps) ds
-entries-told p [] steps w v u b t all = refl
-entries-told p (c ∷ ds) steps w v u b t all =
+-- a step that is in the customer's history, and one that is not
+module _ (who : Customer) (p : ℕ) (steps : List Step) where
+  seat-more : (c : Call) → historyOf who (stepOf who c ∷ []) ≡ c ∷ [] → seatOf who (steps ++ (stepOf who c ∷ [])) ≡ next (seatOf who steps) c
+  seat-more c is =
+      let n = numberOf who in
+      ap (seatAfter n) (history-more who steps (stepOf who c ∷ []) ∙ ap (λ (l : List Call). historyOf who steps ++ l) is)
+      ∙ seat-then (historyOf who steps) (freshSeat n) c
+
+  seat-same : (c : Step) → historyOf who (c ∷ []) ≡ [] → seatOf who (steps ++ (c ∷ [])) ≡ seatOf who steps
+  seat-same c is =
+      ap (seatAfter (numberOf who))
+      (history-more who steps (c ∷ []) ∙ ap (λ (l : List Call). historyOf who steps ++ l) is ∙ append-nil (historyOf who steps))
+
+entries-told : (who : Customer) (p : ℕ) (ds steps : List Step) (w v u : Words) → Begun w steps v → (t : Trace v ds u) → AllPass ds
+    → entriesIn who p ds v u t ≡ answersOf who p steps ds
+entries-told who p [] steps w v u b t all = refl
+entries-told who p (operates c ∷ ds) steps w v u b t all =
     let x = t .0 in
-    let g : Gives steps (calls c) x = record { first = w; before = v; begun = b; says = t .1 .0; passes = all .0 } in
-    let more = begun-more w v steps (calls c) x b (t .1 .0) (all .0) in
-    let rest = entries-told p ds (steps ++ (calls c ∷ [])) w (wordsAfter v (calls c) x) u more (t .1 .1) (all .1) in
-    ap (λ (a : Answer). answeredBy p c a ++ entriesIn p ds (wordsAfter v (calls c) x) u (t .1 .1)) (read-out steps c x g)
-    ∙ ap (λ (l : List Entry). answeredBy p c (outcome (relayAfter (historyOf steps)) c .answer) ++ l)
-    (rest ∙ ap (λ (cs : List Call). answeredFrom p (relayAfter cs) ds) (heard-more steps c []) ∙ ap (λ (r : Relay). answeredFrom p r ds) (relay-then (historyOf steps) freshRelay c))
+    let more = begun-more w v steps (operates c) x b (t .1 .0) (all .0) in
+    entries-told who p ds (steps ++ (operates c ∷ [])) w (wordsAfter v (operates c) x) u more (t .1 .1) (all .1)
+    ∙ ap (λ (z : Seat). answeredFrom p z (historyOf who ds)) (seat-more who p steps (operator c) refl)
+entries-told first p (flies first c ∷ ds) steps w v u b t all =
+    let x = t .0 in
+    let g : Gives steps (flies first c) x = record { lent = w; before = v; begun = b; says = t .1 .0; passes = all .0 } in
+    let more = begun-more w v steps (flies first c) x b (t .1 .0) (all .0) in
+    let rest = entries-told first p ds (steps ++ (flies first c ∷ [])) w (wordsAfter v (flies first c) x) u more (t .1 .1) (all .1) in
+    ap (λ (a : Answer). answeredOwn p c a ++ entriesIn first p ds (wordsAfter v (flies first c) x) u (t .1 .1)) (read-out first steps (own c) x g)
+    ∙ ap (λ (l : List Entry). answeredOwn p c (ownOutcome (seatOf first steps) c .answer) ++ l)
+    (rest ∙ ap (λ (z : Seat). answeredFrom p z (historyOf first ds)) (seat-more first p steps (own c) refl))
+entries-told first p (flies second c ∷ ds) steps w v u b t all =
+    let x = t .0 in
+    let more = begun-more w v steps (flies second c) x b (t .1 .0) (all .0) in
+    entries-told first p ds (steps ++ (flies second c ∷ [])) w (wordsAfter v (flies second c) x) u more (t .1 .1) (all .1)
+    ∙ ap (λ (z : Seat). answeredFrom p z (historyOf first ds)) (seat-same first p steps (flies second c) refl)
+entries-told second p (flies first c ∷ ds) steps w v u b t all =
+    let x = t .0 in
+    let more = begun-more w v steps (flies first c) x b (t .1 .0) (all .0) in
+    entries-told second p ds (steps ++ (flies first c ∷ [])) w (wordsAfter v (flies first c) x) u more (t .1 .1) (all .1)
+    ∙ ap (λ (z : Seat). answeredFrom p z (historyOf second ds)) (seat-same second p steps (flies first c) refl)
+entries-told second p (flies second c ∷ ds) steps w v u b t all =
+    let x = t .0 in
+    let g : Gives steps (flies second c) x = record { lent = w; before = v; begun = b; says = t .1 .0; passes = all .0 } in
+    let more = begun-more w v steps (flies second c) x b (t .1 .0) (all .0) in
+    let rest = entries-told second p ds (steps ++ (flies second c ∷ [])) w (wordsAfter v (flies second c) x) u more (t .1 .1) (all .1) in
+    ap (λ (a : Answer). answeredOwn p c a ++ entriesIn second p ds (wordsAfter v (flies second c) x) u (t .1 .1)) (read-out second steps (own c) x g)
+    ∙ ap (λ (l : List Entry). answeredOwn p c (ownOutcome (seatOf second steps) c .answer) ++ l)
+    (rest ∙ ap (λ (z : Seat). answeredFrom p z (historyOf second ds)) (seat-more second p steps (own c) refl))
 
 -- ---- the copies of a datagram
-module _ (steps : List Step) (p at : ℕ) (slot : Slot) (octets output : List ℕ) (x : Result) (g : Gives steps (calls (hears at slot octets output)) x) where
+module _ (who : Customer) (steps : List Step) (rs : List Record) (p at : ℕ) (slot : Slot) (octets output : List ℕ) (x : Result)
+    (g : Gives steps (flies who (hears rs at slot octets output)) x) where
   abbrev e : Ending
-  e = endingOf (relayAfter (historyOf steps)) at octets (length output)
+  e = heardBy (seatOf who steps) rs at octets (length output)
 
-  parts : ReadBack (numberIn (x .answer)) e
-  parts = rw (receive-told steps x at slot octets output g .0) (read-back (relayAfter (historyOf steps)) at octets (length output))
+  parts : ReadBack (x .answer) e
+  parts = rw (gives-row who steps (own (hears rs at slot octets output)) x g .answer) (read-back (seatOf who steps) rs at octets (length output))
 
   -- what a port took was read, and has the header's size and precedence
   placed-case : (t : Bool) → inSet p (e .ruling .took) ≡ t
-      → pick t (copyOf (length (historyOf steps)) (relayAfter (historyOf steps)) at slot octets e ∷ []) []
-      ≡ pick t (placedBy steps at slot octets ∷ []) []
+      → pick t (copyOf (length (historyOf who steps)) (seatOf who steps) at slot octets e ∷ []) []
+      ≡ pick t (placedBy who steps at slot octets ∷ []) []
   placed-case true took =
-      let was = took-read (relayAfter (historyOf steps)) at octets (length output) (λ z. true-false (sym (sym (ap (inSet p) z) ∙ took) ∙ in-none p)) in
+      let was = took-read (seatOf who steps) rs at octets (length output) (λ z. true-false (sym (sym (ap (inSet p) z) ∙ took) ∙ in-none p)) in
       let is = read-good octets (was .header) .0 (was .read) .1 in
       rw (was .size, was .precedence, is)
   placed-case false took = refl
 
-  placed : takenBy p (length (historyOf steps)) (relayAfter (historyOf steps)) (hears at slot octets output)
-      ≡ pick (inSet p (tookIn x)) (placedBy steps at slot octets ∷ []) []
+  placed : takenOwn p (length (historyOf who steps)) (seatOf who steps) (hears rs at slot octets output)
+      ≡ pick (inSet p (tookIn x)) (placedBy who steps at slot octets ∷ []) []
   placed = placed-case (inSet p (e .ruling .took)) refl ∙ rw (parts .took)
 
 pub demand-3 : Demand3
 demand-3 =
     record {
-      counters = λ steps i x inside g. counter-reads steps i x inside g ∙ ap number (counted-as-written i inside (historyOf steps));
-      ledger = λ steps p x inside g.
-          (queueIn (relayAfter (historyOf steps)) p .count, (waiting-reads steps p x inside g, ledgers.ledger p inside (historyOf steps)));
-      dropped-by-32 = λ steps p at slot octets output x y inside g dropped k.
-          let told = receive-told steps x at slot octets output g .0 in
-          let r = relayAfter (historyOf steps) in
-          let is : droppedIn x ≡ endingOf r at octets (length output) .ruling .dropped =
-          ap (λ t. partAt 32 (numberIn t)) told ∙ read-back r at octets (length output) .dropped in
-          waiting-reads steps p y inside k
-          ∙ ap number (full-is steps p inside (fair r p inside at octets (length output) .full (sym (ap (inSet p) is) ∙ dropped)));
-      copies-told = λ steps p at slot octets output x inside g.
-          let page = verdict-is-the-page (relayAfter (historyOf steps)) (masks-contiguous (historyOf steps)) at octets (length output) in
-          let told = parts steps p at slot octets output x g in
-          (page .ruling .granted p inside, (ap (inSet p) (sym (told .took)), ap (inSet p) (sym (told .dropped))));
+      counters = λ who steps i x inside g. counter-reads who steps i x inside g ∙ counted-as-written i inside (numberOf who) (historyOf who steps);
+      ledger = λ who steps p x inside g. rw (waiting-reads who steps p x inside g) (ledgers.ledger p inside (numberOf who) (historyOf who steps));
+      dropped-by-32 = λ who steps rs p at slot octets output x y inside g dropped k.
+          let is = parts who steps rs p at slot octets output x g .dropped in
+          waiting-reads who steps p y inside k
+          ∙ full-is who steps p inside
+          (fair (seatOf who steps) p inside rs at octets (length output) .full (sym (ap (inSet p) is) ∙ dropped));
+      copies-told = λ who steps rs p at slot octets output x inside g short.
+          let seat = seatOf who steps in
+          let page = verdict-is-the-page (relayFor who steps rs) (seen-contiguous (seat .board) rs (seat .number)) at octets (length output) in
+          let told = parts who steps rs p at slot octets output x g in (
+            ap (λ (z : Ending). inSet p (z .ruling .granted)) (heard-is seat rs at octets (length output) false short) ∙ page .ruling .granted p inside,
+            (ap (inSet p) (sym (told .took)), ap (inSet p) (sym (told .dropped))),
+          );
       placed = placed;
-      waiting-are = λ steps p test. out-or-waiting p test (historyOf steps);
-      waiting-in-turn = λ steps p. (taken-in-turn p (historyOf steps), line-in-turn p (historyOf steps));
-      waiting-many = λ steps p x inside g. waiting-reads steps p x inside g ∙ ap number (many-wait steps p inside);
-      order = λ steps p x g. (
-        take-told steps x p g ∙ ap (λ t. number (takingNumber t)) (take-is (historyOf steps) p),
-        chosen-asked (rankBy entryOf) (lineAt p (historyOf steps)),
+      waiting-are = λ who steps p test. out-or-waiting p test (numberOf who) (historyOf who steps);
+      waiting-in-turn = λ who steps p. (taken-in-turn p (numberOf who) (historyOf who steps), line-in-turn p (numberOf who) (historyOf who steps));
+      waiting-many = λ who steps p x inside g. waiting-reads who steps p x inside g ∙ many-wait who steps p inside;
+      order = λ who steps p x g. (
+        gives-row who steps (own (takes p)) x g .answer ∙ ap takingNumber (take-is (numberOf who) (historyOf who steps) p),
+        chosen-asked (rankBy entryOf) (lineAt p (numberOf who) (historyOf who steps)),
       );
-      foretold = λ cs ds c p k x placed. foretold-over-histories p cs c x placed ds k;
-      foretold-behind = λ cs c p x inside placed. stands-behind p cs c x placed inside;
-      foretold-idle = λ cs ds c p x idle. idle-counts-nothing p x cs c ds idle;
-      foretold-refused = λ cs c p. refused-idle p cs c;
-      foretold-others = λ cs p. (other-take-idle p cs, (not-taken-idle p cs, (setting-idle p cs, look-idle p cs)));
-      handed-is-told = λ steps ds p w v u b t all. entries-told p ds steps w v u b t all ∙ sym (answers-are-handed p ds (historyOf steps));
+      foretold = λ m cs ds c p k x placed. foretold-over-histories p m cs c x placed ds k;
+      foretold-behind = λ m cs c p x inside placed. stands-behind p m cs c x placed inside;
+      foretold-idle = λ m cs ds c p x idle. idle-counts-nothing p m x cs c ds idle;
+      foretold-refused = λ m cs c p. refused-idle p m cs c;
+      foretold-others = λ m cs p. (other-take-idle p m cs, (not-taken-idle p m cs, (setting-idle p m cs, (look-idle p m cs, operator-idle p m cs))));
+      handed-is-told = λ who steps later p w v u b t all.
+          entries-told who p later steps w v u b t all ∙ sym (answers-are-handed p (numberOf who) (historyOf who later) (historyOf who steps));
     }

@@ -1,11 +1,19 @@
--- The demands are kept: Demand1, Demand2 and Demand3 prove the records of specs/. Of traces: Traced (the words hold what the history leaves), Lasts
--- (there is a trace for any steps), Told (what C is told at the end of any trace) and ReadOut (what it reads out of that is what the rules say).
--- Promised serves Told.
+-- The customers' demands are kept. To be read: Demand1, Demand2 and Demand3 (each field of the three records), Apart (neither customer can tell what the
+-- other does) and WrongRelays (relays that are shut out by them). The others serve these: Lane, a trace as one customer has part in it; Fresh, how a
+-- trace begins; Promised, Held, Traced and Told, what the words hold after any steps, and what C is told then; Lasts, that there are such traces; Fitting
+-- and ReadOut, what C reads out of an answer; Whole, which calls leave all as it was lent.
+pub mod Lane
+pub mod Fresh
 pub mod Promised
+pub mod Held
 pub mod Traced
 pub mod Lasts
 pub mod Told
+pub mod Fitting
 pub mod ReadOut
+pub mod Whole
 pub mod Demand1
 pub mod Demand2
 pub mod Demand3
+pub mod Apart
+pub mod WrongRelays

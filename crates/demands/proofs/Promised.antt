@@ -1,66 +1,160 @@
--- What each step is promised to answer, to leave and to send on where the words hold a state: the rows of the crate `contracts`, without the words. That
--- C is told this after any trace is proved: `gives-row`, in proofs/Told.antt. Assumes nothing.
-use mathlib.Core.List.{[]}
+-- What each call of a customer's history is promised to answer and to leave where the words hold the board and the customer's state: the rows of the crate
+-- `contracts`, without the words. That C is told this after any trace is proved: `gives-row`, in proofs/Told.antt. Assumes nothing.
+use Prim.Native.Nat.{ℕ}
+use mathlib.Core.List.{List, []}
 use lib.ListN.{length}
-use Rattle.checks.specs.Order.{firstOf}
+use Rattle.checks.specs.Order.{pick, firstOf}
 use Rattle.address.specs.Class.{classOf, classNumber}
 use Rattle.address.specs.Path.{pathForm, pathNumber}
 use Rattle.checksum.specs.Sum.{checksumOf}
 use Rattle.header.specs.Read.{readOf}
-use Rattle.state.specs.Relay.{State, freshState}
-use Rattle.state.specs.Layout as layout
+use Rattle.numbers.specs.InWords.{numbersWords}
+use Rattle.routes.specs.declared.Record.{Record}
+use Rattle.state.specs.Seen.{Board, State}
+use Rattle.state.specs.Layout.{boardWords, missionWords}
 use Rattle.tally.specs.Tally.{countedAll}
-use Rattle.lent_state.specs.View.{Held, lent}
-use Rattle.harpjuniper.specs.Face.{readingOf, buildAnswer, buildOutput}
-use Rattle.harpjuniper_reads.specs.Search.{searchAnswer}
-use Rattle.harpjuniper_receive.specs.Face.{receiveAnswer, receiveOutput}
+use Rattle.lent_state.specs.View.{Lent, Held, lentBoard, lent, tooLong}
+use Rattle.relay.specs.Outgoing.{sentOutput}
+use Rattle.answers.specs.Answers.{receiveNumber}
+use Rattle.harpjuniper.specs.Face.{readingOf, readingWords, buildAnswer, buildOutput}
+use Rattle.route_calls.specs.Search.{searchAnswer}
+use Rattle.harpjuniper_routes.specs.Face.{routeWordTold}
+use Rattle.harpjuniper_reads.specs.Back.{portAnswer, groupAnswer, pathAnswer}
 use Rattle.harpjuniper_relay.specs.Face.{takeAnswer, counterAnswer, waitingAnswer}
-use Rattle.contracts.specs.Promised.{Told, number, reading, Promise}
-use Rattle.history.specs.Calls.{Look, setting, search, counter, waiting, read, build, class, form, checksum, stateWords, Call, sets, hears, takes, looks, checksOf}
+use Rattle.contracts.specs.Promised.{Promise}
+use Rattle.history.specs.Seat.{Seat, stateOf, relayIn, relayWith, heardBy}
 use Rattle.history.specs.Outcome.{outcome, next}
-use Rattle.demands.specs.ReadOut.{partTold}
-use Rattle.demands.specs.Trace.{Step, starts, calls}
+use Rattle.history.specs.Calls.{
+  Order,
+  setRouter,
+  setPort,
+  setRoute,
+  clearRoute,
+  View,
+  routerFlag,
+  portWord,
+  recordWord,
+  OperatorCall,
+  orders,
+  views,
+  Setting,
+  setGroup,
+  setPath,
+  clearGroup,
+  clearPath,
+  Look,
+  groupWord,
+  pathWord,
+  search,
+  counter,
+  waiting,
+  read,
+  build,
+  class,
+  form,
+  checksum,
+  boardSize,
+  missionSize,
+  MissionCall,
+  sets,
+  hears,
+  takes,
+  looks,
+  Call,
+  operator,
+  own,
+  orderChecks,
+  boardLeft,
+  listLeft,
+  checksOf,
+}
 
--- ---- what a step leaves of a state
-abbrev pub nextState : State → Call → State
-nextState s c = record { relay = next (s .relay) c; counters = countedAll (s .counters) (outcome (s .relay) c .moves) }
+abbrev promise : ℕ → Lent Board → Lent State → List Record → List ℕ → List ℕ → Promise
+promise answer board mission routes output numbers =
+    record { answer = answer; board = board; mission = mission; routes = routes; output = output; numbers = numbers }
 
-abbrev pub stepped : State → Step → State
-stepped s starts = freshState
-stepped s (calls c) = nextState s c
+-- what is not lent
+abbrev noBoard : Lent Board
+noBoard = lentBoard []
 
--- ---- the table
--- a look at the state that the words hold, and one that is lent no words
-abbrev looking : State → Told → Promise
-looking s answer = record { answer = answer; words = Held s; output = [] }
+abbrev noMission : Lent State
+noMission = lent []
 
-abbrev asking : Told → Promise
-asking answer = record { answer = answer; words = lent []; output = [] }
+-- the call is lent nothing but octets and numbers
+abbrev asking : ℕ → Promise
+asking answer = promise answer noBoard noMission [] [] []
 
-abbrev lookPromised : State → Look → Promise
-lookPromised s (setting part) = looking s (partTold (s .relay) part)
-lookPromised s (search a) = looking s (number (searchAnswer (s .relay) a))
-lookPromised s (counter i) = looking s (number (counterAnswer (s .counters) i))
-lookPromised s (waiting p) = looking s (number (waitingAnswer (s .relay) p))
-lookPromised s (read octets) = asking (reading (readingOf (readOf octets)))
-lookPromised s (build fields size output) =
-    record { answer = number (buildAnswer fields size (length output)); words = lent []; output = buildOutput fields size output }
-lookPromised s (class a) = asking (number (classNumber (classOf (a .0))))
-lookPromised s (form p) = asking (number (pathNumber (pathForm (p .0))))
-lookPromised s (checksum octets) = asking (number (checksumOf octets))
-lookPromised s stateWords = asking (number layout.stateWords)
+-- ---- of a seat and its counters
+module _ (x : Seat) (l : List ℕ) where
+  -- what a call leaves of them
+  abbrev pub nextState : Call → State
+  nextState c = stateOf (next x c) (countedAll l (outcome x c .moves))
 
-abbrev callPromised : State → Call → Promise
-callPromised s (sets x) = record { answer = number (firstOf (checksOf (s .relay) x)); words = Held (nextState s (sets x)); output = [] }
-callPromised s (hears p slot octets output) =
-    record {
-      answer = number (receiveAnswer (s .relay) p octets (length output));
-      words = Held (nextState s (hears p slot octets output));
-      output = receiveOutput (s .relay) p octets output;
-    }
-callPromised s (takes p) = record { answer = number (takeAnswer (s .relay) p); words = Held (nextState s (takes p)); output = [] }
-callPromised s (looks l) = lookPromised s l
+  -- a call on the board, one on the mission, and one on both
+  abbrev onBoard : ℕ → Board → List Record → Promise
+  onBoard answer board routes = promise answer (Held board) noMission routes [] []
 
-abbrev pub promisedOf : State → Step → Promise
-promisedOf s starts = record { answer = number 0; words = Held freshState; output = [] }
-promisedOf s (calls c) = callPromised s c
+  abbrev onMission : ℕ → State → Promise
+  onMission answer state = promise answer noBoard (Held state) [] [] []
+
+  abbrev onBoth : ℕ → State → List Record → List ℕ → Promise
+  onBoth answer state routes output = promise answer (Held (x .board)) (Held state) routes output []
+
+  abbrev orderPromised : Order → Promise
+  orderPromised (setRouter y) = onBoard (firstOf (orderChecks (x .board) (setRouter y))) (boardLeft (x .board) (setRouter y)) []
+  orderPromised (setPort p address mask mtu mission) =
+      let o = setPort p address mask mtu mission in
+      onBoard (firstOf (orderChecks (x .board) o)) (boardLeft (x .board) o) []
+  orderPromised (setRoute rs i prefix mask p availability capabilities mission) =
+      let o = setRoute rs i prefix mask p availability capabilities mission in
+      onBoard (firstOf (orderChecks (x .board) o)) (x .board) (listLeft (x .board) o)
+  orderPromised (clearRoute rs i) =
+      promise (firstOf (orderChecks (x .board) (clearRoute rs i))) noBoard noMission (listLeft (x .board) (clearRoute rs i)) [] []
+
+  abbrev viewPromised : View → Promise
+  viewPromised routerFlag = onBoard (x .board .router) (x .board) []
+  viewPromised (portWord p word) = onBoard (portAnswer (x .board) p word) (x .board) []
+  viewPromised (recordWord rs i word) = promise (routeWordTold rs i word) noBoard noMission rs [] []
+
+  abbrev operatorPromised : OperatorCall → Promise
+  operatorPromised (orders o) = orderPromised o
+  operatorPromised (views v) = viewPromised v
+
+  abbrev settingPromised : Setting → Promise
+  settingPromised (setGroup i address send subscribed) =
+      let s = setGroup i address send subscribed in
+      onBoth (firstOf (checksOf (relayIn x) s)) (nextState (own (sets s))) [] []
+  settingPromised (setPath i path send here) =
+      let s = setPath i path send here in
+      onBoth (firstOf (checksOf (relayIn x) s)) (nextState (own (sets s))) [] []
+  settingPromised (clearGroup i) = onMission (firstOf (checksOf (relayIn x) (clearGroup i))) (nextState (own (sets (clearGroup i))))
+  settingPromised (clearPath i) = onMission (firstOf (checksOf (relayIn x) (clearPath i))) (nextState (own (sets (clearPath i))))
+
+  abbrev lookPromised : Look → Promise
+  lookPromised (groupWord i word) = onMission (groupAnswer (x .mission) i word) (stateOf x l)
+  lookPromised (pathWord i word) = onMission (pathAnswer (x .mission) i word) (stateOf x l)
+  lookPromised (search rs a) = onBoth (pick (tooLong rs) 21 (searchAnswer (relayWith x rs) a)) (stateOf x l) rs []
+  lookPromised (counter i) = onMission (counterAnswer l i) (stateOf x l)
+  lookPromised (waiting p) = onMission (waitingAnswer (x .mission) p) (stateOf x l)
+  lookPromised (read octets) =
+      let r = readingOf (readOf octets) in
+      promise (r .refusal) noBoard noMission [] [] (readingWords r)
+  lookPromised (build fields size output) =
+      promise (buildAnswer fields size (length output)) noBoard noMission [] (buildOutput fields size output) (numbersWords fields)
+  lookPromised (class a) = asking (classNumber (classOf (a .0)))
+  lookPromised (form p) = asking (pathNumber (pathForm (p .0)))
+  lookPromised (checksum octets) = asking (checksumOf octets)
+  lookPromised boardSize = asking boardWords
+  lookPromised missionSize = asking missionWords
+
+  abbrev ownPromised : MissionCall → Promise
+  ownPromised (sets s) = settingPromised s
+  ownPromised (hears rs p slot octets output) =
+      let e = heardBy x rs p octets (length output) in
+      onBoth (receiveNumber e) (nextState (own (hears rs p slot octets output))) rs (sentOutput (e .ruling .took) octets output)
+  ownPromised (takes p) = onBoth (takeAnswer (relayIn x) p) (nextState (own (takes p))) [] []
+  ownPromised (looks l) = lookPromised l
+
+  abbrev pub promisedBy : Call → Promise
+  promisedBy (operator c) = operatorPromised c
+  promisedBy (own c) = ownPromised c

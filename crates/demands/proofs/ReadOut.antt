@@ -15,41 +15,64 @@ use Rattle.header.proofs.BuiltLaws.{built-size}
 use Rattle.numbers.specs.Fields.{fieldsFrom}
 use Rattle.numbers.specs.Words.{Words}
 use Rattle.numbers.specs.declared.Numbers.{Numbers}
-use Rattle.queue.specs.Order.{Each}
 use Rattle.queue.specs.Waits.{Chosen, nobody, one, chosen, rankBy}
-use Rattle.queue.proofs.Each.{each-append}
 use Rattle.queue.proofs.Waits.{EachOf, chosen-each}
-use Rattle.state.specs.Relay.{Relay, portSetUp}
+use Rattle.sets.specs.Limits.{portCount, counterCount}
+use Rattle.state.specs.Relay.{portSetUp}
+use Rattle.lent_state.specs.View.{tooLong}
 use Rattle.refusals.proofs.Chains.{decided}
 use Rattle.answers.specs.Answers.{takingNumber, refusalIn}
-use Rattle.answers.proofs.Digits.{entry-parts, refusal-parts, value-parts}
+use Rattle.answers.proofs.Digits.{entry-parts}
 use Rattle.harpjuniper.specs.Face.{fieldsOut, numbersChecks, buildAnswer}
 use Rattle.harpjuniper.proofs.Promises.{fields-in}
 use Rattle.harpjuniper_relay.specs.Face.{counterAnswer, waitingAnswer}
 use Rattle.contracts.specs.Promised.{Result}
-use Rattle.history.specs.Calls.{theRouter, thePort, theRoute, theGroup, thePath, Look, setting, search, counter, waiting, read, build, class, form, checksum, stateWords, Call, sets, hears, takes, looks}
-use Rattle.history.specs.Looks.{lookNumber}
+use Rattle.history.specs.Seat.{Seat}
+use Rattle.history.specs.Calls.{
+  View,
+  routerFlag,
+  portWord,
+  recordWord,
+  orders,
+  views,
+  Look,
+  groupWord,
+  pathWord,
+  search,
+  counter,
+  waiting,
+  read,
+  build,
+  class,
+  form,
+  checksum,
+  boardSize,
+  missionSize,
+  MissionCall,
+  sets,
+  hears,
+  takes,
+  looks,
+  Call,
+  operator,
+  own,
+}
+use Rattle.history.specs.Looks.{viewNumber, lookNumber}
 use Rattle.history.specs.Line.{Copy, entryOf, takingOf, lineAt}
-use Rattle.history.specs.Outcome.{relayAfter}
+use Rattle.history.specs.Outcome.{seatAfter}
 use Rattle.history.specs.Outcome as outcome
 use Rattle.history.specs.Tally.{stateAfter}
-use Rattle.history.specs.Ranges.{Passed, CopyFits}
+use Rattle.history.specs.Ranges.{CopyFits}
 use Rattle.history.proofs.Counters.{counters-fit}
 use Rattle.history.proofs.Ranges.{in-range, waiting-fits}
 use Rattle.history.proofs.Takes.{take-is}
 use Rattle.history.proofs.ReadBack.{read-back}
-use Rattle.demands.specs.Trace.{Step, starts, calls, Passes, AllPass, withStep, withSteps, historyOf, Gives}
-use Rattle.demands.specs.ReadOut.{numberIn, takenOut, lookOut, readOut}
-use Rattle.demands.proofs.Told.{gives-row, setting-told, take-told, search-told, counter-told, waiting-told}
+use Rattle.demands.specs.Trace.{Customer, numberOf, Step, operates, flies, stepOf, historyOf, seatOf, relayOf, Gives}
+use Rattle.demands.specs.ReadOut.{takenOut, lookOut, ownOut, readOut}
+use Rattle.demands.proofs.Fitting.{value-out, refusal-out, history-passed, port-out, group-out, path-out, record-out}
+use Rattle.demands.proofs.Told.{gives-row, setting-told, order-seen}
 
--- ---- a value of 32 bits, or a refusal above it
-value-out : (n : ℕ) → n < 2 ^ 32 → refusalIn n ≡ 0
-value-out n h = value-parts n h .refusal
-
-refusal-out : (n : ℕ) → n < 2 ^ 32 → refusalIn (refusalNumber n) ≡ n
-refusal-out n h = refusal-parts n h .refusal
-
--- where a test decides which
+-- where a test decides between a value and a refusal
 either-out : (t : Bool) (value n : ℕ) → (t ≡ true → value < 2 ^ 32) → n < 2 ^ 32 → refusalIn (pick t value (refusalNumber n)) ≡ pick t 0 n
 either-out true value n small h = value-out value (small refl)
 either-out false value n small h = refusal-out n h
@@ -68,13 +91,20 @@ module _ (p : ℕ) where
       rw (parts .refusal, parts .slot, parts .precedence)
 
 -- ---- looks
-counter-out : (cs : List Call) (i : ℕ) → refusalIn (counterAnswer (stateAfter cs .counters) i) ≡ pick (ltb i 15) 0 21
-unfolding counterAnswer
-counter-out cs i = either-out (ltb i 15) _ 21 (λ h. counters-fit i (ltb-true i 15 h) cs .small) (omega arith)
+module _ (m : ℕ) (cs : List Call) where
+  counter-out : (i : ℕ) → refusalIn (counterAnswer (stateAfter m cs .counters) i) ≡ pick (ltb i counterCount) 0 21
+  unfolding counterAnswer
+  counter-out i = either-out (ltb i counterCount) _ 21 (λ h. counters-fit i (ltb-true i counterCount h) m cs .small) (omega arith)
 
-waiting-out : (cs : List Call) (p : ℕ) → refusalIn (waitingAnswer (relayAfter cs) p) ≡ pick (ltb p 8) 0 21
-unfolding waitingAnswer
-waiting-out cs p = either-out (ltb p 8) _ 21 (λ h. let most = in-range cs .queues p (ltb-true p 8 h) in omega (arith, most)) (omega arith)
+  waiting-out : (p : ℕ) → refusalIn (waitingAnswer (seatAfter m cs .mission) p) ≡ pick (ltb p portCount) 0 21
+  unfolding waitingAnswer
+  waiting-out p =
+      either-out (ltb p portCount) _ 21 (λ h. let most = in-range m cs .queues p (ltb-true p portCount h) in omega (arith, most)) (omega arith)
+
+-- a search: sixteen bits
+search-out : (t : Bool) (n : ℕ) → pick t 21 n % 2 ^ 16 ≡ pick t 21 (n % 2 ^ 16)
+search-out true n = refl
+search-out false n = refl
 
 -- building: the header has at most 50 octets, and a refusal is 17, 19 or 20
 answer-out : (t : Bool) (n value : ℕ) → eqb n 0 ≡ t → (n ≡ 0 → value < 2 ^ 32) → n < 2 ^ 32 → refusalIn (pick t value (refusalNumber n)) ≡ n
@@ -99,57 +129,61 @@ build-out fields size room words =
     omega (arith, most))
     (build-low (noRoom room) (fieldsOut fields) (tooMuchData size))
 
--- ---- all calls that C can make were passed
-passed-one : (h : List Call) (c : Step) → Each Passed h → Passes c → Each Passed (withStep h c)
-passed-one h starts all p = tt
-passed-one h (calls c) all p = each-append Passed h (c ∷ []) all (p, tt)
-
-passed-all : (cs : List Step) (h : List Call) → Each Passed h → AllPass cs → Each Passed (withSteps h cs)
-passed-all [] h all p = all
-passed-all (c ∷ cs) h all p = passed-all cs (withStep h c) (passed-one h c all (p .0)) (p .1)
-
-pub history-passed : (steps : List Step) → AllPass steps → Each Passed (historyOf steps)
-history-passed steps p = passed-all steps [] tt p
-
-module _ (steps : List Step) where
+module _ (who : Customer) (steps : List Step) where
   abbrev h : List Call
-  h = historyOf steps
+  h = historyOf who steps
 
-  abbrev r : Relay
-  r = relayAfter h
+  abbrev m : ℕ
+  m = numberOf who
 
-  look-out : (l : Look) (x : Result) → (g : Gives steps (calls (looks l)) x) → lookOut l (numberIn (x .answer)) ≡ lookNumber r l
-  look-out (setting theRouter) x g =
-      let flag = in-range h .flags .router in
-      ap (λ t. refusalIn (numberIn t)) (gives-row steps _ x g .0) ∙ value-out (r .router) (omega (arith, flag))
-  look-out (setting (thePort p)) x g = ap numberIn (gives-row steps _ x g .0)
-  look-out (setting (theRoute i)) x g = ap numberIn (gives-row steps _ x g .0)
-  look-out (setting (theGroup i)) x g = ap numberIn (gives-row steps _ x g .0)
-  look-out (setting (thePath i)) x g = ap numberIn (gives-row steps _ x g .0)
-  look-out (search a) x g = ap (λ t. numberIn t % 2 ^ 16) (search-told steps x a g)
-  look-out (counter i) x g = ap (λ t. refusalIn (numberIn t)) (counter-told steps x i g) ∙ counter-out h i
-  look-out (waiting p) x g = ap (λ t. refusalIn (numberIn t)) (waiting-told steps x p g) ∙ waiting-out h p
-  look-out (read octets) x g = ap numberIn (gives-row steps _ x g .0)
+  abbrev seat : Seat
+  seat = seatOf who steps
+
+  view-out : (v : View) (x : Result) → Gives steps (operates (views v)) x → refusalIn (x .answer) ≡ viewNumber v
+  view-out routerFlag x g =
+      let flag = in-range m h .flags .router in
+      ap refusalIn (gives-row who steps (operator (views routerFlag)) x g .answer) ∙ value-out (seat .board .router) (omega (arith, flag))
+  view-out (portWord p word) x g =
+      ap refusalIn (gives-row who steps (operator (views (portWord p word))) x g .answer) ∙ port-out who steps (g .begun .passed) p word
+  view-out (recordWord rs i word) x g =
+      ap refusalIn (gives-row who steps (operator (views (recordWord rs i word))) x g .answer) ∙ record-out rs i word (g .passes)
+
+  look-out : (l : Look) (x : Result) → Gives steps (flies who (looks l)) x → lookOut l (x .answer) ≡ lookNumber seat l
+  look-out (groupWord i word) x g =
+      ap refusalIn (gives-row who steps (own (looks (groupWord i word))) x g .answer) ∙ group-out who steps (g .begun .passed) i word
+  look-out (pathWord i word) x g =
+      ap refusalIn (gives-row who steps (own (looks (pathWord i word))) x g .answer) ∙ path-out who steps (g .begun .passed) i word
+  look-out (search rs a) x g =
+      ap (λ (n : ℕ). n % 2 ^ 16) (gives-row who steps (own (looks (search rs a))) x g .answer) ∙ search-out (tooLong rs) _
+  look-out (counter i) x g = ap refusalIn (gives-row who steps (own (looks (counter i))) x g .answer) ∙ counter-out m h i
+  look-out (waiting p) x g = ap refusalIn (gives-row who steps (own (looks (waiting p))) x g .answer) ∙ waiting-out m h p
+  look-out (read octets) x g = gives-row who steps (own (looks (read octets))) x g .answer
   look-out (build fields size output) x g =
-      ap (λ t. refusalIn (numberIn t)) (gives-row steps _ x g .0) ∙ build-out fields size (length output) (g .passes)
-  look-out (class a) x g = ap numberIn (gives-row steps _ x g .0)
-  look-out (form p) x g = ap numberIn (gives-row steps _ x g .0)
-  look-out (checksum octets) x g = ap numberIn (gives-row steps _ x g .0)
-  look-out stateWords x g = ap numberIn (gives-row steps _ x g .0)
+      ap refusalIn (gives-row who steps (own (looks (build fields size output))) x g .answer) ∙ build-out fields size (length output) (g .passes)
+  look-out (class a) x g = gives-row who steps (own (looks (class a))) x g .answer
+  look-out (form p) x g = gives-row who steps (own (looks (form p))) x g .answer
+  look-out (checksum octets) x g = gives-row who steps (own (looks (checksum octets))) x g .answer
+  look-out boardSize x g = gives-row who steps (own (looks boardSize)) x g .answer
+  look-out missionSize x g = gives-row who steps (own (looks missionSize)) x g .answer
 
-  -- What C reads out of the answer to any call is what the rules give after the history.
-  pub read-out : (c : Call) (x : Result) → Gives steps (calls c) x → readOut c (x .answer) ≡ outcome.outcome r c .answer
-  read-out (sets s) x g = ap (λ t. outcome.number (numberIn t)) (setting-told steps x s g)
-  read-out (hears p slot octets output) x g =
-      let c = hears p slot octets output in
-      let back = read-back r p octets (length output) in
-      ap (readOut c) (gives-row steps (calls c) x g .0) ∙ rw (back .refusal, back .local, back .onward, back .took)
-  read-out (takes p) x g =
-      let line = lineAt p h in
-      let is = take-is h p in
-      ap (λ t. takenOut (numberIn t)) (take-told steps x p g)
+  own-out : (c : MissionCall) (x : Result) → Gives steps (flies who c) x → ownOut c (x .answer) ≡ outcome.ownOutcome seat c .answer
+  own-out (sets s) x g = ap outcome.number (setting-told who steps x s g)
+  own-out (hears rs p slot octets output) x g =
+      let c = hears rs p slot octets output in
+      let back = read-back seat rs p octets (length output) in
+      ap (ownOut c) (gives-row who steps (own c) x g .answer) ∙ rw (back .refusal, back .local, back .onward, back .took)
+  own-out (takes p) x g =
+      let line = lineAt p m h in
+      let is = take-is m h p in
+      ap takenOut (gives-row who steps (own (takes p)) x g .answer)
       ∙ ap (λ t. takenOut (takingNumber t)) is
-      ∙ taken-out p (portSetUp r p) (chosen (rankBy entryOf) line)
-      (chosen-each (rankBy entryOf) CopyFits line (waiting-fits p h (history-passed steps (g .begun .passed))))
+      ∙ taken-out p (portSetUp (relayOf who steps) p) (chosen (rankBy entryOf) line)
+      (chosen-each (rankBy entryOf) CopyFits line (waiting-fits p m h (history-passed who steps (g .begun .passed))))
       ∙ ap (λ t. outcome.ofTaking p t .answer) (sym is)
-  read-out (looks l) x g = ap outcome.number (look-out l x g)
+  own-out (looks l) x g = ap outcome.number (look-out l x g)
+
+  -- What C reads out of the answer to any call is what the rules give after the customer's history.
+  pub read-out : (c : Call) (x : Result) → Gives steps (stepOf who c) x → readOut c (x .answer) ≡ outcome.outcome seat c .answer
+  read-out (operator (orders o)) x g = ap outcome.number (order-seen who steps x o g .0)
+  read-out (operator (views v)) x g = ap outcome.number (view-out v x g)
+  read-out (own c) x g = own-out c x g

@@ -1,136 +1,144 @@
--- What C is told at the end of any trace: of each call the answer, the output and what the words hold after it, by the state that the history leaves.
--- The law is `gives-row`; the others follow from it. Assumes nothing.
+-- What C is told at the end of any trace: of each call of a customer's history the answer and what it leaves, by what the history leaves. The law is
+-- `gives-row`; the others follow from it. Assumes nothing.
 use Prim.Native.Nat.{ℕ, _+_, _%_, _^_, _<_}
-use mathlib.Core.Path.{_≡_, sym, ap, _∙_}
+use mathlib.Core.Path.{_≡_, refl, sym, ap, _∙_}
 use mathlib.Core.List.{List, []}
-use lib.ListN.{length}
+use lib.Dec.{eqb}
 use Rattle.checks.specs.Order.{firstOf}
-use Rattle.address.specs.declared.Address.{Address}
-use Rattle.address.specs.declared.Slot.{Slot}
 use Rattle.sets.specs.Limits.{counterCount}
-use Rattle.state.specs.Relay.{Relay, State, counterIn}
-use Rattle.state.specs.Layout.{decode}
-use Rattle.lent_state.specs.View.{Held, lent, told, changed}
-use Rattle.harpjuniper_reads.specs.Search.{searchAnswer}
-use Rattle.harpjuniper_receive.specs.Face.{receiveAnswer, receiveOutput}
-use Rattle.harpjuniper_relay.specs.Face.{takeAnswer, counterAnswer, waitingAnswer}
-use Rattle.contracts.specs.Promised.{Told, number, port, route, group, path, Result, Allows, promised}
-use Rattle.contracts.proofs.OneResult.{allowed-once}
-use Rattle.contracts.proofs.Rows.{says-row}
-use Rattle.history.specs.Calls.{Setting, setRouter, setPort, setRoute, setGroup, setPath, clearRoute, clearGroup, clearPath, Part, theRouter, thePort, theRoute, theGroup, thePath, setting, search, counter, waiting, read, build, class, form, checksum, stateWords, Call, sets, hears, takes, looks, checksOf}
-use Rattle.history.specs.Outcome.{outcome, relayAfter}
+use Rattle.state.specs.Relay.{counterIn}
+use Rattle.state.specs.Seen.{State}
+use Rattle.state.specs.Layout.{decodeBoard, decode}
+use Rattle.lent_state.specs.View.{Held, lentBoard, lent}
+use Rattle.contracts.specs.Promised.{Result, Allows}
+use Rattle.contracts.specs.Contracts.{Says}
+use Rattle.history.specs.Seat.{Seat}
+use Rattle.history.specs.Calls.{
+  Order,
+  setRouter,
+  setPort,
+  setRoute,
+  clearRoute,
+  orders,
+  Setting,
+  setGroup,
+  setPath,
+  clearGroup,
+  clearPath,
+  MissionCall,
+  sets,
+  Call,
+  operator,
+  own,
+  orderChecks,
+  listLeft,
+  checksOf,
+}
+use Rattle.history.specs.Outcome.{outcome, next}
 use Rattle.history.specs.Tally.{sumAt, stateAfter}
 use Rattle.history.proofs.Counters.{moves-sum, counters-fit}
-use Rattle.demands.specs.Trace.{Step, starts, calls, made, wordsAfter, withStep, historyOf, Gives}
-use Rattle.demands.specs.ReadOut.{partTold}
-use Rattle.demands.proofs.Promised.{stepped, promisedOf}
-use Rattle.demands.proofs.Traced.{told-held, changed-held, held-words, stepped-heard, taken-state, step-holds, words-hold}
+use Rattle.demands.specs.Trace.{Customer, first, second, numberOf, Step, operates, flies, stepOf, Words, missionOf, made, wordsAfter, historyOf, boardOf, seatOf, relayOf, Gives}
+use Rattle.demands.proofs.Lane.{madeBy, boardBy, ownBy}
+use Rattle.demands.proofs.Promised.{nextState, promisedBy}
+use Rattle.demands.proofs.Held.{either-way, words-after}
+use Rattle.demands.proofs.Traced.{held-board, held-words, row-held, board-is, words-hold}
 
--- ---- a row, where the words hold a state
-module _ (w : List ℕ) (s : State) (is : lent w ≡ Held s) (x : Result) where
-  -- a call that changes the state
-  changes : (f : State → ℕ) (d : ℕ) (g : State → State)
-      → Allows (record { answer = number (told f d w); words = changed g w; output = [] }) x
-      → Allows (record { answer = number (f s); words = Held (g s); output = [] }) x
-  changes f d g k = (k .0 ∙ ap number (told-held w s is f d), (k .1 .0 ∙ changed-held w s is g, k .1 .1))
+-- ---- a step of a customer's history is a call in its lane
+module _ (who : Customer) (w : Words) (x : Result) where
+  pub says-made : (c : Call) → Says (made w (stepOf who c)) x → Says (madeBy (w .board) (missionOf who w) c) x
+  says-made (operator c) says = says
+  says-made (own c) says = says
 
-  -- one that looks at it
-  looked : {A : Type 0} (of : A → Told) (f : State → A) (d : A)
-      → Allows (record { answer = of (told f d w); words = lent w; output = [] }) x
-      → Allows (record { answer = of (f s); words = Held s; output = [] }) x
-  looked of f d k = (k .0 ∙ ap of (told-held w s is f d), (k .1 .0 ∙ is, k .1 .1))
+  pub board-after : (c : Call) → wordsAfter w (stepOf who c) x .board ≡ boardBy (w .board) c x
+  board-after (operator c) = refl
+  board-after (own c) = own-board who c
+    where
+      own-board : (who : Customer) (c : MissionCall) → wordsAfter w (flies who c) x .board ≡ w .board
+      own-board first c = refl
+      own-board second c = refl
 
-  row-held : (c : Step) → Allows (promised (made w c)) x → Allows (promisedOf s c) x
-  row-held starts k = changes _ _ _ k
-  row-held (calls (sets (setRouter y))) k = changes _ _ _ k
-  row-held (calls (sets (setPort q address mask mtu))) k = changes _ _ _ k
-  row-held (calls (sets (setRoute i prefix mask q availability capabilities))) k = changes _ _ _ k
-  row-held (calls (sets (setGroup i address send subscribed))) k = changes _ _ _ k
-  row-held (calls (sets (setPath i to send here))) k = changes _ _ _ k
-  row-held (calls (sets (clearRoute i))) k = changes _ _ _ k
-  row-held (calls (sets (clearGroup i))) k = changes _ _ _ k
-  row-held (calls (sets (clearPath i))) k = changes _ _ _ k
-  row-held (calls (hears p slot octets output)) k = (
-    k .0 ∙ ap number (told-held w s is _ _),
-    (k .1 .0 ∙ changed-held w s is _, k .1 .1 ∙ told-held w s is _ _),
-  )
-  row-held (calls (takes q)) k =
-      let held = changes _ _ _ k in
-      (held .0, (held .1 .0 ∙ ap Held (taken-state s q), held .1 .1))
-  row-held (calls (looks (setting theRouter))) k = looked number _ _ k
-  row-held (calls (looks (setting (thePort q)))) k = looked port _ _ k
-  row-held (calls (looks (setting (theRoute i)))) k = looked route _ _ k
-  row-held (calls (looks (setting (theGroup i)))) k = looked group _ _ k
-  row-held (calls (looks (setting (thePath i)))) k = looked path _ _ k
-  row-held (calls (looks (search a))) k = looked number _ _ k
-  row-held (calls (looks (counter i))) k = looked number _ _ k
-  row-held (calls (looks (waiting q))) k = looked number _ _ k
-  row-held (calls (looks (read octets))) k = k
-  row-held (calls (looks (build fields size output))) k = k
-  row-held (calls (looks (class a))) k = k
-  row-held (calls (looks (form a))) k = k
-  row-held (calls (looks (checksum octets))) k = k
-  row-held (calls (looks stateWords)) k = k
+pub own-after : (who : Customer) (w : Words) (x : Result) (c : Call) → missionOf who (wordsAfter w (stepOf who c) x) ≡ ownBy (missionOf who w) c x
+own-after first w x (operator c) = refl
+own-after second w x (operator c) = refl
+own-after first w x (own c) = refl
+own-after second w x (own c) = refl
 
 -- ---- after a trace
-module _ (cs : List Step) (c : Step) (x : Result) where
+abbrev pub counters : Customer → List Step → List ℕ
+counters who cs = stateAfter (numberOf who) (historyOf who cs) .counters
+
+module _ (who : Customer) (cs : List Step) where
+  abbrev seat : Seat
+  seat = seatOf who cs
+
   abbrev after : State
-  after = stateAfter (historyOf cs)
+  after = stateAfter (numberOf who) (historyOf who cs)
 
-  -- What a step gives back after a trace is what its row promises of the state that the history leaves.
-  pub gives-row : Gives cs c x → Allows (promisedOf after c) x
-  gives-row g = row-held (g .before) after (words-hold (g .first) cs (g .before) (g .begun)) x c (says-row (made (g .before) c) x (g .says))
+  module _ (c : Call) (x : Result) where
+    -- What a call gives back after a trace is what it is promised of the seat that the history leaves.
+    pub gives-row : Gives cs (stepOf who c) x → Allows (promisedBy seat (counters who cs) c) x
+    gives-row g =
+        let is = words-hold who (g .lent) cs (g .before) (g .begun) in
+        row-held (g .before .board) (missionOf who (g .before)) seat (counters who cs) (is .0) (is .1) c x (says-made who (g .before) x c (g .says))
 
-  -- The words before it spell that state; the words after it spell what the step makes of it, which is the state that the longer history leaves.
-  pub gives-before : (g : Gives cs c x) → decode (g .before) ≡ after
-  gives-before g = held-words (g .before) after (words-hold (g .first) cs (g .before) (g .begun)) .1
+    -- The words after it spell what the call makes of it.
+    module _ (g : Gives cs (stepOf who c) x) where
+      hold : (lentBoard (boardBy (g .before .board) c x) ≡ Held (next seat c .board))
+          × (lent (ownBy (missionOf who (g .before)) c x) ≡ Held (nextState seat (counters who cs) c))
+      hold =
+          let is = words-hold who (g .lent) cs (g .before) (g .begun) in
+          words-after (g .before .board) (missionOf who (g .before)) seat (counters who cs) (is .0) (is .1) x c (gives-row g)
 
-  pub gives-next : (g : Gives cs c x) → decode (wordsAfter (g .before) c x) ≡ stepped (decode (g .before)) c
-  gives-next g =
-      let is = words-hold (g .first) cs (g .before) (g .begun) in
-      held-words (wordsAfter (g .before) c x) (stepped after c) (step-holds (g .before) x after is c (g .says)) .1
-      ∙ ap (λ (s : State). stepped s c) (sym (gives-before g))
+      pub gives-board : decodeBoard (wordsAfter (g .before) (stepOf who c) x .board) ≡ next seat c .board
+      gives-board = ap decodeBoard (board-after who (g .before) x c) ∙ held-board (boardBy (g .before .board) c x) (next seat c .board) (hold .0) .1
 
-  pub gives-after : (g : Gives cs c x) → decode (wordsAfter (g .before) c x) ≡ stateAfter (withStep (historyOf cs) c)
-  gives-after g = gives-next g ∙ ap (λ (s : State). stepped s c) (gives-before g) ∙ stepped-heard (historyOf cs) c
+      pub gives-next : decode (missionOf who (wordsAfter (g .before) (stepOf who c) x)) ≡ nextState seat (counters who cs) c
+      gives-next =
+          ap decode (own-after who (g .before) x c)
+          ∙ held-words (ownBy (missionOf who (g .before)) c x) (nextState seat (counters who cs) c) (hold .1) .1
 
--- Any call moves each counter by what page 01's table gives this call, which is nothing for all but a datagram.
-pub counters-move : (cs : List Step) (c : Call) (x : Result) (g : Gives cs (calls c) x) (i : ℕ) → i < counterCount
-    → counterIn (decode (wordsAfter (g .before) (calls c) x) .counters) i
-    ≡ (counterIn (decode (g .before) .counters) i + sumAt (outcome (decode (g .before) .relay) c .moves) i) % 2 ^ 32
-counters-move cs c x g i inside =
-    ap (λ (s : State). counterIn (s .counters) i) (gives-next cs (calls c) x g)
-    ∙ moves-sum i inside (outcome (decode (g .before) .relay) c .moves) (decode (g .before) .counters)
-    (rw (gives-before cs (calls c) x g) (counters-fit i inside (historyOf cs)))
+-- The words before any step spell what the history leaves.
+module _ (who : Customer) (cs : List Step) (c : Step) (x : Result) (g : Gives cs c x) where
+  pub before-board : decodeBoard (g .before .board) ≡ seatOf who cs .board
+  before-board = held-board (g .before .board) (seatOf who cs .board) (words-hold who (g .lent) cs (g .before) (g .begun) .0) .1
 
--- Two traces with the same history are told the same: it does not matter which words were lent, nor what was called before the last hj_fresh.
-pub same-history-same-result : (cs ds : List Step) → historyOf cs ≡ historyOf ds → (c : Step) (x y : Result) → Gives cs c x → Gives ds c y → x ≡ y
-same-history-same-result cs ds same c x y g k =
-    allowed-once (promisedOf (stateAfter (historyOf cs)) c) x y (gives-row cs c x g) (rw same (gives-row ds c y k))
+  pub before-own : decode (missionOf who (g .before)) ≡ stateAfter (numberOf who) (historyOf who cs)
+  before-own =
+      held-words (missionOf who (g .before)) (stateAfter (numberOf who) (historyOf who cs)) (words-hold who (g .lent) cs (g .before) (g .begun) .1) .1
+
+-- A call of the customer's moves each counter by what page 01's table gives this call, which is nothing for all but a datagram.
+pub counters-move : (who : Customer) (cs : List Step) (c : MissionCall) (x : Result) (g : Gives cs (flies who c) x) (i : ℕ) → i < counterCount
+    → counterIn (decode (missionOf who (wordsAfter (g .before) (flies who c) x)) .counters) i
+    ≡ (counterIn (decode (missionOf who (g .before)) .counters) i + sumAt (outcome (seatOf who cs) (own c) .moves) i) % 2 ^ 32
+counters-move who cs c x g i inside =
+    let is = before-own who cs (flies who c) x g in
+    ap (λ (s : State). counterIn (s .counters) i) (gives-next who cs (own c) x g)
+    ∙ moves-sum i inside (outcome (seatOf who cs) (own c) .moves) (counters who cs) (counters-fit i inside (numberOf who) (historyOf who cs))
+    ∙ ap (λ (s : State). (counterIn (s .counters) i + sumAt (outcome (seatOf who cs) (own c) .moves) i) % 2 ^ 32) (sym is)
 
 -- ---- by the kind of call
-module _ (cs : List Step) (x : Result) where
-  abbrev relay : Relay
-  relay = relayAfter (historyOf cs)
+module _ (who : Customer) (cs : List Step) (x : Result) where
+  pub setting-told : (s : Setting) → Gives cs (flies who (sets s)) x → x .answer ≡ firstOf (checksOf (relayOf who cs) s)
+  setting-told (setGroup i address send subscribed) g = gives-row who cs (own (sets (setGroup i address send subscribed))) x g .answer
+  setting-told (setPath i path send here) g = gives-row who cs (own (sets (setPath i path send here))) x g .answer
+  setting-told (clearGroup i) g = gives-row who cs (own (sets (clearGroup i))) x g .answer
+  setting-told (clearPath i) g = gives-row who cs (own (sets (clearPath i))) x g .answer
 
-  pub setting-told : (s : Setting) → Gives cs (calls (sets s)) x → x .answer ≡ number (firstOf (checksOf relay s))
-  setting-told s g = gives-row cs (calls (sets s)) x g .0
+  -- of the board that the operator's calls left
+  pub order-seen : (o : Order) → Gives cs (operates (orders o)) x
+      → (x .answer ≡ firstOf (orderChecks (seatOf who cs .board) o)) × (x .left .routes ≡ listLeft (seatOf who cs .board) o)
+  order-seen (setRouter y) g =
+      let k = gives-row who cs (operator (orders (setRouter y))) x g in
+      (k .answer, k .routes ∙ sym (either-way (eqb (firstOf (orderChecks (seatOf who cs .board) (setRouter y))) 0) []))
+  order-seen (setPort p address mask mtu mission) g =
+      let o = setPort p address mask mtu mission in
+      let k = gives-row who cs (operator (orders o)) x g in
+      (k .answer, k .routes ∙ sym (either-way (eqb (firstOf (orderChecks (seatOf who cs .board) o)) 0) []))
+  order-seen (setRoute rs i prefix mask p availability capabilities mission) g =
+      let k = gives-row who cs (operator (orders (setRoute rs i prefix mask p availability capabilities mission))) x g in
+      (k .answer, k .routes)
+  order-seen (clearRoute rs i) g = let k = gives-row who cs (operator (orders (clearRoute rs i))) x g in (k .answer, k .routes)
 
-  pub receive-told : (p : ℕ) (slot : Slot) (octets output : List ℕ) → Gives cs (calls (hears p slot octets output)) x
-      → (x .answer ≡ number (receiveAnswer relay p octets (length output))) × (x .output ≡ receiveOutput relay p octets output)
-  receive-told p slot octets output g = let k = gives-row cs (calls (hears p slot octets output)) x g in (k .0, k .1 .1)
-
-  pub take-told : (p : ℕ) → Gives cs (calls (takes p)) x → x .answer ≡ number (takeAnswer relay p)
-  take-told p g = gives-row cs (calls (takes p)) x g .0
-
-  pub part-told : (part : Part) → Gives cs (calls (looks (setting part))) x → x .answer ≡ partTold relay part
-  part-told part g = gives-row cs (calls (looks (setting part))) x g .0
-
-  pub search-told : (a : Address) → Gives cs (calls (looks (search a))) x → x .answer ≡ number (searchAnswer relay a)
-  search-told a g = gives-row cs (calls (looks (search a))) x g .0
-
-  pub counter-told : (i : ℕ) → Gives cs (calls (looks (counter i))) x → x .answer ≡ number (counterAnswer (stateAfter (historyOf cs) .counters) i)
-  counter-told i g = gives-row cs (calls (looks (counter i))) x g .0
-
-  pub waiting-told : (p : ℕ) → Gives cs (calls (looks (waiting p))) x → x .answer ≡ number (waitingAnswer relay p)
-  waiting-told p g = gives-row cs (calls (looks (waiting p))) x g .0
+  pub order-told : (o : Order) → Gives cs (operates (orders o)) x
+      → (x .answer ≡ firstOf (orderChecks (boardOf cs) o)) × (x .left .routes ≡ listLeft (boardOf cs) o)
+  order-told o g = rw (← board-is who cs) (order-seen o g)

@@ -1,18 +1,19 @@
 -- Demand 2: "Headers are read and built as CCSDS 713.0-B-1 lays them out; every verdict, setting and taking follows the written rules: where a route is
 -- sought, the one taken matches the destination under its mask, no matching entry has more mask bits, and 'no route' is said exactly when none matches.
--- A one-octet address never goes out into another domain." Each sentence is a field, said of what C calls. Proved in proofs/Demand2.antt. Assumes nothing.
+-- A one-octet address never goes out into another domain." Each sentence is a field, said of what C calls, for each of two customers by itself, by page
+-- 01's relay as that customer sees it (page 02, W-208). Proved in proofs/Demand2.antt. Assumes nothing.
 use Prim.Native.Nat.{ℕ, _+_, _^_, _<_, _≤_}
 use mathlib.Core.Path.{_≡_}
 use mathlib.Core.Logic.{_↔_, _≢_}
 use mathlib.Core.Bool.{true, false, _||_}
-use mathlib.Core.List.{List, [], _++_, map}
+use mathlib.Core.List.{List, [], _++_}
 use lib.ListN.{length, take, drop}
 use lib.Dec.{eqb}
 use Rattle.history.specs.SearchBack.{LongestOrNo}
 use Rattle.address.specs.Row.{Row}
 use Rattle.address.specs.Class.{classNumber}
 use Rattle.address.specs.declared.Class.{Class}
-use Rattle.checks.specs.Order.{noneHolds, firstHolds, pick}
+use Rattle.checks.specs.Order.{Checks, noneHolds, firstHolds, pick}
 use Rattle.checks.specs.Answer.{refusalNumber}
 use Rattle.sets.specs.Sets.{inSet}
 use Rattle.address.specs.declared.Address.{Address}
@@ -32,34 +33,56 @@ use Rattle.queue.specs.Order.{Each}
 use Rattle.queue.specs.Waits.{one, chosen, rankBy}
 use Rattle.queue.specs.declared.Entry.{Entry}
 use Rattle.routes.specs.Routes.{candidate}
+use Rattle.routes.specs.declared.Record.{Record}
 use Rattle.state.specs.Relay.{portIn, routeIn, portSetUp, Relay}
-use Rattle.harpjuniper.specs.Face.{readingOf, dataRead, numbersChecks, buildAnswer, buildOutput}
-use Rattle.harpjuniper.specs.declared.Reading.{Reading}
+use Rattle.state.specs.Layout.{decodeBoard}
+use Rattle.lent_state.specs.View.{tooLong}
+use Rattle.sets.specs.Limits.{portCount}
+use Rattle.harpjuniper.specs.Face.{Reading, readingOf, dataRead, numbersChecks, buildAnswer, buildOutput}
+use Rattle.harpjuniper_routes.specs.Face.{routeWordTold}
 use Rattle.relay.specs.Outgoing.{sentOutput}
 use Rattle.page.specs.Table.{oneOctet, Verdict, verdictOf, GivenBy, Decides, GivesNumber, stepRows, localRows, onwardRows, wanted, bestPort, moreOnes, aimAt}
 use Rattle.page.specs.Sought.{RouteSought, RouteTaken}
-use Rattle.contracts.specs.Promised.{number, Result}
-use Rattle.history.specs.Calls.{Setting, Part, setting, Call, sets, hears, takes, looks, checksOf, settle, search, class}
+use Rattle.contracts.specs.Promised.{Result}
+use Rattle.history.specs.Calls.{
+  Order,
+  orders,
+  recordWord,
+  views,
+  Setting,
+  search,
+  class,
+  sets,
+  hears,
+  takes,
+  looks,
+  Call,
+  orderChecks,
+  boardLeft,
+  listLeft,
+  checksOf,
+  settle,
+}
 use Rattle.history.specs.Outcome as outcome
-use Rattle.history.specs.Parts.{About, settingIn}
+use Rattle.history.specs.Parts.{Part, About, settingIn}
 use Rattle.history.specs.Reach.{Reached, KeysUnique}
 use Rattle.history.specs.Ranges.{Octets, InRange, EntryFits}
 use Rattle.history.specs.Line.{Copy, entryOf, sentOf, lineAt}
 use Rattle.history.specs.Marked.{Marked, markedCases}
-use Rattle.demands.specs.Trace.{Step, calls, historyOf, relayOf, Gives}
-use Rattle.demands.specs.ReadOut.{readOut, endedBy, localIn, onwardIn, tookIn, droppedIn, relayIn, partTold, Reads, Builds, numberIn, headerIn, aboveIn}
+use Rattle.demands.specs.Trace.{Customer, numberOf, Step, operates, flies, stepOf, wordsAfter, historyOf, boardOf, seatOf, relayOf, relayFor, Gives}
+use Rattle.demands.specs.ReadOut.{readOut, ownOut, endedBy, localIn, onwardIn, tookIn, droppedIn, ownIn, asksFor, partTold, Reads, Builds, headerIn, aboveIn}
 
 -- C is told this verdict of page 01, of these octets
 pub record ToldAs (octets : List ℕ) (x : Result) (v : Verdict) : Type 0 where
   pub refusal : endedBy x ≡ v .refusal
   pub local : localIn x ≡ v .local
   pub onward : onwardIn x ≡ v .onward
-  pub took : (p : ℕ) → p < 8 → inSet p (tookIn x) ≡ v .took p
-  pub dropped : (p : ℕ) → p < 8 → inSet p (droppedIn x) ≡ v .dropped p
+  pub took : (p : ℕ) → p < portCount → inSet p (tookIn x) ≡ v .took p
+  pub dropped : (p : ℕ) → p < portCount → inSet p (droppedIn x) ≡ v .dropped p
   -- the octets of the header sent on, 0 where no port took an entry; nothing above; and with a refusal nothing else
   pub header : headerIn x ≡ pick (eqb (tookIn x) 0) 0 (headerOf octets .size)
   pub above : aboveIn x ≡ 0
-  pub alone : endedBy x ≢ 0 → numberIn (x .answer) ≡ endedBy x
+  pub alone : endedBy x ≢ 0 → x .answer ≡ endedBy x
 
 -- and each number exactly where its row of page 01's tables decides: at is the arrival port
 pub record ExactlyAs (r : Relay) (at : ℕ) (octets : List ℕ) (room : ℕ) (x : Result) : Type 0 where
@@ -83,10 +106,14 @@ pub record GoesOut (r : Relay) (p : ℕ) (line : List Copy) (e : Entry) : Type 0
   pub aim : aimOf (portIn r p .address .0) (header .fields .addresses) ≡ aimOf (copy .arrival .0) (header .fields .addresses)
   pub origin : originOf (portIn r p .address .0) (header .fields .addresses) ≡ originOf (copy .arrival .0) (header .fields .addresses)
 
--- C is told the answer of a marked case, however its calls were made
-abbrev pub Answered : Marked → Type 0
-Answered m =
-    (steps : List Step) (x : Result) → historyOf steps ≡ m .calls → Gives steps (calls (m .asked)) x → readOut (m .asked) (x .answer) ≡ m .answer
+-- C is told the answer of a marked case, however its calls were made, and whatever the other customer called between them
+abbrev pub Answered : Customer → Marked → Type 0
+Answered who m =
+    (steps : List Step) (x : Result) → historyOf who steps ≡ m .calls → Gives steps (stepOf who (m .asked)) x → readOut (m .asked) (x .answer) ≡ m .answer
+
+-- the answer n of a setting with these tests: by its number exactly where its test holds and none before it, and 0 exactly where none holds
+abbrev pub DecidedBy : Checks → ℕ → Type 0
+DecidedBy checks answer = ((n : ℕ) → n ≢ 0 → (answer ≡ n) ↔ firstHolds checks n) × ((answer ≡ 0) ↔ noneHolds checks)
 
 pub record Demand2 : Type 0 where
   -- "Headers are read .. as CCSDS 713.0-B-1 lays them out": hj_read answers what the layout gives, and refuses by n exactly where the condition of n
@@ -104,60 +131,73 @@ pub record Demand2 : Type 0 where
       → answer < 2 ^ 32 → noneShorter left × unusedZero (controlOf left)
   pub build-then-read : (fields : Numbers) (size : ℕ) (lent left userData : List ℕ) (answer : ℕ) → Words fields → Builds fields size lent answer left
       → answer < 2 ^ 32 → size ≤ length userData
-      → Reads (take answer left ++ userData) (record { refusal = 0; length = answer + size; header = answer; reserved = 0; fields = fields })
+      → Reads (take answer left ++ userData) (record { refusal = 0; length = answer + size; header = answer; fields = fields })
   pub read-then-build : (s : List ℕ) (r : Reading) (lent : List ℕ) → Octets s → Reads s r → r .refusal ≡ 0 → dataRead r ≤ mostData
       → longestHeader ≤ length lent → noneShorter s
       → Builds (r .fields) (dataRead r) lent (r .header) (take (r .header) s ++ drop (r .header) lent)
-  -- "every verdict .. follows the written rules": what C is told of a datagram is what page 01's tables give, each number exactly where its row decides,
-  -- and the output is as the page says
-  pub verdict : (steps : List Step) (at : ℕ) (slot : Slot) (octets output : List ℕ) (x : Result) → Gives steps (calls (hears at slot octets output)) x
-      → ToldAs octets x (verdictOf (relayOf steps) at octets (length output))
-      × (ExactlyAs (relayOf steps) at octets (length output) x × (x .output ≡ sentOutput (tookIn x) octets output))
+  -- "every verdict .. follows the written rules": what C is told of a datagram is what page 01's tables give of the relay that the customer sees with the
+  -- list lent, each number exactly where its row decides, and the output is as the page says; a list over 512 records is refused (demand 1)
+  pub verdict : (who : Customer) (steps : List Step) (rs : List Record) (at : ℕ) (slot : Slot) (octets output : List ℕ) (x : Result)
+      → Gives steps (flies who (hears rs at slot octets output)) x → tooLong rs ≡ false
+      → ToldAs octets x (verdictOf (relayFor who steps rs) at octets (length output))
+      × (ExactlyAs (relayFor who steps rs) at octets (length output) x × (x .left .output ≡ sentOutput (tookIn x) octets output))
   -- "Octets beyond the length field are ignored.": what comes after them changes neither the answer nor the words
-  pub hears-no-further : (steps : List Step) (at : ℕ) (slot : Slot) (s t output : List ℕ) (n : ℕ) (x y : Result) → lengthOf s ≤ n → controlOf s .end ≤ n
-      → take n t ≡ take n s → Gives steps (calls (hears at slot s output)) x → Gives steps (calls (hears at slot t output)) y
-      → (y .answer ≡ x .answer) × (y .words ≡ x .words)
+  pub hears-no-further : (who : Customer) (steps : List Step) (rs : List Record) (at : ℕ) (slot : Slot) (s t output : List ℕ) (n : ℕ) (x y : Result)
+      → lengthOf s ≤ n → controlOf s .end ≤ n → take n t ≡ take n s
+      → Gives steps (flies who (hears rs at slot s output)) x → Gives steps (flies who (hears rs at slot t output)) y
+      → (y .answer ≡ x .answer) × (y .left .mission ≡ x .left .mission)
   -- "the header with hop count less one and checksum redone": where a port took an entry, the octets that C finds in the output, with the data behind them,
   -- read as the header that came, its hop count, if it has one, one less
-  pub sent-on : (steps : List Step) (at : ℕ) (slot : Slot) (octets output : List ℕ) (x : Result) → Gives steps (calls (hears at slot octets output)) x
-      → tookIn x ≢ 0
+  pub sent-on : (who : Customer) (steps : List Step) (rs : List Record) (at : ℕ) (slot : Slot) (octets output : List ℕ) (x : Result)
+      → Gives steps (flies who (hears rs at slot octets output)) x → tookIn x ≢ 0
       → (h : Header) × ((readOf octets ≡ Good h)
-      × (readOf (take (headerIn x) (x .output) ++ drop (headerIn x) octets) ≡ Good (withHops (oneLess (h .fields .hops)) h)))
-  -- page 01's marked cases a to l
-  pub marked : Each Answered markedCases
-  -- "every .. setting .. follows the written rules": refused by n exactly where its test holds and none before it, else taken
-  pub settings : (steps : List Step) (s : Setting) (x : Result) → Gives steps (calls (sets s)) x
-      → ((n : ℕ) → n ≢ 0 → (x .answer ≡ number n) ↔ firstHolds (checksOf (relayOf steps) s) n)
-      × (((x .answer ≡ number 0) ↔ noneHolds (checksOf (relayOf steps) s)) × (relayIn (x .words) ≡ settle (relayOf steps) s))
-  -- what is taken "holds until it is changed", and is read back
-  pub settings-hold : (steps : List Step) (later : List Call) (part : Part) → Each (λ (c : Call). About c part → ⊥) later
-      → settingIn (relayOf (steps ++ map calls later)) part ≡ settingIn (relayOf steps) part
-  pub settings-back : (steps : List Step) (part : Part) (x : Result) → Gives steps (calls (looks (setting part))) x
-      → x .answer ≡ partTold (relayOf steps) part
+      × (readOf (take (headerIn x) (x .left .output) ++ drop (headerIn x) octets) ≡ Good (withHops (oneLess (h .fields .hops)) h)))
+  -- page 01's marked cases a to l, for each customer
+  pub marked : (who : Customer) → Each (Answered who) (markedCases (numberOf who))
+  -- "every .. setting .. follows the written rules": the operator's orders, which leave a board and a list,
+  pub orders-follow : (steps : List Step) (o : Order) (x : Result) (g : Gives steps (operates (orders o)) x)
+      → DecidedBy (orderChecks (boardOf steps) o) (x .answer)
+      × ((decodeBoard (wordsAfter (g .before) (operates (orders o)) x .board) ≡ boardLeft (boardOf steps) o) × (x .left .routes ≡ listLeft (boardOf steps) o))
+  -- and a customer's own, which leave its groups and paths
+  pub settings : (who : Customer) (steps : List Step) (s : Setting) (x : Result) → Gives steps (flies who (sets s)) x
+      → DecidedBy (checksOf (relayOf who steps) s) (x .answer) × (ownIn (x .left .mission) ≡ settle (relayOf who steps) s .mission)
+  -- what is taken "holds until it is changed", whatever other calls are made, the other customer's among them, and is read back, a word at a time: of a
+  -- port, of a group, of a path, and of a record in a list
+  pub settings-hold : (who : Customer) (steps later : List Step) (part : Part) → Each (λ (c : Call). About c part → ⊥) (historyOf who later)
+      → settingIn (seatOf who (steps ++ later)) part ≡ settingIn (seatOf who steps) part
+  pub settings-back : (who : Customer) (steps : List Step) (part : Part) (word : ℕ) (x : Result) → Gives steps (asksFor who part word) x
+      → x .answer ≡ partTold (seatOf who steps) part word
+  pub record-back : (steps : List Step) (rs : List Record) (i word : ℕ) (x : Result) → Gives steps (operates (views (recordWord rs i word))) x
+      → x .answer ≡ routeWordTold rs i word
   -- the settings in force pass the tests that took them, no two places hold the same entry, and all is within the ranges that the C header promises
-  pub settings-good : (steps : List Step) → Reached (relayOf steps) × (KeysUnique (relayOf steps) × InRange (relayOf steps))
-  -- "every .. taking follows the written rules": 16 exactly where the port is not set up, 18 exactly where it is and nothing waits
-  pub takings : (steps : List Step) (p : ℕ) (x : Result) → Gives steps (calls (takes p)) x
-      → ((x .answer ≡ number (refusalNumber 16)) ↔ (portSetUp (relayOf steps) p ≡ false))
-      × ((x .answer ≡ number (refusalNumber 18)) ↔ ((portSetUp (relayOf steps) p ≡ true) × (lineAt p (historyOf steps) ≡ [])))
+  pub settings-good : (who : Customer) (steps : List Step)
+      → Reached (seatOf who steps) × (KeysUnique (seatOf who steps) × InRange (seatOf who steps))
+  -- "every .. taking follows the written rules": 16 exactly where the port is not set up, or not the customer's; 18 exactly where it is and nothing waits
+  pub takings : (who : Customer) (steps : List Step) (p : ℕ) (x : Result) → Gives steps (flies who (takes p)) x
+      → ((x .answer ≡ refusalNumber 16) ↔ (portSetUp (relayOf who steps) p ≡ false))
+      × ((x .answer ≡ refusalNumber 18)
+      ↔ ((portSetUp (relayOf who steps) p ≡ true) × (lineAt p (numberOf who) (historyOf who steps) ≡ [])))
   -- what is handed out has a precedence of 0 to 15 and a slot of 16 bits
-  pub takings-fit : (steps : List Step) (p : ℕ) (x : Result) (e : Entry) → Gives steps (calls (takes p)) x → readOut (takes p) (x .answer) ≡ outcome.entry e
-      → EntryFits e
+  pub takings-fit : (who : Customer) (steps : List Step) (p : ℕ) (x : Result) (e : Entry) → Gives steps (flies who (takes p)) x
+      → ownOut (takes p) (x .answer) ≡ outcome.entry e → EntryFits e
   -- "where a route is sought, the one taken matches the destination under its mask, no matching entry has more mask bits,": W-204 reads "no matching entry
-  -- that is up", and a candidate is filled, up and matches
-  pub route-taken : (steps : List Step) (at : ℕ) (slot : Slot) (octets output : List ℕ) (a : Address) (p : ℕ) (x : Result)
-      → Gives steps (calls (hears at slot octets output)) x → RouteSought (relayOf steps) at octets (length output) a → p < 8
-      → (inSet p (tookIn x) || inSet p (droppedIn x)) ≡ true → RouteTaken (relayOf steps) a p
+  -- that is up", and a candidate is filled, up and matches; W-208: of the routes that the customer sees in the list lent
+  pub route-taken : (who : Customer) (steps : List Step) (rs : List Record) (at : ℕ) (slot : Slot) (octets output : List ℕ) (a : Address) (p : ℕ)
+      (x : Result) → Gives steps (flies who (hears rs at slot octets output)) x → tooLong rs ≡ false
+      → RouteSought (relayFor who steps rs) at octets (length output) a → p < portCount
+      → (inSet p (tookIn x) || inSet p (droppedIn x)) ≡ true → RouteTaken (relayFor who steps rs) a p
   -- "and 'no route' is said exactly when none matches.": none that is up
-  pub no-route : (steps : List Step) (at : ℕ) (slot : Slot) (octets output : List ℕ) (a : Address) (x : Result)
-      → Gives steps (calls (hears at slot octets output)) x → RouteSought (relayOf steps) at octets (length output) a
-      → (onwardIn x ≡ 11) ↔ ((q : ℕ) → candidate (routeIn (relayOf steps) q) a ≡ false)
+  pub no-route : (who : Customer) (steps : List Step) (rs : List Record) (at : ℕ) (slot : Slot) (octets output : List ℕ) (a : Address) (x : Result)
+      → Gives steps (flies who (hears rs at slot octets output)) x → tooLong rs ≡ false
+      → RouteSought (relayFor who steps rs) at octets (length output) a
+      → (onwardIn x ≡ 11) ↔ ((q : ℕ) → candidate (routeIn (relayFor who steps rs) q) a ≡ false)
   -- W-202: hj_search says which route an address takes, or a plain no
-  pub search : (steps : List Step) (a : Address) (n : ℕ) (x : Result) → Gives steps (calls (looks (search a))) x → x .answer ≡ number n
-      → LongestOrNo (relayOf steps) a n
+  pub search : (who : Customer) (steps : List Step) (rs : List Record) (a : Address) (x : Result) → Gives steps (flies who (looks (search rs a))) x
+      → tooLong rs ≡ false → LongestOrNo (relayFor who steps rs) a (x .answer)
   -- and hj_class says the class that page 01's table gives an address
-  pub class : (steps : List Step) (a : Address) (x : Result) → a .0 < 2 ^ 32 → Gives steps (calls (looks (class a))) x
-      → (c : Class) × ((x .answer ≡ number (classNumber c)) × Row c (a .0))
+  pub class : (who : Customer) (steps : List Step) (a : Address) (x : Result) → a .0 < 2 ^ 32 → Gives steps (flies who (looks (class a))) x
+      → (c : Class) × ((x .answer ≡ classNumber c) × Row c (a .0))
   -- "A one-octet address never goes out into another domain.": of the octets that go out, when hj_take hands the copy out, by the port as it is then
-  pub domain : (steps : List Step) (p : ℕ) (x : Result) (e : Entry) → Gives steps (calls (takes p)) x → readOut (takes p) (x .answer) ≡ outcome.entry e
-      → GoesOut (relayOf steps) p (lineAt p (historyOf steps)) e
+  pub domain : (who : Customer) (steps : List Step) (p : ℕ) (x : Result) (e : Entry) → Gives steps (flies who (takes p)) x
+      → ownOut (takes p) (x .answer) ≡ outcome.entry e
+      → GoesOut (relayOf who steps) p (lineAt p (numberOf who) (historyOf who steps)) e

@@ -95,7 +95,7 @@ built-octets n w dataSize lent room good short = written n (fields-in n w good .
 -- with its data after it, the header is read as the numbers that it was built from
 pub built-then-read : (n : Numbers) → Words n → (dataSize : ℕ) (userData : List ℕ) → fieldsOut n ≡ false → dataSize ≤ mostData → dataSize ≤ length userData
     → readingOf (readOf (headerOctets (fieldsFrom n) dataSize ++ userData))
-    ≡ record { refusal = 0; length = sizeOf (fieldsFrom n) + dataSize; header = sizeOf (fieldsFrom n); reserved = 0; fields = n }
+    ≡ record { refusal = 0; length = sizeOf (fieldsFrom n) + dataSize; header = sizeOf (fieldsFrom n); fields = n }
 unfolding readingOf
 built-then-read n w dataSize userData good short enough =
     rw (read-built (fieldsFrom n) dataSize userData (fields-in n w good) short enough, numbers-back n (or-false (numbersOut n) _ good .0))
@@ -104,7 +104,7 @@ built-then-read n w dataSize userData good short enough =
 pub hj-build-then-hj-read : (n : Numbers) → Words n → (dataSize : ℕ) (lent userData : List ℕ) → longestHeader ≤ length lent → fieldsOut n ≡ false → dataSize ≤ mostData
     → dataSize ≤ length userData
     → readingOf (readOf (take (buildAnswer n dataSize (length lent)) (buildOutput n dataSize lent) ++ userData))
-    ≡ record { refusal = 0; length = buildAnswer n dataSize (length lent) + dataSize; header = buildAnswer n dataSize (length lent); reserved = 0; fields = n }
+    ≡ record { refusal = 0; length = buildAnswer n dataSize (length lent) + dataSize; header = buildAnswer n dataSize (length lent); fields = n }
 hj-build-then-hj-read n w dataSize lent userData room good short enough =
     let built = built-octets n w dataSize lent room good short in
     let long = header-length (fieldsFrom n) dataSize (fields-in n w good .checksum) in

@@ -1,6 +1,6 @@
 -- What C sees of the two round trips (page 01, "Refusal numbers"): what is built has the shortest control field and unused bits zero; what was read,
 -- built again, gives the same header octets exactly where it had them so; and octets beyond the length field are ignored. Said of the numbers that
--- the contracts of hj_read and hj_build promise. Assumes nothing.
+-- the contracts of hj_read_words and hj_build_words promise of their words. Assumes nothing.
 use native.Mathlib.Omega.{arith}
 use Prim.Native.Nat.{ℕ, _+_, _-_, _^_, _≤_, _<_}
 use mathlib.Core.Path.{_≡_, refl, ap, _∙_}
@@ -32,8 +32,7 @@ use Rattle.numbers.specs.Fields.{fieldsFrom}
 use Rattle.numbers.specs.Words.{Words}
 use Rattle.numbers.specs.declared.Numbers.{Numbers}
 use Rattle.numbers.proofs.validity.Inverse.{fields-back}
-use Rattle.harpjuniper.specs.Face.{readingOf, dataRead, answerBy, fieldsOut, numbersChecks, buildAnswer, buildOutput}
-use Rattle.harpjuniper.specs.declared.Reading.{Reading}
+use Rattle.harpjuniper.specs.Face.{Reading, readingOf, dataRead, answerBy, fieldsOut, numbersChecks, buildAnswer, buildOutput}
 use Rattle.harpjuniper.proofs.Promises.{fields-in, written, built-octets}
 
 -- ---- what is built

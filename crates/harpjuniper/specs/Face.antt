@@ -1,5 +1,5 @@
 -- The numbers that C gets (include/harpjuniper.h). Assumes nothing.
-use Prim.Native.Nat.{ℕ, _-_}
+use Prim.Native.Nat.{ℕ, _+_, _-_}
 use mathlib.Core.List.{List, [], _∷_}
 use mathlib.Core.Bool.{Bool, _||_}
 use lib.ListN.{length}
@@ -18,7 +18,7 @@ use Rattle.numbers.specs.Numbers.{narrow, numbersOf}
 use Rattle.numbers.specs.declared.Numbers.{Numbers}
 use Rattle.numbers.specs.Fields.{fieldsFrom}
 use Rattle.numbers.specs.Out.{numbersOut}
-use Rattle.harpjuniper.specs.declared.Reading.{Reading}
+use Rattle.numbers.specs.InWords.{fieldWords, numbersWords, numbersFrom}
 
 -- ---- reading
 
@@ -47,15 +47,35 @@ nothing =
       intermediate = 0;
     }
 
--- the refusal, or 0 with length field, header's own length and the numbers of the fields; the word between, which keeps the fields on a
--- boundary of eight octets, is 0
+-- what reading tells: the refusal, or 0 with length field, header's own length and the numbers of the fields
+pub record Reading : Type 0 where
+  pub refusal : ℕ
+  pub length : ℕ
+  pub header : ℕ
+  pub fields : Numbers
+
 unfoldable pub readingOf : Read → Reading
-readingOf (read.Refused n) = record { refusal = n; length = 0; header = 0; reserved = 0; fields = nothing }
-readingOf (read.Good h) = record { refusal = 0; length = h .length; header = h .size; reserved = 0; fields = numbersOf (h .fields) }
+readingOf (read.Refused n) = record { refusal = n; length = 0; header = 0; fields = nothing }
+readingOf (read.Good h) = record { refusal = 0; length = h .length; header = h .size; fields = numbersOf (h .fields) }
 
 -- the octets of user data: the length field less the header's own length
 abbrev pub dataRead : Reading → ℕ
 dataRead r = r .length - r .header
+
+-- its words as C gets them (include/harpjuniper.h): the two lengths, then the fields
+abbrev pub readingCount : ℕ
+readingCount = 2 + fieldWords
+
+unfoldable pub readingWords : Reading → List ℕ
+readingWords r = r .length ∷ r .header ∷ numbersWords (r .fields)
+
+-- 21 where another number of words is lent, and then what the reading refuses (page 01, "Refusal numbers")
+unfoldable pub readAnswer : ℕ → Reading → ℕ
+readAnswer count r = pick (eqb count readingCount) (r .refusal) 21
+
+-- with a refusal the words stay as they were lent
+unfoldable pub readLeft : Reading → List ℕ → List ℕ
+readLeft r lent = pick (eqb (readAnswer (length lent) r) 0) (readingWords r) lent
 
 -- ---- building
 
@@ -80,3 +100,10 @@ buildAnswer n dataSize room = answerBy (firstOf (numbersChecks n dataSize room))
 
 unfoldable pub buildOutput : Numbers → ℕ → List ℕ → List ℕ
 buildOutput n dataSize lent = pick (eqb (firstOf (numbersChecks n dataSize (length lent))) 0) (fronted (headerOctets (fieldsFrom n) dataSize) lent) lent
+
+-- the same of numbers in words: 21 where another number of words is lent
+unfoldable pub buildWordsAnswer : List ℕ → ℕ → ℕ → ℕ
+buildWordsAnswer words dataSize room = pick (eqb (length words) fieldWords) (buildAnswer (numbersFrom words) dataSize room) (refusalNumber 21)
+
+unfoldable pub buildWordsOutput : List ℕ → ℕ → List ℕ → List ℕ
+buildWordsOutput words dataSize lent = pick (eqb (length words) fieldWords) (buildOutput (numbersFrom words) dataSize lent) lent

@@ -1,83 +1,62 @@
 // What C calls to read and to build headers.
 //
-// Each function takes numbers and lent octets, calls the floor below and gives its answer as numbers; the C header
-// (include/harpjuniper.h) has a doc block for each. None requires anything: whatever octets, lengths or numbers come, the answer is the
-// one that the definitions state. An answer that is a refusal or a value is one number of 64 bits, the refusal above the value.
+// Each function takes numbers, lent words and lent octets, calls the floor below and gives its answer as one number; the C header
+// (include/harpjuniper.h) has a doc block for each. The fields of a header stand in words (crate numbers, module `in_words`), since no struct
+// crosses to C. None requires anything: whatever octets, lengths or words come, the answer is the one that the definitions state. An answer
+// that is a refusal or a value is one number of 64 bits, the refusal above the value.
 use checks::Check;
 use header::Built;
+use header::Header;
 use header::Read;
 use numbers::Numbers;
-use numbers::Wide;
 ghost use mathlib.Core.Path.{_≡_};
+ghost use Prim.Native.Nat.{_<_};
 ghost use lib.ListN.{length};
 ghost use Rattle.checks.specs.Answer.{refusalNumber};
 ghost use Rattle.header.specs.Read.{readOf};
-ghost use Rattle.harpjuniper.specs.Face.{readingOf, nothing, builtAnswer, buildAnswer, buildOutput};
+ghost use Rattle.header.specs.declared.Read.the-variants.{Good};
+ghost use Rattle.harpjuniper.specs.Face.{
+  readingOf,
+  readingCount,
+  readingWords,
+  readAnswer,
+  readLeft,
+  builtAnswer,
+  buildAnswer,
+  buildOutput,
+  buildWordsAnswer,
+  buildWordsOutput,
+};
 
-// What reading found: the refusal, or 0 and the numbers of the header. `reserved` is always 0: it stands where C would leave four octets
-// unused before the fields, which begin with a number of eight, so that no octet of the answer is left to chance.
-#[repr(C)]
-pub struct Reading {
-    pub refusal: u32,
-    pub length: u32,
-    pub header: u32,
-    pub reserved: u32,
-    pub fields: Numbers,
-}
+// The words of what reading found: the two lengths and the fields.
+const READING_WORDS: usize = 2 + numbers::in_words::FIELD_WORDS;
 
-// The numbers of no header.
-fn no_numbers() -> Numbers
-    ensures { λ r. ⌜ r ≡ nothing ⌝ }
+// Writes a header that was read over all words lent.
+fn write_reading(words: &mut [u32], h: Header)
+    requires { ⌜ (length (now words) ≡ readingCount) × ((h .length < 4294967296) × (h .size < 4294967296)) ⌝ }
+    ensures { λ _. ⌜ now (words .exit) ≡ readingWords (readingOf (Good h)) ⌝ }
 {
-    Numbers {
-        destination: Wide { high: 0, low: 0 },
-        source: Wide { high: 0, low: 0 },
-        time: 0,
-        tpid: 0,
-        sourced: 0,
-        extended: 0,
-        ipv6: 0,
-        qualified: 0,
-        precedence: 0,
-        routing: 0,
-        program: 0,
-        counted: 0,
-        hops: 0,
-        format: 0,
-        pfield: 0,
-        expands: 0,
-        expanded: 0,
-        checksum: 0,
-        intermediate: 0,
-    }
+    let f = h.fields;
+    let n = numbers::numbers_of(f);
+    numbers::in_words::write_numbers(&mut words[2..], n);
+    words[0] = h.length as u32;
+    words[1] = h.size as u32;
 }
 
 // Reads the header that the octets begin with.
 #[no_mangle]
-pub extern "C" fn hj_read(octets: &[u8]) -> Reading
-    ensures { λ r. ⌜ r ≡ readingOf (readOf (now (octets .entry))) ⌝ }
+pub extern "C" fn hj_read_words(octets: &[u8], words: &mut [u32]) -> u32
+    ensures { λ r. ⌜ r ≡ readAnswer (length (now (words .entry))) (readingOf (readOf (now (octets .entry)))) ⌝ }
+    ensures { λ _. ⌜ now (words .exit) ≡ readLeft (readingOf (readOf (now (octets .entry)))) (now (words .entry)) ⌝ }
 {
+    if words.len() != READING_WORDS {
+        return 21;
+    }
     match reader::read_header(octets) {
-        Read::Refused(number) => {
-            let fields = no_numbers();
-            Reading {
-                refusal: number as u32,
-                length: 0,
-                header: 0,
-                reserved: 0,
-                fields,
-            }
-        }
+        Read::Refused(number) => number as u32,
         Read::Good(h) => {
-            let f = h.fields;
-            let fields = numbers::numbers_of(f);
-            Reading {
-                refusal: 0,
-                length: h.length as u32,
-                header: h.size as u32,
-                reserved: 0,
-                fields,
-            }
+            write_reading(words, h);
+            0
         }
     }
 }
@@ -99,9 +78,8 @@ fn built_answer(b: Built) -> u64
     }
 }
 
-// Builds the header of a datagram with so many octets of user data at the front of the output.
-#[no_mangle]
-pub extern "C" fn hj_build(fields: Numbers, data_size: usize, output: &mut [u8]) -> u64
+// Builds the header of numbers, for so many octets of user data, at the front of the output.
+fn build_numbers(fields: Numbers, data_size: usize, output: &mut [u8]) -> u64
     ensures { λ r. ⌜ r ≡ buildAnswer fields data_size (length (now (output .entry))) ⌝ }
     ensures { λ _. ⌜ now (output .exit) ≡ buildOutput fields data_size (now (output .entry)) ⌝ }
 {
@@ -113,4 +91,17 @@ pub extern "C" fn hj_build(fields: Numbers, data_size: usize, output: &mut [u8])
     };
     let f = numbers::fields_from::fields_from(fields);
     built_answer(builder::build_header(f, data_size, output))
+}
+
+// The same of the fields' words.
+#[no_mangle]
+pub extern "C" fn hj_build_words(words: &[u32], data_size: usize, output: &mut [u8]) -> u64
+    ensures { λ r. ⌜ r ≡ buildWordsAnswer (now (words .entry)) data_size (length (now (output .entry))) ⌝ }
+    ensures { λ _. ⌜ now (output .exit) ≡ buildWordsOutput (now (words .entry)) data_size (now (output .entry)) ⌝ }
+{
+    if words.len() != numbers::in_words::FIELD_WORDS {
+        return refusal(21);
+    }
+    let fields = numbers::in_words::read_numbers(words);
+    build_numbers(fields, data_size, output)
 }

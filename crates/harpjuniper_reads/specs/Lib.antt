@@ -1,3 +1,2 @@
--- What the contracts of reading back and of the search cite.
+-- What the contracts of reading back cite.
 pub mod Back
-pub mod Search

@@ -1,202 +1,127 @@
-// What C calls to read the settings back.
+// What C calls to read the settings back, one number of a record at a time.
 //
-// Each answer has the refusal first, 0 or 21, and then the record as it stands in the state; with a refusal the record is that of an empty
-// place. So what `hj_set_port` took is what `hj_get_port` gives, word for word. The awkward case is a place that is empty or a port that
-// is not set up: it is read like any other, and its first field says so.
-pub mod search;
-
+// Each answer is a word of the record as it stands, or the refusal 21 above 32 bits: where the words lent are of the wrong number, where there is no
+// such place, and where the record has no such word. So what `hj_set_port` took is what `hj_port_word` gives, word for word; the header's
+// inline functions gather the words of a record into a struct. The awkward case is a place that is empty or a port that
+// is not set up: it is read like any other, and its first word says so. A port is read whosever it is. The routes are lent as a list of records, and
+// are read in the crate `harpjuniper_routes`.
+use records::Group;
+use records::OwnedPort;
+use records::PathPlace;
 ghost use mathlib.Core.Path.{_≡_};
 ghost use Rattle.checks.specs.Answer.{refusalNumber};
-ghost use Rattle.state.specs.Relay.{Relay};
-ghost use Rattle.lent_state.specs.View.{toldRelay};
-ghost use Rattle.harpjuniper_reads.specs.Back.{
-  portBack,
-  routeBack,
-  groupBack,
-  pathBack,
-  noPortBack,
-  noRouteBack,
-  noGroupBack,
-  noPathBack,
-};
+ghost use Rattle.state.specs.Seen.{Board, State};
+ghost use Rattle.state.specs.Layout.{ownedWords, groupWords, pathWords};
+ghost use Rattle.lent_state.specs.View.{toldBoard, told};
+ghost use Rattle.lent_state.specs.Read.{wordAnswer};
+ghost use Rattle.harpjuniper_reads.specs.Back.{portAnswer, groupAnswer, pathAnswer};
 
-#[repr(C)]
-pub struct PortBack {
-    pub refusal: u32,
-    pub ready: u32,
-    pub address: u32,
-    pub mask: u32,
-    pub mtu: u32,
-}
-
-#[repr(C)]
-pub struct RouteBack {
-    pub refusal: u32,
-    pub filled: u32,
-    pub prefix: u32,
-    pub mask: u32,
-    pub port: u32,
-    pub availability: u32,
-    pub capabilities: u32,
-}
-
-#[repr(C)]
-pub struct GroupBack {
-    pub refusal: u32,
-    pub filled: u32,
-    pub address: u32,
-    pub send: u32,
-    pub subscribed: u32,
-}
-
-#[repr(C)]
-pub struct PathBack {
-    pub refusal: u32,
-    pub filled: u32,
-    pub path: u32,
-    pub send: u32,
-    pub here: u32,
-}
-
-// 1 for a router, 0 for a host; the refusal 21 stands above 32 bits.
+// 1 for a router, 0 for a host.
 #[no_mangle]
-pub extern "C" fn hj_get_router(state: &[u32]) -> u64
-    ensures { λ r. ⌜ r ≡ toldRelay (λ (x : Relay). x .router) (refusalNumber 21) (now (state .entry)) ⌝ }
+pub extern "C" fn hj_get_router(board: &[u32]) -> u64
+    ensures { λ r. ⌜ r ≡ toldBoard (λ (x : Board). x .router) (refusalNumber 21) (now (board .entry)) ⌝ }
 {
-    if state.len() != state_ports::STATE_WORDS {
+    if board.len() != state_board::BOARD_WORDS {
         return checks::refusal_number(21);
     }
-    state_ports::router_of(state) as u64
+    state_board::router_of(board) as u64
 }
 
-fn no_port() -> PortBack
-    ensures { λ r. ⌜ r ≡ noPortBack ⌝ }
+fn owned_word(x: OwnedPort, word: u32) -> u64
+    ensures { λ r. ⌜ r ≡ wordAnswer (ownedWords x) word ⌝ }
 {
-    PortBack {
-        refusal: 21,
-        ready: 0,
-        address: 0,
-        mask: 0,
-        mtu: 0,
+    if word == 0 {
+        return x.port.ready as u64;
     }
+    if word == 1 {
+        return x.port.address.0 as u64;
+    }
+    if word == 2 {
+        return x.port.mask.0 as u64;
+    }
+    if word == 3 {
+        return x.port.mtu as u64;
+    }
+    if word == 4 {
+        return x.mission as u64;
+    }
+    checks::refusal_number(21)
 }
 
+// A port: 0 is whether it is set up, 1 the address, 2 the mask, 3 the MTU, 4 the mission.
 #[no_mangle]
-pub extern "C" fn hj_get_port(state: &[u32], port: u32) -> PortBack
-    ensures { λ r. ⌜ r ≡ toldRelay (λ (x : Relay). portBack x port) noPortBack (now (state .entry)) ⌝ }
+pub extern "C" fn hj_port_word(board: &[u32], port: u32, word: u32) -> u64
+    ensures { λ r. ⌜ r ≡ toldBoard (λ (x : Board). portAnswer x port word) (refusalNumber 21) (now (board .entry)) ⌝ }
 {
-    if state.len() != state_ports::STATE_WORDS {
-        return no_port();
+    if board.len() != state_board::BOARD_WORDS {
+        return checks::refusal_number(21);
     }
     if sets::PORTS <= port {
-        return no_port();
+        return checks::refusal_number(21);
     }
-    let p = state_ports::port_of(state, port as usize);
-    PortBack {
-        refusal: 0,
-        ready: p.ready,
-        address: p.address.0,
-        mask: p.mask.0,
-        mtu: p.mtu,
-    }
+    owned_word(state_board::owned_of(board, port as usize), word)
 }
 
-fn no_route() -> RouteBack
-    ensures { λ r. ⌜ r ≡ noRouteBack ⌝ }
+fn group_word(x: Group, word: u32) -> u64
+    ensures { λ r. ⌜ r ≡ wordAnswer (groupWords x) word ⌝ }
 {
-    RouteBack {
-        refusal: 21,
-        filled: 0,
-        prefix: 0,
-        mask: 0,
-        port: 0,
-        availability: 0,
-        capabilities: 0,
+    if word == 0 {
+        return x.filled as u64;
     }
+    if word == 1 {
+        return x.address.0 as u64;
+    }
+    if word == 2 {
+        return x.send as u64;
+    }
+    if word == 3 {
+        return x.subscribed as u64;
+    }
+    checks::refusal_number(21)
 }
 
+// A group: 0 is whether the place is filled, 1 the address, 2 the ports to send to, 3 those subscribed.
 #[no_mangle]
-pub extern "C" fn hj_get_route(state: &[u32], place: u32) -> RouteBack
-    ensures { λ r. ⌜ r ≡ toldRelay (λ (x : Relay). routeBack x place) noRouteBack (now (state .entry)) ⌝ }
+pub extern "C" fn hj_group_word(mission: &[u32], place: u32, word: u32) -> u64
+    ensures { λ r. ⌜ r ≡ told (λ (x : State). groupAnswer (x .mission) place word) (refusalNumber 21) (now (mission .entry)) ⌝ }
 {
-    if state.len() != state_ports::STATE_WORDS {
-        return no_route();
-    }
-    if sets::ROUTES <= place {
-        return no_route();
-    }
-    let x = state_routes::route_of(state, place as usize);
-    RouteBack {
-        refusal: 0,
-        filled: x.filled,
-        prefix: x.prefix.0,
-        mask: x.mask.0,
-        port: x.port,
-        availability: x.availability,
-        capabilities: x.capabilities,
-    }
-}
-
-fn no_group() -> GroupBack
-    ensures { λ r. ⌜ r ≡ noGroupBack ⌝ }
-{
-    GroupBack {
-        refusal: 21,
-        filled: 0,
-        address: 0,
-        send: 0,
-        subscribed: 0,
-    }
-}
-
-#[no_mangle]
-pub extern "C" fn hj_get_group(state: &[u32], place: u32) -> GroupBack
-    ensures { λ r. ⌜ r ≡ toldRelay (λ (x : Relay). groupBack x place) noGroupBack (now (state .entry)) ⌝ }
-{
-    if state.len() != state_ports::STATE_WORDS {
-        return no_group();
+    if mission.len() != state_mission::MISSION_WORDS {
+        return checks::refusal_number(21);
     }
     if sets::GROUPS <= place {
-        return no_group();
+        return checks::refusal_number(21);
     }
-    let x = state_places::group_of(state, place as usize);
-    GroupBack {
-        refusal: 0,
-        filled: x.filled,
-        address: x.address.0,
-        send: x.send,
-        subscribed: x.subscribed,
-    }
+    group_word(state_places::group_of(mission, place as usize), word)
 }
 
-fn no_path() -> PathBack
-    ensures { λ r. ⌜ r ≡ noPathBack ⌝ }
+fn path_word(x: PathPlace, word: u32) -> u64
+    ensures { λ r. ⌜ r ≡ wordAnswer (pathWords x) word ⌝ }
 {
-    PathBack {
-        refusal: 21,
-        filled: 0,
-        path: 0,
-        send: 0,
-        here: 0,
+    if word == 0 {
+        return x.filled as u64;
     }
+    if word == 1 {
+        return x.path.0 as u64;
+    }
+    if word == 2 {
+        return x.send as u64;
+    }
+    if word == 3 {
+        return x.here as u64;
+    }
+    checks::refusal_number(21)
 }
 
+// A path: 0 is whether the place is filled, 1 the path address, 2 the ports to send to, 3 whether it is delivered here.
 #[no_mangle]
-pub extern "C" fn hj_get_path(state: &[u32], place: u32) -> PathBack
-    ensures { λ r. ⌜ r ≡ toldRelay (λ (x : Relay). pathBack x place) noPathBack (now (state .entry)) ⌝ }
+pub extern "C" fn hj_path_word(mission: &[u32], place: u32, word: u32) -> u64
+    ensures { λ r. ⌜ r ≡ told (λ (x : State). pathAnswer (x .mission) place word) (refusalNumber 21) (now (mission .entry)) ⌝ }
 {
-    if state.len() != state_ports::STATE_WORDS {
-        return no_path();
+    if mission.len() != state_mission::MISSION_WORDS {
+        return checks::refusal_number(21);
     }
     if sets::PATHS <= place {
-        return no_path();
+        return checks::refusal_number(21);
     }
-    let x = state_places::path_of(state, place as usize);
-    PathBack {
-        refusal: 0,
-        filled: x.filled,
-        path: x.path.0,
-        send: x.send,
-        here: x.here,
-    }
+    path_word(state_places::path_of(mission, place as usize), word)
 }

@@ -1,44 +1,31 @@
 // What C calls with a datagram: receiving.
 //
-// The words lent are counted, and then the relay is called. Nothing is required: whatever words, octets, port, slot or room come, the
-// answer is the one that the definitions state, and where the words are not as many as the state has, no port stands in them: the answer is
-// 16, and nothing is written. The library's archive is put together of the crates whose names begin with `harpjuniper`; the C header
+// Three things are lent: the operator's board and list of routes, to be read, and the mission's own words. Covered code reads the board, the mission and
+// the octets and says what is to be looked up (`relay::before`); the list is scanned for it; and covered code finishes the verdict, counts, enters
+// the copies and writes the header that goes out (`relay::after`). This function alone has all five slices, does not branch, and is proved by hand,
+// step by step. Nothing is required: whatever words, records, octets, port, slot or room come, the answer is the one that the definitions state.
+//
+// The awkward cases are a list over 512 records, which is refused by 21, and words of the wrong number, which hold no port: the answer is 16. Then
+// nothing is sought, and nothing is written. The library's archive is put together of the crates whose names begin with `harpjuniper`; the C header
 // (include/harpjuniper.h) has a doc block for each call.
-use address::Slot;
-ghost use mathlib.Core.Path.{_≡_};
-ghost use lib.ListN.{length};
-ghost use Rattle.state.specs.Relay.{Relay, State};
-ghost use Rattle.lent_state.specs.View.{lent, toldRelay, changed};
-ghost use Rattle.harpjuniper_receive.specs.Face.{receiveAnswer, receiveState, receiveOutput};
+use routes::Record;
+ghost use Rattle.harpjuniper_receive.specs.Face.{Receives};
 
 // The verdict on the octets that came in by a port, carried out.
 #[no_mangle]
-pub extern "C" fn hj_receive(
-    state: &mut [u32],
+pub extern "C" fn hj_receive_at(
+    board: &[u32],
+    mission: &mut [u32],
+    routes: &[Record],
     port: u32,
     slot: u16,
     octets: &[u8],
     output: &mut [u8],
 ) -> u64
-    ensures { λ r. ⌜
-        r ≡ toldRelay (λ (x : Relay). receiveAnswer x port (now (octets .entry)) (length (now (output .entry)))) 16 (now (state .entry))
-        ⌝ }
-    ensures { λ _. ⌜
-        lent (now (state .exit))
-        ≡ changed
-        (λ (x : State). receiveState x port slot (now (octets .entry)) (length (now (output .entry))))
-        (now (state .entry))
-        ⌝ }
-    ensures { λ _. ⌜
-        now (output .exit)
-        ≡ toldRelay
-        (λ (x : Relay). receiveOutput x port (now (octets .entry)) (now (output .entry)))
-        (now (output .entry))
-        (now (state .entry))
-        ⌝ }
+    ensures { λ r. ⌜ Receives (now (board .entry)) (now (mission .entry)) (now (routes .entry)) port slot (now (octets .entry)) (now (output .entry)) r (now (mission .exit)) (now (output .exit)) ⌝ }
 {
-    if state.len() != state_ports::STATE_WORDS {
-        return 16;
-    }
-    answers::receive_number(relay::receive(state, port, Slot(slot), octets, output))
+    let a = relay::before(board, mission, routes.len(), port, octets, output.len());
+    let q = relay::query_of(a);
+    let s = list::scan(routes, q);
+    relay::after(board, mission, slot, octets, output, a, s)
 }

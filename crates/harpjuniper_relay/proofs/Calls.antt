@@ -1,11 +1,30 @@
 -- The answers of the calls, over plain variables. Assumes nothing.
 use Prim.Native.Nat.{ℕ, _≤_, _<_}
-use mathlib.Core.Path.{_≡_}
+use mathlib.Core.Path.{_≡_, ap, _∙_}
 use mathlib.Core.List.{List}
+use lib.ListN.{length}
 use borrow.Author.Tests.{lt-ltb, le-ltb}
-use Rattle.state.specs.Relay.{Relay, queueIn, counterIn}
+use Rattle.state.specs.Relay.{Mission, Relay, queueAt, counterIn}
+use Rattle.state.specs.Seen.{seated, onSeated}
+use Rattle.state.specs.Layout.{boardWords, decodeBoard, missionWords, decode}
 use Rattle.checks.specs.Answer.{refusalNumber}
-use Rattle.harpjuniper_relay.specs.Face.{counterAnswer, waitingAnswer}
+use Rattle.taking.specs.Taking.{takeOutcome, takenRelay}
+use Rattle.taking.specs.declared.Taking.{Taking}
+use Rattle.answers.specs.Answers.{takingNumber}
+use Rattle.lent_state.specs.View.{lent, toldRelay, changedRelay}
+use Rattle.lent_state.proofs.Calls.{relay-held-call}
+use Rattle.harpjuniper_relay.specs.Face.{takeAnswer, counterAnswer, waitingAnswer}
+
+pub take-called :
+    (b w v : List ℕ) (port : ℕ) {t : Taking} {n : ℕ}
+    → length b ≡ boardWords
+    → length w ≡ missionWords
+    → length v ≡ missionWords
+    → (t ≡ takeOutcome (seated (decodeBoard b) (decode w)) port) × (decode v ≡ onSeated (decodeBoard b) (λ r. takenRelay r port) (decode w))
+    → n ≡ takingNumber t
+    → (n ≡ toldRelay (λ (x : Relay). takeAnswer x port) (refusalNumber 16) b w) × (lent v ≡ changedRelay (λ (x : Relay). takenRelay x port) b w)
+take-called b w v port rightBoard right long taken e =
+    relay-held-call b w rightBoard right (λ x. takeAnswer x port) (refusalNumber 16) (λ x. takenRelay x port) v long (e ∙ ap takingNumber (taken .0)) (taken .1)
 
 module _ (l : List ℕ) (i : ℕ) {n : ℕ} where
   pub no-counter : 15 ≤ i → n ≡ refusalNumber 21 → n ≡ counterAnswer l i
@@ -16,11 +35,11 @@ module _ (l : List ℕ) (i : ℕ) {n : ℕ} where
   unfolding counterAnswer
   counter h e = simp (lt-ltb i 15 h) e
 
-module _ (r : Relay) (i : ℕ) {n : ℕ} where
-  pub no-queue : 8 ≤ i → n ≡ refusalNumber 21 → n ≡ waitingAnswer r i
+module _ (m : Mission) (i : ℕ) {n : ℕ} where
+  pub no-queue : 8 ≤ i → n ≡ refusalNumber 21 → n ≡ waitingAnswer m i
   unfolding waitingAnswer
   no-queue h e = simp (le-ltb i 8 h) e
 
-  pub count : i < 8 → n ≡ queueIn r i .count → n ≡ waitingAnswer r i
+  pub count : i < 8 → n ≡ queueAt m i .count → n ≡ waitingAnswer m i
   unfolding waitingAnswer
   count h e = simp (lt-ltb i 8 h) e

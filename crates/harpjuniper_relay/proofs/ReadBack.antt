@@ -17,16 +17,18 @@ use Rattle.queue.specs.declared.Queue.{Queue}
 use Rattle.queue.specs.declared.Taken.{Taken}
 use Rattle.queue.specs.declared.Head.{Head}
 use Rattle.queue.specs.declared.Head.the-variants.{First, Nothing}
-use Rattle.state.specs.Relay.{Relay, State, queueIn, counterIn, portSetUp}
-use Rattle.state.specs.Layout.{stateWords, decode, entryOfWord, queueOf}
+use Rattle.records.specs.declared.Port.{Port}
+use Rattle.state.specs.Relay.{Relay, amongPorts, queueAt, counterIn}
+use Rattle.state.specs.Seen.{Board, State, portsSeen, seated}
+use Rattle.state.specs.Layout.{missionWords, decode, entryOfWord, queueOf}
 use Rattle.state.proofs.Reading.{taken, queue-read, counter-read}
 use Rattle.taking.specs.Taking.{handsOut, takeOutcome}
 use Rattle.taking.specs.declared.Taking.the-variants.{Refused}
-use Rattle.state_ports.proofs.SetUp.{is-port}
+use Rattle.state_board.proofs.SetUp.{is-port}
 use Rattle.checks.specs.Answer.{refusalNumber}
 use Rattle.answers.specs.Answers.{takingNumber}
 use Rattle.answers.proofs.Digits.{entry-parts, refusal-parts, Two, value-parts, refusal-above}
-use Rattle.lent_state.specs.View.{Held, Other, lent, byLent, told, toldRelay}
+use Rattle.lent_state.specs.View.{Lent, Held, Other, lentBoard, lent, byLent, toldBoard, told, toldRelay}
 use Rattle.harpjuniper_relay.specs.Face.{takeAnswer, counterAnswer, waitingAnswer}
 use Rattle.harpjuniper_relay.specs.ReadBack.{FitWords, TakeRead}
 
@@ -71,48 +73,63 @@ module _ (w : List ℕ) (value : State → ℕ) where
       (told (λ (x : State). pick there 0 21) 21 w)
       (told (λ (x : State). pick there (value x) 0) 0 w)
   unfolding told lent
-  value-read there h = value-case there (eqb (length w) stateWords) h
+  value-read there h = value-case there (eqb (length w) missionWords) h
 
 module _ (w : List ℕ) (words : FitWords w) (port : ℕ) where
   -- the words of a queue
   abbrev piece : List ℕ
-  piece = taken 161 33 port w
+  piece = taken 129 33 port w
 
   piece-word : (i : ℕ) → i < 33 → getD piece i 0 < 2 ^ 32
   piece-word i h =
-      let at = 161 + port * 33 in
+      let at = 129 + port * 33 in
       rw (getD-take (at + 33 - at) (drop at w) i 0 (omega arith), getD-drop at w i 0) (words (at + i))
 
-  head-fits : portSetUp (decode w .relay) port ≡ true → Fits (takeOf (queueIn (decode w .relay) port) .head)
-  head-fits ready =
-      let inside : port < 8 = is-port (decode w .relay) port ready in
+  head-fits : (ports : List Port) → amongPorts ports port ≡ true → Fits (takeOf (queueAt (decode w .mission) port) .head)
+  head-fits ports ready =
+      let inside : port < 8 = is-port ports port ready in
       rw (← queue-read w port (queueOf piece) inside refl) (queue-fits piece (piece-word 0 (omega arith)))
 
-  held-read : TakeRead (takeAnswer (decode w .relay) port) (takeOutcome (decode w .relay) port)
+  held-read : (b : Board) → TakeRead (takeAnswer (seated b (decode w)) port) (takeOutcome (seated b (decode w)) port)
   unfolding takeOutcome
-  held-read = outcome-read (portSetUp (decode w .relay) port) (takeOf (queueIn (decode w .relay) port) .head) head-fits
+  held-read b =
+      let ports = portsSeen (decode w .number) b in
+      outcome-read (amongPorts ports port) (takeOf (queueAt (decode w .mission) port) .head) (head-fits ports)
 
-  lent-read : (t : Bool)
+  lent-read : (b : Board) (t : Bool)
       → TakeRead
-      (byLent (λ (x : State). takeAnswer (x .relay) port) (refusalNumber 16) (pick t (Held (decode w)) (Other w)))
-      (byLent (λ (x : State). takeOutcome (x .relay) port) (Refused 16) (pick t (Held (decode w)) (Other w)))
-  lent-read true = held-read
-  lent-read false = refusal-parts 16 (omega arith)
+      (byLent (λ (x : State). takeAnswer (seated b x) port) (refusalNumber 16) (pick t (Held (decode w)) (Other w)))
+      (byLent (λ (x : State). takeOutcome (seated b x) port) (Refused 16) (pick t (Held (decode w)) (Other w)))
+  lent-read b true = held-read b
+  lent-read b false = refusal-parts 16 (omega arith)
 
-  -- What the accessors read of hj_take's answer is what a take is said to hand out or to be refused by.
-  pub take-read-back : TakeRead (toldRelay (λ (x : Relay). takeAnswer x port) (refusalNumber 16) w) (toldRelay (λ (x : Relay). takeOutcome x port) (Refused 16) w)
+  told-read : (b : Board)
+      → TakeRead (told (λ (x : State). takeAnswer (seated b x) port) (refusalNumber 16) w) (told (λ (x : State). takeOutcome (seated b x) port) (Refused 16) w)
   unfolding told lent
-  take-read-back = lent-read (eqb (length w) stateWords)
+  told-read b = lent-read b (eqb (length w) missionWords)
+
+  board-read : (v : Lent Board)
+      → TakeRead
+      (byLent (λ (b : Board). told (λ (x : State). takeAnswer (seated b x) port) (refusalNumber 16) w) (refusalNumber 16) v)
+      (byLent (λ (b : Board). told (λ (x : State). takeOutcome (seated b x) port) (Refused 16) w) (Refused 16) v)
+  board-read (Held b) = told-read b
+  board-read (Other o) = refusal-parts 16 (omega arith)
+
+  -- What the accessors read of hj_take's answer is what a take is said to hand out or to be refused by, whatever the board's words.
+  pub take-read-back : (b : List ℕ)
+      → TakeRead (toldRelay (λ (x : Relay). takeAnswer x port) (refusalNumber 16) b w) (toldRelay (λ (x : Relay). takeOutcome x port) (Refused 16) b w)
+  unfolding toldBoard
+  take-read-back b = board-read (lentBoard b)
 
   -- What they read of hj_waiting's answer is how many entries wait, or 21 where there is no such port.
   pub waiting-read-back :
       Two
-      (toldRelay (λ (x : Relay). waitingAnswer x port) (refusalNumber 21) w)
-      (toldRelay (λ (x : Relay). pick (ltb port 8) 0 21) 21 w)
-      (toldRelay (λ (x : Relay). pick (ltb port 8) (queueIn x port .count) 0) 0 w)
+      (told (λ (x : State). waitingAnswer (x .mission) port) (refusalNumber 21) w)
+      (told (λ (x : State). pick (ltb port 8) 0 21) 21 w)
+      (told (λ (x : State). pick (ltb port 8) (queueAt (x .mission) port .count) 0) 0 w)
   unfolding waitingAnswer queueOf
   waiting-read-back =
-      value-read w (λ (x : State). queueIn (x .relay) port .count) (ltb port 8)
+      value-read w (λ (x : State). queueAt (x .mission) port .count) (ltb port 8)
       (λ h. rw (← queue-read w port (queueOf piece) (ltb-true port 8 h) refl) (piece-word 32 (omega arith)))
 
   -- And of hj_counter's the counter, or 21 where there is no such counter.
@@ -123,4 +140,4 @@ module _ (w : List ℕ) (words : FitWords w) (port : ℕ) where
       (told (λ (x : State). pick (ltb i 15) (counterIn (x .counters) i) 0) 0 w)
   unfolding counterAnswer
   counter-read-back i =
-      value-read w (λ (x : State). counterIn (x .counters) i) (ltb i 15) (λ h. rw (← counter-read w i (ltb-true i 15 h)) (words (425 + i)))
+      value-read w (λ (x : State). counterIn (x .counters) i) (ltb i 15) (λ h. rw (← counter-read w i (ltb-true i 15 h)) (words (393 + i)))

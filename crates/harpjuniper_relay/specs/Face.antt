@@ -4,7 +4,7 @@ use mathlib.Core.List.{List}
 use lib.Dec.{ltb}
 use Rattle.checks.specs.Order.{pick}
 use Rattle.sets.specs.Limits.{portCount, counterCount}
-use Rattle.state.specs.Relay.{Relay, queueIn, counterIn}
+use Rattle.state.specs.Relay.{Relay, Mission, queueAt, counterIn}
 use Rattle.taking.specs.Taking.{takeOutcome}
 use Rattle.checks.specs.Answer.{refusalNumber}
 use Rattle.answers.specs.Answers.{takingNumber}
@@ -16,5 +16,5 @@ takeAnswer r port = takingNumber (takeOutcome r port)
 unfoldable pub counterAnswer : List ℕ → ℕ → ℕ
 counterAnswer l i = pick (ltb i counterCount) (counterIn l i) (refusalNumber 21)
 
-unfoldable pub waitingAnswer : Relay → ℕ → ℕ
-waitingAnswer r port = pick (ltb port portCount) (queueIn r port .count) (refusalNumber 21)
+unfoldable pub waitingAnswer : Mission → ℕ → ℕ
+waitingAnswer m port = pick (ltb port portCount) (queueAt m port .count) (refusalNumber 21)

@@ -1,105 +1,94 @@
-// What C calls to set the relay up: a fresh state, router or host, a port, a route.
+// What C calls to set a node up: a fresh board and a fresh mission, router or host, a port. Groups and paths stand in `groups_and_paths`, routes in the
+// crate `harpjuniper_routes`.
 //
 // Each function tests the number of words lent and then calls the setting. None requires anything: whatever words and numbers come, the
 // answer is 0 or the number of the first test that refuses, and a refused setting changes nothing. Where the words are not as many as
-// the state has, there is no port or place in them: 21.
+// a board or a mission has, there is no port or place in them: 21.
 pub mod groups_and_paths;
 
 use address::Address;
 use address::Mask;
 ghost use mathlib.Core.Path.{_≡_};
 ghost use Rattle.checks.specs.Order.{firstOf};
-ghost use Rattle.sets.specs.Limits.{routePlaces};
-ghost use Rattle.state.specs.Relay.{Relay, State, freshState};
-ghost use Rattle.lent_state.specs.View.{lent, told, changed, toldRelay, changedRelay};
-ghost use Rattle.refusals.specs.Lists.{portChecks, routeChecks, routerChecks, clearChecks};
-ghost use Rattle.adjust.specs.Settled.{
-  newRoute,
-  settledRouter,
-  settledPort,
-  settledRoute,
-  clearedRoute,
-};
+ghost use Rattle.state.specs.Layout.{boardWords, missionWords};
+ghost use Rattle.state.specs.Seen.{Board, State, freshBoard};
+ghost use Rattle.lent_state.specs.View.{lentBoard, toldBoard, changedBoard, lent, told, changed};
+ghost use Rattle.refusals.specs.Lists.{portChecks, routerChecks, missionChecks};
+ghost use Rattle.adjust.specs.Settled.{settledRouter, settledPort, settledFresh};
 
-// A fresh relay, whatever stood there.
+// How many words a board has.
 #[no_mangle]
-pub extern "C" fn hj_fresh(state: &mut [u32]) -> u32
-    ensures { λ r. ⌜ r ≡ told (λ (x : State). 0) 21 (now (state .entry)) ⌝ }
-    ensures { λ _. ⌜ lent (now (state .exit)) ≡ changed (λ (x : State). freshState) (now (state .entry)) ⌝ }
+pub extern "C" fn hj_board_words() -> u32
+    ensures { λ r. ⌜ r ≡ boardWords ⌝ }
 {
-    if state.len() != state_ports::STATE_WORDS {
+    state_board::BOARD_WORDS as u32
+}
+
+// How many words a mission has.
+#[no_mangle]
+pub extern "C" fn hj_mission_words() -> u32
+    ensures { λ r. ⌜ r ≡ missionWords ⌝ }
+{
+    state_mission::MISSION_WORDS as u32
+}
+
+// A fresh board, whatever stood there.
+#[no_mangle]
+pub extern "C" fn hj_fresh_board(board: &mut [u32]) -> u32
+    ensures { λ r. ⌜ r ≡ toldBoard (λ (x : Board). 0) 21 (now (board .entry)) ⌝ }
+    ensures { λ _. ⌜ lentBoard (now (board .exit)) ≡ changedBoard (λ (x : Board). freshBoard) (now (board .entry)) ⌝ }
+{
+    if board.len() != state_board::BOARD_WORDS {
         return 21;
     }
-    state_ports::clear_all(state);
+    state_board::clear_board(board);
     0
+}
+
+// A fresh mission, of number 0 or 1, whatever stood there.
+#[no_mangle]
+pub extern "C" fn hj_fresh_mission(mission: &mut [u32], number: u32) -> u32
+    ensures { λ r. ⌜ r ≡ told (λ (x : State). firstOf (missionChecks number)) 21 (now (mission .entry)) ⌝ }
+    ensures { λ _. ⌜ lent (now (mission .exit)) ≡ changed (λ (x : State). settledFresh x number) (now (mission .entry)) ⌝ }
+{
+    if mission.len() != state_mission::MISSION_WORDS {
+        return 21;
+    }
+    adjust::fresh_mission(mission, number)
 }
 
 // Router or host: 1 or 0.
 #[no_mangle]
-pub extern "C" fn hj_set_router(state: &mut [u32], router: u32) -> u32
-    ensures { λ r. ⌜ r ≡ toldRelay (λ (x : Relay). firstOf (routerChecks router)) 21 (now (state .entry)) ⌝ }
-    ensures { λ _. ⌜ lent (now (state .exit)) ≡ changedRelay (λ (x : Relay). settledRouter x router) (now (state .entry)) ⌝ }
+pub extern "C" fn hj_set_router(board: &mut [u32], router: u32) -> u32
+    ensures { λ r. ⌜ r ≡ toldBoard (λ (x : Board). firstOf (routerChecks router)) 21 (now (board .entry)) ⌝ }
+    ensures { λ _. ⌜ lentBoard (now (board .exit)) ≡ changedBoard (λ (x : Board). settledRouter x router) (now (board .entry)) ⌝ }
 {
-    if state.len() != state_ports::STATE_WORDS {
+    if board.len() != state_board::BOARD_WORDS {
         return 21;
     }
-    adjust::set_router(state, router)
+    adjust::set_router(board, router)
 }
 
-// A port: its address, mask and MTU.
+// A port: its address, mask and MTU, and the mission whose it is.
 #[no_mangle]
 pub extern "C" fn hj_set_port(
-    state: &mut [u32],
+    board: &mut [u32],
     port: u32,
     address: u32,
     mask: u32,
     mtu: u32,
+    mission: u32,
 ) -> u32
-    ensures { λ r. ⌜ r ≡ toldRelay (λ (x : Relay). firstOf (portChecks x port (record { 0 = address }) (record { 0 = mask }) mtu)) 21 (now (state .entry)) ⌝ }
-    ensures { λ _. ⌜ lent (now (state .exit)) ≡ changedRelay (λ (x : Relay). settledPort x port (record { 0 = address }) (record { 0 = mask }) mtu) (now (state .entry)) ⌝ }
+    ensures { λ r. ⌜
+        r ≡ toldBoard (λ (x : Board). firstOf (portChecks x port (record { 0 = address }) (record { 0 = mask }) mtu mission)) 21 (now (board .entry))
+        ⌝ }
+    ensures { λ _. ⌜
+        lentBoard (now (board .exit))
+        ≡ changedBoard (λ (x : Board). settledPort x port (record { 0 = address }) (record { 0 = mask }) mtu mission) (now (board .entry))
+        ⌝ }
 {
-    if state.len() != state_ports::STATE_WORDS {
+    if board.len() != state_board::BOARD_WORDS {
         return 21;
     }
-    adjust::set_port(state, port, Address(address), Mask(mask), mtu)
-}
-
-// A route.
-#[no_mangle]
-pub extern "C" fn hj_set_route(
-    state: &mut [u32],
-    place: u32,
-    prefix: u32,
-    mask: u32,
-    port: u32,
-    availability: u32,
-    capabilities: u32,
-) -> u32
-    ensures { λ r. ⌜ r ≡ toldRelay (λ (x : Relay). firstOf (routeChecks x place (newRoute (record { 0 = prefix }) (record { 0 = mask }) port availability capabilities))) 21 (now (state .entry)) ⌝ }
-    ensures { λ _. ⌜ lent (now (state .exit)) ≡ changedRelay (λ (x : Relay). settledRoute x place (newRoute (record { 0 = prefix }) (record { 0 = mask }) port availability capabilities)) (now (state .entry)) ⌝ }
-{
-    if state.len() != state_ports::STATE_WORDS {
-        return 21;
-    }
-    adjust::set_route(
-        state,
-        place,
-        Address(prefix),
-        Mask(mask),
-        port,
-        availability,
-        capabilities,
-    )
-}
-
-// A route's place, emptied.
-#[no_mangle]
-pub extern "C" fn hj_clear_route(state: &mut [u32], place: u32) -> u32
-    ensures { λ r. ⌜ r ≡ toldRelay (λ (x : Relay). firstOf (clearChecks place routePlaces)) 21 (now (state .entry)) ⌝ }
-    ensures { λ _. ⌜ lent (now (state .exit)) ≡ changedRelay (λ (x : Relay). clearedRoute x place) (now (state .entry)) ⌝ }
-{
-    if state.len() != state_ports::STATE_WORDS {
-        return 21;
-    }
-    adjust::clear_route(state, place)
+    adjust::set_port(board, port, Address(address), Mask(mask), mtu, mission)
 }

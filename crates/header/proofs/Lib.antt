@@ -1,4 +1,4 @@
--- The laws of headers. To be read: Refusals, Answers, Trip, Again, Shortest, Beyond, SentOn, BuiltLaws, Promises; the others serve them and the
+-- The laws of headers. To be read: Refusals, Answers, Trip, Again, Shortest, Beyond, SentOn, FoundLaws, BuiltLaws, Promises; the others serve them and the
 -- code's proofs. Tests is for callers of this crate's functions.
 pub mod Tests
 pub mod Bounds
@@ -15,4 +15,5 @@ pub mod Beyond
 pub mod Answers
 pub mod SentOn
 pub mod Refusals
+pub mod FoundLaws
 pub mod Promises

@@ -4,11 +4,15 @@ use Prim.Native.Nat.{ℕ, _-_}
 use mathlib.Core.List.{List, _++_}
 use lib.ListN.{set, take}
 use lib.Dec.{eqb}
-use Rattle.checks.specs.Order.{pick}
+use Rattle.checks.specs.Order.{pick, firstOf}
 use Rattle.octets.specs.Octets.{octet}
 use Rattle.header.specs.Form.{controlOf, placesOf, hasHops, hasChecksum}
 use Rattle.header.specs.Build.{checksumOctets}
+use Rattle.header.specs.Read.{headerOf, readChecks}
 use Rattle.header.specs.declared.Header.{Header}
+use Rattle.header.specs.declared.Renewal.{Renewal}
+use Rattle.header.specs.declared.Found.{Found}
+use Rattle.header.specs.declared.Found.the-variants as found
 use Rattle.header.specs.declared.Octet.{Octet}
 use Rattle.header.specs.declared.Octet.the-variants as octet
 
@@ -45,3 +49,15 @@ withHops hops h =
       length = h .length;
       size = h .size;
     }
+
+-- where it differs from the header that came
+unfoldable pub renewalOf : List ℕ → Renewal
+renewalOf s =
+    record { hops = placesOf s .hops; counted = hasHops (controlOf s); checksum = placesOf s .checksum; summed = hasChecksum (controlOf s) }
+
+-- the header and that, or the first check's number
+abbrev pub foundBy : ℕ → Header → Renewal → Found
+foundBy n h r = pick (eqb n 0) (found.Good h r) (found.Refused n)
+
+unfoldable pub foundOf : List ℕ → Found
+foundOf s = foundBy (firstOf (readChecks s)) (headerOf s) (renewalOf s)

@@ -97,6 +97,21 @@ pub enum Read {
     Refused(u8),
 }
 
+// Where a header that is sent on differs from the one that came: the place of the hop count and whether it is there, the place of the
+// checksum and whether it is there. `counted` and `summed` are flags, 0 or 1.
+pub struct Renewal {
+    pub hops: usize,
+    pub counted: u8,
+    pub checksum: usize,
+    pub summed: u8,
+}
+
+// What reading answers where the header may be sent on.
+pub enum Found {
+    Good(Header, Renewal),
+    Refused(u8),
+}
+
 // What building answers: the octets of the header that was written, or the number of the first check that failed.
 pub enum Built {
     Done(usize),

@@ -2,7 +2,7 @@
 use native.Mathlib.Omega.{arith}
 use Prim.Native.Nat.{ℕ, _-_, _%_, _^_, _<_}
 use mathlib.Core.Path.{_≡_, refl}
-use mathlib.Core.Bool.{Bool, true, false}
+use mathlib.Core.Bool.{Bool, true, false, _&&_}
 use mathlib.Core.List.{List, [], _∷_}
 use lib.ListN.{length}
 use lib.Dec.{eqb, ltb}
@@ -23,19 +23,20 @@ use Rattle.header.specs.declared.Read.the-variants as reader
 use Rattle.routes.specs.Search.{searchOf}
 use Rattle.routes.specs.declared.Found.{Found}
 use Rattle.routes.specs.declared.Found.the-variants as found
-use Rattle.state.specs.Relay.{Relay, portIn, routeIn, groupIn, pathIn}
+use Rattle.lent_state.specs.View.{tooLong}
 use Rattle.harpjuniper.specs.Face.{readingOf, numbersChecks}
-use Rattle.harpjuniper_reads.specs.Back.{portRead, routeRead, groupRead, pathRead, noPortBack, noRouteBack, noGroupBack, noPathBack, portBack, routeBack, groupBack, pathBack}
-use Rattle.harpjuniper_reads.specs.Search.{searchParts, foundNumber, searchAnswer}
+use Rattle.route_calls.specs.Search.{searchParts, foundNumber, searchAnswer}
+use Rattle.history.specs.Seat.{Seat, relayIn, relayWith}
 use Rattle.history.specs.Calls.{
-  Part,
-  theRouter,
-  thePort,
-  theRoute,
-  theGroup,
-  thePath,
+  View,
+  routerFlag,
+  portWord,
+  recordWord,
+  orders,
+  views,
   Look,
-  setting,
+  groupWord,
+  pathWord,
   search,
   counter,
   waiting,
@@ -44,23 +45,30 @@ use Rattle.history.specs.Calls.{
   class,
   form,
   checksum,
-  stateWords,
-  Call,
+  boardSize,
+  missionSize,
+  MissionCall,
   sets,
   hears,
   takes,
   looks,
+  Call,
+  operator,
+  own,
 }
-use Rattle.history.specs.Looks.{partNumber, lookNumber}
-use Rattle.history.specs.Outcome.{number, outcome}
-use Rattle.history.specs.Answers.{numbers, below, partNumbers, lookRow, answersOf, stands}
-use Rattle.history.proofs.Listed.{number-row, setting-listed, every-ending-is-listed, taking-listed}
+use Rattle.history.specs.Looks.{viewNumber, lookNumber}
+use Rattle.history.specs.Outcome.{number, ownOutcome, outcome}
+use Rattle.history.specs.Answers.{numbers, below, viewNumbers, lookRow, ownRows, answersOf, stands}
+use Rattle.history.proofs.Listed.{number-row, order-listed, setting-listed, every-ending-is-listed, taking-listed}
 
--- what stands at a place, or 21 where there is no such place
-place-row : {A : Type 0} (refusal : A → ℕ) (t : Bool) (there none : A) → refusal there ≡ 0 → refusal none ≡ 21
-    → stands (numbers (0 ∷ 21 ∷ []) ∷ []) (number (refusal (pick t there none))) ≡ true
-place-row refusal true there none e f = rw e refl
-place-row refusal false there none e f = rw f refl
+-- 0 where there is such a place and such a word, or 21
+place-row : (t : Bool) → stands (numbers (0 ∷ 21 ∷ []) ∷ []) (number (pick t 0 21)) ≡ true
+place-row true = refl
+place-row false = refl
+
+record-row : (t u : Bool) → stands (numbers (0 ∷ 21 ∷ []) ∷ []) (number (pick t 21 (pick u 0 21))) ≡ true
+record-row true u = refl
+record-row false u = place-row u
 
 read-row : (t : Bool) (n : ℕ) (h : Header) → stands (numbers (0 ∷ 1 ∷ 2 ∷ 4 ∷ 3 ∷ 5 ∷ []) ∷ []) (number n) ≡ true
     → stands (numbers (0 ∷ 1 ∷ 2 ∷ 4 ∷ 3 ∷ 5 ∷ []) ∷ []) (number (readingOf (pick t (reader.Good h) (reader.Refused n)) .refusal)) ≡ true
@@ -81,10 +89,14 @@ form-row : (f : PathForm) → stands (numbers (0 ∷ 1 ∷ []) ∷ []) (number (
 form-row shape.Invalid = refl
 form-row shape.Valid = refl
 
-search-row : (f : Found) → stands (numbers (0 ∷ 256 ∷ []) ∷ []) (number (foundNumber f % 2 ^ 16)) ≡ true
+found-row : (f : Found) → stands (numbers (21 ∷ 0 ∷ 256 ∷ []) ∷ []) (number (foundNumber f % 2 ^ 16)) ≡ true
 unfolding searchParts
-search-row (found.At place ones r) = let e : searchParts 1 place ones (r .port) % 2 ^ 16 ≡ 256 = omega arith in rw e refl
-search-row found.No = refl
+found-row (found.At place ones r) = let e : searchParts 1 place ones (r .port) % 2 ^ 16 ≡ 256 = omega arith in rw e refl
+found-row found.No = refl
+
+search-row : (t : Bool) (f : Found) → stands (numbers (21 ∷ 0 ∷ 256 ∷ []) ∷ []) (number (pick t 21 (foundNumber f % 2 ^ 16))) ≡ true
+search-row true f = refl
+search-row false f = found-row f
 
 below-row : (n k : ℕ) → n < k → stands (below k ∷ []) (number n) ≡ true
 below-row n k h = simp (lt-ltb n k h)
@@ -92,32 +104,36 @@ below-row n k h = simp (lt-ltb n k h)
 checksum-row : (octets : List ℕ) → stands (below 65536 ∷ []) (number (checksumOf octets)) ≡ true
 checksum-row octets = below-row (65535 - onesSum octets) 65536 (omega arith)
 
-part-listed : (r : Relay) (part : Part) → stands (numbers (partNumbers part) ∷ []) (number (partNumber r part)) ≡ true
-unfolding portBack routeBack groupBack pathBack
-part-listed r theRouter = refl
-part-listed r (thePort p) = place-row (λ x. x .refusal) (ltb p 8) (portRead 0 (portIn r p)) noPortBack refl refl
-part-listed r (theRoute i) = place-row (λ x. x .refusal) (ltb i 64) (routeRead 0 (routeIn r i)) noRouteBack refl refl
-part-listed r (theGroup i) = place-row (λ x. x .refusal) (ltb i 16) (groupRead 0 (groupIn r i)) noGroupBack refl refl
-part-listed r (thePath i) = place-row (λ x. x .refusal) (ltb i 16) (pathRead 0 (pathIn r i)) noPathBack refl refl
+view-listed : (v : View) → stands (numbers (viewNumbers v) ∷ []) (number (viewNumber v)) ≡ true
+view-listed routerFlag = refl
+view-listed (portWord p word) = place-row (ltb p 8 && ltb word 5)
+view-listed (recordWord rs i word) = record-row (tooLong rs) (ltb i (length rs) && ltb word 7)
 
-look-listed : (r : Relay) (l : Look) → stands (lookRow l ∷ []) (number (lookNumber r l)) ≡ true
+look-listed : (seat : Seat) (l : Look) → stands (lookRow l ∷ []) (number (lookNumber seat l)) ≡ true
 unfolding readOf readChecks numbersChecks searchAnswer
-look-listed r (setting part) = part-listed r part
-look-listed r (search a) = search-row (searchOf a (r .routes))
-look-listed r (counter i) = place-row (λ (n : ℕ). n) (ltb i 15) 0 21 refl refl
-look-listed r (waiting p) = place-row (λ (n : ℕ). n) (ltb p 8) 0 21 refl refl
-look-listed r (read octets) =
+look-listed seat (groupWord i word) = place-row (ltb i 16 && ltb word 4)
+look-listed seat (pathWord i word) = place-row (ltb i 16 && ltb word 4)
+look-listed seat (search rs a) = search-row (tooLong rs) (searchOf a (relayWith seat rs .routes))
+look-listed seat (counter i) = place-row (ltb i 15)
+look-listed seat (waiting p) = place-row (ltb p 8)
+look-listed seat (read octets) =
     let n = firstOf (readChecks octets) in
     read-row (eqb n 0) n (headerOf octets) (number-row (0 ∷ 1 ∷ 2 ∷ 4 ∷ 3 ∷ 5 ∷ []) (readChecks octets) refl refl)
-look-listed r (build fields size output) = number-row (0 ∷ 17 ∷ 19 ∷ 20 ∷ []) (numbersChecks fields size (length output)) refl refl
-look-listed r (class a) = class-row (classOf (a .0))
-look-listed r (form p) = form-row (pathForm (p .0))
-look-listed r (checksum octets) = checksum-row octets
-look-listed r stateWords = refl
+look-listed seat (build fields size output) = number-row (0 ∷ 17 ∷ 19 ∷ 20 ∷ []) (numbersChecks fields size (length output)) refl refl
+look-listed seat (class a) = class-row (classOf (a .0))
+look-listed seat (form p) = form-row (pathForm (p .0))
+look-listed seat (checksum octets) = checksum-row octets
+look-listed seat boardSize = refl
+look-listed seat missionSize = refl
 
--- Whatever is called, and on whatever relay, the answer stands in the table's rows for that call.
-pub every-answer-is-listed : (r : Relay) (c : Call) → stands (answersOf c) (outcome r c .answer) ≡ true
-every-answer-is-listed r (sets s) = setting-listed r s
-every-answer-is-listed r (hears port slot octets output) = every-ending-is-listed r port octets (length output)
-every-answer-is-listed r (takes port) = taking-listed r port
-every-answer-is-listed r (looks l) = look-listed r l
+own-listed : (seat : Seat) (c : MissionCall) → stands (ownRows c) (ownOutcome seat c .answer) ≡ true
+own-listed seat (sets s) = setting-listed (relayIn seat) s
+own-listed seat (hears rs port slot octets output) = every-ending-is-listed seat rs port octets (length output)
+own-listed seat (takes port) = taking-listed seat port
+own-listed seat (looks l) = look-listed seat l
+
+-- Whatever is called, and on whatever seat, the answer stands in the table's rows for that call.
+pub every-answer-is-listed : (seat : Seat) (c : Call) → stands (answersOf c) (outcome seat c .answer) ≡ true
+every-answer-is-listed seat (operator (orders o)) = order-listed (seat .board) o
+every-answer-is-listed seat (operator (views v)) = view-listed v
+every-answer-is-listed seat (own c) = own-listed seat c

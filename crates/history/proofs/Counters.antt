@@ -12,10 +12,12 @@ use lib.Dec.{eqb}
 use lib.Pow.{pow-pos}
 use borrow.Author.Tests.{eqb-true, eqb-false}
 use Rattle.checks.specs.Order.{pick}
-use Rattle.state.specs.Relay.{Relay, freshRelay, freshState, counterIn, added}
+use Rattle.state.specs.Relay.{counterIn, added}
+use Rattle.state.specs.Seen.{freshState}
 use Rattle.tally.specs.Tally.{Move, countedAt, countedAll}
 use Rattle.tally.specs.declared.Counter.{Counter}
 use Rattle.tally.specs.declared.Counter.the-variants as counter
+use Rattle.history.specs.Seat.{Seat, freshSeat}
 use Rattle.history.specs.Calls.{Call}
 use Rattle.history.specs.Outcome.{Outcome, outcome, next, sumFrom}
 use Rattle.history.specs.Tally.{isAt, sumAt, tally, countersFrom, stateAfter}
@@ -72,33 +74,36 @@ module _ (i : ℕ) (inside : i < 15) where
   abbrev given : Outcome → ℕ
   given o = sumAt (o .moves) i
 
-  all-calls : (cs : List Call) (l : List ℕ) (r : Relay) → Fit l → counterIn (countersFrom l r cs) i ≡ (counterIn l i + sumFrom given r cs) % 2 ^ 32
-  all-calls [] l r f = none-more (counterIn l i) (f .small)
-  all-calls (c ∷ cs) l r f =
-      let moves = outcome r c .moves in
-      all-calls cs (countedAll l moves) (next r c) (moves-fit moves l f)
-      ∙ then-more (counterIn l i) (counterIn (countedAll l moves) i) (sumAt moves i) (sumFrom given (next r c) cs) (moves-sum moves l f)
+  all-calls : (cs : List Call) (l : List ℕ) (seat : Seat) → Fit l
+      → counterIn (countersFrom l seat cs) i ≡ (counterIn l i + sumFrom given seat cs) % 2 ^ 32
+  all-calls [] l seat f = none-more (counterIn l i) (f .small)
+  all-calls (c ∷ cs) l seat f =
+      let moves = outcome seat c .moves in
+      all-calls cs (countedAll l moves) (next seat c) (moves-fit moves l f)
+      ∙ then-more (counterIn l i) (counterIn (countedAll l moves) i) (sumAt moves i) (sumFrom given (next seat c) cs) (moves-sum moves l f)
 
-  all-fit : (cs : List Call) (l : List ℕ) (r : Relay) → Fit l → Fit (countersFrom l r cs)
-  all-fit [] l r f = f
-  all-fit (c ∷ cs) l r f = all-fit cs (countedAll l (outcome r c .moves)) (next r c) (moves-fit (outcome r c .moves) l f)
+  all-fit : (cs : List Call) (l : List ℕ) (seat : Seat) → Fit l → Fit (countersFrom l seat cs)
+  all-fit [] l seat f = f
+  all-fit (c ∷ cs) l seat f = all-fit cs (countedAll l (outcome seat c .moves)) (next seat c) (moves-fit (outcome seat c .moves) l f)
 
-  fresh-zero : counterIn (freshState .counters) i ≡ 0
-  unfolding freshState
-  fresh-zero = getD-replicate {A = ℕ} 15 i 0 0 inside
+  -- ---- of mission m
+  module _ (m : ℕ) where
+    fresh-zero : counterIn (freshState m .counters) i ≡ 0
+    unfolding freshState
+    fresh-zero = getD-replicate {A = ℕ} 15 i 0 0 inside
 
-  fresh-fifteen : length (freshState .counters) ≡ 15
-  unfolding freshState
-  fresh-fifteen = refl
+    fresh-fifteen : length (freshState m .counters) ≡ 15
+    unfolding freshState
+    fresh-fifteen = refl
 
-  fresh-fit : Fit (freshState .counters)
-  fresh-fit = record { fifteen = fresh-fifteen; small = omega (arith, fresh-zero) }
+    fresh-fit : Fit (freshState m .counters)
+    fresh-fit = record { fifteen = fresh-fifteen; small = omega (arith, fresh-zero) }
 
-  pub counters-fit : (cs : List Call) → Fit (stateAfter cs .counters)
-  counters-fit cs = all-fit cs (freshState .counters) freshRelay fresh-fit
+    pub counters-fit : (cs : List Call) → Fit (stateAfter m cs .counters)
+    counters-fit cs = all-fit cs (freshState m .counters) (freshSeat m) fresh-fit
 
-  -- After any history counter i is what the rules give over the history, modulo 2^32.
-  pub counters : (cs : List Call) → counterIn (stateAfter cs .counters) i ≡ tally cs i % 2 ^ 32
-  counters cs =
-      all-calls cs (freshState .counters) freshRelay fresh-fit
-      ∙ ap (λ (n : ℕ). n % 2 ^ 32) (let e : counterIn (freshState .counters) i + tally cs i ≡ tally cs i = omega (arith, fresh-zero) in e)
+    -- After any history counter i is what the rules give over the history, modulo 2^32.
+    pub counters : (cs : List Call) → counterIn (stateAfter m cs .counters) i ≡ tally m cs i % 2 ^ 32
+    counters cs =
+        all-calls cs (freshState m .counters) (freshSeat m) fresh-fit
+        ∙ ap (λ (n : ℕ). n % 2 ^ 32) (let e : counterIn (freshState m .counters) i + tally m cs i ≡ tally m cs i = omega (arith, fresh-zero) in e)

@@ -1,16 +1,14 @@
 -- Demand 2, the domain, when a copy goes out and of the octets that go out: each copy that waits on a port names there, at that moment, the systems
--- that it named where it came in. A port is not written anew while a copy waits on it: 35 prevents it. The theorem is `waiting-copies-name-the-same`.
--- Assumes nothing.
-use native.Mathlib.Omega.{arith}
-use Prim.Native.Nat.{ℕ, suc, _+_, _<_}
+-- that it named where it came in. A port that is set up is never written anew: 35 prevents it. The theorem is `waiting-copies-name-the-same`. Assumes
+-- nothing.
+use Prim.Native.Nat.{ℕ, suc, _<_}
 use mathlib.Core.Path.{_≡_, refl, sym, ap, _∙_}
 use mathlib.Core.Bool.{Bool, true, false}
-use mathlib.Core.List.{List, [], _∷_, append-nil}
-use lib.ListN.{length, getD}
-use lib.Dec.{eqb}
-use borrow.Author.Tests.{eqb-true, eqb-false}
+use mathlib.Core.List.{List, [], _∷_}
+use lib.ListN.{length}
+use lib.Dec.{eqb, ltb}
 use Rattle.checks.specs.Order.{pick, firstOf}
-use Rattle.checks.proofs.Bools.{true-false, not-false}
+use Rattle.checks.proofs.Bools.{true-false, and-true}
 use Rattle.sets.specs.Sets.{inSet}
 use Rattle.address.specs.declared.Slot.{Slot}
 use Rattle.header.specs.Read.{readOf}
@@ -18,36 +16,28 @@ use Rattle.header.specs.declared.Header.{Header}
 use Rattle.header.specs.declared.Read.{Read}
 use Rattle.header.specs.declared.Read.the-variants.{Good, Refused}
 use Rattle.networks.specs.Networks.{domainOf}
+use Rattle.meaning.specs.Arrival.{arrivalChecks}
 use Rattle.meaning.specs.Asked.{precedenceAsked}
 use Rattle.meaning.specs.Names.{aimOf, originOf}
 use Rattle.queue.specs.Order.{Each}
-use Rattle.queue.specs.Waits.{Waits}
-use Rattle.queue.proofs.Waits.{waits-count}
-use Rattle.records.specs.Fresh.{freshPort}
+use Rattle.records.specs.SetUp.{isSetUp}
 use Rattle.records.specs.declared.Port.{Port}
-use Rattle.state.specs.Relay.{Relay, freshRelay, portIn, queueIn, withPort}
-use Rattle.state.proofs.Places.{port-left}
-use Rattle.refusals.specs.Lists.{portChecks, entriesWait}
-use Rattle.refusals.proofs.Chains.{decided}
-use Rattle.adjust.specs.Settled.{newPort}
-use Rattle.taking.specs.Taking.{takenRelay}
+use Rattle.routes.specs.declared.Record.{Record}
+use Rattle.state.specs.Relay.{Relay, portIn, amongPorts, portSetUp}
 use Rattle.judge.specs.Ending.{refusedBy, callChecks, headerEnding, octetsEnding, ruledEnding, arrivalAt, endingOf}
 use Rattle.judge.specs.declared.Ending.{Ending}
-use Rattle.meaning.specs.Arrival.{arrivalChecks}
-use Rattle.relay.specs.Received.{receivedRelay}
-use Rattle.history.specs.Calls.{Setting, setRouter, setPort, setRoute, setGroup, setPath, clearRoute, clearGroup, clearPath, Call, sets, hears, takes, looks, checksOf, written}
-use Rattle.history.specs.Outcome.{next, runFrom, relayAfter}
-use Rattle.history.specs.Ledger.{one}
-use Rattle.history.specs.Line.{Copy, entryOf, copyOf, takenBy, lineBy, lineFrom, lineAt}
-use Rattle.history.proofs.Settled.{settle-keeps}
-use Rattle.page.specs.Table.{oneOctet}
+use Rattle.history.specs.Seat.{Seat, freshSeat, relayIn, relayWith, heardBy}
+use Rattle.history.specs.Calls.{sets, hears, takes, looks, Call, operator, own}
+use Rattle.history.specs.Outcome.{next, runFrom, seatAfter}
+use Rattle.history.specs.Line.{Copy, copyOf, takenBy, lineBy, lineFrom, lineAt}
+use Rattle.page.specs.Table.{oneOctet, hasRoom}
 use Rattle.page.proofs.Bits.{in-none}
-use Rattle.history.proofs.Fair.{fair}
+use Rattle.page.proofs.Exactly.{took-exactly}
+use Rattle.history.proofs.Heard.{heard-so}
+use Rattle.history.proofs.Ports.{seen-stays}
 use Rattle.history.proofs.Meaning.{stays-in-its-domain, names-the-same}
-use Rattle.history.proofs.Reach.{madeOf, received-made, taken-made}
-use Rattle.history.proofs.Queues.{Eight}
-use Rattle.history.proofs.Ledger.{next-eight, fresh-eight}
-use Rattle.history.proofs.Line.{line-each, next-waits, fresh-waits}
+use Rattle.history.proofs.Line.{line-each}
+use Rattle.history.proofs.Ranges.{NoneWaits, none-comes, next-none}
 
 -- ---- a datagram that a port took was read, and its ending has the header's size and precedence
 pub record WasRead (octets : List ℕ) (e : Ending) : Type 0 where
@@ -70,13 +60,19 @@ octets-read r port octets (Good h) is took =
     record { header = h; read = is; size = ap (λ (e : Ending). e .size) same; precedence = ap (λ (e : Ending). e .precedence) same }
 octets-read r port octets (Refused n) is took = absurd (took refl)
 
-pub took-read : (r : Relay) (port : ℕ) (octets : List ℕ) (room : ℕ) → (endingOf r port octets room .ruling .took ≡ 0 → ⊥)
+page-read : (r : Relay) (port : ℕ) (octets : List ℕ) (room : ℕ) → (endingOf r port octets room .ruling .took ≡ 0 → ⊥)
     → WasRead octets (endingOf r port octets room)
 unfolding endingOf
-took-read r port octets room took =
+page-read r port octets room took =
     let n = firstOf (callChecks r port room) in
     let case = took-case (eqb n 0) n (octetsEnding r (arrivalAt r port) (readOf octets)) took in
     rw (case .0) (octets-read r port octets (readOf octets) refl (case .1))
+
+pub took-read : (seat : Seat) (rs : List Record) (port : ℕ) (octets : List ℕ) (room : ℕ)
+    → (heardBy seat rs port octets room .ruling .took ≡ 0 → ⊥) → WasRead octets (heardBy seat rs port octets room)
+took-read seat rs port octets room =
+    heard-so seat rs port octets room (λ (e : Ending). (e .ruling .took ≡ 0 → ⊥) → WasRead octets e)
+    (λ took. absurd (took refl)) (page-read (relayWith seat rs) port octets room)
 
 -- ---- what a copy named at the port that it came in by, it names at the port where it waits, as that port stands
 pub record NamesTheSame (x : Port) (c : Copy) : Type 0 where
@@ -87,91 +83,69 @@ pub record NamesTheSame (x : Port) (c : Copy) : Type 0 where
   pub origin : originOf (x .address .0) (header .fields .addresses) ≡ originOf (c .arrival .0) (header .fields .addresses)
   pub domain : oneOctet (header .fields .addresses) ≡ true → domainOf (x .address) ≡ domainOf (c .arrival)
 
-took-granted : (g t d : Bool) → one g ≡ one t + one d → t ≡ true → g ≡ true
-took-granted true t d e h = refl
-took-granted false true d e h = absurd (omega (arith, e))
-took-granted false false d e h = true-false (sym h)
-
 module _ (p : ℕ) (inside : p < 8) where
-  abbrev AllNamed : Relay → List Copy → Type 0
-  AllNamed r line = Each (NamesTheSame (portIn r p)) line
+  abbrev AllNamed : Seat → List Copy → Type 0
+  AllNamed seat line = Each (NamesTheSame (portIn (relayIn seat) p)) line
 
-  -- ---- a datagram: the copy that enters, and the ports as they were
-  new-copy : (r : Relay) (n port : ℕ) (slot : Slot) (octets : List ℕ) (room : ℕ) → inSet p (endingOf r port octets room .ruling .took) ≡ true
-      → NamesTheSame (portIn r p) (copyOf n r port slot octets (endingOf r port octets room))
-  new-copy r n port slot octets room took =
-      let x = endingOf r port octets room .ruling in
-      let was = took-read r port octets room (λ z. true-false (sym (sym (ap (inSet p) z) ∙ took) ∙ in-none p)) in
-      let granted = took-granted (inSet p (x .granted)) (inSet p (x .took)) (inSet p (x .dropped)) (fair r p inside port octets room .split) took in
-      let names = names-the-same p inside r port octets room (was .header) (was .read) granted in
-      record {
-        header = was .header;
-        read = was .read;
-        size = was .size;
-        aim = names .0;
-        origin = names .1;
-        domain = stays-in-its-domain p inside r port octets room (was .header) (was .read) granted;
-      }
+  -- ---- a datagram: the copy that enters
+  module _ (seat : Seat) (rs : List Record) (n port : ℕ) (slot : Slot) (octets : List ℕ) (room : ℕ) where
+    page-copy : inSet p (endingOf (relayWith seat rs) port octets room .ruling .took) ≡ true
+        → NamesTheSame (portIn (relayIn seat) p) (copyOf n seat port slot octets (endingOf (relayWith seat rs) port octets room))
+    page-copy took =
+        let r = relayWith seat rs in
+        let was = page-read r port octets room (λ z. true-false (sym (sym (ap (inSet p) z) ∙ took) ∙ in-none p)) in
+        let granted =
+        and-true (inSet p (endingOf r port octets room .ruling .granted)) (hasRoom r p) (sym (took-exactly r port octets room p inside) ∙ took) .0 in
+        let names = names-the-same p inside r port octets room (was .header) (was .read) granted in
+        record {
+          header = was .header;
+          read = was .read;
+          size = was .size;
+          aim = names .0;
+          origin = names .1;
+          domain = stays-in-its-domain p inside r port octets room (was .header) (was .read) granted;
+        }
 
-  enters-case : (t : Bool) (r : Relay) (c : Copy) → (t ≡ true → NamesTheSame (portIn r p) c) → AllNamed r (pick t (c ∷ []) [])
-  enters-case true r c f = (f refl, tt)
-  enters-case false r c f = tt
+    new-copy : inSet p (heardBy seat rs port octets room .ruling .took) ≡ true
+        → NamesTheSame (portIn (relayIn seat) p) (copyOf n seat port slot octets (heardBy seat rs port octets room))
+    new-copy =
+        heard-so seat rs port octets room
+        (λ (e : Ending). inSet p (e .ruling .took) ≡ true → NamesTheSame (portIn (relayIn seat) p) (copyOf n seat port slot octets e))
+        (λ z. true-false (sym z ∙ in-none p)) page-copy
 
-  entered-named : (n : ℕ) (r : Relay) (c : Call) → AllNamed r (takenBy p n r c)
-  entered-named n r (sets s) = tt
-  entered-named n r (hears port slot octets output) =
-      let e = endingOf r port octets (length output) in
-      enters-case (inSet p (e .ruling .took)) r (copyOf n r port slot octets e) (new-copy r n port slot octets (length output))
-  entered-named n r (takes port) = tt
-  entered-named n r (looks l) = tt
+  enters-case : (t : Bool) (seat : Seat) (c : Copy) → (t ≡ true → NamesTheSame (portIn (relayIn seat) p) c) → AllNamed seat (pick t (c ∷ []) [])
+  enters-case true seat c f = (f refl, tt)
+  enters-case false seat c f = tt
 
-  -- ---- a call leaves some of them
-  line-named : (n : ℕ) (r : Relay) (c : Call) (line : List Copy) → AllNamed r line → AllNamed r (lineBy p n r c line)
-  line-named n r c line all = line-each p (NamesTheSame (portIn r p)) n r c line all (entered-named n r c)
+  entered-named : (n : ℕ) (seat : Seat) (c : Call) → AllNamed seat (takenBy p n seat c)
+  entered-named n seat (operator c) = tt
+  entered-named n seat (own (sets s)) = tt
+  entered-named n seat (own (hears rs port slot octets output)) =
+      let e = heardBy seat rs port octets (length output) in
+      enters-case (inSet p (e .ruling .took)) seat (copyOf n seat port slot octets e) (new-copy seat rs n port slot octets (length output))
+  entered-named n seat (own (takes port)) = tt
+  entered-named n seat (own (looks l)) = tt
 
-  -- ---- the port stays as it is where anything waits
-  nothing-waits : (r : Relay) (line : List Copy) → Waits entryOf (queueIn r p) line → entriesWait r p ≡ false → line ≡ []
-  nothing-waits r [] w h = refl
-  nothing-waits r (c ∷ line) w h =
-      absurd (let none = eqb-true (queueIn r p .count) 0 (not-false (eqb (queueIn r p .count) 0) h) in omega (arith, waits-count entryOf w))
+  -- ---- a call leaves some of them, and the port as it is where anything waits
+  line-named : (n : ℕ) (seat : Seat) (c : Call) (line : List Copy) → AllNamed seat line → AllNamed seat (lineBy p n seat c line)
+  line-named n seat c line all = line-each p (NamesTheSame (portIn (relayIn seat) p)) n seat c line all (entered-named n seat c)
 
-  port-case : (r : Relay) (line : List Copy) → Waits entryOf (queueIn r p) line → (q : ℕ) (x : Port) → entriesWait r q ≡ false → (t : Bool) → eqb p q ≡ t
-      → AllNamed r line → AllNamed (withPort r q x) line
-  port-case r line w q x free true e all =
-      rw (nothing-waits r line w (ap (entriesWait r) (eqb-true p q e) ∙ free)) tt
-  port-case r line w q x free false e all = rw (port-left r q p (eqb-false p q e) x) all
+  port-case : (seat : Seat) (n : ℕ) (c : Call) (line : List Copy) → NoneWaits p seat line → (t : Bool) → portSetUp (relayIn seat) p ≡ t
+      → AllNamed seat (lineBy p n seat c line) → AllNamed (next seat c) (lineBy p n seat c line)
+  unfolding amongPorts
+  port-case seat n c line idle true up all = rw (seen-stays seat c p (and-true (ltb p 8) (isSetUp (portIn (relayIn seat) p)) up .1)) all
+  port-case seat n c line idle false up all = rw (none-comes p seat n c line idle up) tt
 
-  written-named : (r : Relay) (line : List Copy) → Waits entryOf (queueIn r p) line → (s : Setting) → firstOf (checksOf r s) ≡ 0
-      → AllNamed r line → AllNamed (written r s) line
-  written-named r line w (setRouter x) z all = all
-  written-named r line w (setPort q a m u) z all =
-      port-case r line w q (newPort a m u) (decided (portChecks r q a m u) refl .0 .0 z .1 .1 .1 .1 .0) (eqb p q) refl all
-  written-named r line w (setRoute i prefix mask port availability capabilities) z all = all
-  written-named r line w (setGroup i a send subscribed) z all = all
-  written-named r line w (setPath i path send here) z all = all
-  written-named r line w (clearRoute i) z all = all
-  written-named r line w (clearGroup i) z all = all
-  written-named r line w (clearPath i) z all = all
+  next-named : (seat : Seat) (n : ℕ) (c : Call) (line : List Copy) → NoneWaits p seat line → AllNamed seat line
+      → AllNamed (next seat c) (lineBy p n seat c line)
+  next-named seat n c line idle all = port-case seat n c line idle (portSetUp (relayIn seat) p) refl (line-named n seat c line all)
 
-  port-made : (r s : Relay) → madeOf s ≡ madeOf r → portIn s p ≡ portIn r p
-  port-made r s e = ap (λ x. getD (x .1 .0) p freshPort) e
-
-  next-named : (r : Relay) (n : ℕ) (c : Call) (line : List Copy) → Waits entryOf (queueIn r p) line → AllNamed r line → AllNamed (next r c) (lineBy p n r c line)
-  next-named r n (sets s) line w all =
-      rw (append-nil line) (settle-keeps (λ (x : Relay). AllNamed x line) r s all (λ z. written-named r line w s z all))
-  next-named r n (hears port slot octets output) line w all =
-      let e = endingOf r port octets (length output) in
-      rw (port-made r (receivedRelay r slot e) (received-made r slot e)) (line-named n r (hears port slot octets output) line all)
-  next-named r n (takes port) line w all =
-      rw (port-made r (takenRelay r port) (taken-made r port)) (line-named n r (takes port) line all)
-  next-named r n (looks l) line w all = line-named n r (looks l) line all
-
-  all-named : (cs : List Call) (n : ℕ) (r : Relay) (line : List Copy) → Eight r → Waits entryOf (queueIn r p) line → AllNamed r line
-      → AllNamed (runFrom r cs) (lineFrom p n r line cs)
-  all-named [] n r line l w all = all
-  all-named (c ∷ cs) n r line l w all =
-      all-named cs (suc n) (next r c) (lineBy p n r c line) (next-eight r c l) (next-waits p inside r n c line l w) (next-named r n c line w all)
+  all-named : (cs : List Call) (n : ℕ) (seat : Seat) (line : List Copy) → NoneWaits p seat line → AllNamed seat line
+      → AllNamed (runFrom seat cs) (lineFrom p n seat line cs)
+  all-named [] n seat line idle all = all
+  all-named (c ∷ cs) n seat line idle all =
+      all-named cs (suc n) (next seat c) (lineBy p n seat c line) (next-none p seat n c line idle) (next-named seat n c line idle all)
 
   -- After any history each copy that waits on port p names there what it named where it came in.
-  pub waiting-copies-name-the-same : (cs : List Call) → Each (NamesTheSame (portIn (relayAfter cs) p)) (lineAt p cs)
-  waiting-copies-name-the-same cs = all-named cs 0 freshRelay [] fresh-eight (fresh-waits p inside) tt
+  pub waiting-copies-name-the-same : (m : ℕ) (cs : List Call) → Each (NamesTheSame (portIn (relayIn (seatAfter m cs)) p)) (lineAt p m cs)
+  waiting-copies-name-the-same m cs = all-named cs 0 (freshSeat m) [] (λ h. refl) tt

@@ -5,29 +5,36 @@ use mathlib.Core.Bool.{Bool, true, false, not, _&&_}
 use borrow.Author.Tests.{not-true}
 use mathlib.Core.List.{List}
 use lib.Dec.{ltb}
-use Rattle.checks.proofs.Bools.{and-true}
+use Rattle.checks.proofs.Bools.{true-false, and-true}
 use Rattle.sets.specs.Sets.{inSet}
-use Rattle.state.specs.Relay.{Relay, queueIn}
+use Rattle.routes.specs.declared.Record.{Record}
+use Rattle.state.specs.Relay.{queueAt}
 use Rattle.verdict.specs.declared.Ruling.{Ruling}
-use Rattle.judge.specs.Ending.{endingOf}
+use Rattle.judge.specs.Ending.{noRuling, endingOf}
+use Rattle.judge.specs.declared.Ending.{Ending}
+use Rattle.page.proofs.Bits.{in-none}
 use Rattle.page.proofs.Exactly.{took-exactly, dropped-exactly}
+use Rattle.history.specs.Seat.{Seat, relayWith, heardBy}
 use Rattle.history.specs.Ledger.{one}
+use Rattle.history.proofs.Heard.{heard-so}
 
 split-case : (g f : Bool) → one g ≡ one (g && f) + one (g && not f)
 split-case true true = refl
 split-case true false = refl
 split-case false f = refl
 
-module _ (r : Relay) (p : ℕ) (inside : p < 8) where
+module _ (seat : Seat) (p : ℕ) (inside : p < 8) where
   pub record Fair (x : Ruling) : Type 0 where
     pub split : one (inSet p (x .granted)) ≡ one (inSet p (x .took)) + one (inSet p (x .dropped))
-    pub room : inSet p (x .took) ≡ true → ltb (queueIn r p .count) 32 ≡ true
-    pub full : inSet p (x .dropped) ≡ true → ltb (queueIn r p .count) 32 ≡ false
+    pub room : inSet p (x .took) ≡ true → ltb (queueAt (seat .mission) p .count) 32 ≡ true
+    pub full : inSet p (x .dropped) ≡ true → ltb (queueAt (seat .mission) p .count) 32 ≡ false
 
-  pub fair : (port : ℕ) (octets : List ℕ) (size : ℕ) → Fair (endingOf r port octets size .ruling)
-  fair port octets size =
+  -- page 01's relay rules so ..
+  ruled-fair : (rs : List Record) (port : ℕ) (octets : List ℕ) (size : ℕ) → Fair (endingOf (relayWith seat rs) port octets size .ruling)
+  ruled-fair rs port octets size =
+      let r = relayWith seat rs in
       let x = endingOf r port octets size .ruling in
-      let room = ltb (queueIn r p .count) 32 in
+      let room = ltb (queueAt (seat .mission) p .count) 32 in
       let took = took-exactly r port octets size p inside in
       let dropped = dropped-exactly r port octets size p inside in
       record {
@@ -35,3 +42,15 @@ module _ (r : Relay) (p : ℕ) (inside : p < 8) where
         room = λ h. and-true (inSet p (x .granted)) room (sym took ∙ h) .1;
         full = λ h. not-true room (and-true (inSet p (x .granted)) (not room) (sym dropped ∙ h) .1);
       }
+
+  -- .. and so does every ending
+  none-fair : Fair noRuling
+  none-fair =
+      record {
+        split = rw (in-none p) refl;
+        room = λ h. true-false (sym h ∙ in-none p);
+        full = λ h. true-false (sym h ∙ in-none p);
+      }
+
+  pub fair : (rs : List Record) (port : ℕ) (octets : List ℕ) (size : ℕ) → Fair (heardBy seat rs port octets size .ruling)
+  fair rs port octets size = heard-so seat rs port octets size (λ (e : Ending). Fair (e .ruling)) none-fair (ruled-fair rs port octets size)

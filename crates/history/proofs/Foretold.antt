@@ -36,7 +36,10 @@ use Rattle.networks.specs.Networks.{subnetBroadcast}
 use Rattle.settings.specs.Refusals.{otherClass, onesRefused, formRefused, portMaskRefused}
 use Rattle.meaning.specs.Names.{aimOf, originOf}
 use Rattle.verdict.specs.Rule.{targetOf, lineOf, grantedOf, copiesOf, rulingOf}
-use Rattle.state.specs.Relay.{Relay, freshRelay, queueIn, portSetUp}
+use Rattle.routes.specs.declared.Record.{Record}
+use Rattle.records.specs.Owned.{seenPort}
+use Rattle.state.specs.Relay.{queueAt, amongPorts, portSetUp}
+use Rattle.state.specs.Seen.{freshBoard, freshMission, portsSeen}
 use Rattle.survey.specs.Survey.{ownBroadcast, surveyBelow}
 use Rattle.taking.specs.Taking.{takeOutcome, takenRelay}
 use Rattle.taking.specs.declared.Taking.{Taking}
@@ -44,9 +47,25 @@ use Rattle.taking.specs.declared.Taking.the-variants.{Handed, Refused}
 use Rattle.judge.specs.Ruling.{ruledBy, ruleTarget, ruleOf}
 use Rattle.judge.specs.Ending.{endingOf, callChecks, headerEnding}
 use Rattle.relay.specs.Outgoing.{enteredIf, enteredAll}
-use Rattle.relay.specs.Received.{receivedRelay}
-use Rattle.history.specs.Calls.{Setting, setRouter, setPort, Look, Call, sets, hears, takes, looks}
-use Rattle.history.specs.Outcome.{isRefusal, Answer, number, ended, entry, Out, nothing, from, ofTaking, outcome, next, runFrom, relayAfter, sumFrom}
+use Rattle.relay.specs.Received.{receivedRelay, heardEnding}
+use Rattle.history.specs.Seat.{Seat, freshSeat, relayIn}
+use Rattle.history.specs.Calls.{
+  setRouter,
+  setPort,
+  OperatorCall,
+  orders,
+  views,
+  Setting,
+  Look,
+  sets,
+  hears,
+  takes,
+  looks,
+  Call,
+  operator,
+  own,
+}
+use Rattle.history.specs.Outcome.{isRefusal, Answer, number, ended, entry, Out, nothing, from, ofTaking, outcome, next, runFrom, seatAfter, sumFrom}
 use Rattle.history.specs.Ledger.{one as oneIf, outBy, handedOut}
 use Rattle.history.specs.Line.{Copy, entryOf, takenBy, handedBy, leftBy, lineBy, lineFrom, takenFrom, handedFrom, lineAt, takenAt, takingOf, times, InTurn}
 use Rattle.history.specs.Foretold.{andThen, handedSince, takesSince, answeredBy, answeredFrom, answeredSince, before, Idle, isHanded, waitsFrom, higherEnter, CountsNothing, takenSince, whileWaits}
@@ -67,9 +86,9 @@ module _ (p : ℕ) where
   outDeed nothing = []
   outDeed (from q e) = pick (eqb q p) (handsOut ∷ []) []
 
-  abbrev deedsFrom : ℕ → Relay → List Call → List (Deed Copy)
-  deedsFrom n r [] = []
-  deedsFrom n r (c ∷ cs) = outDeed (outcome r c .out) ++ (map enters (takenBy p n r c) ++ deedsFrom (suc n) (next r c) cs)
+  abbrev deedsFrom : ℕ → Seat → List Call → List (Deed Copy)
+  deedsFrom n seat [] = []
+  deedsFrom n seat (c ∷ cs) = outDeed (outcome seat c .out) ++ (map enters (takenBy p n seat c) ++ deedsFrom (suc n) (next seat c) cs)
 
   -- ---- what enters
   entered-out : (o : Out) (es : List (Deed Copy)) → entered (outDeed o ++ es) ≡ entered es
@@ -80,12 +99,12 @@ module _ (p : ℕ) where
   entered-in [] es = refl
   entered-in (y ∷ ts) es = ap (λ (l : List Copy). y ∷ l) (entered-in ts es)
 
-  entered-deeds : (cs : List Call) (n : ℕ) (r : Relay) → entered (deedsFrom n r cs) ≡ takenFrom p n r cs
-  entered-deeds [] n r = refl
-  entered-deeds (c ∷ cs) n r =
-      entered-out (outcome r c .out) _
-      ∙ entered-in (takenBy p n r c) _
-      ∙ ap (λ (l : List Copy). takenBy p n r c ++ l) (entered-deeds cs (suc n) (next r c))
+  entered-deeds : (cs : List Call) (n : ℕ) (seat : Seat) → entered (deedsFrom n seat cs) ≡ takenFrom p n seat cs
+  entered-deeds [] n seat = refl
+  entered-deeds (c ∷ cs) n seat =
+      entered-out (outcome seat c .out) _
+      ∙ entered-in (takenBy p n seat c) _
+      ∙ ap (λ (l : List Copy). takenBy p n seat c ++ l) (entered-deeds cs (suc n) (next seat c))
 
   -- ---- the takes that hand out
   takes-out : (o : Out) (es : List (Deed Copy)) → takesIn (outDeed o ++ es) ≡ outBy p o + takesIn es
@@ -100,11 +119,11 @@ module _ (p : ℕ) where
   takes-in [] es = refl
   takes-in (y ∷ ts) es = takes-in ts es
 
-  takes-deeds : (cs : List Call) (n : ℕ) (r : Relay) → takesIn (deedsFrom n r cs) ≡ sumFrom (handedOut p) r cs
-  takes-deeds [] n r = refl
-  takes-deeds (c ∷ cs) n r =
-      takes-out (outcome r c .out) _
-      ∙ ap (λ (k : ℕ). outBy p (outcome r c .out) + k) (takes-in (takenBy p n r c) _ ∙ takes-deeds cs (suc n) (next r c))
+  takes-deeds : (cs : List Call) (n : ℕ) (seat : Seat) → takesIn (deedsFrom n seat cs) ≡ sumFrom (handedOut p) seat cs
+  takes-deeds [] n seat = refl
+  takes-deeds (c ∷ cs) n seat =
+      takes-out (outcome seat c .out) _
+      ∙ ap (λ (k : ℕ). outBy p (outcome seat c .out) + k) (takes-in (takenBy p n seat c) _ ∙ takes-deeds cs (suc n) (next seat c))
 
   -- ---- what is handed out
   none-wait : (line : List Copy) → chosen rank line ≡ nobody → line ≡ []
@@ -136,13 +155,13 @@ module _ (p : ℕ) where
   handed-in [] line es = ap (λ (l : List Copy). handed rank l es) (sym (append-nil line))
   handed-in (y ∷ ts) line es = handed-in ts (line ++ (y ∷ [])) es ∙ ap (λ (l : List Copy). handed rank l es) (append-assoc line (y ∷ []) ts)
 
-  handed-deeds : (cs : List Call) (n : ℕ) (r : Relay) (line : List Copy) → handed rank line (deedsFrom n r cs) ≡ handedFrom p n r line cs
+  handed-deeds : (cs : List Call) (n : ℕ) (seat : Seat) (line : List Copy) → handed rank line (deedsFrom n seat cs) ≡ handedFrom p n seat line cs
   unfolding handed
-  handed-deeds [] n r line = refl
-  handed-deeds (c ∷ cs) n r line =
-      handed-out line (outcome r c .out) _
-      ∙ ap (λ (l : List Copy). handedBy p (outcome r c .out) (chosen rank line) ++ l)
-      (handed-in (takenBy p n r c) (leftBy p (outcome r c .out) line (chosen rank line)) _ ∙ handed-deeds cs (suc n) (next r c) (lineBy p n r c line))
+  handed-deeds [] n seat line = refl
+  handed-deeds (c ∷ cs) n seat line =
+      handed-out line (outcome seat c .out) _
+      ∙ ap (λ (l : List Copy). handedBy p (outcome seat c .out) (chosen rank line) ++ l)
+      (handed-in (takenBy p n seat c) (leftBy p (outcome seat c .out) line (chosen rank line)) _ ∙ handed-deeds cs (suc n) (next seat c) (lineBy p n seat c line))
 
   -- ---- while x waits
   module _ (x : Copy) where
@@ -181,135 +200,140 @@ module _ (p : ℕ) where
         ap (λ (ds : List (Deed Copy)). enters y ∷ ds)
         (while-in ts (line ++ (y ∷ [])) es ∙ ap (λ (l : List Copy). map enters ts ++ whileLine rank turnOf x l es) (append-assoc line (y ∷ []) ts))
 
-    while-deeds : (cs : List Call) (n : ℕ) (r : Relay) (line : List Copy)
-        → whileLine rank turnOf x line (deedsFrom n r cs) ≡ deedsFrom n r (waitsFrom p x n r line cs)
+    while-deeds : (cs : List Call) (n : ℕ) (seat : Seat) (line : List Copy)
+        → whileLine rank turnOf x line (deedsFrom n seat cs) ≡ deedsFrom n seat (waitsFrom p x n seat line cs)
     unfolding whileLine
-    while-deeds [] n r line = refl
-    while-deeds (c ∷ cs) n r line =
-        while-out line (outcome r c .out) _
-        ∙ ap (λ (ds : List (Deed Copy)). pick (isHanded p x (handedBy p (outcome r c .out) (chosen rank line))) [] (outDeed (outcome r c .out) ++ ds))
-        (while-in (takenBy p n r c) (leftBy p (outcome r c .out) line (chosen rank line)) _
-        ∙ ap (λ (ds : List (Deed Copy)). map enters (takenBy p n r c) ++ ds) (while-deeds cs (suc n) (next r c) (lineBy p n r c line)))
-        ∙ stops (isHanded p x (handedBy p (outcome r c .out) (chosen rank line))) _
+    while-deeds [] n seat line = refl
+    while-deeds (c ∷ cs) n seat line =
+        while-out line (outcome seat c .out) _
+        ∙ ap (λ (ds : List (Deed Copy)). pick (isHanded p x (handedBy p (outcome seat c .out) (chosen rank line))) [] (outDeed (outcome seat c .out) ++ ds))
+        (while-in (takenBy p n seat c) (leftBy p (outcome seat c .out) line (chosen rank line)) _
+        ∙ ap (λ (ds : List (Deed Copy)). map enters (takenBy p n seat c) ++ ds) (while-deeds cs (suc n) (next seat c) (lineBy p n seat c line)))
+        ∙ stops (isHanded p x (handedBy p (outcome seat c .out) (chosen rank line))) _
       where
         stops : (t : Bool) (ds : List Call)
-            → pick t [] (outDeed (outcome r c .out) ++ (map enters (takenBy p n r c) ++ deedsFrom (suc n) (next r c) ds))
-            ≡ deedsFrom n r (pick t [] (c ∷ ds))
+            → pick t [] (outDeed (outcome seat c .out) ++ (map enters (takenBy p n seat c) ++ deedsFrom (suc n) (next seat c) ds))
+            ≡ deedsFrom n seat (pick t [] (c ∷ ds))
         stops true ds = refl
         stops false ds = refl
 
   -- ---- a call that places a copy hands nothing out
-  placing-hands-nothing : (n : ℕ) (r : Relay) (c : Call) (x : Copy) → takenBy p n r c ≡ x ∷ [] → outcome r c .out ≡ nothing
-  placing-hands-nothing n r (sets s) x is = refl
-  placing-hands-nothing n r (hears port slot octets output) x is = refl
-  placing-hands-nothing n r (takes port) x is = absurd (omega (arith, ap length is))
-  placing-hands-nothing n r (looks l) x is = refl
+  placing-hands-nothing : (n : ℕ) (seat : Seat) (c : Call) (x : Copy) → takenBy p n seat c ≡ x ∷ [] → outcome seat c .out ≡ nothing
+  placing-hands-nothing n seat (operator c) x is = absurd (omega (arith, ap length is))
+  placing-hands-nothing n seat (own (sets s)) x is = refl
+  placing-hands-nothing n seat (own (hears rs port slot octets output)) x is = refl
+  placing-hands-nothing n seat (own (takes port)) x is = absurd (omega (arith, ap length is))
+  placing-hands-nothing n seat (own (looks l)) x is = refl
 
-  placed-last : (n : ℕ) (r : Relay) (c : Call) (x : Copy) (line : List Copy) → takenBy p n r c ≡ x ∷ [] → lineBy p n r c line ≡ line ++ (x ∷ [])
-  placed-last n r c x line is =
-      ap (λ (o : Out). leftBy p o line (chosen rank line) ++ takenBy p n r c) (placing-hands-nothing n r c x is)
+  placed-last : (n : ℕ) (seat : Seat) (c : Call) (x : Copy) (line : List Copy) → takenBy p n seat c ≡ x ∷ [] → lineBy p n seat c line ≡ line ++ (x ∷ [])
+  placed-last n seat c x line is =
+      ap (λ (o : Out). leftBy p o line (chosen rank line) ++ takenBy p n seat c) (placing-hands-nothing n seat c x is)
       ∙ ap (λ (l : List Copy). line ++ l) is
 
   -- ---- the law, from any line of which each has an earlier turn
-  foretold-from : (n : ℕ) (r : Relay) (line : List Copy) → Each (λ (y : Copy). y .turn < n) line → (c : Call) (x : Copy) → takenBy p n r c ≡ x ∷ []
+  foretold-from : (n : ℕ) (seat : Seat) (line : List Copy) → Each (λ (y : Copy). y .turn < n) line → (c : Call) (x : Copy) → takenBy p n seat c ≡ x ∷ []
       → (ds : List Call) (k : ℕ)
-      → AtTake k x (handedFrom p (suc n) (next r c) (lineBy p n r c line) ds)
+      → AtTake k x (handedFrom p (suc n) (next seat c) (lineBy p n seat c line) ds)
       ↔ ((k
       ≡ standingBefore rank x line
-      + howMany (λ (y : Copy). ltb (rank x) (rank y)) (takenFrom p (suc n) (next r c) (waitsFrom p x (suc n) (next r c) (lineBy p n r c line) ds))
+      + howMany (λ (y : Copy). ltb (rank x) (rank y)) (takenFrom p (suc n) (next seat c) (waitsFrom p x (suc n) (next seat c) (lineBy p n seat c line) ds))
       + 1)
-      × (k ≤ sumFrom (handedOut p) (next r c) ds))
-  foretold-from n r line earlier c x is ds k =
-      let deeds = deedsFrom (suc n) (next r c) ds in
-      let here : x .turn ≡ n = (rw is at (taken-turn p n r c)) .0 in
+      × (k ≤ sumFrom (handedOut p) (next seat c) ds))
+  foretold-from n seat line earlier c x is ds k =
+      let deeds = deedsFrom (suc n) (next seat c) ds in
+      let here : x .turn ≡ n = (rw is at (taken-turn p n seat c)) .0 in
       let others : Each (Other turnOf x) (line ++ entered deeds) =
       each-append (Other turnOf x) line (entered deeds)
       (each-so line (λ y h same. omega (arith, here)) earlier)
-      (rw (entered-deeds ds (suc n) (next r c)) (each-so (takenFrom p (suc n) (next r c) ds) (λ y h same. omega (arith, here)) (taken-later p ds (suc n) (next r c)))) in
+      (rw (entered-deeds ds (suc n) (next seat c)) (each-so (takenFrom p (suc n) (next seat c) ds) (λ y h same. omega (arith, here)) (taken-later p ds (suc n) (next seat c)))) in
       rw (
-        placed-last n r c x line is,
-        ← handed-deeds ds (suc n) (next r c) (line ++ (x ∷ [])),
-        ← takes-deeds ds (suc n) (next r c),
-        ← entered-deeds (waitsFrom p x (suc n) (next r c) (line ++ (x ∷ [])) ds) (suc n) (next r c),
-        ← while-deeds x ds (suc n) (next r c) (line ++ (x ∷ [])),
+        placed-last n seat c x line is,
+        ← handed-deeds ds (suc n) (next seat c) (line ++ (x ∷ [])),
+        ← takes-deeds ds (suc n) (next seat c),
+        ← entered-deeds (waitsFrom p x (suc n) (next seat c) (line ++ (x ∷ [])) ds) (suc n) (next seat c),
+        ← while-deeds x ds (suc n) (next seat c) (line ++ (x ∷ [])),
       )
       (foretold rank turnOf x line deeds others k)
 
   -- ---- a history and one call more
-  line-then : (cs : List Call) (n : ℕ) (r : Relay) (line : List Copy) (c : Call)
-      → lineFrom p n r line (andThen cs c) ≡ lineBy p (n + length cs) (runFrom r cs) c (lineFrom p n r line cs)
-  line-then [] n r line c = ap (λ (k : ℕ). lineBy p k r c line) (omega arith)
-  line-then (d ∷ cs) n r line c =
-      line-then cs (suc n) (next r d) (lineBy p n r d line) c
-      ∙ ap (λ (k : ℕ). lineBy p k (runFrom r (d ∷ cs)) c (lineFrom p n r line (d ∷ cs))) (omega arith)
+  line-then : (cs : List Call) (n : ℕ) (seat : Seat) (line : List Copy) (c : Call)
+      → lineFrom p n seat line (andThen cs c) ≡ lineBy p (n + length cs) (runFrom seat cs) c (lineFrom p n seat line cs)
+  line-then [] n seat line c = ap (λ (k : ℕ). lineBy p k seat c line) (omega arith)
+  line-then (d ∷ cs) n seat line c =
+      line-then cs (suc n) (next seat d) (lineBy p n seat d line) c
+      ∙ ap (λ (k : ℕ). lineBy p k (runFrom seat (d ∷ cs)) c (lineFrom p n seat line (d ∷ cs))) (omega arith)
 
-  line-at-then : (cs : List Call) (c : Call) → lineAt p (andThen cs c) ≡ lineBy p (length cs) (relayAfter cs) c (lineAt p cs)
-  line-at-then cs c = line-then cs 0 freshRelay [] c ∙ ap (λ (k : ℕ). lineBy p k (relayAfter cs) c (lineAt p cs)) (omega arith)
+  line-at-then : (m : ℕ) (cs : List Call) (c : Call) → lineAt p m (andThen cs c) ≡ lineBy p (length cs) (seatAfter m cs) c (lineAt p m cs)
+  line-at-then m cs c = line-then cs 0 (freshSeat m) [] c ∙ ap (λ (k : ℕ). lineBy p k (seatAfter m cs) c (lineAt p m cs)) (omega arith)
 
-pub relay-then : (cs : List Call) (r : Relay) (c : Call) → runFrom r (andThen cs c) ≡ next (runFrom r cs) c
-relay-then [] r c = refl
-relay-then (d ∷ cs) r c = relay-then cs (next r d) c
+pub seat-then : (cs : List Call) (seat : Seat) (c : Call) → runFrom seat (andThen cs c) ≡ next (runFrom seat cs) c
+seat-then [] seat c = refl
+seat-then (d ∷ cs) seat c = seat-then cs (next seat d) c
 
 length-then : (cs : List Call) (c : Call) → length (andThen cs c) ≡ suc (length cs)
 length-then cs c = omega (arith, length-append cs (c ∷ []))
 
 -- ---- what is handed out is what the takes answer
-module _ (p : ℕ) where
-  handed-by-line : (cs : List Call) (q : ℕ) (t : Bool) (u : Bool) → eqb q p ≡ u → (a : Chosen Copy) → chosen rank (lineAt q cs) ≡ a
-      → map entryOf (handedBy p (ofTaking q (takingOf t a) .out) (chosen rank (lineAt p cs))) ≡ answeredBy p (takes q) (ofTaking q (takingOf t a) .answer)
+module _ (p m : ℕ) where
+  handed-by-line : (cs : List Call) (q : ℕ) (t : Bool) (u : Bool) → eqb q p ≡ u → (a : Chosen Copy) → chosen rank (lineAt q m cs) ≡ a
+      → map entryOf (handedBy p (ofTaking q (takingOf t a) .out) (chosen rank (lineAt p m cs))) ≡ answeredBy p (own (takes q)) (ofTaking q (takingOf t a) .answer)
   handed-by-line cs q false u same a is = refl
   handed-by-line cs q true u same nobody is = refl
   handed-by-line cs q true true same (one y others) is =
-      let here : chosen rank (lineAt p cs) ≡ one y others = ap (λ (k : ℕ). chosen rank (lineAt k cs)) (sym (eqb-true q p same)) ∙ is in
+      let here : chosen rank (lineAt p m cs) ≡ one y others = ap (λ (k : ℕ). chosen rank (lineAt k m cs)) (sym (eqb-true q p same)) ∙ is in
       rw (here, same) refl
-  handed-by-line cs q true false same (one y others) is = rw same (other (chosen rank (lineAt p cs)))
+  handed-by-line cs q true false same (one y others) is = rw same (other (chosen rank (lineAt p m cs)))
     where
       other : (a : Chosen Copy) → map entryOf (handedBy p (from q (y .entry)) a) ≡ []
       other nobody = refl
       other (one z rest) = rw same refl
 
   handed-answered : (cs : List Call) (c : Call)
-      → map entryOf (handedBy p (outcome (relayAfter cs) c .out) (chosen rank (lineAt p cs))) ≡ answeredBy p c (outcome (relayAfter cs) c .answer)
-  handed-answered cs (sets s) = refl
-  handed-answered cs (hears port slot octets output) = refl
-  handed-answered cs (takes q) = rw (take-is cs q) (handed-by-line cs q (portSetUp (relayAfter cs) q) (eqb q p) refl (chosen rank (lineAt q cs)) refl)
-  handed-answered cs (looks l) = refl
+      → map entryOf (handedBy p (outcome (seatAfter m cs) c .out) (chosen rank (lineAt p m cs))) ≡ answeredBy p c (outcome (seatAfter m cs) c .answer)
+  handed-answered cs (operator (orders o)) = refl
+  handed-answered cs (operator (views v)) = refl
+  handed-answered cs (own (sets s)) = refl
+  handed-answered cs (own (hears rs port slot octets output)) = refl
+  handed-answered cs (own (takes q)) =
+      rw (take-is m cs q) (handed-by-line cs q (portSetUp (relayIn (seatAfter m cs)) q) (eqb q p) refl (chosen rank (lineAt q m cs)) refl)
+  handed-answered cs (own (looks l)) = refl
 
-  answer-of-take : (c : Call) (a : Answer) (e : Entry) → answeredBy p c a ≡ e ∷ [] → (c ≡ takes p) × (a ≡ entry e)
-  answer-of-take (sets s) a e is = absurd (omega (arith, ap length is))
-  answer-of-take (hears port slot octets output) a e is = absurd (omega (arith, ap length is))
-  answer-of-take (takes q) (number n) e is = absurd (omega (arith, ap length is))
-  answer-of-take (takes q) (ended refusal local onward took) e is = absurd (omega (arith, ap length is))
-  answer-of-take (takes q) (entry f) e is = by (eqb q p) refl is
+  answer-of-take : (c : Call) (a : Answer) (e : Entry) → answeredBy p c a ≡ e ∷ [] → (c ≡ own (takes p)) × (a ≡ entry e)
+  answer-of-take (operator c) a e is = absurd (omega (arith, ap length is))
+  answer-of-take (own (sets s)) a e is = absurd (omega (arith, ap length is))
+  answer-of-take (own (hears rs port slot octets output)) a e is = absurd (omega (arith, ap length is))
+  answer-of-take (own (takes q)) (number n) e is = absurd (omega (arith, ap length is))
+  answer-of-take (own (takes q)) (ended refusal local onward took) e is = absurd (omega (arith, ap length is))
+  answer-of-take (own (takes q)) (entry f) e is = by (eqb q p) refl is
     where
-      by : (t : Bool) → eqb q p ≡ t → pick t (f ∷ []) [] ≡ e ∷ [] → (takes q ≡ takes p) × (entry f ≡ entry e)
-      by true same h = (ap takes (eqb-true q p same), let one : f ≡ e = cc in ap entry one)
+      by : (t : Bool) → eqb q p ≡ t → pick t (f ∷ []) [] ≡ e ∷ [] → (own (takes q) ≡ own (takes p)) × (entry f ≡ entry e)
+      by true same h = (ap (λ (k : ℕ). own (takes k)) (eqb-true q p same), let one : f ≡ e = cc in ap entry one)
       by false same h = absurd (omega (arith, ap length h))
-  answer-of-take (looks l) a e is = absurd (omega (arith, ap length is))
+  answer-of-take (own (looks l)) a e is = absurd (omega (arith, ap length is))
 
   -- After any history, the call that hands a copy out by port p is a take of p, and answers the copy's entry.
   pub handed-is-answered : (cs : List Call) (c : Call) (y : Copy)
-      → handedBy p (outcome (relayAfter cs) c .out) (chosen rank (lineAt p cs)) ≡ y ∷ []
-      → (c ≡ takes p) × (outcome (relayAfter cs) c .answer ≡ entry (y .entry))
+      → handedBy p (outcome (seatAfter m cs) c .out) (chosen rank (lineAt p m cs)) ≡ y ∷ []
+      → (c ≡ own (takes p)) × (outcome (seatAfter m cs) c .answer ≡ entry (y .entry))
   handed-is-answered cs c y is = answer-of-take c _ (y .entry) (sym (handed-answered cs c) ∙ ap (map entryOf) is)
 
   -- The copies that are handed out after any history are, entry by entry, what the takes of the port answer.
-  pub answers-are-handed : (ds cs : List Call) → map entryOf (handedSince p cs ds) ≡ answeredSince p cs ds
+  pub answers-are-handed : (ds cs : List Call) → map entryOf (handedSince p m cs ds) ≡ answeredSince p m cs ds
   answers-are-handed [] cs = refl
   answers-are-handed (d ∷ ds) cs =
-      let further : map entryOf (handedFrom p (suc (length cs)) (next (relayAfter cs) d) (lineBy p (length cs) (relayAfter cs) d (lineAt p cs)) ds)
-      ≡ answeredFrom p (next (relayAfter cs) d) ds =
-      rw (length-then cs d, relay-then cs freshRelay d, line-at-then p cs d) at (answers-are-handed ds (andThen cs d)) in
-      map-append entryOf (handedBy p (outcome (relayAfter cs) d .out) (chosen rank (lineAt p cs))) _
+      let further : map entryOf (handedFrom p (suc (length cs)) (next (seatAfter m cs) d) (lineBy p (length cs) (seatAfter m cs) d (lineAt p m cs)) ds)
+      ≡ answeredFrom p (next (seatAfter m cs) d) ds =
+      rw (length-then cs d, seat-then cs (freshSeat m) d, line-at-then p m cs d) at (answers-are-handed ds (andThen cs d)) in
+      map-append entryOf (handedBy p (outcome (seatAfter m cs) d .out) (chosen rank (lineAt p m cs))) _
       ∙ cc (handed-answered cs d, further)
 
   -- Each take that hands out answers one entry.
-  answers-by-takes : (ds : List Call) (r : Relay) → length (answeredFrom p r ds) ≡ sumFrom (handedOut p) r ds
-  answers-by-takes [] r = refl
-  answers-by-takes (d ∷ ds) r =
-      omega (arith, length-append (answeredBy p d (outcome r d .answer)) (answeredFrom p (next r d) ds), one-answer d, answers-by-takes ds (next r d))
+  answers-by-takes : (ds : List Call) (seat : Seat) → length (answeredFrom p seat ds) ≡ sumFrom (handedOut p) seat ds
+  answers-by-takes [] seat = refl
+  answers-by-takes (d ∷ ds) seat =
+      omega (arith, length-append (answeredBy p d (outcome seat d .answer)) (answeredFrom p (next seat d) ds), one-answer d, answers-by-takes ds (next seat d))
     where
-      taking : (q : ℕ) (t : Taking) → length (answeredBy p (takes q) (ofTaking q t .answer)) ≡ outBy p (ofTaking q t .out)
+      taking : (q : ℕ) (t : Taking) → length (answeredBy p (own (takes q)) (ofTaking q t .answer)) ≡ outBy p (ofTaking q t .out)
       taking q (Handed e) = by (eqb q p)
         where
           by : (t : Bool) → length (pick t (e ∷ []) []) ≡ pick t 1 0
@@ -317,58 +341,60 @@ module _ (p : ℕ) where
           by false = refl
       taking q (Refused n) = refl
 
-      one-answer : (c : Call) → length (answeredBy p c (outcome r c .answer)) ≡ outBy p (outcome r c .out)
-      one-answer (sets s) = refl
-      one-answer (hears port slot octets output) = refl
-      one-answer (takes q) = taking q (takeOutcome r q)
-      one-answer (looks l) = refl
+      one-answer : (c : Call) → length (answeredBy p c (outcome seat c .answer)) ≡ outBy p (outcome seat c .out)
+      one-answer (operator (orders o)) = refl
+      one-answer (operator (views v)) = refl
+      one-answer (own (sets s)) = refl
+      one-answer (own (hears rs port slot octets output)) = refl
+      one-answer (own (takes q)) = taking q (takeOutcome (relayIn seat) q)
+      one-answer (own (looks l)) = refl
 
-  pub takes-are-answers : (cs ds : List Call) → length (answeredSince p cs ds) ≡ takesSince p cs ds
-  takes-are-answers cs ds = answers-by-takes ds (relayAfter cs)
+  pub takes-are-answers : (cs ds : List Call) → length (answeredSince p m cs ds) ≡ takesSince p m cs ds
+  takes-are-answers cs ds = answers-by-takes ds (seatAfter m cs)
 
 -- ---- W-213
 
-module _ (p : ℕ) (cs : List Call) (c : Call) (x : Copy) (placed : takenBy p (length cs) (relayAfter cs) c ≡ x ∷ []) where
-  -- W-213: a copy x that call c places on port p after any history is handed out by take number k of that port, of those that hand out after
+module _ (p m : ℕ) (cs : List Call) (c : Call) (x : Copy) (placed : takenBy p (length cs) (seatAfter m cs) c ≡ x ∷ []) where
+  -- W-213: a copy x that call c places on port p after any history of mission m is handed out by take number k of that port, of those that hand out after
   -- the placing, exactly where k is r + h + 1 and that many are made
   pub foretold-over-histories : (ds : List Call) (k : ℕ)
-      → AtTake k x (handedSince p (andThen cs c) ds)
-      ↔ ((k ≡ before p x cs + higherEnter p x (andThen cs c) ds + 1) × (k ≤ takesSince p (andThen cs c) ds))
+      → AtTake k x (handedSince p m (andThen cs c) ds)
+      ↔ ((k ≡ before p m x cs + higherEnter p m x (andThen cs c) ds + 1) × (k ≤ takesSince p m (andThen cs c) ds))
   foretold-over-histories ds k =
-      rw (length-then cs c, relay-then cs freshRelay c, line-at-then p cs c)
-      (foretold-from p (length cs) (relayAfter cs) (lineAt p cs) (line-turns p cs) c x placed ds k)
+      rw (length-then cs c, seat-then cs (freshSeat m) c, line-at-then p m cs c)
+      (foretold-from p (length cs) (seatAfter m cs) (lineAt p m cs) (line-turns p m cs) c x placed ds k)
 
   -- If that many takes are made, the answer numbered r + h + 1 of the port's takes after the placing is the entry of x.
-  pub foretold-answer : (ds : List Call) → before p x cs + higherEnter p x (andThen cs c) ds + 1 ≤ takesSince p (andThen cs c) ds
-      → AtTake (before p x cs + higherEnter p x (andThen cs c) ds + 1) (entryOf x) (answeredSince p (andThen cs c) ds)
+  pub foretold-answer : (ds : List Call) → before p m x cs + higherEnter p m x (andThen cs c) ds + 1 ≤ takesSince p m (andThen cs c) ds
+      → AtTake (before p m x cs + higherEnter p m x (andThen cs c) ds + 1) (entryOf x) (answeredSince p m (andThen cs c) ds)
   foretold-answer ds made =
       let at = foretold-over-histories ds _ .1 (refl, made) in
       record {
         earlier = map entryOf (at .earlier);
         later = map entryOf (at .later);
-        are = sym (answers-are-handed p ds (andThen cs c)) ∙ ap (map entryOf) (at .are) ∙ map-append entryOf (at .earlier) (x ∷ at .later);
+        are = sym (answers-are-handed p m ds (andThen cs c)) ∙ ap (map entryOf) (at .are) ∙ map-append entryOf (at .earlier) (x ∷ at .later);
         number = at .number ∙ ap (λ (n : ℕ). n + 1) (sym (length-map (at .earlier) entryOf));
       }
 
   -- r is how many stand before x in the queue when it is placed, just ahead of the first of lower precedence.
   pub stands-behind : p < 8
-      → (at : Placed precedenceOf (entryOf x) (waiting (queueIn (relayAfter cs) p)) (waiting (queueIn (relayAfter (andThen cs c)) p)))
-      × (length (at .before) ≡ before p x cs)
-  stands-behind inside = (at, stand-before entryOf (queue-waits p inside cs) x at)
+      → (at : Placed precedenceOf (entryOf x) (waiting (queueAt (seatAfter m cs .mission) p)) (waiting (queueAt (seatAfter m (andThen cs c) .mission) p)))
+      × (length (at .before) ≡ before p m x cs)
+  stands-behind inside = (at, stand-before entryOf (queue-waits p inside m cs) x at)
     where
-      now : waiting (queueIn (relayAfter (andThen cs c)) p) ≡ insertBy precedenceOf (entryOf x) (waiting (queueIn (relayAfter cs) p))
+      now : waiting (queueAt (seatAfter m (andThen cs c) .mission) p) ≡ insertBy precedenceOf (entryOf x) (waiting (queueAt (seatAfter m cs .mission) p))
       now =
-          queue-waits p inside (andThen cs c) .same
-          ∙ ap (λ (l : List Copy). map entryOf (ordered rank l)) (line-at-then p cs c ∙ placed-last p (length cs) (relayAfter cs) c x (lineAt p cs) placed)
-          ∙ ap (map entryOf) (ordered-enters rank x (lineAt p cs))
-          ∙ insert-map precedenceOf entryOf x (ordered rank (lineAt p cs))
-          ∙ ap (insertBy precedenceOf (entryOf x)) (sym (queue-waits p inside cs .same))
+          queue-waits p inside m (andThen cs c) .same
+          ∙ ap (λ (l : List Copy). map entryOf (ordered rank l)) (line-at-then p m cs c ∙ placed-last p (length cs) (seatAfter m cs) c x (lineAt p m cs) placed)
+          ∙ ap (map entryOf) (ordered-enters rank x (lineAt p m cs))
+          ∙ insert-map precedenceOf entryOf x (ordered rank (lineAt p m cs))
+          ∙ ap (insertBy precedenceOf (entryOf x)) (sym (queue-waits p inside m cs .same))
 
-      at : Placed precedenceOf (entryOf x) (waiting (queueIn (relayAfter cs) p)) (waiting (queueIn (relayAfter (andThen cs c)) p))
-      at = rw now (insert-placed precedenceOf (entryOf x) (waiting (queueIn (relayAfter cs) p)))
+      at : Placed precedenceOf (entryOf x) (waiting (queueAt (seatAfter m cs .mission) p)) (waiting (queueAt (seatAfter m (andThen cs c) .mission) p))
+      at = rw now (insert-placed precedenceOf (entryOf x) (waiting (queueAt (seatAfter m cs .mission) p)))
 
 -- ---- refused calls and other ports' traffic count nothing
-module _ (p : ℕ) where
+module _ (p m : ℕ) where
   nothing-out : (o : Out) (line : List Copy) (a : Chosen Copy) → outBy p o ≡ 0 → (handedBy p o a ≡ []) × (leftBy p o line a ≡ line)
   nothing-out nothing line a idle = (refl, refl)
   nothing-out (from q e) line nobody idle = (refl, refl)
@@ -379,47 +405,52 @@ module _ (p : ℕ) where
       by false h = (refl, refl)
 
   -- A call that is idle on the port counts nothing, at any point of any history.
-  pub idle-counts-nothing : (x : Copy) (cs : List Call) (c : Call) (ds : List Call) → Idle p cs c → CountsNothing p x cs c ds
+  pub idle-counts-nothing : (x : Copy) (cs : List Call) (c : Call) (ds : List Call) → Idle p m cs c → CountsNothing p m x cs c ds
   idle-counts-nothing x cs c ds idle =
-      let none = nothing-out (outcome (relayAfter cs) c .out) (lineAt p cs) (chosen rank (lineAt p cs)) (idle .1) in
+      let none = nothing-out (outcome (seatAfter m cs) c .out) (lineAt p m cs) (chosen rank (lineAt p m cs)) (idle .1) in
       record {
-        line = line-at-then p cs c ∙ rw (none .1, idle .0) (append-nil (lineAt p cs));
-        handed = rw (length-then cs c, relay-then cs freshRelay c, line-at-then p cs c, none .0) refl;
-        takes = rw (relay-then cs freshRelay c) (omega (arith, idle .1));
-        higher = rw (length-then cs c, relay-then cs freshRelay c, line-at-then p cs c, none .0, idle .0) refl;
+        line = line-at-then p m cs c ∙ rw (none .1, idle .0) (append-nil (lineAt p m cs));
+        handed = rw (length-then cs c, seat-then cs (freshSeat m) c, line-at-then p m cs c, none .0) refl;
+        takes = rw (seat-then cs (freshSeat m) c) (omega (arith, idle .1));
+        higher = rw (length-then cs c, seat-then cs (freshSeat m) c, line-at-then p m cs c, none .0, idle .0) refl;
       }
 
-  -- What is idle: a setting and a look,
-  pub setting-idle : (cs : List Call) (s : Setting) → Idle p cs (sets s)
+  -- What is idle: the operator's call, a setting and a look,
+  pub operator-idle : (cs : List Call) (c : OperatorCall) → Idle p m cs (operator c)
+  operator-idle cs (orders o) = (refl, refl)
+  operator-idle cs (views v) = (refl, refl)
+
+  pub setting-idle : (cs : List Call) (s : Setting) → Idle p m cs (own (sets s))
   setting-idle cs s = (refl, refl)
 
-  pub look-idle : (cs : List Call) (l : Look) → Idle p cs (looks l)
+  pub look-idle : (cs : List Call) (l : Look) → Idle p m cs (own (looks l))
   look-idle cs l = (refl, refl)
 
   -- a datagram of which the port took no entry,
-  pub not-taken-idle : (cs : List Call) (port : ℕ) (slot : Slot) (octets output : List ℕ)
-      → inSet p (outcome (relayAfter cs) (hears port slot octets output) .took) ≡ false → Idle p cs (hears port slot octets output)
-  not-taken-idle cs port slot octets output not-in = (rw not-in refl, refl)
+  pub not-taken-idle : (cs : List Call) (rs : List Record) (port : ℕ) (slot : Slot) (octets output : List ℕ)
+      → inSet p (outcome (seatAfter m cs) (own (hears rs port slot octets output)) .took) ≡ false → Idle p m cs (own (hears rs port slot octets output))
+  not-taken-idle cs rs port slot octets output not-in = (rw not-in refl, refl)
 
   -- a take of another port,
-  pub other-take-idle : (cs : List Call) (q : ℕ) → (q ≡ p → ⊥) → Idle p cs (takes q)
-  other-take-idle cs q other = (refl, by (takeOutcome (relayAfter cs) q))
+  pub other-take-idle : (cs : List Call) (q : ℕ) → (q ≡ p → ⊥) → Idle p m cs (own (takes q))
+  other-take-idle cs q other = (refl, by (takeOutcome (relayIn (seatAfter m cs)) q))
     where
       by : (t : Taking) → outBy p (ofTaking q t .out) ≡ 0
       by (Handed e) = rw (ne-eqb q p other) refl
       by (Refused n) = refl
 
   -- and whatever is refused.
-  pub refused-idle : (cs : List Call) (c : Call) → isRefusal (outcome (relayAfter cs) c .answer) ≡ true → Idle p cs c
-  refused-idle cs (sets s) refused = setting-idle cs s
-  refused-idle cs (hears port slot octets output) refused =
-      not-taken-idle cs port slot octets output (ap (inSet p) (took-none (relayAfter cs) port octets (length output) refused) ∙ in-none p)
-  refused-idle cs (takes q) refused = (refl, by (takeOutcome (relayAfter cs) q) refused)
+  pub refused-idle : (cs : List Call) (c : Call) → isRefusal (outcome (seatAfter m cs) c .answer) ≡ true → Idle p m cs c
+  refused-idle cs (operator c) refused = operator-idle cs c
+  refused-idle cs (own (sets s)) refused = setting-idle cs s
+  refused-idle cs (own (hears rs port slot octets output)) refused =
+      not-taken-idle cs rs port slot octets output (ap (inSet p) (took-none (seatAfter m cs) rs port octets (length output) refused) ∙ in-none p)
+  refused-idle cs (own (takes q)) refused = (refl, by (takeOutcome (relayIn (seatAfter m cs)) q) refused)
     where
       by : (t : Taking) → isRefusal (ofTaking q t .answer) ≡ true → outBy p (ofTaking q t .out) ≡ 0
       by (Handed e) h = true-false (sym h)
       by (Refused n) h = refl
-  refused-idle cs (looks l) refused = look-idle cs l
+  refused-idle cs (own (looks l)) refused = look-idle cs l
 
 -- ---- a call places at most one copy on a port
 module _ (n : ℕ) where
@@ -435,11 +466,11 @@ module _ (n : ℕ) where
       by few true same = omega (arith, none-of-turn l (each-so l (λ z later. omega (arith, eqb-true (y .turn) n same)) (h .0)))
       by few false same = omega arith
 
-module _ (p n : ℕ) where
-  pub taken-once : (cs : List Call) → times n (takenAt p cs) ≤ 1
-  taken-once cs = once-in-turn n (takenAt p cs) (taken-in-turn p cs)
+module _ (p n m : ℕ) where
+  pub taken-once : (cs : List Call) → times n (takenAt p m cs) ≤ 1
+  taken-once cs = once-in-turn n (takenAt p m cs) (taken-in-turn p m cs)
 
--- ---- laws near to it that are false, each with a history that breaks it
+-- ---- laws near to it that are false, each with a history of mission 0 that breaks it
 
 -- the number of a take: by the port, the copy, the calls before its placing, these and the placing, and the calls since
 abbrev pub Rule : Type 0
@@ -448,26 +479,26 @@ Rule = ℕ → Copy → List Call → List Call → List Call → ℕ
 -- whatever take hands x out has that number
 abbrev pub Holds : Rule → Type 0
 Holds rule =
-    (p : ℕ) (cs : List Call) (c : Call) (x : Copy) → takenBy p (length cs) (relayAfter cs) c ≡ x ∷ [] → (ds : List Call) (k : ℕ)
-    → AtTake k x (handedSince p (andThen cs c) ds) → k ≡ rule p x cs (andThen cs c) ds
+    (p : ℕ) (cs : List Call) (c : Call) (x : Copy) → takenBy p (length cs) (seatAfter 0 cs) c ≡ x ∷ [] → (ds : List Call) (k : ℕ)
+    → AtTake k x (handedSince p 0 (andThen cs c) ds) → k ≡ rule p x cs (andThen cs c) ds
 
-pub true-rule : Holds (λ p x cs placed ds. before p x cs + higherEnter p x placed ds + 1)
-true-rule p cs c x placed ds k h = foretold-over-histories p cs c x placed ds k .0 h .0
+pub true-rule : Holds (λ p x cs placed ds. before p 0 x cs + higherEnter p 0 x placed ds + 1)
+true-rule p cs c x placed ds k h = foretold-over-histories p 0 cs c x placed ds k .0 h .0
 
 -- ---- a router with two ports in one domain: what comes in by one, to all of the domain, goes out by the other
 abbrev setup : List Call
 setup =
-    sets (setRouter 1)
-    ∷ sets (setPort 0 (record { 0 = dotted 10 4 9 14 }) (record { 0 = dotted 255 255 255 0 }) 100)
-    ∷ sets (setPort 1 (record { 0 = dotted 10 4 9 16 }) (record { 0 = dotted 255 255 255 0 }) 100)
+    operator (orders (setRouter 1))
+    ∷ operator (orders (setPort 0 (record { 0 = dotted 10 4 9 14 }) (record { 0 = dotted 255 255 255 0 }) 100 0))
+    ∷ operator (orders (setPort 1 (record { 0 = dotted 10 4 9 16 }) (record { 0 = dotted 255 255 255 0 }) 100 0))
     ∷ []
 
 -- seven octets and no data: to 10.4.9.255, from 10.4.9.20, basic QOS with the precedence
 abbrev datagram : ℕ → List ℕ
 datagram precedence = 32 ∷ 7 ∷ 26 ∷ 66 ∷ 255 ∷ 20 ∷ 16 * precedence ∷ []
 
-abbrev heardBy : ℕ → ℕ → Call
-heardBy port precedence = hears port (record { 0 = 7 }) (datagram precedence) (replicate 50 0)
+abbrev heard : ℕ → ℕ → Call
+heard port precedence = own (hears [] port (record { 0 = 7 }) (datagram precedence) (replicate 50 0))
 
 -- the copy on port 1 of what call n brought by port 0
 abbrev copy : ℕ → ℕ → Copy
@@ -493,20 +524,20 @@ abbrev five : Mistake → Copy
 five m = copy (length (m .calls)) 5
 
 abbrev until : Mistake → List Call
-until m = andThen (m .calls) (heardBy 0 5)
+until m = andThen (m .calls) (heard 0 5)
 
 abbrev Breaks : Mistake → Type 0
 Breaks m =
-    (takenBy 1 (length (m .calls)) (relayAfter (m .calls)) (heardBy 0 5) ≡ five m ∷ [])
-    × (handedSince 1 (until m) (m .since) ≡ m .earlier ++ five m ∷ m .later)
+    (takenBy 1 (length (m .calls)) (seatAfter 0 (m .calls)) (heard 0 5) ≡ five m ∷ [])
+    × (handedSince 1 0 (until m) (m .since) ≡ m .earlier ++ five m ∷ m .later)
     × (m .rule 1 (five m) (m .calls) (until m) (m .since) ≡ m .says)
     × (eqb (length (m .earlier) + 1) (m .says) ≡ false)
 
 refuted : (m : Mistake) → Breaks m → Holds (m .rule) → ⊥
 refuted m b law =
-    let at : AtTake (length (m .earlier) + 1) (five m) (handedSince 1 (until m) (m .since)) =
+    let at : AtTake (length (m .earlier) + 1) (five m) (handedSince 1 0 (until m) (m .since)) =
     record { earlier = m .earlier; later = m .later; are = b .1; number = refl } in
-    eqb-false _ _ (b .3) (law 1 (m .calls) (heardBy 0 5) (five m) (b .0) (m .since) _ at ∙ b .2)
+    eqb-false _ _ (b .3) (law 1 (m .calls) (heard 0 5) (five m) (b .0) (m .since) _ at ∙ b .2)
 
 abbrev notLower : Copy → Copy → Bool
 notLower x y = leb (rank x) (rank y)
@@ -518,45 +549,45 @@ abbrev pub mistakes : List Mistake
 mistakes =
     -- a higher one that enters counts
     record {
-      rule = λ p x cs placed ds. before p x cs + 1;
+      rule = λ p x cs placed ds. before p 0 x cs + 1;
       calls = setup;
-      since = heardBy 0 6 ∷ takes 1 ∷ takes 1 ∷ [];
+      since = heard 0 6 ∷ own (takes 1) ∷ own (takes 1) ∷ [];
       earlier = copy 4 6 ∷ [];
       later = [];
       says = 1;
     }
     -- one of the same precedence that enters does not
     ∷ record {
-      rule = λ p x cs placed ds. before p x cs + howMany (notLower x) (takenSince p placed (whileWaits p x placed ds)) + 1;
+      rule = λ p x cs placed ds. before p 0 x cs + howMany (notLower x) (takenSince p 0 placed (whileWaits p 0 x placed ds)) + 1;
       calls = setup;
-      since = heardBy 0 5 ∷ takes 1 ∷ takes 1 ∷ [];
+      since = heard 0 5 ∷ own (takes 1) ∷ own (takes 1) ∷ [];
       earlier = [];
       later = copy 4 5 ∷ [];
       says = 2;
     }
     -- nor does a higher one that enters when it is out
     ∷ record {
-      rule = λ p x cs placed ds. before p x cs + howMany (higher x) (takenSince p placed ds) + 1;
+      rule = λ p x cs placed ds. before p 0 x cs + howMany (higher x) (takenSince p 0 placed ds) + 1;
       calls = setup;
-      since = takes 1 ∷ heardBy 0 6 ∷ [];
+      since = own (takes 1) ∷ heard 0 6 ∷ [];
       earlier = [];
       later = [];
       says = 2;
     }
     -- nor one that enters another port
     ∷ record {
-      rule = λ p x cs placed ds. before p x cs + higherEnter p x placed ds + howMany (higher x) (takenSince 0 placed (whileWaits p x placed ds)) + 1;
+      rule = λ p x cs placed ds. before p 0 x cs + higherEnter p 0 x placed ds + howMany (higher x) (takenSince 0 0 placed (whileWaits p 0 x placed ds)) + 1;
       calls = setup;
-      since = heardBy 1 6 ∷ takes 0 ∷ takes 1 ∷ [];
+      since = heard 1 6 ∷ own (takes 0) ∷ own (takes 1) ∷ [];
       earlier = [];
       later = [];
       says = 2;
     }
     -- of those that waited already, a lower one does not count
     ∷ record {
-      rule = λ p x cs placed ds. length (lineAt p cs) + higherEnter p x placed ds + 1;
-      calls = andThen setup (heardBy 0 4);
-      since = takes 1 ∷ takes 1 ∷ [];
+      rule = λ p x cs placed ds. length (lineAt p 0 cs) + higherEnter p 0 x placed ds + 1;
+      calls = andThen setup (heard 0 4);
+      since = own (takes 1) ∷ own (takes 1) ∷ [];
       earlier = [];
       later = copy 3 4 ∷ [];
       says = 2;
@@ -564,7 +595,7 @@ mistakes =
     ∷ []
 
 breaks : Each Breaks mistakes
-unfolding firstOf endingOf callChecks portSetUp otherClass classOf classIn familyOf scpsClass portMaskRefused formRefused maskForm onesOf onesBelow onesRefused freshRelay freshQueue readOf readChecks controlOf forbidden lengthOf layoutOf addressSize stampSize headerEnding headerOf fieldsOf qosOf addressesOf aimOf originOf ruleOf ruleTarget ruledBy rulingOf grantedOf lineOf targetOf surveyBelow ownBroadcast subnetBroadcast octetOf copiesOf takeOutcome receivedRelay enteredAll enteredIf putOf takeOf insertBy chosen takenRelay
+unfolding firstOf heardEnding endingOf callChecks amongPorts portsSeen seenPort otherClass classOf classIn familyOf scpsClass portMaskRefused formRefused maskForm onesOf onesBelow onesRefused freshBoard freshMission freshQueue readOf readChecks controlOf forbidden lengthOf layoutOf addressSize stampSize headerEnding headerOf fieldsOf qosOf addressesOf aimOf originOf ruleOf ruleTarget ruledBy rulingOf grantedOf lineOf targetOf surveyBelow ownBroadcast subnetBroadcast octetOf copiesOf takeOutcome receivedRelay enteredAll enteredIf putOf takeOf insertBy chosen takenRelay
 breaks = ((refl, refl, refl, refl), ((refl, refl, refl, refl), ((refl, refl, refl, refl), ((refl, refl, refl, refl), ((refl, refl, refl, refl), tt)))))
 
 pub all-mistaken : Each (λ (m : Mistake). Holds (m .rule) → ⊥) mistakes

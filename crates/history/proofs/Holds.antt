@@ -4,117 +4,129 @@ use Prim.Native.Nat.{ℕ}
 use mathlib.Core.Path.{_≡_, refl, sym, ap, _∙_}
 use mathlib.Core.List.{List, [], _∷_}
 use lib.ListN.{length, getD}
+use lib.Seq.{getD-set-other}
 use Rattle.queue.specs.Order.{Each}
-use Rattle.routes.specs.declared.Route.{Route}
-use Rattle.routes.specs.Routes.{emptyRoute}
-use Rattle.records.specs.declared.Port.{Port}
+use Rattle.records.specs.declared.OwnedPort.{OwnedPort}
 use Rattle.records.specs.declared.Group.{Group}
 use Rattle.records.specs.declared.PathPlace.{PathPlace}
-use Rattle.records.specs.Fresh.{freshPort, freshGroup, freshPath}
-use Rattle.state.specs.Relay.{Relay, withRouter, withPort, withRoute, withGroup, withPath}
-use Rattle.state.proofs.Places.{port-left, route-left, group-left, path-left}
-use Rattle.taking.specs.Taking.{takenRelay}
-use Rattle.judge.specs.Ending.{endingOf}
-use Rattle.relay.specs.Received.{receivedRelay}
-use Rattle.adjust.specs.Settled.{newPort, newRoute, newGroup, newPath}
+use Rattle.records.specs.Fresh.{freshOwned, freshGroup, freshPath}
+use Rattle.state.specs.Relay.{Mission, Relay, putGroup, putPath}
+use Rattle.state.specs.Seen.{Board, putRouter, putOwned}
+use Rattle.adjust.specs.Settled.{newPort, newGroup, newPath}
+use Rattle.history.specs.Seat.{Seat, relayIn, heardBy}
 use Rattle.history.specs.Calls.{
-  Setting,
+  Order,
   setRouter,
   setPort,
   setRoute,
+  clearRoute,
+  orders,
+  views,
+  Setting,
   setGroup,
   setPath,
-  clearRoute,
   clearGroup,
   clearPath,
-  Part,
-  theRouter,
-  thePort,
-  theRoute,
-  theGroup,
-  thePath,
-  Call,
+  MissionCall,
   sets,
   hears,
   takes,
   looks,
+  Call,
+  operator,
+  own,
+  boardWritten,
   written,
 }
-use Rattle.history.specs.Outcome.{next, runFrom}
-use Rattle.history.specs.Parts.{partOf, About, router, port, route, group, path, settingIn}
-use Rattle.history.proofs.Settled.{settle-keeps}
-use Rattle.history.proofs.Reach.{madeOf, received-made, taken-made}
+use Rattle.history.specs.Outcome.{nextMission, next, runFrom}
+use Rattle.history.specs.Parts.{
+  Part,
+  theRouter,
+  thePort,
+  theGroup,
+  thePath,
+  Orders,
+  partOf,
+  ByMission,
+  About,
+  Standing,
+  port,
+  group,
+  path,
+  settingIn,
+}
+use Rattle.history.proofs.Settled.{order-keeps, settle-keeps}
+use Rattle.history.proofs.Reach.{settingsOf, received-settings, taken-settings}
 
 -- ---- what is written leaves all other settings
-module _ (r : Relay) where
-  abbrev Left : Relay → Part → Type 0
-  Left s part = settingIn s part ≡ settingIn r part
+module _ (seat : Seat) where
+  -- with another board, and with another mission
+  abbrev onBoard : Board → Part → Standing
+  onBoard b = settingIn (record { board = b; number = seat .number; mission = seat .mission })
 
-  router-left : (x : ℕ) (part : Part) → (theRouter ≡ part → ⊥) → Left (withRouter r x) part
+  abbrev onOwn : Mission → Part → Standing
+  onOwn m = settingIn (record { board = seat .board; number = seat .number; mission = m })
+
+  router-left : (x : ℕ) (part : Part) → (theRouter ≡ part → ⊥) → onBoard (putRouter (seat .board) x) part ≡ settingIn seat part
   router-left x theRouter other = absurd (other refl)
   router-left x (thePort j) other = refl
-  router-left x (theRoute j) other = refl
   router-left x (theGroup j) other = refl
   router-left x (thePath j) other = refl
 
-  port-leaves : (i : ℕ) (x : Port) (part : Part) → (thePort i ≡ part → ⊥) → Left (withPort r i x) part
-  port-leaves i x theRouter other = refl
-  port-leaves i x (thePort j) other = ap port (port-left r i j (λ e. other (ap thePort (sym e))) x)
-  port-leaves i x (theRoute j) other = refl
-  port-leaves i x (theGroup j) other = refl
-  port-leaves i x (thePath j) other = refl
+  port-left : (i : ℕ) (x : OwnedPort) (part : Part) → (thePort i ≡ part → ⊥) → onBoard (putOwned (seat .board) i x) part ≡ settingIn seat part
+  port-left i x theRouter other = refl
+  port-left i x (thePort j) other = ap port (getD-set-other (seat .board .ports) i j x freshOwned (λ e. other (ap thePort (sym e))))
+  port-left i x (theGroup j) other = refl
+  port-left i x (thePath j) other = refl
 
-  route-leaves : (i : ℕ) (x : Route) (part : Part) → (theRoute i ≡ part → ⊥) → Left (withRoute r i x) part
-  route-leaves i x theRouter other = refl
-  route-leaves i x (thePort j) other = refl
-  route-leaves i x (theRoute j) other = ap route (route-left r i j (λ e. other (ap theRoute (sym e))) x)
-  route-leaves i x (theGroup j) other = refl
-  route-leaves i x (thePath j) other = refl
+  group-left : (i : ℕ) (x : Group) (part : Part) → (theGroup i ≡ part → ⊥) → onOwn (putGroup (seat .mission) i x) part ≡ settingIn seat part
+  group-left i x theRouter other = refl
+  group-left i x (thePort j) other = refl
+  group-left i x (theGroup j) other = ap group (getD-set-other (seat .mission .groups) i j x freshGroup (λ e. other (ap theGroup (sym e))))
+  group-left i x (thePath j) other = refl
 
-  group-leaves : (i : ℕ) (x : Group) (part : Part) → (theGroup i ≡ part → ⊥) → Left (withGroup r i x) part
-  group-leaves i x theRouter other = refl
-  group-leaves i x (thePort j) other = refl
-  group-leaves i x (theRoute j) other = refl
-  group-leaves i x (theGroup j) other = ap group (group-left r i j (λ e. other (ap theGroup (sym e))) x)
-  group-leaves i x (thePath j) other = refl
-
-  path-leaves : (i : ℕ) (x : PathPlace) (part : Part) → (thePath i ≡ part → ⊥) → Left (withPath r i x) part
-  path-leaves i x theRouter other = refl
-  path-leaves i x (thePort j) other = refl
-  path-leaves i x (theRoute j) other = refl
-  path-leaves i x (theGroup j) other = refl
-  path-leaves i x (thePath j) other = ap path (path-left r i j (λ e. other (ap thePath (sym e))) x)
+  path-left : (i : ℕ) (x : PathPlace) (part : Part) → (thePath i ≡ part → ⊥) → onOwn (putPath (seat .mission) i x) part ≡ settingIn seat part
+  path-left i x theRouter other = refl
+  path-left i x (thePort j) other = refl
+  path-left i x (theGroup j) other = refl
+  path-left i x (thePath j) other = ap path (getD-set-other (seat .mission .paths) i j x freshPath (λ e. other (ap thePath (sym e))))
 
   -- a datagram and a take leave all
-  made-leaves : (s : Relay) → madeOf s ≡ madeOf r → (part : Part) → Left s part
-  made-leaves s e theRouter = ap (λ x. router (x .0)) e
-  made-leaves s e (thePort j) = ap (λ x. port (getD (x .1 .0) j freshPort)) e
-  made-leaves s e (theRoute j) = ap (λ x. route (getD (x .1 .1 .1 .1) j emptyRoute)) e
-  made-leaves s e (theGroup j) = ap (λ x. group (getD (x .1 .1 .0) j freshGroup)) e
-  made-leaves s e (thePath j) = ap (λ x. path (getD (x .1 .1 .1 .0) j freshPath)) e
+  settings-left : (m : Mission) → settingsOf m ≡ settingsOf (seat .mission) → (part : Part) → onOwn m part ≡ settingIn seat part
+  settings-left m e theRouter = refl
+  settings-left m e (thePort j) = refl
+  settings-left m e (theGroup j) = ap (λ x. group (getD (x .0) j freshGroup)) e
+  settings-left m e (thePath j) = ap (λ x. path (getD (x .1) j freshPath)) e
 
   -- ---- each call
-  written-leaves : (s : Setting) (part : Part) → (partOf s ≡ part → ⊥) → Left (written r s) part
-  written-leaves (setRouter x) part other = router-left x part other
-  written-leaves (setPort i address mask mtu) part other = port-leaves i (newPort address mask mtu) part other
-  written-leaves (setRoute i prefix mask at availability capabilities) part other =
-      route-leaves i (newRoute prefix mask at availability capabilities) part other
-  written-leaves (setGroup i address send subscribed) part other = group-leaves i (newGroup address send subscribed) part other
-  written-leaves (setPath i to send here) part other = path-leaves i (newPath to send here) part other
-  written-leaves (clearRoute i) part other = route-leaves i emptyRoute part other
-  written-leaves (clearGroup i) part other = group-leaves i freshGroup part other
-  written-leaves (clearPath i) part other = path-leaves i freshPath part other
+  order-left : (o : Order) (part : Part) → (Orders o part → ⊥) → onBoard (boardWritten (seat .board) o) part ≡ settingIn seat part
+  order-left (setRouter x) part other = router-left x part other
+  order-left (setPort i address mask mtu mission) part other = port-left i (newPort address mask mtu mission) part other
+  order-left (setRoute rs i prefix mask at availability capabilities mission) part other = refl
+  order-left (clearRoute rs i) part other = refl
 
-  pub one-holds : (c : Call) (part : Part) → (About c part → ⊥) → Left (next r c) part
-  one-holds (sets s) part other = settle-keeps (λ (x : Relay). Left x part) r s refl (λ z. written-leaves s part other)
-  one-holds (hears at slot octets output) part other =
-      let e = endingOf r at octets (length output) in
-      made-leaves (receivedRelay r slot e) (received-made r slot e) part
-  one-holds (takes at) part other = made-leaves (takenRelay r at) (taken-made r at) part
-  one-holds (looks l) part other = refl
+  written-left : (s : Setting) (part : Part) → (partOf s ≡ part → ⊥) → onOwn (written (relayIn seat) s .mission) part ≡ settingIn seat part
+  written-left (setGroup i address send subscribed) part other = group-left i (newGroup address send subscribed) part other
+  written-left (setPath i to send here) part other = path-left i (newPath to send here) part other
+  written-left (clearGroup i) part other = group-left i freshGroup part other
+  written-left (clearPath i) part other = path-left i freshPath part other
+
+  own-holds : (c : MissionCall) (part : Part) → (ByMission c part → ⊥) → onOwn (nextMission seat c) part ≡ settingIn seat part
+  own-holds (sets s) part other =
+      settle-keeps (λ (x : Relay). onOwn (x .mission) part ≡ settingIn seat part) (relayIn seat) s refl (λ z. written-left s part other)
+  own-holds (hears rs at slot octets output) part other =
+      settings-left _ (received-settings (relayIn seat) slot (heardBy seat rs at octets (length output))) part
+  own-holds (takes at) part other = settings-left _ (taken-settings (relayIn seat) at) part
+  own-holds (looks l) part other = refl
+
+  pub one-holds : (c : Call) (part : Part) → (About c part → ⊥) → settingIn (next seat c) part ≡ settingIn seat part
+  one-holds (operator (orders o)) part other =
+      order-keeps (λ (b : Board). onBoard b part ≡ settingIn seat part) (seat .board) o refl (λ z. order-left o part other)
+  one-holds (operator (views v)) part other = refl
+  one-holds (own c) part other = own-holds c part other
 
 -- A setting stands as it was after any calls of which none is about it.
-pub holds-until-changed : (part : Part) (cs : List Call) (r : Relay) → Each (λ (c : Call). About c part → ⊥) cs
-    → settingIn (runFrom r cs) part ≡ settingIn r part
-holds-until-changed part [] r others = refl
-holds-until-changed part (c ∷ cs) r others = holds-until-changed part cs (next r c) (others .1) ∙ one-holds r c part (others .0)
+pub holds-until-changed : (part : Part) (cs : List Call) (seat : Seat) → Each (λ (c : Call). About c part → ⊥) cs
+    → settingIn (runFrom seat cs) part ≡ settingIn seat part
+holds-until-changed part [] seat others = refl
+holds-until-changed part (c ∷ cs) seat others = holds-until-changed part cs (next seat c) (others .1) ∙ one-holds seat c part (others .0)

@@ -1,5 +1,5 @@
--- In every state that a history reaches no two places hold the same entry: the same prefix and mask, group or path. The theorem is `keys-unique`, at
--- the end. Assumes nothing.
+-- In every state that a history reaches no two places hold the same entry: the same prefix and mask among the routes that the mission sees, whatever list
+-- is lent; the same group or path. The theorem is `keys-unique`, at the end. Assumes nothing.
 use Prim.Native.Nat.{ℕ, _<_}
 use mathlib.Core.Path.{_≡_, refl, sym, ap, _∙_}
 use mathlib.Core.Bool.{Bool, true, false, not, _&&_}
@@ -17,38 +17,35 @@ use Rattle.address.specs.declared.PathAddress.{PathAddress}
 use Rattle.records.specs.Fresh.{freshGroup, freshPath}
 use Rattle.records.specs.declared.Group.{Group}
 use Rattle.records.specs.declared.PathPlace.{PathPlace}
-use Rattle.routes.specs.Routes.{isFilled, sameEntry, emptyRoute}
-use Rattle.routes.specs.declared.Route.{Route}
-use Rattle.state.specs.Relay.{Relay, freshRelay, routeIn, groupIn, pathIn, withRouter, withRoute, withGroup, withPath}
-use Rattle.refusals.specs.Elsewhere.{otherRoute, otherGroup, otherPath, routeElsewhere, groupElsewhere, pathElsewhere}
-use Rattle.refusals.specs.Lists.{routeChecks, groupChecks, pathChecks}
+use Rattle.state.specs.Relay.{Mission, Relay, groupIn, pathIn, putGroup, putPath}
+use Rattle.state.specs.Seen.{freshMission}
+use Rattle.listing.proofs.Counting.{seen-distinct}
+use Rattle.refusals.specs.Elsewhere.{otherGroup, otherPath, groupElsewhere, pathElsewhere}
+use Rattle.refusals.specs.Lists.{groupChecks, pathChecks}
 use Rattle.refusals.proofs.Chains.{decided}
-use Rattle.adjust.specs.Settled.{newRoute, newGroup, newPath}
-use Rattle.taking.specs.Taking.{takenRelay}
-use Rattle.judge.specs.Ending.{endingOf}
-use Rattle.relay.specs.Received.{receivedRelay}
+use Rattle.adjust.specs.Settled.{newGroup, newPath}
+use Rattle.history.specs.Seat.{Seat, freshSeat, relayIn, heardBy}
 use Rattle.history.specs.Calls.{
   Setting,
-  setRouter,
-  setPort,
-  setRoute,
   setGroup,
   setPath,
-  clearRoute,
   clearGroup,
   clearPath,
-  Call,
+  MissionCall,
   sets,
   hears,
   takes,
   looks,
+  Call,
+  operator,
+  own,
   checksOf,
   written,
 }
-use Rattle.history.specs.Outcome.{next, runFrom, relayAfter}
+use Rattle.history.specs.Outcome.{nextMission, next, runFrom, seatAfter}
 use Rattle.history.specs.Reach.{sameGroup, samePath, Unique, KeysUnique}
 use Rattle.history.proofs.Settled.{settle-keeps}
-use Rattle.history.proofs.Reach.{Kept, settingsOf, received-settings, taken-settings, one-kept, fresh-kept}
+use Rattle.history.proofs.Reach.{OwnKept, Kept, settingsOf, received-settings, taken-settings, one-kept, fresh-kept}
 
 -- ---- the same either way round
 eqb-case : (a b : ℕ) (t : Bool) → eqb a b ≡ t → eqb b a ≡ t
@@ -63,12 +60,6 @@ swap true true e = e
 swap true false e = refl
 swap false true e = refl
 swap false false e = refl
-
-route-sym : (x y : Route) → sameEntry y x ≡ sameEntry x y
-unfolding sameEntry
-route-sym x y =
-    swap (isFilled y) (isFilled x)
-    (rw (eqb-sym (x .prefix .0) (y .prefix .0), eqb-sym (x .mask .0) (y .mask .0)))
 
 group-sym : (x y : Group) → sameGroup y x ≡ sameGroup x y
 group-sym x y = swap (not (eqb (y .filled) 0)) (not (eqb (x .filled) 0)) (eqb-sym (x .address .0) (y .address .0))
@@ -106,101 +97,91 @@ not-here true u h e = true-false h
 not-here false u h e = e
 
 module _ (r : Relay) where
-  route-new : (i : ℕ) (x : Route) → firstOf (routeChecks r i x) ≡ 0 → (j : ℕ) → j < 64 → (j ≡ i → ⊥) → sameEntry (routeIn r j) x ≡ false
-  unfolding routeElsewhere
-  route-new i x taken j h ne =
-      not-here (eqb j i) (sameEntry (routeIn r j) x) (ne-eqb j i ne) (none-of (otherRoute r i x) 64 (decided (routeChecks r i x) refl .0 .0 taken .1 .1 .1 .1 .0) j h)
-
   group-new : (i : ℕ) (a : Address) (send subscribed : ℕ) → firstOf (groupChecks r i a send subscribed) ≡ 0
       → (j : ℕ) → j < 16 → (j ≡ i → ⊥) → sameGroup (groupIn r j) (newGroup a send subscribed) ≡ false
   unfolding groupElsewhere
   group-new i a send subscribed taken j h ne =
-      not-here (eqb j i) (sameGroup (groupIn r j) (newGroup a send subscribed)) (ne-eqb j i ne) (none-of (otherGroup r i a) 16 (decided (groupChecks r i a send subscribed) refl .0 .0 taken .1 .1 .1 .1 .0) j h)
+      not-here (eqb j i) (sameGroup (groupIn r j) (newGroup a send subscribed)) (ne-eqb j i ne) (none-of (otherGroup (r .mission) i a) 16 (decided (groupChecks r i a send subscribed) refl .0 .0 taken .1 .1 .1 .1 .0) j h)
 
   path-new : (i : ℕ) (p : PathAddress) (send here : ℕ) → firstOf (pathChecks r i p send here) ≡ 0
       → (j : ℕ) → j < 16 → (j ≡ i → ⊥) → samePath (pathIn r j) (newPath p send here) ≡ false
   unfolding pathElsewhere
   path-new i p send here taken j h ne =
-      not-here (eqb j i) (samePath (pathIn r j) (newPath p send here)) (ne-eqb j i ne) (none-of (otherPath r i p) 16 (decided (pathChecks r i p send here) refl .0 .0 taken .1 .1 .1 .1 .0) j h)
+      not-here (eqb j i) (samePath (pathIn r j) (newPath p send here)) (ne-eqb j i ne) (none-of (otherPath (r .mission) i p) 16 (decided (pathChecks r i p send here) refl .0 .0 taken .1 .1 .1 .1 .0) j h)
 
 -- an empty place holds nothing
 empty-second : (f s : Bool) → (f && (false && s)) ≡ false
 empty-second true s = refl
 empty-second false s = refl
 
-no-route : (x : Route) → sameEntry x emptyRoute ≡ false
-unfolding sameEntry
-no-route x = empty-second (isFilled x) (eqb (x .prefix .0) 0 && eqb (x .mask .0) 0)
-
 -- ---- each call, and then all
-by-settings : (r s : Relay) → KeysUnique r → settingsOf s ≡ settingsOf r → KeysUnique s
-by-settings r s u e =
-    record {
-      routes = rw (ap (λ x. x .1 .1 .1) e) (u .routes);
-      groups = rw (ap (λ x. x .1 .0) e) (u .groups);
-      paths = rw (ap (λ x. x .1 .1 .0) e) (u .paths);
-    }
+pub record OwnUnique (m : Mission) : Type 0 where
+  pub groups : Unique sameGroup freshGroup 16 (m .groups)
+  pub paths : Unique samePath freshPath 16 (m .paths)
 
-module _ (r : Relay) (k : Kept r) (u : KeysUnique r) where
-  route-keys : (i : ℕ) (x : Route) → ((j : ℕ) → j < 64 → (j ≡ i → ⊥) → sameEntry (routeIn r j) x ≡ false) → KeysUnique (withRoute r i x)
-  route-keys i x new =
-      record {
-        routes = unique-written sameEntry route-sym emptyRoute 64 (r .routes) i x (k .routes) (u .routes) new;
-        groups = u .groups;
-        paths = u .paths;
-      }
+by-settings : (m n : Mission) → OwnUnique m → settingsOf n ≡ settingsOf m → OwnUnique n
+by-settings m n u e = record { groups = rw (ap (λ x. x .0) e) (u .groups); paths = rw (ap (λ x. x .1) e) (u .paths) }
 
-  group-keys : (i : ℕ) (x : Group) → ((j : ℕ) → j < 16 → (j ≡ i → ⊥) → sameGroup (groupIn r j) x ≡ false) → KeysUnique (withGroup r i x)
+module _ (ready : ℕ) (m : Mission) (k : OwnKept ready m) (u : OwnUnique m) where
+  group-keys : (i : ℕ) (x : Group) → ((j : ℕ) → j < 16 → (j ≡ i → ⊥) → sameGroup (getD (m .groups) j freshGroup) x ≡ false) → OwnUnique (putGroup m i x)
   group-keys i x new =
       record {
-        routes = u .routes;
-        groups = unique-written sameGroup group-sym freshGroup 16 (r .mission .groups) i x (k .groups) (u .groups) new;
+        groups = unique-written sameGroup group-sym freshGroup 16 (m .groups) i x (k .groups) (u .groups) new;
         paths = u .paths;
       }
 
-  path-keys : (i : ℕ) (x : PathPlace) → ((j : ℕ) → j < 16 → (j ≡ i → ⊥) → samePath (pathIn r j) x ≡ false) → KeysUnique (withPath r i x)
+  path-keys : (i : ℕ) (x : PathPlace) → ((j : ℕ) → j < 16 → (j ≡ i → ⊥) → samePath (getD (m .paths) j freshPath) x ≡ false) → OwnUnique (putPath m i x)
   path-keys i x new =
       record {
-        routes = u .routes;
         groups = u .groups;
-        paths = unique-written samePath path-sym freshPath 16 (r .mission .paths) i x (k .paths) (u .paths) new;
+        paths = unique-written samePath path-sym freshPath 16 (m .paths) i x (k .paths) (u .paths) new;
       }
 
-  taken-unique : (s : Setting) → firstOf (checksOf r s) ≡ 0 → KeysUnique (written r s)
-  taken-unique (setRouter x) z = by-settings r (withRouter r x) u refl
-  taken-unique (setPort p a m v) z = record { routes = u .routes; groups = u .groups; paths = u .paths }
-  taken-unique (setRoute i prefix mask port availability capabilities) z =
-      let x = newRoute prefix mask port availability capabilities in
-      route-keys i x (route-new r i x z)
-  taken-unique (setGroup i a send subscribed) z = group-keys i (newGroup a send subscribed) (group-new r i a send subscribed z)
-  taken-unique (setPath i p send here) z = path-keys i (newPath p send here) (path-new r i p send here z)
-  taken-unique (clearRoute i) z = route-keys i emptyRoute (λ j h ne. no-route (routeIn r j))
+module _ (seat : Seat) (k : Kept seat) (u : OwnUnique (seat .mission)) where
+  abbrev r : Relay
+  r = relayIn seat
+
+  taken-unique : (s : Setting) → firstOf (checksOf r s) ≡ 0 → OwnUnique (written r s .mission)
+  taken-unique (setGroup i a send subscribed) z =
+      group-keys _ _ (k .mission) u i (newGroup a send subscribed) (group-new r i a send subscribed z)
+  taken-unique (setPath i p send here) z = path-keys _ _ (k .mission) u i (newPath p send here) (path-new r i p send here z)
   taken-unique (clearGroup i) z =
-      group-keys i freshGroup (λ j h ne. empty-second (not (eqb (groupIn r j .filled) 0)) (eqb (groupIn r j .address .0) 0))
+      group-keys _ _ (k .mission) u i freshGroup
+      (λ j h ne. empty-second (not (eqb (groupIn r j .filled) 0)) (eqb (groupIn r j .address .0) 0))
   taken-unique (clearPath i) z =
-      path-keys i freshPath (λ j h ne. empty-second (not (eqb (pathIn r j .filled) 0)) (eqb (pathIn r j .path .0) 0))
+      path-keys _ _ (k .mission) u i freshPath
+      (λ j h ne. empty-second (not (eqb (pathIn r j .filled) 0)) (eqb (pathIn r j .path .0) 0))
 
-  one-unique : (c : Call) → KeysUnique (next r c)
-  one-unique (sets s) = settle-keeps KeysUnique r s u (taken-unique s)
-  one-unique (hears port slot octets output) =
-      let e = endingOf r port octets (length output) in
-      by-settings r (receivedRelay r slot e) u (received-settings r slot e)
-  one-unique (takes port) = by-settings r (takenRelay r port) u (taken-settings r port)
-  one-unique (looks l) = u
+  own-unique : (c : MissionCall) → OwnUnique (nextMission seat c)
+  own-unique (sets s) = settle-keeps (λ (x : Relay). OwnUnique (x .mission)) r s u (taken-unique s)
+  own-unique (hears rs port slot octets output) =
+      by-settings _ _ u (received-settings r slot (heardBy seat rs port octets (length output)))
+  own-unique (takes port) = by-settings _ _ u (taken-settings r port)
+  own-unique (looks l) = u
 
-all-unique : (cs : List Call) (r : Relay) → Kept r → KeysUnique r → KeysUnique (runFrom r cs)
-all-unique [] r k u = u
-all-unique (c ∷ cs) r k u = all-unique cs (next r c) (one-kept r c k) (one-unique r k u c)
+  one-unique : (c : Call) → OwnUnique (next seat c .mission)
+  one-unique (operator c) = u
+  one-unique (own c) = own-unique c
 
-fresh-unique : KeysUnique freshRelay
-unfolding freshRelay sameEntry
+all-unique : (cs : List Call) (seat : Seat) → Kept seat → OwnUnique (seat .mission) → OwnUnique (runFrom seat cs .mission)
+all-unique [] seat k u = u
+all-unique (c ∷ cs) seat k u = all-unique cs (next seat c) (one-kept seat c k) (one-unique seat k u c)
+
+fresh-unique : OwnUnique freshMission
+unfolding freshMission
 fresh-unique =
     record {
-      routes = λ i j hi hj ne. rw (getD-replicate {A = Route} 64 i emptyRoute emptyRoute hi) refl;
       groups = λ i j hi hj ne. rw (getD-replicate {A = Group} 16 i freshGroup freshGroup hi) refl;
       paths = λ i j hi hj ne. rw (getD-replicate {A = PathPlace} 16 i freshPath freshPath hi) refl;
     }
 
 -- After any history no two places hold the same entry.
-pub keys-unique : (cs : List Call) → KeysUnique (relayAfter cs)
-keys-unique cs = all-unique cs freshRelay fresh-kept fresh-unique
+pub keys-unique : (m : ℕ) (cs : List Call) → KeysUnique (seatAfter m cs)
+keys-unique m cs =
+    let seat = seatAfter m cs in
+    let u = all-unique cs (freshSeat m) (fresh-kept m) fresh-unique in
+    record {
+      routes = λ rs i j hi hj ne. refuted _ (λ same. ne (seen-distinct (seat .board) rs (seat .number) i j same));
+      groups = u .groups;
+      paths = u .paths;
+    }

@@ -18,15 +18,16 @@ use Rattle.queue.specs.declared.Entry.{Entry}
 use Rattle.queue.specs.declared.Head.{Head}
 use Rattle.queue.specs.declared.Head.the-variants.{First, Nothing}
 use Rattle.queue.specs.declared.Queue.{Queue}
-use Rattle.state.specs.Relay.{Relay, freshRelay, queueIn, portSetUp}
+use Rattle.state.specs.Relay.{Relay, queueAt, queueIn, portSetUp}
+use Rattle.state.specs.Seen.{freshMission}
 use Rattle.taking.specs.Taking.{handsOut, without, takeOutcome, takenRelay}
 use Rattle.taking.specs.declared.Taking.{Taking}
 use Rattle.taking.specs.declared.Taking.the-variants.{Handed, Refused}
-use Rattle.judge.specs.Ending.{endingOf}
 use Rattle.judge.specs.declared.Ending.{Ending}
 use Rattle.relay.specs.Received.{newEntry, receivedRelay}
-use Rattle.history.specs.Calls.{Call, sets, hears, takes, looks, settle}
-use Rattle.history.specs.Outcome.{ofTaking, outcome, next, runFrom, relayAfter, sumFrom, sumOver}
+use Rattle.history.specs.Seat.{Seat, freshSeat, relayIn, heardBy}
+use Rattle.history.specs.Calls.{orders, views, sets, hears, takes, looks, Call, operator, own, settle}
+use Rattle.history.specs.Outcome.{ofTaking, outcome, next, runFrom, seatAfter, sumFrom, sumOver}
 use Rattle.history.specs.Ledger.{one, granted, dropped, handedOut}
 use Rattle.page.proofs.Bits.{in-none}
 use Rattle.history.proofs.Fair.{Fair, fair}
@@ -47,40 +48,43 @@ received-eight : (r : Relay) (slot : Slot) (e : Ending) → Eight r → Eight (r
 unfolding receivedRelay
 received-eight r slot e l = eight-entered (e .ruling .took) (newEntry slot e) 8 r l
 
-pub next-eight : (r : Relay) (c : Call) → Eight r → Eight (next r c)
-next-eight r (sets s) l = ap length (settle-queues r s) ∙ l
-next-eight r (hears port slot octets output) l = received-eight r slot (endingOf r port octets (length output)) l
-next-eight r (takes port) l = taken-eight r port l
-next-eight r (looks x) l = l
+pub next-eight : (seat : Seat) (c : Call) → Eight (relayIn seat) → Eight (relayIn (next seat c))
+next-eight seat (operator c) l = l
+next-eight seat (own (sets s)) l = ap length (settle-queues (relayIn seat) s) ∙ l
+next-eight seat (own (hears rs port slot octets output)) l = received-eight (relayIn seat) slot (heardBy seat rs port octets (length output)) l
+next-eight seat (own (takes port)) l = taken-eight (relayIn seat) port l
+next-eight seat (own (looks x)) l = l
 
-pub fresh-eight : Eight freshRelay
-unfolding freshRelay
-fresh-eight = refl
+pub fresh-eight : (m : ℕ) → Eight (relayIn (freshSeat m))
+unfolding freshMission
+fresh-eight m = refl
 
 module _ (p : ℕ) (inside : p < 8) where
   -- ---- one call closes
   -- what waits and what is granted is what is handed out, what waits then, and what is dropped
-  abbrev Closes : Relay → Call → Type 0
-  Closes r c =
-      queueIn r p .count + granted p (outcome r c)
-      ≡ handedOut p (outcome r c) + (queueIn (next r c) p .count + dropped p (outcome r c))
+  abbrev Closes : Seat → Call → Type 0
+  Closes seat c =
+      queueIn (relayIn seat) p .count + granted p (outcome seat c)
+      ≡ handedOut p (outcome seat c) + (queueIn (relayIn (next seat c)) p .count + dropped p (outcome seat c))
 
   -- ---- receiving
   put-case : (t : Bool) (q : Queue) (e : Entry) → (t ≡ true → ltb (q .count) 32 ≡ true) → pick t (putOf q e .queue) q .count ≡ q .count + one t
   put-case true q e room = put-count q e (room refl)
   put-case false q e room = omega arith
 
-  received-count : (r : Relay) (slot : Slot) (e : Ending) → Eight r → Fair r p inside (e .ruling)
-      → queueIn (receivedRelay r slot e) p .count ≡ queueIn r p .count + one (inSet p (e .ruling .took))
+  received-count : (seat : Seat) (slot : Slot) (e : Ending) → Eight (relayIn seat) → Fair seat p inside (e .ruling)
+      → queueIn (receivedRelay (relayIn seat) slot e) p .count ≡ queueIn (relayIn seat) p .count + one (inSet p (e .ruling .took))
   unfolding receivedRelay
-  received-count r slot e l f =
+  received-count seat slot e l f =
+      let r = relayIn seat in
       let entry = newEntry slot e in
       let took = e .ruling .took in
       ap (λ (x : Queue). x .count) (entered-queue p inside took entry 8 r l inside) ∙ put-case (inSet p took) (queueIn r p) entry (f .room)
 
-  received-closes : (r : Relay) (slot : Slot) (e : Ending) → Eight r → Fair r p inside (e .ruling)
-      → queueIn r p .count + one (inSet p (e .ruling .granted)) ≡ 0 + (queueIn (receivedRelay r slot e) p .count + one (inSet p (e .ruling .dropped)))
-  received-closes r slot e l f = omega (arith, received-count r slot e l f, f .split)
+  received-closes : (seat : Seat) (slot : Slot) (e : Ending) → Eight (relayIn seat) → Fair seat p inside (e .ruling)
+      → queueIn (relayIn seat) p .count + one (inSet p (e .ruling .granted))
+      ≡ 0 + (queueIn (receivedRelay (relayIn seat) slot e) p .count + one (inSet p (e .ruling .dropped)))
+  received-closes seat slot e l f = omega (arith, received-count seat slot e l f, f .split)
 
   -- ---- taking
   take-closes : (r : Relay) (port : ℕ) → Eight r → (t : Bool) (h : Head) → takeOf (queueIn r port) .head ≡ h → (u : Bool) → eqb port p ≡ u
@@ -110,27 +114,34 @@ module _ (p : ℕ) (inside : p < 8) where
   grants-none port (Refused n) = (ap one (in-none p), ap one (in-none p))
 
   -- ---- each call, and then all
-  one-call : (r : Relay) (c : Call) → Eight r → Closes r c
-  one-call r (sets s) l =
-      let same : queueIn (settle r s) p .count ≡ queueIn r p .count = ap (λ (x : List Queue). getD x p freshQueue .count) (settle-queues r s) in
-      omega (arith, same, ap one (in-none p))
-  one-call r (hears port slot octets output) l =
-      received-closes r slot (endingOf r port octets (length output)) l (fair r p inside port octets (length output))
-  one-call r (takes port) l =
-      let none = grants-none port (takeOutcome r port) in
-      omega (arith, taken-closes r port l, none .0, none .1)
-  one-call r (looks x) l = omega (arith, ap one (in-none p))
+  stays-closed : (seat : Seat) (n : ℕ) → n ≡ queueIn (relayIn seat) p .count
+      → queueIn (relayIn seat) p .count + one (inSet p 0) ≡ 0 + (n + one (inSet p 0))
+  stays-closed seat n same = omega (arith, same)
 
-  all-calls : (cs : List Call) (r : Relay) → Eight r
-      → queueIn r p .count + sumFrom (granted p) r cs ≡ sumFrom (handedOut p) r cs + (queueIn (runFrom r cs) p .count + sumFrom (dropped p) r cs)
-  all-calls [] r l = omega arith
-  all-calls (c ∷ cs) r l = omega (arith, one-call r c l, all-calls cs (next r c) (next-eight r c l))
+  one-call : (seat : Seat) (c : Call) → Eight (relayIn seat) → Closes seat c
+  one-call seat (operator (orders o)) l = stays-closed seat _ refl
+  one-call seat (operator (views v)) l = stays-closed seat _ refl
+  one-call seat (own (sets s)) l =
+      stays-closed seat (queueIn (settle (relayIn seat) s) p .count)
+      (ap (λ (x : List Queue). getD x p freshQueue .count) (settle-queues (relayIn seat) s))
+  one-call seat (own (hears rs port slot octets output)) l =
+      received-closes seat slot (heardBy seat rs port octets (length output)) l (fair seat p inside rs port octets (length output))
+  one-call seat (own (takes port)) l =
+      let none = grants-none port (takeOutcome (relayIn seat) port) in
+      omega (arith, taken-closes (relayIn seat) port l, none .0, none .1)
+  one-call seat (own (looks x)) l = stays-closed seat _ refl
 
-  fresh-none : queueIn freshRelay p .count ≡ 0
-  unfolding freshRelay freshQueue
+  all-calls : (cs : List Call) (seat : Seat) → Eight (relayIn seat)
+      → queueIn (relayIn seat) p .count + sumFrom (granted p) seat cs
+      ≡ sumFrom (handedOut p) seat cs + (queueIn (relayIn (runFrom seat cs)) p .count + sumFrom (dropped p) seat cs)
+  all-calls [] seat l = omega arith
+  all-calls (c ∷ cs) seat l = omega (arith, one-call seat c l, all-calls cs (next seat c) (next-eight seat c l))
+
+  fresh-none : queueAt freshMission p .count ≡ 0
+  unfolding freshMission freshQueue
   fresh-none = ap (λ (q : Queue). q .count) (getD-replicate {A = Queue} 8 p freshQueue freshQueue inside)
 
-  -- Copies granted to port p over the history = handed out there + waiting there now + dropped there.
-  pub ledger : (cs : List Call)
-      → sumOver (granted p) cs ≡ sumOver (handedOut p) cs + (queueIn (relayAfter cs) p .count + sumOver (dropped p) cs)
-  ledger cs = omega (arith, all-calls cs freshRelay fresh-eight, fresh-none)
+  -- Copies granted to port p over the history of mission m = handed out there + waiting there now + dropped there.
+  pub ledger : (m : ℕ) (cs : List Call)
+      → sumOver (granted p) m cs ≡ sumOver (handedOut p) m cs + (queueAt (seatAfter m cs .mission) p .count + sumOver (dropped p) m cs)
+  ledger m cs = omega (arith, all-calls cs (freshSeat m) (fresh-eight m), fresh-none)

@@ -1,13 +1,15 @@
--- Laws over histories. To be read, each by itself with the definitions it cites: Counters and Sums (every counter; in the customer's words), Ledger,
--- Line, Takes and Foretold (the copies of a port: their ledger, which wait, which is handed out, and at which take), Domain and Meaning (what a copy
--- names where it goes out), Reach, Keys, Ranges and Holds (the settings), Search and SearchBack (the route that an address takes, and as C reads it),
--- Answered and Listed (each answer is one that the page lists), Refusals and Transport (what a refusal leaves; the TP-ID alone).
--- The others serve these.
+-- Laws over histories of one mission. To be read, each by itself with the definitions it cites: Counters and Sums (every counter; in the customer's words),
+-- Ledger, Line, Takes and Foretold (the copies of a port: their ledger, which wait, which is handed out, and at which take), Domain and Meaning (what a copy
+-- names where it goes out), Ports (the board is the operator's, and a port is written once), Reach, Keys, Ranges and Holds (the settings), Search and
+-- SearchBack (the route that an address takes, and as C reads it), Answered and Listed (each answer is one that the page lists), Refusals and Transport
+-- (what a refusal leaves; the TP-ID alone), Marked, WrongRelays and Wrong (the marked cases, and what is shut out). The others serve these.
 pub mod Settled
+pub mod Heard
 pub mod Fair
 pub mod Queues
 pub mod Ledger
 pub mod Counters
+pub mod Ports
 pub mod Reach
 pub mod Keys
 pub mod Holds
@@ -21,9 +23,9 @@ pub mod Untaken
 pub mod Line
 pub mod Takes
 pub mod Foretold
+pub mod Ranges
 pub mod Meaning
 pub mod Domain
-pub mod Ranges
 pub mod Search
 pub mod SearchBack
 pub mod Onward

@@ -24,13 +24,16 @@ use Rattle.queue.specs.declared.Head.the-variants.{First, Nothing}
 use Rattle.queue.specs.declared.Queue.{Queue}
 use Rattle.queue.proofs.Each.{each-so, each-append, order-append, order-without}
 use Rattle.queue.proofs.Waits.{EachOf, chosen-each, chosen-asked, waits-fresh, waits-count, waits-put, waits-take, waits-nothing}
-use Rattle.state.specs.Relay.{Relay, freshRelay, queueIn, portSetUp}
+use Rattle.routes.specs.declared.Record.{Record}
+use Rattle.address.specs.declared.Slot.{Slot}
+use Rattle.state.specs.Relay.{Relay, queueAt, queueIn, portSetUp}
+use Rattle.state.specs.Seen.{freshMission}
 use Rattle.taking.specs.Taking.{handsOut, without, takeOutcome, takenRelay}
 use Rattle.taking.specs.declared.Taking.the-variants.{Refused}
-use Rattle.judge.specs.Ending.{endingOf}
 use Rattle.relay.specs.Received.{receivedRelay}
-use Rattle.history.specs.Calls.{Call, sets, hears, takes, looks, settle}
-use Rattle.history.specs.Outcome.{Out, nothing, from, ofTaking, outcome, next, runFrom, relayAfter}
+use Rattle.history.specs.Seat.{Seat, freshSeat, relayIn, heardBy}
+use Rattle.history.specs.Calls.{orders, views, sets, hears, takes, looks, Call, operator, own, settle}
+use Rattle.history.specs.Outcome.{Out, nothing, from, ofTaking, outcome, next, runFrom, seatAfter}
 use Rattle.history.specs.Line.{Copy, entryOf, copyOf, takenBy, handedBy, leftBy, lineBy, lineFrom, takenFrom, handedFrom, lineAt, takenAt, handedAt, times, InTurn}
 use Rattle.history.proofs.Fair.{fair}
 use Rattle.history.proofs.Queues.{Eight, entered-queue}
@@ -43,11 +46,11 @@ left-each p P (from q e) line nobody all h = all
 left-each p P (from q e) line (one x others) all h = either (Each P) (eqb q p) (h .1) all
 
 -- what holds of each that waits and of each that a call places holds of each that waits after the call
-pub line-each : (p : ℕ) (P : Copy → Type 0) (n : ℕ) (r : Relay) (c : Call) (line : List Copy) → Each P line → Each P (takenBy p n r c) → Each P (lineBy p n r c line)
-line-each p P n r c line all come =
+pub line-each : (p : ℕ) (P : Copy → Type 0) (n : ℕ) (seat : Seat) (c : Call) (line : List Copy) → Each P line → Each P (takenBy p n seat c) → Each P (lineBy p n seat c line)
+line-each p P n seat c line all come =
     let x = chosen (rankBy entryOf) line in
-    each-append P (leftBy p (outcome r c .out) line x) (takenBy p n r c)
-    (left-each p P (outcome r c .out) line x all (chosen-each (rankBy entryOf) P line all)) come
+    each-append P (leftBy p (outcome seat c .out) line x) (takenBy p n seat c)
+    (left-each p P (outcome seat c .out) line x all (chosen-each (rankBy entryOf) P line all)) come
 
 module _ (p : ℕ) (inside : p < 8) where
   abbrev Held : Relay → List Copy → Type 0
@@ -64,14 +67,16 @@ module _ (p : ℕ) (inside : p < 8) where
       waits-put entryOf w c (rw (sym (waits-count entryOf w)) (ltb-true (queueIn r p .count) 32 (room refl)))
   put-case false r line c w room = rw (append-nil line) w
 
-  heard-waits : (r : Relay) (n port : ℕ) (slot : _) (octets output line : _) → Eight r → Held r line
-      → Held (next r (hears port slot octets output)) (lineBy p n r (hears port slot octets output) line)
+  heard-waits : (seat : Seat) (n : ℕ) (rs : List Record) (port : ℕ) (slot : Slot) (octets output : List ℕ) (line : List Copy)
+      → Eight (relayIn seat) → Held (relayIn seat) line
+      → Held (relayIn (next seat (own (hears rs port slot octets output)))) (lineBy p n seat (own (hears rs port slot octets output)) line)
   unfolding receivedRelay
-  heard-waits r n port slot octets output line l w =
-      let e = endingOf r port octets (length output) in
-      let c = copyOf n r port slot octets e in
+  heard-waits seat n rs port slot octets output line l w =
+      let r = relayIn seat in
+      let e = heardBy seat rs port octets (length output) in
+      let c = copyOf n seat port slot octets e in
       rw (entered-queue p inside (e .ruling .took) (entryOf c) 8 r l inside)
-      (put-case (inSet p (e .ruling .took)) r line c w (fair r p inside port octets (length output) .room))
+      (put-case (inSet p (e .ruling .took)) r line c w (fair seat p inside rs port octets (length output) .room))
 
   -- ---- a take
   take-case : (r : Relay) (n port : ℕ) (line : List Copy) → Eight r → Held r line
@@ -97,33 +102,39 @@ module _ (p : ℕ) (inside : p < 8) where
       rw (z, left) (waits-take entryOf w y others is .1)
 
   taken-waits : (r : Relay) (n port : ℕ) (line : List Copy) → Eight r → Held r line
-      → Held (takenRelay r port) (leftBy p (outcome r (takes port) .out) line (chosen (rankBy entryOf) line))
+      → Held (takenRelay r port) (leftBy p (ofTaking port (takeOutcome r port) .out) line (chosen (rankBy entryOf) line))
   unfolding takeOutcome takenRelay
   taken-waits r n port line l w =
       take-case r n port line l w (not (portSetUp r port)) (takeOf (queueIn r port) .head) refl (eqb port p) refl (chosen (rankBy entryOf) line) refl
 
   -- ---- each call, and then all
-  pub next-waits : (r : Relay) (n : ℕ) (c : Call) (line : List Copy) → Eight r → Held r line → Held (next r c) (lineBy p n r c line)
-  next-waits r n (sets s) line l w = stays r (settle r s) line (ap (λ (x : List Queue). getD x p freshQueue) (settle-queues r s)) w
-  next-waits r n (hears port slot octets output) line l w = heard-waits r n port slot octets output line l w
-  next-waits r n (takes port) line l w =
-      rw (append-nil (leftBy p (outcome r (takes port) .out) line (chosen (rankBy entryOf) line))) (taken-waits r n port line l w)
-  next-waits r n (looks x) line l w = stays r r line refl w
+  pub next-waits : (seat : Seat) (n : ℕ) (c : Call) (line : List Copy) → Eight (relayIn seat) → Held (relayIn seat) line
+      → Held (relayIn (next seat c)) (lineBy p n seat c line)
+  next-waits seat n (operator (orders o)) line l w = stays (relayIn seat) (relayIn (next seat (operator (orders o)))) line refl w
+  next-waits seat n (operator (views v)) line l w = stays (relayIn seat) (relayIn seat) line refl w
+  next-waits seat n (own (sets s)) line l w =
+      stays (relayIn seat) (settle (relayIn seat) s) line (ap (λ (x : List Queue). getD x p freshQueue) (settle-queues (relayIn seat) s)) w
+  next-waits seat n (own (hears rs port slot octets output)) line l w = heard-waits seat n rs port slot octets output line l w
+  next-waits seat n (own (takes port)) line l w =
+      rw (append-nil (leftBy p (ofTaking port (takeOutcome (relayIn seat) port) .out) line (chosen (rankBy entryOf) line)))
+      (taken-waits (relayIn seat) n port line l w)
+  next-waits seat n (own (looks x)) line l w = stays (relayIn seat) (relayIn seat) line refl w
 
-  all-wait : (cs : List Call) (n : ℕ) (r : Relay) (line : List Copy) → Eight r → Held r line → Held (runFrom r cs) (lineFrom p n r line cs)
-  all-wait [] n r line l w = w
-  all-wait (c ∷ cs) n r line l w = all-wait cs (suc n) (next r c) (lineBy p n r c line) (next-eight r c l) (next-waits r n c line l w)
+  all-wait : (cs : List Call) (n : ℕ) (seat : Seat) (line : List Copy) → Eight (relayIn seat) → Held (relayIn seat) line
+      → Held (relayIn (runFrom seat cs)) (lineFrom p n seat line cs)
+  all-wait [] n seat line l w = w
+  all-wait (c ∷ cs) n seat line l w = all-wait cs (suc n) (next seat c) (lineBy p n seat c line) (next-eight seat c l) (next-waits seat n c line l w)
 
-  fresh-queue : queueIn freshRelay p ≡ freshQueue
-  unfolding freshRelay
+  fresh-queue : queueAt freshMission p ≡ freshQueue
+  unfolding freshMission
   fresh-queue = getD-replicate {A = Queue} 8 p freshQueue freshQueue inside
 
-  pub fresh-waits : Waits entryOf (queueIn freshRelay p) []
+  pub fresh-waits : Waits entryOf (queueAt freshMission p) []
   fresh-waits = rw fresh-queue (waits-fresh entryOf)
 
-  -- After any history the queue of port p holds the copies that wait there, in the order in which they go out.
-  pub queue-waits : (cs : List Call) → Waits entryOf (queueIn (relayAfter cs) p) (lineAt p cs)
-  queue-waits cs = all-wait cs 0 freshRelay [] fresh-eight fresh-waits
+  -- After any history of mission m the queue of port p holds the copies that wait there, in the order in which they go out.
+  pub queue-waits : (m : ℕ) (cs : List Call) → Waits entryOf (queueAt (seatAfter m cs .mission) p) (lineAt p m cs)
+  queue-waits m cs = all-wait cs 0 (freshSeat m) [] (fresh-eight m) fresh-waits
 
 -- ---- what waits is what was taken and not yet handed out
 module _ (test : Copy → Bool) where
@@ -148,29 +159,29 @@ module _ (test : Copy → Bool) where
         split true = chosen-many line x others (rw is at (chosen-asked (rankBy entryOf) line))
         split false = omega arith
 
-    all-many : (cs : List Call) (k : ℕ) (r : Relay) (line : List Copy)
-        → many line + many (takenFrom p k r cs) ≡ many (handedFrom p k r line cs) + many (lineFrom p k r line cs)
-    all-many [] k r line = omega arith
-    all-many (c ∷ cs) k r line =
-        let o = outcome r c .out in
+    all-many : (cs : List Call) (k : ℕ) (seat : Seat) (line : List Copy)
+        → many line + many (takenFrom p k seat cs) ≡ many (handedFrom p k seat line cs) + many (lineFrom p k seat line cs)
+    all-many [] k seat line = omega arith
+    all-many (c ∷ cs) k seat line =
+        let o = outcome seat c .out in
         let x = chosen (rankBy entryOf) line in
         omega (
           arith,
           out-case line o x refl,
-          many-append test (leftBy p o line x) (takenBy p k r c),
-          many-append test (takenBy p k r c) (takenFrom p (suc k) (next r c) cs),
-          many-append test (handedBy p o x) (handedFrom p (suc k) (next r c) (lineBy p k r c line) cs),
-          all-many cs (suc k) (next r c) (lineBy p k r c line),
+          many-append test (leftBy p o line x) (takenBy p k seat c),
+          many-append test (takenBy p k seat c) (takenFrom p (suc k) (next seat c) cs),
+          many-append test (handedBy p o x) (handedFrom p (suc k) (next seat c) (lineBy p k seat c line) cs),
+          all-many cs (suc k) (next seat c) (lineBy p k seat c line),
         )
 
 -- Of whatever copies, as many were taken as were handed out and wait now.
-pub out-or-waiting : (p : ℕ) (test : Copy → Bool) (cs : List Call)
-    → howMany test (takenAt p cs) ≡ howMany test (handedAt p cs) + howMany test (lineAt p cs)
-out-or-waiting p test cs = omega (arith, all-many test p cs 0 freshRelay [])
+pub out-or-waiting : (p : ℕ) (test : Copy → Bool) (m : ℕ) (cs : List Call)
+    → howMany test (takenAt p m cs) ≡ howMany test (handedAt p m cs) + howMany test (lineAt p m cs)
+out-or-waiting p test m cs = omega (arith, all-many test p cs 0 (freshSeat m) [])
 
 module _ (p n : ℕ) where
   -- So the copy that a call placed was taken as often as it was handed out and waits now.
-  pub taken-out-or-waiting : (cs : List Call) → times n (takenAt p cs) ≡ times n (handedAt p cs) + times n (lineAt p cs)
+  pub taken-out-or-waiting : (m : ℕ) (cs : List Call) → times n (takenAt p m cs) ≡ times n (handedAt p m cs) + times n (lineAt p m cs)
   taken-out-or-waiting = out-or-waiting p (λ (c : Copy). eqb (c .turn) n)
 
 -- ---- the order of entering
@@ -185,63 +196,65 @@ in-turn-both n l r first low then high =
 
 module _ (p : ℕ) where
   -- each copy has the turn of the call that placed it
-  pub taken-turn : (n : ℕ) (r : Relay) (c : Call) → Each (λ (y : Copy). y .turn ≡ n) (takenBy p n r c)
-  taken-turn n r (sets s) = tt
-  taken-turn n r (hears port slot octets output) =
-      either (Each (λ (y : Copy). y .turn ≡ n)) (inSet p (endingOf r port octets (length output) .ruling .took)) (refl, tt) tt
-  taken-turn n r (takes port) = tt
-  taken-turn n r (looks l) = tt
+  pub taken-turn : (n : ℕ) (seat : Seat) (c : Call) → Each (λ (y : Copy). y .turn ≡ n) (takenBy p n seat c)
+  taken-turn n seat (operator c) = tt
+  taken-turn n seat (own (sets s)) = tt
+  taken-turn n seat (own (hears rs port slot octets output)) =
+      either (Each (λ (y : Copy). y .turn ≡ n)) (inSet p (heardBy seat rs port octets (length output) .ruling .took)) (refl, tt) tt
+  taken-turn n seat (own (takes port)) = tt
+  taken-turn n seat (own (looks l)) = tt
 
-  by-in-turn : (n : ℕ) (r : Relay) (c : Call) → InTurn (takenBy p n r c)
-  by-in-turn n r (sets s) = tt
-  by-in-turn n r (hears port slot octets output) =
-      either InTurn (inSet p (endingOf r port octets (length output) .ruling .took)) (tt, tt) tt
-  by-in-turn n r (takes port) = tt
-  by-in-turn n r (looks l) = tt
+  by-in-turn : (n : ℕ) (seat : Seat) (c : Call) → InTurn (takenBy p n seat c)
+  by-in-turn n seat (operator c) = tt
+  by-in-turn n seat (own (sets s)) = tt
+  by-in-turn n seat (own (hears rs port slot octets output)) =
+      either InTurn (inSet p (heardBy seat rs port octets (length output) .ruling .took)) (tt, tt) tt
+  by-in-turn n seat (own (takes port)) = tt
+  by-in-turn n seat (own (looks l)) = tt
 
   -- ---- all that were taken: those that are taken from now on have no earlier turn
-  pub taken-later : (cs : List Call) (n : ℕ) (r : Relay) → Each (λ (y : Copy). n ≤ y .turn) (takenFrom p n r cs)
-  taken-later [] n r = tt
-  taken-later (c ∷ cs) n r =
-      each-append _ (takenBy p n r c) _
-      (each-so (takenBy p n r c) (λ y same. omega arith) (taken-turn n r c))
-      (each-so (takenFrom p (suc n) (next r c) cs) (λ y h. omega arith) (taken-later cs (suc n) (next r c)))
+  pub taken-later : (cs : List Call) (n : ℕ) (seat : Seat) → Each (λ (y : Copy). n ≤ y .turn) (takenFrom p n seat cs)
+  taken-later [] n seat = tt
+  taken-later (c ∷ cs) n seat =
+      each-append _ (takenBy p n seat c) _
+      (each-so (takenBy p n seat c) (λ y same. omega arith) (taken-turn n seat c))
+      (each-so (takenFrom p (suc n) (next seat c) cs) (λ y h. omega arith) (taken-later cs (suc n) (next seat c)))
 
-  taken-earlier : (cs : List Call) (n : ℕ) (r : Relay) → Each (λ (y : Copy). y .turn < n + length cs) (takenFrom p n r cs)
-  taken-earlier [] n r = tt
-  taken-earlier (c ∷ cs) n r =
-      each-append _ (takenBy p n r c) _
-      (each-so (takenBy p n r c) (λ y same. omega arith) (taken-turn n r c))
-      (each-so (takenFrom p (suc n) (next r c) cs) (λ y h. omega arith) (taken-earlier cs (suc n) (next r c)))
+  taken-earlier : (cs : List Call) (n : ℕ) (seat : Seat) → Each (λ (y : Copy). y .turn < n + length cs) (takenFrom p n seat cs)
+  taken-earlier [] n seat = tt
+  taken-earlier (c ∷ cs) n seat =
+      each-append _ (takenBy p n seat c) _
+      (each-so (takenBy p n seat c) (λ y same. omega arith) (taken-turn n seat c))
+      (each-so (takenFrom p (suc n) (next seat c) cs) (λ y h. omega arith) (taken-earlier cs (suc n) (next seat c)))
 
-  taken-from-in-turn : (cs : List Call) (n : ℕ) (r : Relay) → InTurn (takenFrom p n r cs)
-  taken-from-in-turn [] n r = tt
-  taken-from-in-turn (c ∷ cs) n r =
-      in-turn-both (suc n) (takenBy p n r c) (takenFrom p (suc n) (next r c) cs)
-      (by-in-turn n r c) (each-so (takenBy p n r c) (λ y same. omega arith) (taken-turn n r c))
-      (taken-from-in-turn cs (suc n) (next r c)) (taken-later cs (suc n) (next r c))
+  taken-from-in-turn : (cs : List Call) (n : ℕ) (seat : Seat) → InTurn (takenFrom p n seat cs)
+  taken-from-in-turn [] n seat = tt
+  taken-from-in-turn (c ∷ cs) n seat =
+      in-turn-both (suc n) (takenBy p n seat c) (takenFrom p (suc n) (next seat c) cs)
+      (by-in-turn n seat c) (each-so (takenBy p n seat c) (λ y same. omega arith) (taken-turn n seat c))
+      (taken-from-in-turn cs (suc n) (next seat c)) (taken-later cs (suc n) (next seat c))
 
   -- The copies taken stand in the order in which the calls placed them, and each has the number of a call of the history.
-  pub taken-in-turn : (cs : List Call) → InTurn (takenAt p cs)
-  taken-in-turn cs = taken-from-in-turn cs 0 freshRelay
+  pub taken-in-turn : (m : ℕ) (cs : List Call) → InTurn (takenAt p m cs)
+  taken-in-turn m cs = taken-from-in-turn cs 0 (freshSeat m)
 
-  pub taken-turns : (cs : List Call) → Each (λ (c : Copy). c .turn < length cs) (takenAt p cs)
-  taken-turns cs = each-so (takenAt p cs) (λ y h. omega arith) (taken-earlier cs 0 freshRelay)
+  pub taken-turns : (m : ℕ) (cs : List Call) → Each (λ (c : Copy). c .turn < length cs) (takenAt p m cs)
+  taken-turns m cs = each-so (takenAt p m cs) (λ y h. omega arith) (taken-earlier cs 0 (freshSeat m))
 
   -- ---- those that wait: they have an earlier turn than the next call
-  by-earlier : (n : ℕ) (r : Relay) (c : Call) (line : List Copy) → Each (λ (y : Copy). y .turn < n) line
-      → Each (λ (y : Copy). y .turn < suc n) (lineBy p n r c line)
-  by-earlier n r c line all =
-      line-each p (λ (y : Copy). y .turn < suc n) n r c line
+  by-earlier : (n : ℕ) (seat : Seat) (c : Call) (line : List Copy) → Each (λ (y : Copy). y .turn < n) line
+      → Each (λ (y : Copy). y .turn < suc n) (lineBy p n seat c line)
+  by-earlier n seat c line all =
+      line-each p (λ (y : Copy). y .turn < suc n) n seat c line
       (each-so line (λ y h. omega arith) all)
-      (each-so (takenBy p n r c) (λ y same. omega arith) (taken-turn n r c))
+      (each-so (takenBy p n seat c) (λ y same. omega arith) (taken-turn n seat c))
 
-  line-earlier : (cs : List Call) (n : ℕ) (r : Relay) (line : List Copy) → Each (λ (y : Copy). y .turn < n) line
-      → Each (λ (y : Copy). y .turn < n + length cs) (lineFrom p n r line cs)
-  line-earlier [] n r line all = each-so line (λ y h. omega arith) all
-  line-earlier (c ∷ cs) n r line all =
-      each-so (lineFrom p n r line (c ∷ cs)) (λ y h. omega arith)
-      (line-earlier cs (suc n) (next r c) (lineBy p n r c line) (by-earlier n r c line all))
+  line-earlier : (cs : List Call) (n : ℕ) (seat : Seat) (line : List Copy) → Each (λ (y : Copy). y .turn < n) line
+      → Each (λ (y : Copy). y .turn < n + length cs) (lineFrom p n seat line cs)
+  line-earlier [] n seat line all = each-so line (λ y h. omega arith) all
+  line-earlier (c ∷ cs) n seat line all =
+      each-so (lineFrom p n seat line (c ∷ cs)) (λ y h. omega arith)
+      (line-earlier cs (suc n) (next seat c) (lineBy p n seat c line) (by-earlier n seat c line all))
 
   left-in-turn : (o : Out) (line : List Copy) (c : Chosen Copy) → chosen (rankBy entryOf) line ≡ c → InTurn line → InTurn (leftBy p o line c)
   left-in-turn nothing line c is h = h
@@ -251,20 +264,20 @@ module _ (p : ℕ) where
       let were : InTurn (taken .before ++ x ∷ taken .after) = subst InTurn (taken .was) h in
       either InTurn (eqb q p) (subst InTurn (sym (taken .leaves)) (order-without Before (taken .before) x (taken .after) were)) h
 
-  line-from-in-turn : (cs : List Call) (n : ℕ) (r : Relay) (line : List Copy) → Each (λ (y : Copy). y .turn < n) line → InTurn line
-      → InTurn (lineFrom p n r line cs)
-  line-from-in-turn [] n r line all h = h
-  line-from-in-turn (c ∷ cs) n r line all h =
+  line-from-in-turn : (cs : List Call) (n : ℕ) (seat : Seat) (line : List Copy) → Each (λ (y : Copy). y .turn < n) line → InTurn line
+      → InTurn (lineFrom p n seat line cs)
+  line-from-in-turn [] n seat line all h = h
+  line-from-in-turn (c ∷ cs) n seat line all h =
       let x = chosen (rankBy entryOf) line in
-      let o = outcome r c .out in
-      line-from-in-turn cs (suc n) (next r c) (lineBy p n r c line) (by-earlier n r c line all)
-      (in-turn-both n (leftBy p o line x) (takenBy p n r c)
+      let o = outcome seat c .out in
+      line-from-in-turn cs (suc n) (next seat c) (lineBy p n seat c line) (by-earlier n seat c line all)
+      (in-turn-both n (leftBy p o line x) (takenBy p n seat c)
       (left-in-turn o line x refl h) (left-each p _ o line x all (chosen-each (rankBy entryOf) _ line all))
-      (by-in-turn n r c) (each-so (takenBy p n r c) (λ y same. omega arith) (taken-turn n r c)))
+      (by-in-turn n seat c) (each-so (takenBy p n seat c) (λ y same. omega arith) (taken-turn n seat c)))
 
   -- After any history the line stands in the order in which the calls placed its copies, and each has the number of a call of the history.
-  pub line-in-turn : (cs : List Call) → InTurn (lineAt p cs)
-  line-in-turn cs = line-from-in-turn cs 0 freshRelay [] tt tt
+  pub line-in-turn : (m : ℕ) (cs : List Call) → InTurn (lineAt p m cs)
+  line-in-turn m cs = line-from-in-turn cs 0 (freshSeat m) [] tt tt
 
-  pub line-turns : (cs : List Call) → Each (λ (c : Copy). c .turn < length cs) (lineAt p cs)
-  line-turns cs = each-so (lineAt p cs) (λ y h. omega arith) (line-earlier cs 0 freshRelay [] tt)
+  pub line-turns : (m : ℕ) (cs : List Call) → Each (λ (c : Copy). c .turn < length cs) (lineAt p m cs)
+  line-turns m cs = each-so (lineAt p m cs) (λ y h. omega arith) (line-earlier cs 0 (freshSeat m) [] tt)

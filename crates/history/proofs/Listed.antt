@@ -56,16 +56,34 @@ use Rattle.taking.specs.Taking.{handsOut, takeOutcome}
 use Rattle.judge.specs.Ending.{noRuling, refusedBy, ruledEnding, callChecks, headerEnding, octetsEnding, arrivalAt, endingOf}
 use Rattle.judge.specs.declared.Ending.{Ending}
 use Rattle.taking.specs.declared.Taking.the-variants as taking
-use Rattle.refusals.specs.Lists.{portChecks, routeChecks, groupChecks, pathChecks, routerChecks, clearChecks}
-use Rattle.adjust.specs.Settled.{newRoute}
-use Rattle.history.specs.Calls.{Setting, setRouter, setPort, setRoute, setGroup, setPath, clearRoute, clearGroup, clearPath, takes, checksOf}
-use Rattle.history.specs.Outcome.{number, ended, ofEnding, ofTaking, outcome}
-use Rattle.history.specs.Answers.{numbers, entries, settingNumbers, endingRows, answersOf, listed, stands}
+use Rattle.routes.specs.declared.Record.{Record}
+use Rattle.state.specs.Seen.{Board}
+use Rattle.refusals.specs.Lists.{portChecks, routeChecks, clearRouteChecks, groupChecks, pathChecks, routerChecks, clearChecks}
+use Rattle.adjust.specs.Settled.{newRecord}
+use Rattle.history.specs.Seat.{Seat, relayIn, relayWith, heardBy}
+use Rattle.history.specs.Calls.{
+  Order,
+  setRouter,
+  setPort,
+  setRoute,
+  clearRoute,
+  Setting,
+  setGroup,
+  setPath,
+  clearGroup,
+  clearPath,
+  takes,
+  orderChecks,
+  checksOf,
+}
+use Rattle.history.specs.Outcome.{number, ended, ofEnding, ofTaking, ownOutcome}
+use Rattle.history.specs.Answers.{numbers, entries, orderNumbers, settingNumbers, endingRows, ownRows, listed, stands}
+use Rattle.history.proofs.Heard.{heard-so}
 use Rattle.history.proofs.Refusals.{refused-grants-nothing}
 
 -- ---- the lists of a receive
 abbrev refusals : List ℕ
-refusals = 16 ∷ 17 ∷ 1 ∷ 2 ∷ 4 ∷ 3 ∷ 5 ∷ 8 ∷ 7 ∷ 6 ∷ []
+refusals = 21 ∷ 16 ∷ 17 ∷ 1 ∷ 2 ∷ 4 ∷ 3 ∷ 5 ∷ 8 ∷ 7 ∷ 6 ∷ []
 
 -- 0 where the datagram was judged
 abbrev pub endNumbers : List ℕ
@@ -105,11 +123,14 @@ octets-listed r at s =
     let n = firstOf (readChecks s) in
     read-case r at (eqb n 0) n (headerOf s) (first-listed endNumbers (readChecks s) refl refl)
 
-pub end-listed : (r : Relay) (port : ℕ) (octets : List ℕ) (room : ℕ) → EndListed (endingOf r port octets room)
+page-end-listed : (r : Relay) (port : ℕ) (octets : List ℕ) (room : ℕ) → EndListed (endingOf r port octets room)
 unfolding endingOf callChecks
-end-listed r port octets room =
+page-end-listed r port octets room =
     let n = firstOf (callChecks r port room) in
     either EndListed (eqb n 0) (octets-listed r (arrivalAt r port) octets) (first-listed endNumbers (callChecks r port room) refl refl)
+
+pub end-listed : (seat : Seat) (rs : List Record) (port : ℕ) (octets : List ℕ) (room : ℕ) → EndListed (heardBy seat rs port octets room)
+end-listed seat rs port octets room = heard-so seat rs port octets room EndListed refl (page-end-listed (relayWith seat rs) port octets room)
 
 -- ---- the local half
 abbrev isNo : Local → Bool
@@ -351,11 +372,14 @@ ended-case r port octets room false z =
     let e = endingOf r port octets room in
     let none = refused-grants-nothing r port octets room (eqb-false (e .refusal) 0 z) in
     ap (λ (x : Ruling). stands endingRows (ended (e .refusal) (localNumber (x .local)) (onwardNumber (x .onward)) (x .took))) none
-    ∙ refused-row (e .refusal) z (end-listed r port octets room)
+    ∙ refused-row (e .refusal) z (page-end-listed r port octets room)
 
 -- Every ending stands in the table's rows of a receive.
-pub every-ending-is-listed : (r : Relay) (port : ℕ) (octets : List ℕ) (room : ℕ) → stands endingRows (ofEnding (endingOf r port octets room) .answer) ≡ true
-every-ending-is-listed r port octets room = ended-case r port octets room _ refl
+pub every-ending-is-listed : (seat : Seat) (rs : List Record) (port : ℕ) (octets : List ℕ) (room : ℕ)
+    → stands endingRows (ofEnding (heardBy seat rs port octets room) .answer) ≡ true
+every-ending-is-listed seat rs port octets room =
+    heard-so seat rs port octets room (λ (e : Ending). stands endingRows (ofEnding e .answer) ≡ true) refl
+    (ended-case (relayWith seat rs) port octets room _ refl)
 
 -- 12 is given nowhere: it ends no call, and is no onward half (page 02, W-204).
 unended : (e : Ending) → stands endingRows (ofEnding e .answer) ≡ true → e .refusal ≡ 12 → ⊥
@@ -366,11 +390,11 @@ onward-not-twelve onward.NotAsked = refl
 onward-not-twelve onward.SentOn = refl
 onward-not-twelve (onward.Refused o) = each-obstacle (λ (n : ℕ). eqb n 12 ≡ false) (refl, (refl, (refl, (refl, (refl, refl))))) o
 
-pub never-twelve : (r : Relay) (port : ℕ) (octets : List ℕ) (room : ℕ)
-    → (endingOf r port octets room .refusal ≡ 12 → ⊥) × (onwardNumber (endingOf r port octets room .ruling .onward) ≡ 12 → ⊥)
-never-twelve r port octets room =
-    let e = endingOf r port octets room in (
-      unended e (every-ending-is-listed r port octets room),
+pub never-twelve : (seat : Seat) (rs : List Record) (port : ℕ) (octets : List ℕ) (room : ℕ)
+    → (heardBy seat rs port octets room .refusal ≡ 12 → ⊥) × (onwardNumber (heardBy seat rs port octets room .ruling .onward) ≡ 12 → ⊥)
+never-twelve seat rs port octets room =
+    let e = heardBy seat rs port octets room in (
+      unended e (every-ending-is-listed seat rs port octets room),
       eqb-false (onwardNumber (e .ruling .onward)) 12 (onward-not-twelve (e .ruling .onward)),
     )
 
@@ -384,28 +408,34 @@ taken-case port false Nothing = refl
 pub number-row : (ns : List ℕ) (cs : Checks) → listed ns 0 ≡ true → allListed ns cs ≡ true → stands (numbers ns ∷ []) (number (firstOf cs)) ≡ true
 number-row ns cs z h = rw (first-listed ns cs z h) refl
 
+pub order-listed : (b : Board) (o : Order) → stands (numbers (orderNumbers o) ∷ []) (number (firstOf (orderChecks b o))) ≡ true
+order-listed b (setRouter x) = number-row (0 ∷ 24 ∷ []) (routerChecks x) refl refl
+order-listed b (setPort p address mask mtu mission) =
+    number-row (0 ∷ 21 ∷ 25 ∷ 22 ∷ 24 ∷ 35 ∷ []) (portChecks b p address mask mtu mission) refl refl
+order-listed b (setRoute rs i prefix mask port availability capabilities mission) =
+    number-row (0 ∷ 21 ∷ 22 ∷ 24 ∷ 23 ∷ []) (routeChecks b rs i (newRecord prefix mask port availability capabilities mission)) refl refl
+order-listed b (clearRoute rs i) = number-row (0 ∷ 21 ∷ []) (clearRouteChecks rs i) refl refl
+
 pub setting-listed : (r : Relay) (s : Setting) → stands (numbers (settingNumbers s) ∷ []) (number (firstOf (checksOf r s))) ≡ true
-setting-listed r (setRouter x) = number-row (0 ∷ 24 ∷ []) (routerChecks x) refl refl
-setting-listed r (setPort p address mask mtu) = number-row (0 ∷ 21 ∷ 25 ∷ 22 ∷ 24 ∷ 35 ∷ []) (portChecks r p address mask mtu) refl refl
-setting-listed r (setRoute i prefix mask port availability capabilities) =
-    number-row (0 ∷ 21 ∷ 22 ∷ 24 ∷ 23 ∷ []) (routeChecks r i (newRoute prefix mask port availability capabilities)) refl refl
 setting-listed r (setGroup i address send subscribed) = number-row (0 ∷ 21 ∷ 25 ∷ 23 ∷ []) (groupChecks r i address send subscribed) refl refl
 setting-listed r (setPath i path send here) = number-row (0 ∷ 21 ∷ 25 ∷ 24 ∷ 23 ∷ []) (pathChecks r i path send here) refl refl
-setting-listed r (clearRoute i) = number-row (0 ∷ 21 ∷ []) (clearChecks i 64) refl refl
 setting-listed r (clearGroup i) = number-row (0 ∷ 21 ∷ []) (clearChecks i 16) refl refl
 setting-listed r (clearPath i) = number-row (0 ∷ 21 ∷ []) (clearChecks i 16) refl refl
 
-pub taking-listed : (r : Relay) (port : ℕ) → stands (answersOf (takes port)) (outcome r (takes port) .answer) ≡ true
+pub taking-listed : (seat : Seat) (port : ℕ) → stands (ownRows (takes port)) (ownOutcome seat (takes port) .answer) ≡ true
 unfolding takeOutcome
-taking-listed r port = taken-case port (not (portSetUp r port)) (takeOf (queueIn r port) .head)
+taking-listed seat port = taken-case port (not (portSetUp (relayIn seat) port)) (takeOf (queueIn (relayIn seat) port) .head)
 
 -- "No" with "not asked" never occurs: no row has it.
 unsaid : (x : Ruling) → Judged x → x .local ≡ No → x .onward ≡ onward.NotAsked → ⊥
 unsaid x h z o = true-false (sym h ∙ rw (z, o))
 
-pub never-unsaid : (r : Relay) (port : ℕ) (octets : List ℕ) (room : ℕ)
-    → endingOf r port octets room .refusal ≡ 0
-    → endingOf r port octets room .ruling .local ≡ No
-    → endingOf r port octets room .ruling .onward ≡ onward.NotAsked
+pub never-unsaid : (seat : Seat) (rs : List Record) (port : ℕ) (octets : List ℕ) (room : ℕ)
+    → heardBy seat rs port octets room .refusal ≡ 0
+    → heardBy seat rs port octets room .ruling .local ≡ No
+    → heardBy seat rs port octets room .ruling .onward ≡ onward.NotAsked
     → ⊥
-never-unsaid r port octets room h = unsaid (endingOf r port octets room .ruling) (judged-ending r port octets room h)
+never-unsaid seat rs port octets room =
+    heard-so seat rs port octets room (λ (e : Ending). e .refusal ≡ 0 → e .ruling .local ≡ No → e .ruling .onward ≡ onward.NotAsked → ⊥)
+    (λ z l o. eqb-false 21 0 refl z)
+    (λ z. unsaid (endingOf (relayWith seat rs) port octets room .ruling) (judged-ending (relayWith seat rs) port octets room z))

@@ -1,4 +1,6 @@
 -- Page 01's marked cases a to l, together: the one statement over the table of specs/Marked.antt. Assumes nothing.
+use native.Mathlib.Omega.{arith}
+use Prim.Native.Nat.{ℕ, zero, suc, _<_}
 use mathlib.Core.Path.{_≡_, refl}
 use Rattle.checks.specs.Order.{firstOf}
 use Rattle.octets.specs.Octets.{number}
@@ -13,26 +15,29 @@ use Rattle.verdict.specs.Rule.{targetOf, localOf, routeLine, lineOf, grantedOf,
 use Rattle.judge.specs.Ruling.{ruledBy, ruleTarget, ruleOf}
 use Rattle.judge.specs.Ending.{callChecks, headerEnding, endingOf}
 use Rattle.settings.specs.Refusals.{otherClass, portMaskRefused, formRefused, onesRefused}
-use Rattle.refusals.specs.Ready.{readySet}
-use Rattle.refusals.specs.Elsewhere.{routeElsewhere}
+use Rattle.records.specs.Owned.{seenPort}
 use Rattle.routes.specs.Refusals.{prefixRefused, codesRefused}
-use Rattle.routes.specs.Routes.{matched, candidate, sameEntry}
+use Rattle.routes.specs.Routes.{matched, candidate}
 use Rattle.routes.specs.Search.{beaten, betterOf, searchFrom, searchOf}
 use Rattle.queue.specs.Order.{Each, insertBy}
 use Rattle.queue.specs.Queue.{fresh, putOf, takeOf}
-use Rattle.state.specs.Relay.{freshRelay, portSetUp}
+use Rattle.state.specs.Relay.{amongPorts, readyOf}
+use Rattle.state.specs.Seen.{freshBoard, freshMission, portsSeen, allPorts}
+use Rattle.listing.specs.Listed.{stands, counts, seenRoute, routesSeen}
 use Rattle.relay.specs.Outgoing.{enteredIf, enteredAll}
-use Rattle.relay.specs.Received.{receivedRelay}
+use Rattle.relay.specs.Received.{receivedRelay, heardEnding}
 use Rattle.taking.specs.Taking.{takeOutcome, takenRelay}
-use Rattle.history.specs.Outcome.{outcome, relayAfter}
+use Rattle.history.specs.Outcome.{outcome, seatAfter}
 use Rattle.history.specs.Marked.{Marked, markedCases}
 
 -- the rules, opened all at once: where this is unfolded, the calls of a closed history compute
 unfoldable pub opened : Unit {0}
-unfolding firstOf classOf classIn familyOf scpsClass netClass otherClass portMaskRefused formRefused onesRefused maskForm onesOf onesBelow fresh freshRelay readySet routeElsewhere prefixRefused codesRefused sameEntry number controlOf forbidden addressSize stampSize layoutOf addressesOf qosOf octetOf stampOf lengthOf fieldsOf headerOf readChecks readOf aimOf originOf subnetBroadcast broadcastIn classBroadcast ownBroadcast surveyBelow targetOf localOf routeLine lineOf grantedOf copiesOf rulingOf ruledBy ruleTarget ruleOf portSetUp callChecks headerEnding endingOf receivedRelay enteredAll enteredIf putOf takeOf insertBy takeOutcome takenRelay matched candidate beaten betterOf searchFrom searchOf
+unfolding firstOf classOf classIn familyOf scpsClass netClass otherClass portMaskRefused formRefused onesRefused maskForm onesOf onesBelow fresh freshBoard freshMission seenPort portsSeen allPorts readyOf amongPorts stands counts seenRoute routesSeen prefixRefused codesRefused number controlOf forbidden addressSize stampSize layoutOf addressesOf qosOf octetOf stampOf lengthOf fieldsOf headerOf readChecks readOf aimOf originOf subnetBroadcast broadcastIn classBroadcast ownBroadcast surveyBelow targetOf localOf routeLine lineOf grantedOf copiesOf rulingOf ruledBy ruleTarget ruleOf callChecks headerEnding endingOf heardEnding receivedRelay enteredAll enteredIf putOf takeOf insertBy takeOutcome takenRelay matched candidate beaten betterOf searchFrom searchOf
 opened = tt
 
--- Each call of the table has the answer beside it, after the history before it.
-pub marked-cases : Each (λ (m : Marked). outcome (relayAfter (m .calls)) (m .asked) .answer ≡ m .answer) markedCases
+-- Each call of the table has the answer beside it, after the history before it, whichever mission it is of.
+pub marked-cases : (m : ℕ) → m < 2 → Each (λ (x : Marked). outcome (seatAfter m (x .calls)) (x .asked) .answer ≡ x .answer) (markedCases m)
 unfolding opened
-marked-cases = (refl, (refl, (refl, (refl, (refl, (refl, (refl, (refl, (refl, (refl, (refl, (refl, (refl, (refl, (refl, tt)))))))))))))))
+marked-cases zero h = (refl, (refl, (refl, (refl, (refl, (refl, (refl, (refl, (refl, (refl, (refl, (refl, (refl, (refl, (refl, tt)))))))))))))))
+marked-cases (suc zero) h = (refl, (refl, (refl, (refl, (refl, (refl, (refl, (refl, (refl, (refl, (refl, (refl, (refl, (refl, (refl, tt)))))))))))))))
+marked-cases (suc (suc m)) h = absurd (omega arith)

@@ -14,6 +14,7 @@ use Rattle.checks.proofs.Bools.{true-false, and-true, or-true}
 use Rattle.checks.proofs.Laws.{either}
 use Rattle.header.specs.Read.{readChecks, headerOf, readOf}
 use Rattle.header.proofs.Bounds.{header-size}
+use Rattle.routes.specs.declared.Record.{Record}
 use Rattle.state.specs.Relay.{Relay}
 use Rattle.verdict.specs.Numbers.{localNumber, onwardNumber}
 use Rattle.verdict.specs.declared.Local.the-variants.{No}
@@ -25,9 +26,11 @@ use Rattle.judge.specs.Ending.{callChecks, headerEnding, octetsEnding, arrivalA
 use Rattle.judge.specs.declared.Ending.{Ending}
 use Rattle.answers.specs.Answers.{partAt, partsOf, receiveNumber}
 use Rattle.answers.proofs.Digits.{six}
+use Rattle.history.specs.Seat.{Seat, relayWith, heardBy}
 use Rattle.history.specs.Answers.{Row, numbers, below, endings, entries, endingRows, listed, suits, stands}
 use Rattle.history.specs.Outcome.{ended}
-use Rattle.history.proofs.Refusals.{refused-grants-nothing}
+use Rattle.history.proofs.Heard.{heard-so}
+use Rattle.history.proofs.Refusals.{heard-grants-nothing}
 use Rattle.history.proofs.Listed.{every-ending-is-listed}
 use Rattle.history.proofs.Small.{sets-small}
 
@@ -101,10 +104,13 @@ octets-short r at s =
     (either Short (eqb (firstOf (arrivalChecks (at .address) (headerOf s .fields))) 0) (header-size s .1) (omega arith))
     (omega arith)
 
-ending-short : (r : Relay) (port : ℕ) (octets : List ℕ) (room : ℕ) → Short (endingOf r port octets room)
+page-short : (r : Relay) (port : ℕ) (octets : List ℕ) (room : ℕ) → Short (endingOf r port octets room)
 unfolding endingOf
-ending-short r port octets room =
+page-short r port octets room =
     either Short (eqb (firstOf (callChecks r port room)) 0) (octets-short r (arrivalAt r port) octets) (omega arith)
+
+ending-short : (seat : Seat) (rs : List Record) (port : ℕ) (octets : List ℕ) (room : ℕ) → Short (heardBy seat rs port octets room)
+ending-short seat rs port octets room = heard-so seat rs port octets room Short (omega arith) (page-short (relayWith seat rs) port octets room)
 
 -- ---- so no part is changed by being taken modulo 256
 same-size : (t : Bool) (n : ℕ) → n ≤ 50 → pick t 0 (n % 256) % 256 ≡ pick t 0 n
@@ -119,16 +125,16 @@ alone-number : (n size : ℕ) (x : Ruling) → x ≡ record { local = No; onward
 unfolding partsOf
 alone-number n size x h = rw h (omega arith)
 
-pub read-back : (r : Relay) (port : ℕ) (octets : List ℕ) (room : ℕ)
-    → ReadBack (receiveNumber (endingOf r port octets room)) (endingOf r port octets room)
+pub read-back : (seat : Seat) (rs : List Record) (port : ℕ) (octets : List ℕ) (room : ℕ)
+    → ReadBack (receiveNumber (heardBy seat rs port octets room)) (heardBy seat rs port octets room)
 unfolding receiveNumber
-read-back r port octets room =
-    let e = endingOf r port octets room in
+read-back seat rs port octets room =
+    let e = heardBy seat rs port octets room in
     let x = e .ruling in
     let t = eqb (x .took) 0 in
-    let low = rows-low (e .refusal) (localNumber (x .local)) (onwardNumber (x .onward)) (x .took) endingRows refl (every-ending-is-listed r port octets room) in
-    let small = sets-small r port octets room in
-    let short = ending-short r port octets room in
+    let low = rows-low (e .refusal) (localNumber (x .local)) (onwardNumber (x .onward)) (x .took) endingRows refl (every-ending-is-listed seat rs port octets room) in
+    let small = sets-small seat rs port octets room in
+    let short = ending-short seat rs port octets room in
     let is : receiveNumber e ≡ partsOf (e .refusal) (localNumber (x .local)) (onwardNumber (x .onward)) (x .took) (x .dropped) (pick t 0 (e .size)) =
     cc (mod-eq-of-lt (low .0), mod-eq-of-lt (low .1 .0), mod-eq-of-lt (low .1 .1), mod-eq-of-lt (small .took), mod-eq-of-lt (small .dropped), same-size t (e .size) short)
     in
@@ -144,5 +150,5 @@ read-back r port octets room =
       dropped = rw is (parts .at-32);
       header = rw is (parts .at-40);
       above = rw is (parts .above);
-      alone = λ z. is ∙ alone-number (e .refusal) (e .size) x (refused-grants-nothing r port octets room z);
+      alone = λ z. is ∙ alone-number (e .refusal) (e .size) x (heard-grants-nothing seat rs port octets room z);
     }

@@ -1,4 +1,4 @@
--- Demand 1: a refused call leaves settings, queues and lent octets as they were, and 16 and 17 move no counter. Assumes nothing.
+-- Demand 1: a refused call leaves settings, queues and lent octets as they were, and 21, 16 and 17 move no counter. Assumes nothing.
 use Prim.Native.Nat.{ℕ, zero, suc}
 use mathlib.Core.Path.{_≡_, refl, sym, ap, _∙_}
 use mathlib.Core.Bool.{Bool, true, false, not}
@@ -29,7 +29,10 @@ use Rattle.tally.specs.Tally.{movesOf, counterFor}
 use Rattle.relay.specs.Outgoing.{entered, enteredIf, enteredAll, sentOutput}
 use Rattle.relay.specs.Received.{newEntry, receivedRelay}
 use Rattle.taking.specs.declared.Taking.the-variants.{Refused}
+use Rattle.routes.specs.declared.Record.{Record}
+use Rattle.history.specs.Seat.{Seat, relayIn, relayWith, heardBy}
 use Rattle.history.specs.Tally.{sumAt}
+use Rattle.history.proofs.Heard.{heard-so}
 
 -- ---- a refusal has no ruling
 abbrev Bare : Ending → Type 0
@@ -56,6 +59,11 @@ refused-grants-nothing r port octets room =
     let n = firstOf (callChecks r port room) in
     bare-or (eqb n 0) n (octetsEnding r (arrivalAt r port) (readOf octets)) (bare-octets r (arrivalAt r port) (readOf octets))
 
+pub heard-grants-nothing : (seat : Seat) (rs : List Record) (port : ℕ) (octets : List ℕ) (room : ℕ)
+    → (heardBy seat rs port octets room .refusal ≡ 0 → ⊥) → heardBy seat rs port octets room .ruling ≡ noRuling
+heard-grants-nothing seat rs port octets room =
+    heard-so seat rs port octets room Bare (λ h. refl) (refused-grants-nothing (relayWith seat rs) port octets room)
+
 -- ---- where no port takes, no queue and no octet of the output changes
 nobody-case : (t : Bool) (r s : Relay) → t ≡ true → pick t r s ≡ r
 nobody-case true r s h = refl
@@ -80,19 +88,20 @@ output-as-lent e octets lent h = rw h refl
 
 -- A refused datagram leaves settings and queues, and every octet of the output.
 pub refused-leaves :
-    (r : Relay) (port : ℕ) (slot : Slot) (octets output : List ℕ)
-    → (endingOf r port octets (length output) .refusal ≡ 0 → ⊥)
-    → (receivedRelay r slot (endingOf r port octets (length output)) ≡ r)
-    × (sentOutput (endingOf r port octets (length output) .ruling .took) octets output ≡ output)
-refused-leaves r port slot octets output h =
-    let e = endingOf r port octets (length output) in
-    let z : e .ruling .took ≡ 0 = ap (λ x. x .took) (refused-grants-nothing r port octets (length output) h) in
-    (nobody-took r slot e z, output-as-lent e octets output z)
+    (seat : Seat) (rs : List Record) (port : ℕ) (slot : Slot) (octets output : List ℕ)
+    → (heardBy seat rs port octets (length output) .refusal ≡ 0 → ⊥)
+    → (receivedRelay (relayIn seat) slot (heardBy seat rs port octets (length output)) ≡ relayIn seat)
+    × (sentOutput (heardBy seat rs port octets (length output) .ruling .took) octets output ≡ output)
+refused-leaves seat rs port slot octets output h =
+    let e = heardBy seat rs port octets (length output) in
+    let z : e .ruling .took ≡ 0 = ap (λ x. x .took) (heard-grants-nothing seat rs port octets (length output) h) in
+    (nobody-took (relayIn seat) slot e z, output-as-lent e octets output z)
 
--- 16 and 17 move no counter.
-pub counts-nothing : (i : ℕ) → (sumAt (movesOf (refusedBy 16)) i ≡ 0) × (sumAt (movesOf (refusedBy 17)) i ≡ 0)
+-- 21, 16 and 17 move no counter.
+pub counts-nothing : (i : ℕ)
+    → (sumAt (movesOf (refusedBy 21)) i ≡ 0) × ((sumAt (movesOf (refusedBy 16)) i ≡ 0) × (sumAt (movesOf (refusedBy 17)) i ≡ 0))
 unfolding counterFor
-counts-nothing i = (refl, refl)
+counts-nothing i = (refl, (refl, refl))
 
 -- A refused take leaves the whole relay.
 take-case : (t : Bool) (r : Relay) (port : ℕ) (q : Queue) (h : Head) (n : ℕ)

@@ -21,7 +21,11 @@ use Rattle.verdict.specs.declared.Wish.{Wish}
 use Rattle.verdict.specs.declared.Wish.the-variants.{NotAsked, Refused, Wanted}
 use Rattle.verdict.specs.declared.Ruling.{Ruling}
 use Rattle.judge.specs.Ruling.{ruledBy}
-use Rattle.judge.specs.Ending.{endingOf}
+use Rattle.judge.specs.Ending.{noRuling}
+use Rattle.judge.specs.declared.Ending.{Ending}
+use Rattle.routes.specs.declared.Record.{Record}
+use Rattle.history.specs.Seat.{Seat, relayWith, heardBy}
+use Rattle.history.proofs.Heard.{heard-so}
 use Rattle.history.proofs.Listed.{of-any-ending}
 
 pub record Small (x : Ruling) : Type 0 where
@@ -60,5 +64,10 @@ ruled-small r q t p w c =
     let line = afterDomain (afterHops (lineOf t p w c (s .ready) local) (c .spent)) (c .basic) (s .domain) in
     ruling-small local (afterSize line (s .fitting)) (s .full) (omega (arith, size-small line (s .fitting), fitting-small r q))
 
-pub sets-small : (r : Relay) (port : ℕ) (octets : List ℕ) (room : ℕ) → Small (endingOf r port octets room .ruling)
-sets-small = of-any-ending Small ruled-small (record { granted = omega arith; took = omega arith; dropped = omega arith })
+none-small : Small noRuling
+none-small = record { granted = omega arith; took = omega arith; dropped = omega arith }
+
+pub sets-small : (seat : Seat) (rs : List Record) (port : ℕ) (octets : List ℕ) (room : ℕ) → Small (heardBy seat rs port octets room .ruling)
+sets-small seat rs port octets room =
+    heard-so seat rs port octets room (λ (e : Ending). Small (e .ruling)) none-small
+    (of-any-ending Small ruled-small none-small (relayWith seat rs) port octets room)

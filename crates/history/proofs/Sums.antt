@@ -13,19 +13,20 @@ use borrow.Author.Tests.{eqb-true}
 use Rattle.checks.specs.Order.{pick}
 use Rattle.checks.proofs.Bools.{true-false}
 use Rattle.address.specs.Mask.{onesBelow, onesOf}
-use Rattle.state.specs.Relay.{Relay, freshRelay, counterIn}
+use Rattle.routes.specs.declared.Record.{Record}
+use Rattle.state.specs.Relay.{counterIn}
 use Rattle.verdict.specs.Numbers.{localNumber, onwardNumber}
 use Rattle.verdict.specs.declared.Local.{Local}
 use Rattle.verdict.specs.declared.Local.the-variants.{No, Delivered, Unknown}
 use Rattle.verdict.specs.declared.Onward.{Onward}
 use Rattle.verdict.specs.declared.Onward.the-variants as onward
-use Rattle.judge.specs.Ending.{endingOf}
 use Rattle.taking.specs.Taking.{takeOutcome}
 use Rattle.taking.specs.declared.Taking.{Taking}
 use Rattle.taking.specs.declared.Taking.the-variants.{Handed, Refused}
 use Rattle.tally.specs.declared.Counter.the-variants.{At, Nothing}
 use Rattle.tally.specs.Tally.{Move, receiptCounter, counterFor, localCounter, onwardCounter, discardCounter, movesOf}
-use Rattle.history.specs.Calls.{Call, sets, hears, takes, looks}
+use Rattle.history.specs.Seat.{Seat, freshSeat, relayIn, heardBy}
+use Rattle.history.specs.Calls.{orders, views, sets, hears, takes, looks, Call, operator, own}
 use Rattle.history.specs.Outcome.{ended, Outcome, ofEnding, ofTaking, outcome, next, sumFrom, sumOver}
 use Rattle.history.specs.Answers.{endingRows, listed, stands}
 use Rattle.history.specs.Tally.{sumAt, stateAfter}
@@ -88,7 +89,7 @@ refusal-part : (n : ℕ) → listed endNumbers n ≡ true → given ((receiptCou
 unfolding counterFor
 refusal-part n =
     of-listed (λ (m : ℕ). given ((receiptCounter m, 1) ∷ (counterFor m, 1) ∷ []) ≡ ofRefusal m) endNumbers n
-    (refl, (refl, (refl, (refl, (refl, (refl, (refl, (refl, (refl, (refl, (refl, tt)))))))))))
+    (refl, (refl, (refl, (refl, (refl, (refl, (refl, (refl, (refl, (refl, (refl, (refl, tt))))))))))))
 
 -- ---- the local half
 local-part : (l : Local) → given ((localCounter l, 1) ∷ []) ≡ ofLocal (localNumber l)
@@ -107,13 +108,13 @@ sent-case refusal local onward took true false h k s = refl
 sent-case refusal local onward took false true h k s = refl
 sent-case refusal local onward took false false h k s = true-false (sym (simp (k, h, and-false) at s))
 
-pub sent-where-taken : (r : Relay) (port : ℕ) (octets : List ℕ) (room : ℕ)
-    → eqb (onwardNumber (endingOf r port octets room .ruling .onward)) 1 ≡ not (eqb (endingOf r port octets room .ruling .took) 0)
-sent-where-taken r port octets room =
-    let e = endingOf r port octets room in
+pub sent-where-taken : (seat : Seat) (rs : List Record) (port : ℕ) (octets : List ℕ) (room : ℕ)
+    → eqb (onwardNumber (heardBy seat rs port octets room .ruling .onward)) 1 ≡ not (eqb (heardBy seat rs port octets room .ruling .took) 0)
+sent-where-taken seat rs port octets room =
+    let e = heardBy seat rs port octets room in
     let x = e .ruling in
     sent-case (e .refusal) (localNumber (x .local)) (onwardNumber (x .onward)) (x .took) (eqb (x .took) 0) (eqb (onwardNumber (x .onward)) 1) refl refl
-    (every-ending-is-listed r port octets room)
+    (every-ending-is-listed seat rs port octets room)
 
 -- ---- the onward half
 onward-part : (x : Onward) (took : ℕ) → eqb (onwardNumber x) 1 ≡ not (eqb took 0) → given ((onwardCounter x, 1) ∷ []) ≡ ofOnward (onwardNumber x) took
@@ -173,19 +174,19 @@ module _ (i : ℕ) (inside : i < 15) where
       sym (tabled-at 15 (together n local onward took copies) i inside)
       ∙ ap (λ (x : List ℕ). getD x i 0) (parts n local onward took copies)
 
-  ending-gives : (r : Relay) (port : ℕ) (octets : List ℕ) (room : ℕ)
-      → sumAt (movesOf (endingOf r port octets room)) i ≡ givenBy i (ofEnding (endingOf r port octets room))
-  ending-gives r port octets room =
-      let e = endingOf r port octets room in
+  ending-gives : (seat : Seat) (rs : List Record) (port : ℕ) (octets : List ℕ) (room : ℕ)
+      → sumAt (movesOf (heardBy seat rs port octets room)) i ≡ givenBy i (ofEnding (heardBy seat rs port octets room))
+  ending-gives seat rs port octets room =
+      let e = heardBy seat rs port octets room in
       let x = e .ruling in
       let n = localNumber (x .local) in
       let m = onwardNumber (x .onward) in
       omega (
         arith,
-        part-at ((receiptCounter (e .refusal), 1) ∷ (counterFor (e .refusal), 1) ∷ []) _ (refusal-part (e .refusal) (end-listed r port octets room)),
+        part-at ((receiptCounter (e .refusal), 1) ∷ (counterFor (e .refusal), 1) ∷ []) _ (refusal-part (e .refusal) (end-listed seat rs port octets room)),
         part-at ((localCounter (x .local), 1) ∷ []) _ (local-part (x .local)),
-        part-at ((onwardCounter (x .onward), 1) ∷ []) _ (onward-part (x .onward) (x .took) (sent-where-taken r port octets room)),
-        part-at ((discardCounter (x .dropped), onesOf (x .dropped)) ∷ []) _ (discard-part (x .dropped) (sets-small r port octets room .dropped)),
+        part-at ((onwardCounter (x .onward), 1) ∷ []) _ (onward-part (x .onward) (x .took) (sent-where-taken seat rs port octets room)),
+        part-at ((discardCounter (x .dropped), onesOf (x .dropped)) ∷ []) _ (discard-part (x .dropped) (sets-small seat rs port octets room .dropped)),
         parts-at (e .refusal) n m (x .took) (portsIn 8 (x .dropped)),
       )
 
@@ -193,20 +194,22 @@ module _ (i : ℕ) (inside : i < 15) where
   taking-gives p (Handed e) = refl
   taking-gives p (Refused n) = refl
 
-  one-call : (r : Relay) (c : Call) → sumAt (outcome r c .moves) i ≡ givenBy i (outcome r c)
-  one-call r (sets s) = refl
-  one-call r (hears port slot octets output) = ending-gives r port octets (length output)
-  one-call r (takes port) = taking-gives port (takeOutcome r port)
-  one-call r (looks l) = refl
+  one-call : (seat : Seat) (c : Call) → sumAt (outcome seat c .moves) i ≡ givenBy i (outcome seat c)
+  one-call seat (operator (orders o)) = refl
+  one-call seat (operator (views v)) = refl
+  one-call seat (own (sets s)) = refl
+  one-call seat (own (hears rs port slot octets output)) = ending-gives seat rs port octets (length output)
+  one-call seat (own (takes port)) = taking-gives port (takeOutcome (relayIn seat) port)
+  one-call seat (own (looks l)) = refl
 
-  all-calls : (cs : List Call) (r : Relay) → sumFrom (λ (o : Outcome). sumAt (o .moves) i) r cs ≡ sumFrom (givenBy i) r cs
-  all-calls [] r = refl
-  all-calls (c ∷ cs) r = rw (one-call r c, all-calls cs (next r c))
+  all-calls : (cs : List Call) (seat : Seat) → sumFrom (λ (o : Outcome). sumAt (o .moves) i) seat cs ≡ sumFrom (givenBy i) seat cs
+  all-calls [] seat = refl
+  all-calls (c ∷ cs) seat = rw (one-call seat c, all-calls cs (next seat c))
 
 -- What a call moves counter i by is what the page's table says of its outcome.
-pub moves-as-written : (r : Relay) (c : Call) (i : ℕ) → i < 15 → sumAt (outcome r c .moves) i ≡ givenBy i (outcome r c)
-moves-as-written r c i inside = one-call i inside r c
+pub moves-as-written : (seat : Seat) (c : Call) (i : ℕ) → i < 15 → sumAt (outcome seat c .moves) i ≡ givenBy i (outcome seat c)
+moves-as-written seat c i inside = one-call i inside seat c
 
--- After any history counter i is the sum of what the page's table says of each outcome, modulo 2^32.
-pub counted-as-written : (i : ℕ) → i < 15 → (cs : List Call) → counterIn (stateAfter cs .counters) i ≡ sumOver (givenBy i) cs % 2 ^ 32
-counted-as-written i inside cs = counters i inside cs ∙ ap (λ (n : ℕ). n % 2 ^ 32) (all-calls i inside cs freshRelay)
+-- After any history of mission m counter i is the sum of what the page's table says of each outcome, modulo 2^32.
+pub counted-as-written : (i : ℕ) → i < 15 → (m : ℕ) (cs : List Call) → counterIn (stateAfter m cs .counters) i ≡ sumOver (givenBy i) m cs % 2 ^ 32
+counted-as-written i inside m cs = counters i inside m cs ∙ ap (λ (n : ℕ). n % 2 ^ 32) (all-calls i inside cs (freshSeat m))

@@ -43,7 +43,11 @@ use Rattle.judge.specs.Ending.{refusedBy, callChecks, ruledEnding, headerEnding
 use Rattle.judge.specs.declared.Ending.{Ending}
 use Rattle.relay.specs.Outgoing.{enteredAll}
 use Rattle.relay.specs.Received.{receivedRelay}
+use Rattle.routes.specs.declared.Record.{Record}
+use Rattle.lent_state.specs.View.{tooLong}
+use Rattle.history.specs.Seat.{Seat, relayIn, relayWith, heardBy}
 use Rattle.history.specs.Transport.{withTpid, SameButTpid, localBy, SameButLocal}
+use Rattle.history.proofs.Heard.{heard-is}
 use Rattle.history.proofs.Onward.{onwardHalf, withAssigned, onward-free-of-tpid}
 
 -- ---- one ruling
@@ -133,20 +137,32 @@ module _ (r : Relay) (at : Arrival) (h : Header) (b : ℕ) where
       let n = firstOf (arrivalChecks (at .address) (h .fields)) in
       else-alike (h .fields .tpid) b (eqb n 0) n (ruledEnding r at h) (ruledEnding r at (withTpid b h)) ruled-ending-alike
 
-module _ (r : Relay) (port : ℕ) (s t : List ℕ) (room : ℕ) (h k : Header) (hs : readOf s ≡ Good h) (kt : readOf t ≡ Good k) (same : SameButTpid h k) where
-  -- Two datagrams whose headers differ in the TP-ID alone end alike but for the local half.
-  pub transport-alone : SameButLocal (h .fields .tpid) (k .fields .tpid) (endingOf r port s room) (endingOf r port t room)
+module _ (port : ℕ) (s t : List ℕ) (room : ℕ) (h k : Header) (hs : readOf s ≡ Good h) (kt : readOf t ≡ Good k) (same : SameButTpid h k) where
+  page-alike : (r : Relay) → SameButLocal (h .fields .tpid) (k .fields .tpid) (endingOf r port s room) (endingOf r port t room)
   unfolding endingOf
-  transport-alone =
+  page-alike r =
       let n = firstOf (callChecks r port room) in
       let at = arrivalAt r port in
       rw (hs, kt ∙ ap Good same)
       (else-alike (h .fields .tpid) (k .fields .tpid) (eqb n 0) n (headerEnding r at h) (headerEnding r at (withTpid (k .fields .tpid) h))
       (header-alike r at h (k .fields .tpid)))
 
-  -- And they leave the same: the entries of both go to the same ports and have the same precedence.
-  pub leaves-the-same : (slot : Slot) → receivedRelay r slot (endingOf r port s room) ≡ receivedRelay r slot (endingOf r port t room)
-  unfolding receivedRelay
-  leaves-the-same slot =
-      ap₂ (λ (took precedence : ℕ). enteredAll r took (record { slot = slot; precedence = precedence }) portCount)
-      (transport-alone .took) (transport-alone .precedence)
+  module _ (seat : Seat) (rs : List Record) where
+    long-or-not : (t : Bool) (e f : Ending) → SameButLocal (h .fields .tpid) (k .fields .tpid) e f
+        → SameButLocal (h .fields .tpid) (k .fields .tpid) (pick t (refusedBy 21) e) (pick t (refusedBy 21) f)
+    long-or-not true e f alike = refused-alike (h .fields .tpid) (k .fields .tpid) 21
+    long-or-not false e f alike = alike
+
+    -- Two datagrams whose headers differ in the TP-ID alone end alike but for the local half.
+    pub transport-alone : SameButLocal (h .fields .tpid) (k .fields .tpid) (heardBy seat rs port s room) (heardBy seat rs port t room)
+    transport-alone =
+        rw (heard-is seat rs port s room (tooLong rs) refl, heard-is seat rs port t room (tooLong rs) refl)
+        (long-or-not (tooLong rs) _ _ (page-alike (relayWith seat rs)))
+
+    -- And they leave the same: the entries of both go to the same ports and have the same precedence.
+    pub leaves-the-same : (slot : Slot)
+        → receivedRelay (relayIn seat) slot (heardBy seat rs port s room) ≡ receivedRelay (relayIn seat) slot (heardBy seat rs port t room)
+    unfolding receivedRelay
+    leaves-the-same slot =
+        ap₂ (λ (took precedence : ℕ). enteredAll (relayIn seat) took (record { slot = slot; precedence = precedence }) portCount)
+        (transport-alone .took) (transport-alone .precedence)

@@ -1,4 +1,4 @@
--- In every state that a history reaches the ports wanted for a datagram are set up, and so those granted. Assumes nothing.
+-- In every state that a history reaches, and whatever list is lent, the ports wanted for a datagram are set up and the mission's, and so those granted. Assumes nothing.
 use native.Mathlib.Omega.{arith}
 use native.Mathlib.Nat.{eq-or-lt-of-le}
 use Prim.Native.Nat.{ℕ, zero, suc, _≤_, _<_}
@@ -9,7 +9,7 @@ use mathlib.Core.List.{List}
 use lib.Dec.{eqb, ltb}
 use borrow.Author.Tests.{eqb-false, ltb-true}
 use Rattle.checks.specs.Order.{pick}
-use Rattle.checks.proofs.Bools.{true-false, and-true, or-false, not-false, and-not-false}
+use Rattle.checks.proofs.Bools.{true-false, and-true, or-false, and-not-false}
 use Rattle.sets.specs.Sets.{inSet, firstBelow}
 use Rattle.settings.specs.Sets.{isReady, namesOther, setRefused}
 use Rattle.address.specs.declared.Address.{Address}
@@ -21,14 +21,14 @@ use Rattle.routes.proofs.Candidates.{candidate-is}
 use Rattle.routes.specs.Search.{searchOf}
 use Rattle.routes.specs.declared.Found.{Found}
 use Rattle.routes.specs.declared.Found.the-variants.{At, No}
+use Rattle.routes.specs.declared.Record.{Record}
 use Rattle.routes.specs.declared.Route.{Route}
 use Rattle.routes.proofs.Longest.{search-found}
 use Rattle.records.specs.SetUp.{isSetUp}
+use Rattle.listing.proofs.Counting.{seen-taken}
 use Rattle.refusals.specs.Ready.{readySet}
-use Rattle.refusals.specs.Record.{recordChecks}
-use Rattle.refusals.proofs.Chains.{decided}
 use Rattle.lookup.specs.ForTarget.{wayOf, placeFor, wayFor}
-use Rattle.state.specs.Relay.{Relay, portIn, routeIn, groupIn, pathIn}
+use Rattle.state.specs.Relay.{Relay, portIn, groupIn, pathIn}
 use Rattle.survey.specs.Survey.{surveyBelow, surveyOf}
 use Rattle.survey.specs.declared.Sought.{Sought}
 use Rattle.verdict.specs.Rule.{exceptBy, aloneBy, groupLine, pathLine, routeLine, routerLine, unheardBy, hostLine, lineOf}
@@ -44,9 +44,11 @@ use Rattle.verdict.specs.declared.Place.{Place}
 use Rattle.verdict.specs.declared.Place.the-variants.{Held, Missing}
 use Rattle.verdict.specs.declared.Way.{Way}
 use Rattle.verdict.specs.declared.Way.the-variants.{By, Lost}
+use Rattle.history.specs.Seat.{Seat, relayWith}
 use Rattle.history.specs.Calls.{Call}
-use Rattle.history.specs.Outcome.{relayAfter}
-use Rattle.history.proofs.Reach.{Kept, ready-is, kept-after}
+use Rattle.history.specs.Outcome.{seatAfter}
+use Rattle.history.proofs.Ports.{ready-is}
+use Rattle.history.proofs.Reach.{Kept, kept-after}
 use Rattle.page.proofs.Bits.{in-except, in-gathered, only-that}
 
 -- ---- the first place that a test holds at
@@ -86,7 +88,10 @@ unfolding setRefused
 set-ready s ready p h l m = names-ready 32 s ready p h (omega arith) m
 
 -- ---- what is wanted is set up
-module _ (r : Relay) (k : Kept r) (p : ℕ) (inside : p < 8) where
+module _ (seat : Seat) (k : Kept seat) (rs : List Record) (p : ℕ) (inside : p < 8) where
+  abbrev r : Relay
+  r = relayWith seat rs
+
   ready-set-up : isReady p (readySet r) ≡ true → isSetUp (portIn r p) ≡ true
   ready-set-up h = sym (ready-is r p inside) ∙ h
 
@@ -114,7 +119,7 @@ module _ (r : Relay) (k : Kept r) (p : ℕ) (inside : p < 8) where
       (λ t m.
       let l = ltb-true i 16 t in
       let filled = and-true (not (eqb (groupIn r i .filled) 0)) (eqb (groupIn r i .address .0) (a .0)) (first-holds (λ (j : ℕ). holdsGroup (groupIn r j) a) 16 l) .0 in
-      ready-set-up (set-ready (groupIn r i .send) (readySet r) p (k .good .groups i l filled .1 .0) inside m))
+      ready-set-up (set-ready (groupIn r i .send) (readySet r) p (k .mission .groups-good i l filled .1 .0) inside m))
       tt
 
   path-good : (x : PathAddress) → Good (pathPlace r x)
@@ -125,7 +130,7 @@ module _ (r : Relay) (k : Kept r) (p : ℕ) (inside : p < 8) where
       (λ t m.
       let l = ltb-true i 16 t in
       let filled = and-true (not (eqb (pathIn r i .filled) 0)) (eqb (pathIn r i .path .0) (x .0)) (first-holds (λ (j : ℕ). holdsPath (pathIn r j) x) 16 l) .0 in
-      ready-set-up (set-ready (pathIn r i .send) (readySet r) p (k .good .paths i l filled .1) inside m))
+      ready-set-up (set-ready (pathIn r i .send) (readySet r) p (k .mission .paths-good i l filled .1) inside m))
       tt
 
   found-good : (a : Address) (f : Found) → searchOf a (r .routes) ≡ f → GoodWay (wayOf f)
@@ -133,13 +138,10 @@ module _ (r : Relay) (k : Kept r) (p : ℕ) (inside : p < 8) where
   found-good a (At place ones x) e =
       λ m.
       let found = search-found a (r .routes) e in
-      let l : place < 64 = rw (sym (k .routes)) (found .0) in
       let held = found .1 in
       let filled = candidate-is x a .0 (found .2) .0 in
-      let none =
-      decided (recordChecks (readySet r) (routeIn r place)) refl .0 .0
-      (k .good .routes place l (sym (ap isFilled held) ∙ filled)) in
-      let ready : isReady (x .port) (readySet r) ≡ true = ap (λ (y : Route). isReady (y .port) (readySet r)) held ∙ not-false _ (none .0) in
+      let good = seen-taken (seat .board) rs (seat .number) place (sym (ap isFilled held) ∙ filled) in
+      let ready : isReady (x .port) (readySet r) ≡ true = ap (λ (y : Route). isReady (y .port) (readySet r)) held ∙ good .0 in
       let port = ltb-true (x .port) 8 (and-true (ltb (x .port) 8) (inSet (x .port) (readySet r)) ready .0) in
       ready-set-up (ap (λ (q : ℕ). isReady q (readySet r)) (only-that p (x .port) port m) ∙ ready)
 
@@ -222,22 +224,27 @@ module _ (r : Relay) (k : Kept r) (p : ℕ) (inside : p < 8) where
   wanted-is (Wanted s) g h e m = h (rw (let z : s ≡ g = cc in z) m)
 
 -- After any history each port that is wanted for a datagram to an end system or a group is set up, ..
-pub wanted-is-set-up : (cs : List Call) (p : ℕ) → p < 8 → (t : Target) (a : Address) (c : Case) (q : Sought) (local : Local) (g : ℕ)
-    → lineOf t (placeFor (relayAfter cs) t a (c .arrival)) (wayFor (relayAfter cs) t a) c (surveyOf (relayAfter cs) q .ready) local ≡ Wanted g
-    → inSet p g ≡ true
-    → isSetUp (portIn (relayAfter cs) p) ≡ true
-wanted-is-set-up cs p inside t a c q local g =
-    let r = relayAfter cs in
-    let k = kept-after cs in
-    wanted-is r k p inside _ g
-    (line-good r k p inside t (placeFor r t a (c .arrival)) (wayFor r t a) c q local (place-good r k p inside t a (c .arrival)) (way-good r k p inside t a))
+module _ (m : ℕ) (cs : List Call) (rs : List Record) where
+  abbrev sees : Relay
+  sees = relayWith (seatAfter m cs) rs
 
--- .. and each that is wanted for one on a path.
-pub wanted-on-path-is-set-up : (cs : List Call) (p : ℕ) → p < 8 → (x : PathAddress) (c : Case) (q : Sought) (local : Local) (g : ℕ)
-    → lineOf target.Path (pathPlace (relayAfter cs) x) Lost c (surveyOf (relayAfter cs) q .ready) local ≡ Wanted g
-    → inSet p g ≡ true
-    → isSetUp (portIn (relayAfter cs) p) ≡ true
-wanted-on-path-is-set-up cs p inside x c q local g =
-    let r = relayAfter cs in
-    let k = kept-after cs in
-    wanted-is r k p inside _ g (line-good r k p inside target.Path (pathPlace r x) Lost c q local (path-good r k p inside x) tt)
+  pub wanted-is-set-up : (p : ℕ) → p < 8 → (t : Target) (a : Address) (c : Case) (q : Sought) (local : Local) (g : ℕ)
+      → lineOf t (placeFor sees t a (c .arrival)) (wayFor sees t a) c (surveyOf sees q .ready) local ≡ Wanted g
+      → inSet p g ≡ true
+      → isSetUp (portIn sees p) ≡ true
+  wanted-is-set-up p inside t a c q local g =
+      let seat = seatAfter m cs in
+      let k = kept-after m cs in
+      wanted-is seat k rs p inside _ g
+      (line-good seat k rs p inside t (placeFor sees t a (c .arrival)) (wayFor sees t a) c q local (place-good seat k rs p inside t a (c .arrival))
+      (way-good seat k rs p inside t a))
+
+  -- .. and each that is wanted for one on a path.
+  pub wanted-on-path-is-set-up : (p : ℕ) → p < 8 → (x : PathAddress) (c : Case) (q : Sought) (local : Local) (g : ℕ)
+      → lineOf target.Path (pathPlace sees x) Lost c (surveyOf sees q .ready) local ≡ Wanted g
+      → inSet p g ≡ true
+      → isSetUp (portIn sees p) ≡ true
+  wanted-on-path-is-set-up p inside x c q local g =
+      let seat = seatAfter m cs in
+      let k = kept-after m cs in
+      wanted-is seat k rs p inside _ g (line-good seat k rs p inside target.Path (pathPlace sees x) Lost c q local (path-good seat k rs p inside x) tt)

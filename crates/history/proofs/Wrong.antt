@@ -2,7 +2,7 @@
 -- answer is not what the definition gives. (Where one changed expression can make the slip, a must-fail edit tries that such code is refused.) Assumes nothing.
 use native.Mathlib.Omega.{arith}
 use Prim.Native.Nat.{ℕ}
-use mathlib.Core.Path.{_≡_, refl, sym}
+use mathlib.Core.Path.{_≡_, refl, sym, ap}
 use mathlib.Core.Bool.{Bool, true, false, not}
 use mathlib.Core.List.{List, [], _∷_}
 use lib.Dec.{eqb, ltb}
@@ -35,10 +35,16 @@ use Rattle.verdict.specs.declared.Survey.{Survey}
 use Rattle.verdict.specs.declared.Wish.{Wish}
 use Rattle.verdict.specs.declared.Wish.the-variants.{Refused, Wanted}
 use Rattle.judge.specs.Ending.{callChecks, endingOf}
+use Rattle.judge.specs.declared.Ending.{Ending}
+use Rattle.lent_state.specs.View.{tooLong}
+use Rattle.routes.specs.declared.Record.{Record}
+use Rattle.state.specs.Seen.{Board}
 use Rattle.refusals.specs.Lists.{portChecks}
 use Rattle.tally.specs.Tally.{counterFor, receiptCounter}
 use Rattle.tally.specs.declared.Counter.{Counter}
 use Rattle.tally.specs.declared.Counter.the-variants as counter
+use Rattle.history.specs.Seat.{Seat, heardBy}
+use Rattle.history.proofs.Heard.{heard-is}
 
 -- the multicast flag read as the top bit: z = 15 has it low, z = 130 has it high
 pub flag-is-low : (classOf (dotted 10 4 9 15) ≡ class.Multicast) × (classOf (dotted 10 4 9 130) ≡ class.Unicast)
@@ -120,8 +126,13 @@ pub sixteen-comes-first : (r : Relay) (port : ℕ) (octets : List ℕ) (room : �
 unfolding endingOf callChecks firstOf
 sixteen-comes-first r port octets room h = simp (h)
 
+-- 16 before 21: a list that is too long is 21, whatever the port
+pub list-comes-first : (seat : Seat) (rs : List Record) (port : ℕ) (octets : List ℕ) (room : ℕ)
+    → tooLong rs ≡ true → heardBy seat rs port octets room .refusal ≡ 21
+list-comes-first seat rs port octets room h = ap (λ (e : Ending). e .refusal) (heard-is seat rs port octets room true h)
+
 -- 25 after 22: an address of another class is 25, whatever the mask
-pub class-comes-before-mask : (r : Relay) (p : ℕ) (a : Address) (m : Mask) (mtu : ℕ)
-    → placeRefused p 8 ≡ false → portClassRefused a ≡ true → firstOf (portChecks r p a m mtu) ≡ 25
+pub class-comes-before-mask : (b : Board) (p : ℕ) (a : Address) (m : Mask) (mtu mission : ℕ)
+    → placeRefused p 8 ≡ false → portClassRefused a ≡ true → firstOf (portChecks b p a m mtu mission) ≡ 25
 unfolding firstOf
-class-comes-before-mask r p a m mtu h k = simp (h, k)
+class-comes-before-mask b p a m mtu mission h k = simp (h, k)

@@ -1,26 +1,30 @@
--- The table of all that each call may answer: page 01, "Settings", "One received datagram, step by step" and "Refusal numbers". Assumes nothing.
+-- The table of all that each call may answer: page 01, "Settings", "One received datagram, step by step" and "Refusal numbers";
+-- page 02, W-208 (21 of a list over 512 records before all else). Assumes nothing.
 use Prim.Native.Nat.{ℕ}
 use mathlib.Core.Bool.{Bool, true, false, not, _&&_, _||_}
 use mathlib.Core.List.{List, [], _∷_}
 use lib.Dec.{eqb, ltb}
 use Rattle.history.specs.Calls.{
-  Setting,
+  Order,
   setRouter,
   setPort,
   setRoute,
+  clearRoute,
+  View,
+  routerFlag,
+  portWord,
+  recordWord,
+  OperatorCall,
+  orders,
+  views,
+  Setting,
   setGroup,
   setPath,
-  clearRoute,
   clearGroup,
   clearPath,
-  Part,
-  theRouter,
-  thePort,
-  theRoute,
-  theGroup,
-  thePath,
   Look,
-  setting,
+  groupWord,
+  pathWord,
   search,
   counter,
   waiting,
@@ -29,12 +33,16 @@ use Rattle.history.specs.Calls.{
   class,
   form,
   checksum,
-  stateWords,
-  Call,
+  boardSize,
+  missionSize,
+  MissionCall,
   sets,
   hears,
   takes,
   looks,
+  Call,
+  operator,
+  own,
 }
 use Rattle.history.specs.Outcome.{Answer, number, ended, entry}
 
@@ -49,26 +57,27 @@ pub data Row : Type 0 where
   entries : Row
 
 -- the numbers of a setting, in the order in which they are tested
+abbrev pub orderNumbers : Order → List ℕ
+orderNumbers (setRouter x) = 0 ∷ 24 ∷ []
+orderNumbers (setPort p address mask mtu mission) = 0 ∷ 21 ∷ 25 ∷ 22 ∷ 24 ∷ 35 ∷ []
+orderNumbers (setRoute rs i prefix mask port availability capabilities mission) = 0 ∷ 21 ∷ 22 ∷ 24 ∷ 23 ∷ []
+orderNumbers (clearRoute rs i) = 0 ∷ 21 ∷ []
+
 abbrev pub settingNumbers : Setting → List ℕ
-settingNumbers (setRouter x) = 0 ∷ 24 ∷ []
-settingNumbers (setPort p address mask mtu) = 0 ∷ 21 ∷ 25 ∷ 22 ∷ 24 ∷ 35 ∷ []
-settingNumbers (setRoute i prefix mask port availability capabilities) = 0 ∷ 21 ∷ 22 ∷ 24 ∷ 23 ∷ []
 settingNumbers (setGroup i address send subscribed) = 0 ∷ 21 ∷ 25 ∷ 23 ∷ []
 settingNumbers (setPath i path send here) = 0 ∷ 21 ∷ 25 ∷ 24 ∷ 23 ∷ []
-settingNumbers (clearRoute i) = 0 ∷ 21 ∷ []
 settingNumbers (clearGroup i) = 0 ∷ 21 ∷ []
 settingNumbers (clearPath i) = 0 ∷ 21 ∷ []
 
-abbrev pub partNumbers : Part → List ℕ
-partNumbers theRouter = 0 ∷ []
-partNumbers (thePort p) = 0 ∷ 21 ∷ []
-partNumbers (theRoute i) = 0 ∷ 21 ∷ []
-partNumbers (theGroup i) = 0 ∷ 21 ∷ []
-partNumbers (thePath i) = 0 ∷ 21 ∷ []
+abbrev pub viewNumbers : View → List ℕ
+viewNumbers routerFlag = 0 ∷ []
+viewNumbers (portWord p word) = 0 ∷ 21 ∷ []
+viewNumbers (recordWord rs i word) = 0 ∷ 21 ∷ []
 
 abbrev pub lookRow : Look → Row
-lookRow (setting part) = numbers (partNumbers part)
-lookRow (search a) = numbers (0 ∷ 256 ∷ [])
+lookRow (groupWord i word) = numbers (0 ∷ 21 ∷ [])
+lookRow (pathWord i word) = numbers (0 ∷ 21 ∷ [])
+lookRow (search rs a) = numbers (21 ∷ 0 ∷ 256 ∷ [])
 lookRow (counter i) = numbers (0 ∷ 21 ∷ [])
 lookRow (waiting p) = numbers (0 ∷ 21 ∷ [])
 lookRow (read octets) = numbers (0 ∷ 1 ∷ 2 ∷ 4 ∷ 3 ∷ 5 ∷ [])
@@ -76,12 +85,13 @@ lookRow (build fields size output) = numbers (0 ∷ 17 ∷ 19 ∷ 20 ∷ [])
 lookRow (class a) = numbers (0 ∷ 1 ∷ 2 ∷ 3 ∷ 4 ∷ 5 ∷ 6 ∷ [])
 lookRow (form p) = numbers (0 ∷ 1 ∷ [])
 lookRow (checksum octets) = below 65536
-lookRow stateWords = numbers (824 ∷ [])
+lookRow boardSize = numbers (41 ∷ [])
+lookRow missionSize = numbers (408 ∷ [])
 
 abbrev pub endingRows : List Row
 endingRows =
     -- refused: nothing is said of the halves, and no port took an entry
-    endings (16 ∷ 17 ∷ 1 ∷ 2 ∷ 4 ∷ 3 ∷ 5 ∷ 8 ∷ 7 ∷ 6 ∷ []) (0 ∷ []) (0 ∷ []) false
+    endings (21 ∷ 16 ∷ 17 ∷ 1 ∷ 2 ∷ 4 ∷ 3 ∷ 5 ∷ 8 ∷ 7 ∷ 6 ∷ []) (0 ∷ []) (0 ∷ []) false
     -- not delivered: refused onward, or sent on
     ∷ endings (0 ∷ []) (0 ∷ []) (9 ∷ 11 ∷ 10 ∷ 13 ∷ 14 ∷ 15 ∷ []) false
     ∷ endings (0 ∷ []) (0 ∷ []) (1 ∷ []) true
@@ -90,11 +100,19 @@ endingRows =
     ∷ endings (0 ∷ []) (1 ∷ 26 ∷ []) (1 ∷ []) true
     ∷ []
 
+abbrev pub operatorRow : OperatorCall → Row
+operatorRow (orders o) = numbers (orderNumbers o)
+operatorRow (views v) = numbers (viewNumbers v)
+
+abbrev pub ownRows : MissionCall → List Row
+ownRows (sets s) = numbers (settingNumbers s) ∷ []
+ownRows (hears rs port slot octets output) = endingRows
+ownRows (takes port) = numbers (16 ∷ 18 ∷ []) ∷ entries ∷ []
+ownRows (looks l) = lookRow l ∷ []
+
 abbrev pub answersOf : Call → List Row
-answersOf (sets s) = numbers (settingNumbers s) ∷ []
-answersOf (hears port slot octets output) = endingRows
-answersOf (takes port) = numbers (16 ∷ 18 ∷ []) ∷ entries ∷ []
-answersOf (looks l) = lookRow l ∷ []
+answersOf (operator c) = operatorRow c ∷ []
+answersOf (own c) = ownRows c
 
 -- ---- an answer stands in the table
 abbrev pub listed : List ℕ → ℕ → Bool

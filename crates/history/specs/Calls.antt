@@ -1,86 +1,128 @@
--- The calls on a relay. Each is a setting, a datagram that is heard, a taking, or a look that changes nothing (page 01, "Settings": "a history is
--- made of such calls"). Assumes nothing.
+-- The calls of one mission's history: the operator's, and the mission's own (page 01, "Settings": "a history is made of such calls"; page 02, W-208). The
+-- other mission's are none of them: it is lent words that no call here is lent. A list of routes is lent with a call, and is a part of it.
+-- Assumes nothing.
 use Prim.Native.Nat.{ℕ}
-use mathlib.Core.List.{List}
+use mathlib.Core.List.{List, []}
+use lib.ListN.{set}
 use Rattle.checks.specs.Order.{Checks, firstOf}
 use Rattle.address.specs.declared.Address.{Address}
 use Rattle.address.specs.declared.Mask.{Mask}
 use Rattle.address.specs.declared.PathAddress.{PathAddress}
 use Rattle.address.specs.declared.Slot.{Slot}
 use Rattle.numbers.specs.declared.Numbers.{Numbers}
-use Rattle.sets.specs.Limits.{routePlaces, groupPlaces, pathPlaces}
+use Rattle.sets.specs.Limits.{groupPlaces, pathPlaces}
 use Rattle.records.specs.Fresh.{freshGroup, freshPath}
-use Rattle.routes.specs.Routes.{emptyRoute}
-use Rattle.state.specs.Relay.{Relay, withRouter, withPort, withRoute, withGroup, withPath}
-use Rattle.refusals.specs.Lists.{portChecks, routeChecks, groupChecks, pathChecks, routerChecks, clearChecks}
-use Rattle.adjust.specs.Settled.{newPort, newRoute, newGroup, newPath, settled}
+use Rattle.routes.specs.Records.{emptyRecord}
+use Rattle.routes.specs.declared.Record.{Record}
+use Rattle.state.specs.Relay.{Relay, withGroup, withPath}
+use Rattle.state.specs.Seen.{Board, putRouter, putOwned}
+use Rattle.refusals.specs.Lists.{portChecks, routeChecks, clearRouteChecks, groupChecks, pathChecks, routerChecks, clearChecks}
+use Rattle.adjust.specs.Settled.{newPort, newRecord, newGroup, newPath, settled}
 
+-- ---- the operator's: "Only the operator writes ports, routes, .. and router settings"
+pub data Order : Type 0 where
+  setRouter : ℕ → Order
+  -- the port, its address, mask and MTU, and the mission that it is given to
+  setPort : ℕ → Address → Mask → ℕ → ℕ → Order
+  -- the list as it is lent, the place, and the record: prefix, mask, port, availability, capabilities, mission
+  setRoute : List Record → ℕ → ℕ → ℕ → ℕ → ℕ → ℕ → ℕ → Order
+  clearRoute : List Record → ℕ → Order
+
+-- what the operator asks to see, as it stands: a word of a port, and of a record of a list
+pub data View : Type 0 where
+  routerFlag : View
+  portWord : ℕ → ℕ → View
+  recordWord : List Record → ℕ → ℕ → View
+
+pub data OperatorCall : Type 0 where
+  orders : Order → OperatorCall
+  views : View → OperatorCall
+
+-- ---- a mission's own
 pub data Setting : Type 0 where
-  setRouter : ℕ → Setting
-  setPort : ℕ → Address → Mask → ℕ → Setting
-  setRoute : ℕ → Address → Mask → ℕ → ℕ → ℕ → Setting
   setGroup : ℕ → Address → ℕ → ℕ → Setting
   setPath : ℕ → PathAddress → ℕ → ℕ → Setting
-  clearRoute : ℕ → Setting
   clearGroup : ℕ → Setting
   clearPath : ℕ → Setting
 
--- what a setting is about
-pub data Part : Type 0 where
-  theRouter : Part
-  thePort : ℕ → Part
-  theRoute : ℕ → Part
-  theGroup : ℕ → Part
-  thePath : ℕ → Part
-
--- what is asked of a relay, and of none
+-- what is asked of a mission, and of nothing lent
 pub data Look : Type 0 where
-  -- a setting, as it stands
-  setting : Part → Look
-  -- the route that an address takes
-  search : Address → Look
+  -- a word of a group or a path, as it stands
+  groupWord : ℕ → ℕ → Look
+  pathWord : ℕ → ℕ → Look
+  -- the route of this list that an address takes
+  search : List Record → Address → Look
   -- a counter, and how many wait on a port
   counter : ℕ → Look
   waiting : ℕ → Look
   -- a header read; one built, with so many octets of data, into the output as it is lent
   read : List ℕ → Look
   build : Numbers → ℕ → List ℕ → Look
-  -- the class of an address, the form of a path, a checksum, and how many words a state has
+  -- the class of an address, the form of a path, a checksum, and how many words a board and a mission have
   class : Address → Look
   form : PathAddress → Look
   checksum : List ℕ → Look
-  stateWords : Look
+  boardSize : Look
+  missionSize : Look
+
+pub data MissionCall : Type 0 where
+  sets : Setting → MissionCall
+  -- the list of routes, the port, the slot, the octets, and the output as it is lent
+  hears : List Record → ℕ → Slot → List ℕ → List ℕ → MissionCall
+  takes : ℕ → MissionCall
+  looks : Look → MissionCall
 
 pub data Call : Type 0 where
-  sets : Setting → Call
-  -- the port, the slot, the octets, and the output as it is lent
-  hears : ℕ → Slot → List ℕ → List ℕ → Call
-  takes : ℕ → Call
-  looks : Look → Call
+  operator : OperatorCall → Call
+  own : MissionCall → Call
 
--- ---- settings
--- what may refuse a setting, in the page's order
+-- ---- what an order does: what may refuse it, in the page's order
+abbrev pub orderChecks : Board → Order → Checks
+orderChecks b (setRouter x) = routerChecks x
+orderChecks b (setPort p address mask mtu mission) = portChecks b p address mask mtu mission
+orderChecks b (setRoute rs i prefix mask port availability capabilities mission) =
+    routeChecks b rs i (newRecord prefix mask port availability capabilities mission)
+orderChecks b (clearRoute rs i) = clearRouteChecks rs i
+
+-- what it writes on the board, and in the list that is lent to it, where nothing refuses it
+abbrev pub boardWritten : Board → Order → Board
+boardWritten b (setRouter x) = putRouter b x
+boardWritten b (setPort p address mask mtu mission) = putOwned b p (newPort address mask mtu mission)
+boardWritten b (setRoute rs i prefix mask port availability capabilities mission) = b
+boardWritten b (clearRoute rs i) = b
+
+abbrev pub listLent : Order → List Record
+listLent (setRouter x) = []
+listLent (setPort p address mask mtu mission) = []
+listLent (setRoute rs i prefix mask port availability capabilities mission) = rs
+listLent (clearRoute rs i) = rs
+
+abbrev pub listWritten : Order → List Record
+listWritten (setRouter x) = []
+listWritten (setPort p address mask mtu mission) = []
+listWritten (setRoute rs i prefix mask port availability capabilities mission) =
+    set rs i (newRecord prefix mask port availability capabilities mission)
+listWritten (clearRoute rs i) = set rs i emptyRecord
+
+-- "A setting that no rule here refuses is taken": the board and the list that the order leaves
+abbrev pub boardLeft : Board → Order → Board
+boardLeft b o = settled (firstOf (orderChecks b o)) (boardWritten b o) b
+
+abbrev pub listLeft : Board → Order → List Record
+listLeft b o = settled (firstOf (orderChecks b o)) (listWritten o) (listLent o)
+
+-- ---- what a mission's setting does, likewise, on the relay that the mission sees
 abbrev pub checksOf : Relay → Setting → Checks
-checksOf r (setRouter x) = routerChecks x
-checksOf r (setPort p address mask mtu) = portChecks r p address mask mtu
-checksOf r (setRoute i prefix mask port availability capabilities) = routeChecks r i (newRoute prefix mask port availability capabilities)
 checksOf r (setGroup i address send subscribed) = groupChecks r i address send subscribed
 checksOf r (setPath i path send here) = pathChecks r i path send here
-checksOf r (clearRoute i) = clearChecks i routePlaces
 checksOf r (clearGroup i) = clearChecks i groupPlaces
 checksOf r (clearPath i) = clearChecks i pathPlaces
 
--- what it writes where nothing refuses it
 abbrev pub written : Relay → Setting → Relay
-written r (setRouter x) = withRouter r x
-written r (setPort p address mask mtu) = withPort r p (newPort address mask mtu)
-written r (setRoute i prefix mask port availability capabilities) = withRoute r i (newRoute prefix mask port availability capabilities)
 written r (setGroup i address send subscribed) = withGroup r i (newGroup address send subscribed)
 written r (setPath i path send here) = withPath r i (newPath path send here)
-written r (clearRoute i) = withRoute r i emptyRoute
 written r (clearGroup i) = withGroup r i freshGroup
 written r (clearPath i) = withPath r i freshPath
 
--- "A setting that no rule here refuses is taken"
 abbrev pub settle : Relay → Setting → Relay
 settle r s = settled (firstOf (checksOf r s)) (written r s) r

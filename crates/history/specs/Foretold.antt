@@ -12,9 +12,9 @@ use Rattle.checks.specs.Order.{pick}
 use Rattle.queue.specs.Waits.{chosen, rankBy}
 use Rattle.queue.specs.Foretold.{howMany, standingBefore}
 use Rattle.queue.specs.declared.Entry.{Entry}
-use Rattle.state.specs.Relay.{Relay}
-use Rattle.history.specs.Calls.{Call, sets, hears, takes, looks}
-use Rattle.history.specs.Outcome.{Answer, number, ended, entry, outcome, next, relayAfter, sumFrom}
+use Rattle.history.specs.Seat.{Seat}
+use Rattle.history.specs.Calls.{MissionCall, sets, hears, takes, looks, Call, operator, own}
+use Rattle.history.specs.Outcome.{Answer, number, ended, entry, outcome, next, seatAfter, sumFrom}
 use Rattle.history.specs.Ledger.{handedOut}
 use Rattle.history.specs.Line.{Copy, entryOf, takenBy, handedBy, lineBy, takenFrom, handedFrom, lineAt}
 
@@ -23,66 +23,72 @@ abbrev pub andThen : List Call → Call → List Call
 andThen cs c = cs ++ (c ∷ [])
 
 module _ (p : ℕ) where
-  -- ---- what calls ds do after a history cs
-
-  -- the copies that the port takes, and those that it hands out, in turn
-  abbrev pub takenSince : List Call → List Call → List Copy
-  takenSince cs ds = takenFrom p (length cs) (relayAfter cs) ds
-
-  abbrev pub handedSince : List Call → List Call → List Copy
-  handedSince cs ds = handedFrom p (length cs) (relayAfter cs) (lineAt p cs) ds
-
-  -- how many of them are takes of the port that hand out
-  abbrev pub takesSince : List Call → List Call → ℕ
-  takesSince cs ds = sumFrom (handedOut p) (relayAfter cs) ds
-
   -- the entries that the takes of the port answer, in turn, as C sees them
+  abbrev pub answeredOwn : MissionCall → Answer → List Entry
+  answeredOwn (sets s) a = []
+  answeredOwn (hears rs port slot octets output) a = []
+  answeredOwn (takes q) (number n) = []
+  answeredOwn (takes q) (ended refusal local onward took) = []
+  answeredOwn (takes q) (entry e) = pick (eqb q p) (e ∷ []) []
+  answeredOwn (looks l) a = []
+
   abbrev pub answeredBy : Call → Answer → List Entry
-  answeredBy (sets s) a = []
-  answeredBy (hears port slot octets output) a = []
-  answeredBy (takes q) (number n) = []
-  answeredBy (takes q) (ended refusal local onward took) = []
-  answeredBy (takes q) (entry e) = pick (eqb q p) (e ∷ []) []
-  answeredBy (looks l) a = []
+  answeredBy (operator c) a = []
+  answeredBy (own c) a = answeredOwn c a
 
-  abbrev pub answeredFrom : Relay → List Call → List Entry
-  answeredFrom r [] = []
-  answeredFrom r (c ∷ cs) = answeredBy c (outcome r c .answer) ++ answeredFrom (next r c) cs
+  abbrev pub answeredFrom : Seat → List Call → List Entry
+  answeredFrom x [] = []
+  answeredFrom x (c ∷ cs) = answeredBy c (outcome x c .answer) ++ answeredFrom (next x c) cs
 
-  abbrev pub answeredSince : List Call → List Call → List Entry
-  answeredSince cs ds = answeredFrom (relayAfter cs) ds
-
-  -- the call that follows cs places no copy on the port and is no take of it that hands out: a setting or a look, a refused call, a datagram of
-  -- which this port took no entry, a take of another port
-  abbrev pub Idle : List Call → Call → Type 0
-  Idle cs c = (takenBy p (length cs) (relayAfter cs) c ≡ []) × (handedOut p (outcome (relayAfter cs) c) ≡ 0)
-
-  -- ---- one copy
   module _ (x : Copy) where
-    -- r: of those that wait after cs, how many go out before x if it enters now
-    abbrev pub before : List Call → ℕ
-    before cs = standingBefore (rankBy entryOf) x (lineAt p cs)
-
     abbrev pub isHanded : List Copy → Bool
     isHanded [] = false
     isHanded (y ∷ l) = eqb (y .turn) (x .turn)
 
     -- the calls while x waits: those before the call that hands it out, all where none does
-    abbrev pub waitsFrom : ℕ → Relay → List Copy → List Call → List Call
-    waitsFrom n r line [] = []
-    waitsFrom n r line (c ∷ cs) =
-        pick (isHanded (handedBy p (outcome r c .out) (chosen (rankBy entryOf) line))) [] (c ∷ waitsFrom (suc n) (next r c) (lineBy p n r c line) cs)
+    abbrev pub waitsFrom : ℕ → Seat → List Copy → List Call → List Call
+    waitsFrom n at line [] = []
+    waitsFrom n at line (c ∷ cs) =
+        pick (isHanded (handedBy p (outcome at c .out) (chosen (rankBy entryOf) line))) [] (c ∷ waitsFrom (suc n) (next at c) (lineBy p n at c line) cs)
 
-    abbrev pub whileWaits : List Call → List Call → List Call
-    whileWaits cs ds = waitsFrom (length cs) (relayAfter cs) (lineAt p cs) ds
+  -- ---- what calls ds do after a history cs of mission m
+  module _ (m : ℕ) where
+    -- the copies that the port takes, and those that it hands out, in turn
+    abbrev pub takenSince : List Call → List Call → List Copy
+    takenSince cs ds = takenFrom p (length cs) (seatAfter m cs) ds
 
-    -- h: of those that enter while x waits, how many are of higher precedence
-    abbrev pub higherEnter : List Call → List Call → ℕ
-    higherEnter cs ds = howMany (λ (y : Copy). ltb (rankBy entryOf x) (rankBy entryOf y)) (takenSince cs (whileWaits cs ds))
+    abbrev pub handedSince : List Call → List Call → List Copy
+    handedSince cs ds = handedFrom p (length cs) (seatAfter m cs) (lineAt p m cs) ds
 
-  -- "Refused calls and other ports' traffic count nothing": what is counted of c and the calls ds after it is what is counted of ds alone
-  pub record CountsNothing (x : Copy) (cs : List Call) (c : Call) (ds : List Call) : Type 0 where
-    pub line : lineAt p (andThen cs c) ≡ lineAt p cs
-    pub handed : handedSince cs (c ∷ ds) ≡ handedSince (andThen cs c) ds
-    pub takes : takesSince cs (c ∷ ds) ≡ takesSince (andThen cs c) ds
-    pub higher : higherEnter x cs (c ∷ ds) ≡ higherEnter x (andThen cs c) ds
+    -- how many of them are takes of the port that hand out
+    abbrev pub takesSince : List Call → List Call → ℕ
+    takesSince cs ds = sumFrom (handedOut p) (seatAfter m cs) ds
+
+    -- the entries that the takes of the port answer
+    abbrev pub answeredSince : List Call → List Call → List Entry
+    answeredSince cs ds = answeredFrom (seatAfter m cs) ds
+
+    -- the call that follows cs places no copy on the port and is no take of it that hands out: the operator's call, a setting or a look, a refused call, a
+    -- datagram of which this port took no entry, a take of another port
+    abbrev pub Idle : List Call → Call → Type 0
+    Idle cs c = (takenBy p (length cs) (seatAfter m cs) c ≡ []) × (handedOut p (outcome (seatAfter m cs) c) ≡ 0)
+
+    -- ---- one copy
+    module _ (x : Copy) where
+      -- r: of those that wait after cs, how many go out before x if it enters now
+      abbrev pub before : List Call → ℕ
+      before cs = standingBefore (rankBy entryOf) x (lineAt p m cs)
+
+      abbrev pub whileWaits : List Call → List Call → List Call
+      whileWaits cs ds = waitsFrom x (length cs) (seatAfter m cs) (lineAt p m cs) ds
+
+      -- h: of those that enter while x waits, how many are of higher precedence
+      abbrev pub higherEnter : List Call → List Call → ℕ
+      higherEnter cs ds = howMany (λ (y : Copy). ltb (rankBy entryOf x) (rankBy entryOf y)) (takenSince cs (whileWaits cs ds))
+
+    -- "Refused calls and other ports' traffic count nothing": what is counted of c and the calls ds after it is what is counted of ds alone
+    pub record CountsNothing (x : Copy) (cs : List Call) (c : Call) (ds : List Call) : Type 0 where
+      pub line : lineAt p m (andThen cs c) ≡ lineAt p m cs
+      pub handed : handedSince cs (c ∷ ds) ≡ handedSince (andThen cs c) ds
+      pub takes : takesSince cs (c ∷ ds) ≡ takesSince (andThen cs c) ds
+      pub higher : higherEnter x cs (c ∷ ds) ≡ higherEnter x (andThen cs c) ds

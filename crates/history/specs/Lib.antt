@@ -1,4 +1,5 @@
 -- Histories, what calls do and leave, and what the rules give over a history.
+pub mod Seat
 pub mod Calls
 pub mod Looks
 pub mod Outcome

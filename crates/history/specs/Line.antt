@@ -15,13 +15,13 @@ use Rattle.queue.specs.Order.{InOrder}
 use Rattle.queue.specs.Waits.{Chosen, nobody, one, chosen, rankBy}
 use Rattle.queue.specs.Foretold.{howMany}
 use Rattle.queue.specs.declared.Entry.{Entry}
-use Rattle.state.specs.Relay.{Relay, freshRelay, portIn}
-use Rattle.judge.specs.Ending.{endingOf}
+use Rattle.state.specs.Relay.{portIn}
 use Rattle.judge.specs.declared.Ending.{Ending}
 use Rattle.taking.specs.declared.Taking.{Taking}
 use Rattle.taking.specs.declared.Taking.the-variants.{Handed, Refused}
 use Rattle.relay.specs.Received.{newEntry}
-use Rattle.history.specs.Calls.{Call, sets, hears, takes, looks}
+use Rattle.history.specs.Seat.{Seat, freshSeat, relayIn, heardBy}
+use Rattle.history.specs.Calls.{MissionCall, sets, hears, takes, looks, Call, operator, own}
 use Rattle.history.specs.Outcome.{Out, nothing, from, outcome, next}
 
 pub record Copy : Type 0 where
@@ -36,9 +36,9 @@ abbrev pub entryOf : Copy → Entry
 entryOf c = c .entry
 
 -- the copy of a datagram, heard in turn n
-abbrev pub copyOf : ℕ → Relay → ℕ → Slot → List ℕ → Ending → Copy
-copyOf n r port slot octets e =
-    record { turn = n; arrival = portIn r port .address; octets = octets; size = e .size; entry = newEntry slot e }
+abbrev pub copyOf : ℕ → Seat → ℕ → Slot → List ℕ → Ending → Copy
+copyOf n x port slot octets e =
+    record { turn = n; arrival = portIn (relayIn x) port .address; octets = octets; size = e .size; entry = newEntry slot e }
 
 -- the octets that go out by the port: the header that receiving wrote, and the data behind it as they came
 abbrev pub sentOf : Copy → List ℕ
@@ -47,12 +47,16 @@ sentOf c = headerSentOn (c .octets) ++ drop (c .size) (c .octets)
 -- ---- one port
 module _ (p : ℕ) where
   -- the copies that it takes of a call: one or none
-  abbrev pub takenBy : ℕ → Relay → Call → List Copy
-  takenBy n r (sets s) = []
-  takenBy n r (hears port slot octets output) =
-      pick (inSet p (endingOf r port octets (length output) .ruling .took)) (copyOf n r port slot octets (endingOf r port octets (length output)) ∷ []) []
-  takenBy n r (takes port) = []
-  takenBy n r (looks l) = []
+  abbrev pub takenOwn : ℕ → Seat → MissionCall → List Copy
+  takenOwn n x (sets s) = []
+  takenOwn n x (hears rs port slot octets output) =
+      pick (inSet p (heardBy x rs port octets (length output) .ruling .took)) (copyOf n x port slot octets (heardBy x rs port octets (length output)) ∷ []) []
+  takenOwn n x (takes port) = []
+  takenOwn n x (looks l) = []
+
+  abbrev pub takenBy : ℕ → Seat → Call → List Copy
+  takenBy n x (operator c) = []
+  takenBy n x (own c) = takenOwn n x c
 
   -- those that it hands out, of those that wait: the oldest of the highest precedence, where it hands out at all
   abbrev pub handedBy : Out → Chosen Copy → List Copy
@@ -66,30 +70,31 @@ module _ (p : ℕ) where
   leftBy (from q e) line (one x others) = pick (eqb q p) others line
 
   -- ---- over the calls: those that wait, all that were taken, and all that were handed out
-  abbrev pub lineBy : ℕ → Relay → Call → List Copy → List Copy
-  lineBy n r c line = leftBy (outcome r c .out) line (chosen (rankBy entryOf) line) ++ takenBy n r c
+  abbrev pub lineBy : ℕ → Seat → Call → List Copy → List Copy
+  lineBy n x c line = leftBy (outcome x c .out) line (chosen (rankBy entryOf) line) ++ takenBy n x c
 
-  abbrev pub lineFrom : ℕ → Relay → List Copy → List Call → List Copy
-  lineFrom n r line [] = line
-  lineFrom n r line (c ∷ cs) = lineFrom (suc n) (next r c) (lineBy n r c line) cs
+  abbrev pub lineFrom : ℕ → Seat → List Copy → List Call → List Copy
+  lineFrom n x line [] = line
+  lineFrom n x line (c ∷ cs) = lineFrom (suc n) (next x c) (lineBy n x c line) cs
 
-  abbrev pub takenFrom : ℕ → Relay → List Call → List Copy
-  takenFrom n r [] = []
-  takenFrom n r (c ∷ cs) = takenBy n r c ++ takenFrom (suc n) (next r c) cs
+  abbrev pub takenFrom : ℕ → Seat → List Call → List Copy
+  takenFrom n x [] = []
+  takenFrom n x (c ∷ cs) = takenBy n x c ++ takenFrom (suc n) (next x c) cs
 
-  abbrev pub handedFrom : ℕ → Relay → List Copy → List Call → List Copy
-  handedFrom n r line [] = []
-  handedFrom n r line (c ∷ cs) =
-      handedBy (outcome r c .out) (chosen (rankBy entryOf) line) ++ handedFrom (suc n) (next r c) (lineBy n r c line) cs
+  abbrev pub handedFrom : ℕ → Seat → List Copy → List Call → List Copy
+  handedFrom n x line [] = []
+  handedFrom n x line (c ∷ cs) =
+      handedBy (outcome x c .out) (chosen (rankBy entryOf) line) ++ handedFrom (suc n) (next x c) (lineBy n x c line) cs
 
-  abbrev pub lineAt : List Call → List Copy
-  lineAt cs = lineFrom 0 freshRelay [] cs
+  -- ---- after a history of mission m
+  abbrev pub lineAt : ℕ → List Call → List Copy
+  lineAt m cs = lineFrom 0 (freshSeat m) [] cs
 
-  abbrev pub takenAt : List Call → List Copy
-  takenAt cs = takenFrom 0 freshRelay cs
+  abbrev pub takenAt : ℕ → List Call → List Copy
+  takenAt m cs = takenFrom 0 (freshSeat m) cs
 
-  abbrev pub handedAt : List Call → List Copy
-  handedAt cs = handedFrom 0 freshRelay [] cs
+  abbrev pub handedAt : ℕ → List Call → List Copy
+  handedAt m cs = handedFrom 0 (freshSeat m) [] cs
 
 -- "Taking from a port: 16 if not set up, 18 if nothing waits, else the first entry, removed": by whether the port is set up, and whom the line gives
 abbrev pub takingOf : Bool → Chosen Copy → Taking

@@ -1,7 +1,8 @@
--- The number that a call which only looks carries: its refusal, 0 where there is none; of a class, a form, a checksum and the words of a state the number
--- itself; of a search the sixteen lowest bits, which are the refusal and, above it, whether a route was found (page 01, "Refusal numbers" and "Classes
--- of a four-octet address"; page 02, W-202). What it answers beside that is fixed by its promise. Assumes nothing.
+-- The number that a call which only looks carries: its refusal, 0 where there is none; of a class, a form, a checksum and the words of a board or a mission
+-- the number itself; of a search the sixteen lowest bits, which are the refusal and, above it, whether a route was found (page 01, "Refusal numbers" and
+-- "Classes of a four-octet address"; page 02, W-202 and W-208). What it answers beside that is fixed by its promise. Assumes nothing.
 use Prim.Native.Nat.{ℕ, _%_, _^_}
+use mathlib.Core.Bool.{_&&_}
 use lib.ListN.{length}
 use lib.Dec.{ltb}
 use Rattle.checks.specs.Order.{pick, firstOf}
@@ -9,21 +10,20 @@ use Rattle.address.specs.Class.{classOf, classNumber}
 use Rattle.address.specs.Path.{pathForm, pathNumber}
 use Rattle.checksum.specs.Sum.{checksumOf}
 use Rattle.header.specs.Read.{readOf}
-use Rattle.sets.specs.Limits.{portCount, counterCount}
-use Rattle.state.specs.Relay.{Relay}
-use Rattle.state.specs.Layout as layout
+use Rattle.sets.specs.Limits.{portCount, groupPlaces, pathPlaces, counterCount}
+use Rattle.state.specs.Layout.{boardWords, missionWords}
+use Rattle.lent_state.specs.View.{tooLong}
 use Rattle.harpjuniper.specs.Face.{readingOf, numbersChecks}
-use Rattle.harpjuniper_reads.specs.Back.{portBack, routeBack, groupBack, pathBack}
-use Rattle.harpjuniper_reads.specs.Search.{searchAnswer}
+use Rattle.route_calls.specs.Search.{searchAnswer}
+use Rattle.history.specs.Seat.{Seat, relayWith}
 use Rattle.history.specs.Calls.{
-  Part,
-  theRouter,
-  thePort,
-  theRoute,
-  theGroup,
-  thePath,
+  View,
+  routerFlag,
+  portWord,
+  recordWord,
   Look,
-  setting,
+  groupWord,
+  pathWord,
   search,
   counter,
   waiting,
@@ -32,24 +32,31 @@ use Rattle.history.specs.Calls.{
   class,
   form,
   checksum,
-  stateWords,
+  boardSize,
+  missionSize,
 }
 
-abbrev pub partNumber : Relay → Part → ℕ
-partNumber r theRouter = 0
-partNumber r (thePort p) = portBack r p .refusal
-partNumber r (theRoute i) = routeBack r i .refusal
-partNumber r (theGroup i) = groupBack r i .refusal
-partNumber r (thePath i) = pathBack r i .refusal
+-- a word of a place: 21 where there is no such place among so many, or no such word among so many
+abbrev pub wordRefusal : ℕ → ℕ → ℕ → ℕ → ℕ
+wordRefusal place places word words = pick (ltb place places && ltb word words) 0 21
 
-abbrev pub lookNumber : Relay → Look → ℕ
-lookNumber r (setting part) = partNumber r part
-lookNumber r (search a) = searchAnswer r a % 2 ^ 16
-lookNumber r (counter i) = pick (ltb i counterCount) 0 21
-lookNumber r (waiting p) = pick (ltb p portCount) 0 21
-lookNumber r (read octets) = readingOf (readOf octets) .refusal
-lookNumber r (build fields size output) = firstOf (numbersChecks fields size (length output))
-lookNumber r (class a) = classNumber (classOf (a .0))
-lookNumber r (form p) = pathNumber (pathForm (p .0))
-lookNumber r (checksum octets) = checksumOf octets
-lookNumber r stateWords = layout.stateWords
+-- a port has five words, a record of a list seven
+abbrev pub viewNumber : View → ℕ
+viewNumber routerFlag = 0
+viewNumber (portWord p word) = wordRefusal p portCount word 5
+viewNumber (recordWord rs i word) = pick (tooLong rs) 21 (wordRefusal i (length rs) word 7)
+
+-- a group has four, and a path; a search looks at what the mission sees of the list
+abbrev pub lookNumber : Seat → Look → ℕ
+lookNumber x (groupWord i word) = wordRefusal i groupPlaces word 4
+lookNumber x (pathWord i word) = wordRefusal i pathPlaces word 4
+lookNumber x (search rs a) = pick (tooLong rs) 21 (searchAnswer (relayWith x rs) a % 2 ^ 16)
+lookNumber x (counter i) = pick (ltb i counterCount) 0 21
+lookNumber x (waiting p) = pick (ltb p portCount) 0 21
+lookNumber x (read octets) = readingOf (readOf octets) .refusal
+lookNumber x (build fields size output) = firstOf (numbersChecks fields size (length output))
+lookNumber x (class a) = classNumber (classOf (a .0))
+lookNumber x (form p) = pathNumber (pathForm (p .0))
+lookNumber x (checksum octets) = checksumOf octets
+lookNumber x boardSize = boardWords
+lookNumber x missionSize = missionWords

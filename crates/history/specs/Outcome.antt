@@ -1,5 +1,5 @@
 -- What one call does, and what a history of calls leaves: all that is counted, granted, dropped and handed out, from the settings and the queues
--- alone. No counter is looked at (page 01 has no rule that reads one). Assumes nothing.
+-- alone. No counter is looked at (page 01 has no rule that reads one), and nothing of the other mission. Assumes nothing.
 use Prim.Native.Nat.{ℕ, _+_}
 use mathlib.Core.Bool.{Bool, false, not, _||_}
 use mathlib.Core.List.{List, [], _∷_}
@@ -7,17 +7,34 @@ use lib.ListN.{length}
 use lib.Dec.{eqb, ltb}
 use Rattle.checks.specs.Order.{firstOf}
 use Rattle.queue.specs.declared.Entry.{Entry}
-use Rattle.state.specs.Relay.{Relay, freshRelay}
+use Rattle.state.specs.Relay.{Mission}
+use Rattle.state.specs.Seen.{Board}
 use Rattle.verdict.specs.Numbers.{localNumber, onwardNumber}
-use Rattle.judge.specs.Ending.{endingOf}
 use Rattle.judge.specs.declared.Ending.{Ending}
 use Rattle.taking.specs.Taking.{takeOutcome, takenRelay}
 use Rattle.taking.specs.declared.Taking.{Taking}
 use Rattle.taking.specs.declared.Taking.the-variants.{Handed, Refused}
 use Rattle.tally.specs.Tally.{Move, movesOf}
 use Rattle.relay.specs.Received.{receivedRelay}
-use Rattle.history.specs.Calls.{Call, sets, hears, takes, looks, checksOf, settle}
-use Rattle.history.specs.Looks.{lookNumber}
+use Rattle.history.specs.Seat.{Seat, freshSeat, relayIn, heardBy}
+use Rattle.history.specs.Calls.{
+  OperatorCall,
+  orders,
+  views,
+  MissionCall,
+  sets,
+  hears,
+  takes,
+  looks,
+  Call,
+  operator,
+  own,
+  orderChecks,
+  boardLeft,
+  checksOf,
+  settle,
+}
+use Rattle.history.specs.Looks.{viewNumber, lookNumber}
 
 -- ---- one call
 pub data Answer : Type 0 where
@@ -68,32 +85,60 @@ abbrev pub ofTaking : ℕ → Taking → Outcome
 ofTaking p (Handed e) = record { answer = entry e; moves = []; granted = 0; took = 0; dropped = 0; out = from p e }
 ofTaking p (Refused n) = quiet (number n)
 
-abbrev pub outcome : Relay → Call → Outcome
-outcome r (sets s) = quiet (number (firstOf (checksOf r s)))
-outcome r (hears p slot octets output) = ofEnding (endingOf r p octets (length output))
-outcome r (takes p) = ofTaking p (takeOutcome r p)
-outcome r (looks l) = quiet (number (lookNumber r l))
+-- the operator's call: by the board and the list lent alone
+abbrev pub operatorOutcome : Board → OperatorCall → Outcome
+operatorOutcome b (orders o) = quiet (number (firstOf (orderChecks b o)))
+operatorOutcome b (views v) = quiet (number (viewNumber v))
 
--- what it leaves
-abbrev pub next : Relay → Call → Relay
-next r (sets s) = settle r s
-next r (hears p slot octets output) = receivedRelay r slot (endingOf r p octets (length output))
-next r (takes p) = takenRelay r p
-next r (looks l) = r
+-- the mission's own: page 01's call on what the mission sees
+abbrev pub ownOutcome : Seat → MissionCall → Outcome
+ownOutcome x (sets s) = quiet (number (firstOf (checksOf (relayIn x) s)))
+ownOutcome x (hears rs p slot octets output) = ofEnding (heardBy x rs p octets (length output))
+ownOutcome x (takes p) = ofTaking p (takeOutcome (relayIn x) p)
+ownOutcome x (looks l) = quiet (number (lookNumber x l))
+
+abbrev pub outcome : Seat → Call → Outcome
+outcome x (operator c) = operatorOutcome (x .board) c
+outcome x (own c) = ownOutcome x c
+
+-- what it leaves: the operator's call changes the board, and the mission's own the mission
+abbrev pub nextBoard : Board → OperatorCall → Board
+nextBoard b (orders o) = boardLeft b o
+nextBoard b (views v) = b
+
+abbrev pub nextMission : Seat → MissionCall → Mission
+nextMission x (sets s) = settle (relayIn x) s .mission
+nextMission x (hears rs p slot octets output) = receivedRelay (relayIn x) slot (heardBy x rs p octets (length output)) .mission
+nextMission x (takes p) = takenRelay (relayIn x) p .mission
+nextMission x (looks l) = x .mission
+
+abbrev pub next : Seat → Call → Seat
+next x (operator c) = record { board = nextBoard (x .board) c; number = x .number; mission = x .mission }
+next x (own c) = record { board = x .board; number = x .number; mission = nextMission x c }
 
 -- ---- one call after the other
-abbrev pub runFrom : Relay → List Call → Relay
-runFrom r [] = r
-runFrom r (c ∷ cs) = runFrom (next r c) cs
+abbrev pub runFrom : Seat → List Call → Seat
+runFrom x [] = x
+runFrom x (c ∷ cs) = runFrom (next x c) cs
 
--- the settings in force and the entries that wait after a history
-abbrev pub relayAfter : List Call → Relay
-relayAfter cs = runFrom freshRelay cs
+-- the settings in force and the entries that wait after a history of mission n
+abbrev pub seatAfter : ℕ → List Call → Seat
+seatAfter n cs = runFrom (freshSeat n) cs
+
+-- the operator's calls of a history, and what they leave of a board by themselves
+abbrev pub byOperator : List Call → List OperatorCall
+byOperator [] = []
+byOperator (operator c ∷ cs) = c ∷ byOperator cs
+byOperator (own c ∷ cs) = byOperator cs
+
+abbrev pub boardFrom : Board → List OperatorCall → Board
+boardFrom b [] = b
+boardFrom b (c ∷ cs) = boardFrom (nextBoard b c) cs
 
 -- what is counted of each outcome, over the calls
-abbrev pub sumFrom : (Outcome → ℕ) → Relay → List Call → ℕ
-sumFrom f r [] = 0
-sumFrom f r (c ∷ cs) = f (outcome r c) + sumFrom f (next r c) cs
+abbrev pub sumFrom : (Outcome → ℕ) → Seat → List Call → ℕ
+sumFrom f x [] = 0
+sumFrom f x (c ∷ cs) = f (outcome x c) + sumFrom f (next x c) cs
 
-abbrev pub sumOver : (Outcome → ℕ) → List Call → ℕ
-sumOver f cs = sumFrom f freshRelay cs
+abbrev pub sumOver : (Outcome → ℕ) → ℕ → List Call → ℕ
+sumOver f n cs = sumFrom f (freshSeat n) cs

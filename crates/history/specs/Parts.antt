@@ -1,63 +1,80 @@
 -- The settings one by one, and which of them a call is about: page 01, "Settings" ("A setting that no rule here refuses is taken and holds until it is
--- changed"). Assumes nothing.
+-- changed"). A list of routes is no part of a board or a mission. Assumes nothing.
 use Prim.Native.Nat.{ℕ}
 use mathlib.Core.Path.{_≡_}
-use Rattle.routes.specs.declared.Route.{Route}
-use Rattle.records.specs.declared.Port.{Port}
+use Rattle.records.specs.declared.OwnedPort.{OwnedPort}
 use Rattle.records.specs.declared.Group.{Group}
 use Rattle.records.specs.declared.PathPlace.{PathPlace}
-use Rattle.state.specs.Relay.{Relay, portIn, routeIn, groupIn, pathIn}
+use Rattle.state.specs.Relay.{groupAt, pathAt}
+use Rattle.state.specs.Seen.{ownedAt}
+use Rattle.history.specs.Seat.{Seat}
 use Rattle.history.specs.Calls.{
-  Setting,
+  Order,
   setRouter,
   setPort,
   setRoute,
+  clearRoute,
+  OperatorCall,
+  orders,
+  views,
+  Setting,
   setGroup,
   setPath,
-  clearRoute,
   clearGroup,
   clearPath,
-  Part,
-  theRouter,
-  thePort,
-  theRoute,
-  theGroup,
-  thePath,
-  Call,
+  MissionCall,
   sets,
   hears,
   takes,
   looks,
+  Call,
+  operator,
+  own,
 }
 
+pub data Part : Type 0 where
+  theRouter : Part
+  thePort : ℕ → Part
+  theGroup : ℕ → Part
+  thePath : ℕ → Part
+
+-- an order is about the part that it writes; one that writes in a list is about none
+abbrev pub Orders : Order → Part → Type 0
+Orders (setRouter x) part = theRouter ≡ part
+Orders (setPort p address mask mtu mission) part = thePort p ≡ part
+Orders (setRoute rs i prefix mask port availability capabilities mission) part = ⊥
+Orders (clearRoute rs i) part = ⊥
+
 abbrev pub partOf : Setting → Part
-partOf (setRouter x) = theRouter
-partOf (setPort p address mask mtu) = thePort p
-partOf (setRoute i prefix mask port availability capabilities) = theRoute i
 partOf (setGroup i address send subscribed) = theGroup i
 partOf (setPath i path send here) = thePath i
-partOf (clearRoute i) = theRoute i
 partOf (clearGroup i) = theGroup i
 partOf (clearPath i) = thePath i
 
--- a setting is about its part, and no other call is about any
+-- no other call is about any
+abbrev pub ByOperator : OperatorCall → Part → Type 0
+ByOperator (orders o) part = Orders o part
+ByOperator (views v) part = ⊥
+
+abbrev pub ByMission : MissionCall → Part → Type 0
+ByMission (sets s) part = partOf s ≡ part
+ByMission (hears rs port slot octets output) part = ⊥
+ByMission (takes port) part = ⊥
+ByMission (looks l) part = ⊥
+
 abbrev pub About : Call → Part → Type 0
-About (sets s) part = partOf s ≡ part
-About (hears port slot octets output) part = ⊥
-About (takes port) part = ⊥
-About (looks l) part = ⊥
+About (operator c) part = ByOperator c part
+About (own c) part = ByMission c part
 
 -- what stands there
 pub data Standing : Type 0 where
   router : ℕ → Standing
-  port : Port → Standing
-  route : Route → Standing
+  port : OwnedPort → Standing
   group : Group → Standing
   path : PathPlace → Standing
 
-abbrev pub settingIn : Relay → Part → Standing
-settingIn r theRouter = router (r .router)
-settingIn r (thePort p) = port (portIn r p)
-settingIn r (theRoute i) = route (routeIn r i)
-settingIn r (theGroup i) = group (groupIn r i)
-settingIn r (thePath i) = path (pathIn r i)
+abbrev pub settingIn : Seat → Part → Standing
+settingIn x theRouter = router (x .board .router)
+settingIn x (thePort p) = port (ownedAt (x .board) p)
+settingIn x (theGroup i) = group (groupAt (x .mission) i)
+settingIn x (thePath i) = path (pathAt (x .mission) i)

@@ -21,8 +21,8 @@ portsIn (suc p) set = portsIn p set + one (inSet p set)
 abbrev pub counted : Answer → ℕ → List ℕ
 counted (number n) copies = []
 counted (ended refusal local onward took) copies =
-    -- npInReceives: every end but 16 and 17
-    one (not (listed (16 ∷ 17 ∷ []) refusal))
+    -- npInReceives: every end but 16 and 17, and 21 before both, a list over 512 records (page 02, W-208)
+    one (not (listed (21 ∷ 16 ∷ 17 ∷ []) refusal))
     -- npInBadLength: 1, short; 3, length
     ∷ one (listed (1 ∷ 3 ∷ []) refusal)
     -- npInBadVersion: 2, version

@@ -1,90 +1,201 @@
--- The stages of the verdict, over plain variables. Assumes nothing.
+-- The stages before the search, over plain variables. Assumes nothing.
 use native.Mathlib.Omega.{arith}
 use Prim.Native.Nat.{ℕ, _<_}
 use mathlib.Core.Path.{_≡_, refl, sym, ap, _∙_}
-use mathlib.Core.Bool.{not}
-use mathlib.Core.List.{List}
+use mathlib.Core.Bool.{Bool, true, false, not}
+use mathlib.Core.List.{List, [], _∷_}
 use lib.ListN.{getD}
 use borrow.Author.Tests.{eq-eqb, ne-eqb}
-use Rattle.checks.specs.Order.{checkOf, firstOf}
+use Rattle.checks.specs.Order.{pick, checkOf, firstOf}
 use Rattle.checks.specs.declared.Check.the-variants.{Passed, Failed}
 use Rattle.checks.specs.declared.Check.{Check}
+use Rattle.checks.proofs.Laws.{passed-false, failed-true}
 use Rattle.checks.proofs.Steps.{fails-here, passes, none-left}
 use Rattle.sets.specs.Sets.{onlyPort}
+use Rattle.address.specs.Class.{classOf, classNumber}
+use Rattle.address.specs.Path.{pathForm, pathNumber}
 use Rattle.address.specs.declared.Address.{Address}
-use Rattle.header.specs.Read.{readOf}
-use Rattle.header.specs.declared.Header.{Header}
-use Rattle.header.specs.declared.Read.the-variants.{Good}
-use Rattle.header.proofs.Answers.{read-bounds}
-use Rattle.meaning.specs.Names.{aimOf, originOf, badAim, badSource}
-use Rattle.meaning.specs.declared.Origin.{Origin}
-use Rattle.header.specs.declared.Addresses.{Addresses}
-use Rattle.meaning.specs.declared.Aim.{Aim}
-use Rattle.meaning.specs.Asked.{precedenceAsked}
-use Rattle.records.specs.declared.Port.{Port}
-use Rattle.state.specs.Relay.{Relay, portIn, portSetUp}
-use Rattle.verdict.specs.declared.Ruling.{Ruling}
-use Rattle.judge.specs.Ruling.{ruleOf}
-use Rattle.judge.specs.declared.ruling.Arrival.{Arrival}
-use Rattle.judge.specs.declared.Ending.{Ending}
-use Rattle.meaning.specs.Arrival.{arrivalChecks}
+use Rattle.address.specs.declared.PathAddress.{PathAddress}
+use Rattle.address.specs.declared.Class.{Class}
+use Rattle.address.specs.declared.PathForm.{PathForm}
 use Rattle.header.specs.Limits.{noRoom}
-use Rattle.judge.specs.Ending.{refusedBy, orElse, callChecks, headerEnding, octetsEnding, arrivalAt, endingOf}
+use Rattle.header.specs.Onward.{foundOf}
+use Rattle.header.specs.declared.Renewal.{Renewal}
+use Rattle.header.specs.declared.Found.the-variants as found
+use Rattle.header.proofs.FoundLaws.{found-good}
+use Rattle.header.specs.declared.Header.{Header}
+use Rattle.header.proofs.Answers.{read-bounds}
+use Rattle.networks.specs.Networks.{domainOf}
+use Rattle.meaning.specs.Names.{aimOf, originOf, notCarried, noDomain, badClass, badPath, badAim, badSource}
+use Rattle.meaning.specs.Arrival.{arrivalChecks}
+use Rattle.meaning.specs.Asked.{precedenceAsked}
+use Rattle.meaning.specs.declared.Aim.{Aim}
+use Rattle.meaning.specs.declared.Aim.the-variants as aim
+use Rattle.meaning.specs.declared.Origin.{Origin}
+use Rattle.records.specs.Fresh.{freshPort}
+use Rattle.records.specs.declared.Port.{Port}
+use Rattle.state.specs.Relay.{Relay, amongPorts}
+use Rattle.state.specs.Seen.{Board, State, portsSeen, seated}
+use Rattle.survey.specs.Survey.{namedOf}
+use Rattle.survey.specs.declared.Sought.{Sought}
+use Rattle.lookup.specs.Lookup.{pathPlace}
+use Rattle.lookup.specs.ForTarget.{placeFor}
+use Rattle.verdict.specs.Rule.{targetOf}
+use Rattle.verdict.specs.declared.Target.{Target}
+use Rattle.verdict.specs.declared.Target.the-variants as target
+use Rattle.verdict.specs.declared.Place.{Place}
+use Rattle.verdict.specs.declared.Case.{Case}
+use Rattle.verdict.specs.declared.Survey.{Survey}
+use Rattle.judge.specs.Ruling.{caseOf, soughtOf}
+use Rattle.judge.specs.Ending.{callChecks}
+use Rattle.judge.specs.Asked.{refusedAsked, elseAsked, nodeAsked, pathAsked, aimAsked, carriedAsked, octetsAsked, datagramAsked}
+use Rattle.judge.specs.declared.ruling.Arrival.{Arrival}
+use Rattle.judge.specs.declared.Asked.{Asked}
 
--- ---- an ending by a number, or by what follows
-pub by-number : {n : ℕ} {e : Ending} (m : ℕ) (rest : Ending) → n ≡ m → (n ≡ 0 → ⊥) → e ≡ refusedBy n → e ≡ orElse m rest
+-- ---- by a number, or by what follows
+pub by-number : {n : ℕ} {e : Asked} (m : ℕ) (rest : Asked) → n ≡ m → (n ≡ 0 → ⊥) → e ≡ refusedAsked n → e ≡ elseAsked m rest
 by-number m rest same h is = rw (← same) (simp (ne-eqb _ 0 h) is)
 
-pub by-rest : {n : ℕ} {e : Ending} (m : ℕ) (rest : Ending) → n ≡ m → n ≡ 0 → e ≡ rest → e ≡ orElse m rest
+pub by-rest : {n : ℕ} {e : Asked} (m : ℕ) (rest : Asked) → n ≡ m → n ≡ 0 → e ≡ rest → e ≡ elseAsked m rest
 by-rest m rest same h is = rw (← same) (simp (eq-eqb _ 0 h) is)
 
--- ---- a check that was told of what an address names
-pub aim-told : (port : ℕ) (a : Addresses) {x : Aim} {c : Check} → x ≡ aimOf port a → c ≡ checkOf (badAim x) → c ≡ checkOf (badAim (aimOf port a))
-aim-told port a e told = told ∙ ap (λ (x : Aim). checkOf (badAim x)) e
+-- 6 by one test, or what follows
+bad : {e : Asked} (t : Bool) (rest : Asked) → t ≡ true → e ≡ refusedAsked 6 → e ≡ elseAsked (pick t 6 0) rest
+bad t rest h is = rw h is
 
-pub origin-told : (port : ℕ) (a : Addresses) {x : Origin} {c : Check}
-    → x ≡ originOf port a → c ≡ checkOf (badSource x) → c ≡ checkOf (badSource (originOf port a))
-origin-told port a e told = told ∙ ap (λ (x : Origin). checkOf (badSource x)) e
+good : {e : Asked} (t : Bool) (rest : Asked) → t ≡ false → e ≡ rest → e ≡ elseAsked (pick t 6 0) rest
+good t rest h is = rw h is
 
--- ---- a good header
-module _ (r : Relay) (at : Arrival) (h : Header) {n : ℕ} (is : n ≡ firstOf (arrivalChecks (at .address) (h .fields))) where
-  pub header-refused : {e : Ending} → (n ≡ 0 → ⊥) → e ≡ refusedBy n → e ≡ headerEnding r at h
-  unfolding headerEnding
-  header-refused some told = by-number _ _ is some told
+-- ---- an end system's address or a group's
+module _ (a : Address) {class : Class} {n : ℕ} (is : class ≡ classOf (a .0)) (number : n ≡ classNumber class) where
+  class-told : n ≡ classNumber (classOf (a .0))
+  class-told = number ∙ ap classNumber is
 
-  pub header-ruled :
-      {aim : Aim} {ruling : Ruling} {precedence : ℕ}
-      → n ≡ 0
-      → aim ≡ aimOf (at .address .0) (h .fields .addresses)
-      → ruling ≡ ruleOf r at aim h
+  pub node-refused : {e : Asked} (rest : Asked) → n ≡ 0 → e ≡ refusedAsked 6 → e ≡ elseAsked (pick (badClass (a .0)) 6 0) rest
+  node-refused rest h told = bad (badClass (a .0)) rest (eq-eqb _ 0 (sym class-told ∙ h)) told
+
+  pub node-asked :
+      (b : Board) (s : State) (at : Arrival) (h : Header) (k : Renewal) {m router domain : ℕ} {v : Survey} {t : Target} {p : Place} {c : Case} {q : Sought} {precedence : ℕ}
+      → (n ≡ 0 → ⊥)
+      → m ≡ s .number
+      → v ≡ namedOf (portsSeen m b) a
+      → t ≡ targetOf class v
+      → p ≡ placeFor (seated b s) t a (at .set)
+      → router ≡ b .router
+      → c ≡ caseOf router (at .set) (h .fields)
+      → domain ≡ domainOf (at .address)
+      → q ≡ soughtOf (aim.Node a) domain (h .length)
       → precedence ≡ precedenceAsked (h .fields .qos)
-      → _≡_ {A = Ending} (record { refusal = 0; ruling = ruling; precedence = precedence; size = h .size }) (headerEnding r at h)
-  unfolding headerEnding
-  header-ruled none a x p = by-rest _ _ is none cc
+      → _≡_ {A = Asked}
+      (record { refusal = 0; target = t; place = p; case = c; ready = v .ready; sought = q; number = m; precedence = precedence; size = h .size; renewal = k })
+      (elseAsked (pick (badClass (a .0)) 6 0) (nodeAsked (seated b s) (s .number) at h k a))
+  unfolding nodeAsked
+  node-asked b s at h k some e1 e2 e3 e4 e5 e6 e7 e8 e9 = good (badClass (a .0)) _ (ne-eqb _ 0 (λ z. some (class-told ∙ z))) cc
+
+-- ---- a path
+module _ (p : PathAddress) {form : PathForm} {n : ℕ} (is : form ≡ pathForm (p .0)) (number : n ≡ pathNumber form) where
+  form-told : n ≡ pathNumber (pathForm (p .0))
+  form-told = number ∙ ap pathNumber is
+
+  pub path-refused : {e : Asked} (rest : Asked) → n ≡ 0 → e ≡ refusedAsked 6 → e ≡ elseAsked (pick (badPath (p .0)) 6 0) rest
+  path-refused rest h told = bad (badPath (p .0)) rest (eq-eqb _ 0 (sym form-told ∙ h)) told
+
+  pub path-asked :
+      (b : Board) (s : State) (at : Arrival) (h : Header) (k : Renewal) {m router domain : ℕ} {x : Place} {c : Case} {q : Sought} {precedence : ℕ}
+      → (n ≡ 0 → ⊥)
+      → x ≡ pathPlace (seated b s) p
+      → router ≡ b .router
+      → c ≡ caseOf router (at .set) (h .fields)
+      → domain ≡ domainOf (at .address)
+      → q ≡ soughtOf (aim.Path p) domain (h .length)
+      → m ≡ s .number
+      → precedence ≡ precedenceAsked (h .fields .qos)
+      → _≡_ {A = Asked}
+      (record { refusal = 0; target = target.Path; place = x; case = c; ready = 0; sought = q; number = m; precedence = precedence; size = h .size; renewal = k })
+      (elseAsked (pick (badPath (p .0)) 6 0) (pathAsked (seated b s) (s .number) at h k p))
+  unfolding pathAsked
+  path-asked b s at h k some e1 e2 e3 e4 e5 e6 e7 = good (badPath (p .0)) _ (ne-eqb _ 0 (λ z. some (form-told ∙ z))) cc
+
+-- ---- a good header: 6 is given for either address
+either-6 : (t u : Bool) → u ≡ true → 6 ≡ firstOf ((t, 6) ∷ (u, 6) ∷ [])
+unfolding firstOf
+either-6 true u h = refl
+either-6 false u h = rw h
+
+first-6 : (t u : Bool) → u ≡ false → pick t 6 0 ≡ firstOf ((t, 6) ∷ (u, 6) ∷ [])
+unfolding firstOf
+first-6 true u h = refl
+first-6 false u h = rw h
+
+source-told : (at : Arrival) (h : Header) {o : Origin} {c : Check} → o ≡ originOf (at .address .0) (h .fields .addresses) → c ≡ checkOf (badSource o)
+    → c ≡ checkOf (badSource (originOf (at .address .0) (h .fields .addresses)))
+source-told at h from told = told ∙ ap (λ (x : Origin). checkOf (badSource x)) from
+
+module _ (r : Relay) (number : ℕ) (at : Arrival) (h : Header) (k : Renewal) {e : Asked} where
+  pub header-refused : {n : ℕ} → n ≡ firstOf (arrivalChecks (at .address) (h .fields)) → (n ≡ 0 → ⊥) → e ≡ refusedAsked n → e ≡ carriedAsked r number at h k
+  unfolding carriedAsked
+  header-refused is some told = by-number _ _ is some told
+
+  module _ {carried domain : Check} (told : carried ≡ checkOf (notCarried (h .fields))) (carries : carried ≡ Passed)
+      (told′ : domain ≡ checkOf (noDomain (at .address) (h .fields .addresses))) (has : domain ≡ Passed)
+      {o : Origin} {origin : Check} (from : o ≡ originOf (at .address .0) (h .fields .addresses)) (told″ : origin ≡ checkOf (badSource o)) where
+    pub source-refused : origin ≡ Failed → e ≡ refusedAsked 6 → e ≡ carriedAsked r number at h k
+    source-refused fails is =
+        header-refused (passes _ _ _ told carries (passes _ _ _ told′ has (either-6 _ _ (failed-true _ (sym (source-told at h from told″) ∙ fails))))) (λ z. omega arith) is
+
+    pub header-aimed : origin ≡ Passed → {y : Aim} (x : Aim) → y ≡ aimOf (at .address .0) (h .fields .addresses) → y ≡ x
+        → e ≡ elseAsked (pick (badAim x) 6 0) (aimAsked r number at h k x) → e ≡ carriedAsked r number at h k
+    unfolding carriedAsked
+    header-aimed passed x named same is =
+        let aimed : x ≡ aimOf (at .address .0) (h .fields .addresses) = sym same ∙ named in
+        is
+        ∙ ap (λ (z : Aim). elseAsked (pick (badAim z) 6 0) (aimAsked r number at h k z)) aimed
+        ∙ ap (λ (n : ℕ). elseAsked n (aimAsked r number at h k (aimOf (at .address .0) (h .fields .addresses))))
+        (passes _ _ _ told carries (passes _ _ _ told′ has (first-6 _ _ (passed-false _ (sym (source-told at h from told″) ∙ passed)))))
+
+-- the three aims
+module _ (r : Relay) (number : ℕ) (at : Arrival) (h : Header) (k : Renewal) {e : Asked} where
+  pub at-node : (a : Address) → e ≡ elseAsked (pick (badClass (a .0)) 6 0) (nodeAsked r number at h k a)
+      → e ≡ elseAsked (pick (badAim (aim.Node a)) 6 0) (aimAsked r number at h k (aim.Node a))
+  unfolding aimAsked
+  at-node a is = is
+
+  pub at-path : (p : PathAddress) → e ≡ elseAsked (pick (badPath (p .0)) 6 0) (pathAsked r number at h k p)
+      → e ≡ elseAsked (pick (badAim (aim.Path p)) 6 0) (aimAsked r number at h k (aim.Path p))
+  unfolding aimAsked
+  at-path p is = is
 
 -- the length field has 13 bits
-pub short-length : (s : List ℕ) (h : Header) → ((i : ℕ) → getD s i 0 < 256) → readOf s ≡ Good h → h .length < 8192
-short-length s h small e = read-bounds s h small e .1 .1 .1 .1
+pub short-length : (s : List ℕ) (h : Header) (k : Renewal) → ((i : ℕ) → getD s i 0 < 256) → foundOf s ≡ found.Good h k → h .length < 8192
+short-length s h k small e = read-bounds s h small (found-good s h k e .0) .1 .1 .1 .1
 
 -- ---- the whole
-module _ (r : Relay) (port : ℕ) (octets : List ℕ) (room : ℕ) {e : Ending} {c : Check} (told : c ≡ checkOf (not (portSetUp r port))) where
-  pub no-port : c ≡ Failed → e ≡ refusedBy 16 → e ≡ endingOf r port octets room
-  unfolding endingOf callChecks
+-- the port, by the mission's number
+pub port-told : (b : Board) (port : ℕ) {n m : ℕ} {c : Check}
+    → n ≡ m → c ≡ checkOf (not (amongPorts (portsSeen n b) port)) → c ≡ checkOf (not (amongPorts (portsSeen m b) port))
+port-told b port e is = is ∙ ap (λ (k : ℕ). checkOf (not (amongPorts (portsSeen k b) port))) e
+
+pub port-seen : (b : Board) (port : ℕ) {n m : ℕ} {p : Port} → n ≡ m → p ≡ getD (portsSeen n b) port freshPort → p ≡ getD (portsSeen m b) port freshPort
+port-seen b port e is = is ∙ ap (λ (k : ℕ). getD (portsSeen k b) port freshPort) e
+
+module _ (r : Relay) (number port : ℕ) (octets : List ℕ) (room : ℕ) {e : Asked} {c : Check} (told : c ≡ checkOf (not (amongPorts (r .ports) port))) where
+  pub no-port : c ≡ Failed → e ≡ refusedAsked 16 → e ≡ datagramAsked r number port octets room
+  unfolding datagramAsked callChecks
   no-port fails is = by-number _ _ (fails-here _ _ _ told fails) (λ z. omega arith) is
 
   module _ (ready : c ≡ Passed) {k : Check} (roomy : k ≡ checkOf (noRoom room)) where
-    pub no-room : k ≡ Failed → e ≡ refusedBy 17 → e ≡ endingOf r port octets room
-    unfolding endingOf callChecks
+    pub no-room : k ≡ Failed → e ≡ refusedAsked 17 → e ≡ datagramAsked r number port octets room
+    unfolding datagramAsked callChecks
     no-room fails is = by-number _ _ (passes _ _ _ told ready (fails-here _ _ _ roomy fails)) (λ z. omega arith) is
 
     pub judged :
         {p : Port} {set : ℕ}
         → k ≡ Passed
-        → p ≡ portIn r port
+        → p ≡ getD (r .ports) port freshPort
         → set ≡ onlyPort port
-        → e ≡ octetsEnding r (record { set = set; address = p .address }) (readOf octets)
-        → e ≡ endingOf r port octets room
-    unfolding endingOf callChecks
+        → e ≡ octetsAsked r number (record { set = set; address = p .address }) (foundOf octets)
+        → e ≡ datagramAsked r number port octets room
+    unfolding datagramAsked callChecks
     judged enough same only is =
         by-rest _ _ (passes _ _ _ told ready (passes _ _ _ roomy enough none-left)) refl
-        (is ∙ ap (λ (at : Arrival). octetsEnding r at (readOf octets)) cc)
+        (is ∙ ap (λ (at : Arrival). octetsAsked r number at (foundOf octets)) cc)

@@ -1,4 +1,5 @@
--- What the contracts cite: what becomes of a received datagram.
+-- What the contracts cite: what becomes of a received datagram, Ending; the ruling on one whose header is good, Ruling; what is known of it before
+-- the search, and what is made of that then, Asked.
 pub mod Ending
--- What the contracts cite: the ruling on a datagram whose header is good.
 pub mod Ruling
+pub mod Asked

@@ -1,31 +1,50 @@
-// The verdict on a received datagram, from its octets to an ending.
+// The verdict on a received datagram, from its octets to an ending, in two steps with the search of the routes between them.
 //
 // The stages stand in page 01's order: the port and the output's room (16, 17), the reader (1 to 5), what is carried (8), the domain (7),
-// the addresses (6), and then the ruling. The first refusal ends the call. Nothing is written here: an ending says all that becomes of
-// the datagram, and another crate does it. So the same ending can be asked for without being carried out.
+// the addresses (6). The first refusal ends the call. Else the destination's target and the place of its group or path are looked up, and all
+// that the rest needs is handed on by value, `Asked`: which route is to be searched too, if any. The list of routes is lent to another step.
+// With its answer module `finishing` gives the ruling. Nothing is written here: an ending says all that becomes of the datagram, and another
+// crate does it. So the same ending can be asked for without being carried out.
 //
 // The awkward case is a refusal: it has a ruling too, one that delivers nothing, grants nothing and drops nothing, so that whoever carries
 // an ending out need not ask whether it is a refusal.
+pub mod finishing;
 pub mod ruling;
 
 use crate::ruling::Arrival;
+use address::Address;
+use address::PathAddress;
 use checks::Check;
+use header::Found;
 use header::Header;
-use header::Read;
+use header::Renewal;
+use meaning::Aim;
+use survey::Destination;
+use survey::Sought;
+use verdict::Case;
 use verdict::Local;
 use verdict::Onward;
+use verdict::Place;
 use verdict::Ruling;
+use verdict::Target;
 ghost use mathlib.Core.Path.{_≡_};
 ghost use Prim.Native.Nat.{_<_};
 ghost use lib.ListN.{length};
+ghost use Rattle.checks.specs.Order.{pick};
 ghost use Rattle.header.specs.Limits.{lengthLimit};
-ghost use Rattle.header.specs.Read.{readOf};
-ghost use Rattle.state.specs.Layout.{stateWords, decode};
-ghost use Rattle.judge.specs.Ending.{
-  refusedBy,
-  headerEnding,
-  octetsEnding,
-  endingOf,
+ghost use Rattle.header.specs.Onward.{foundOf};
+ghost use Rattle.meaning.specs.Names.{badClass, badPath};
+ghost use Rattle.state.specs.Seen.{seated};
+ghost use Rattle.state.specs.Layout.{boardWords, decodeBoard, missionWords, decode};
+ghost use Rattle.judge.specs.Ending.{refusedBy};
+ghost use Rattle.judge.specs.Asked.{
+  refusedAsked,
+  elseAsked,
+  nodeAsked,
+  pathAsked,
+  carriedAsked,
+  octetsAsked,
+  datagramAsked,
 };
 
 // All that becomes of a datagram: the refusal that ended the call, or 0 and the ruling, the precedence it waits with and its header's own
@@ -37,8 +56,61 @@ pub struct Ending {
     pub size: usize,
 }
 
+// What is known before the search: the refusal that ends the call, or 0 and the target; what the place of a group or a path says; what the rule
+// asks of node, arrival port and header; the ports set up; what is asked of wanted ports; the mission's number; the precedence, the header's own
+// length, and where it differs when it is sent on.
+pub struct Asked {
+    pub refusal: u32,
+    pub target: Target,
+    pub place: Place,
+    pub case: Case,
+    pub ready: u32,
+    pub sought: Sought,
+    pub number: u32,
+    pub precedence: u16,
+    pub size: usize,
+    pub renewal: Renewal,
+}
+
 // A refusal.
-fn refused(refusal: u32) -> Ending
+pub fn refused(refusal: u32) -> Asked
+    ensures { λ r. ⌜ r ≡ refusedAsked refusal ⌝ }
+{
+    let case = Case {
+        arrival: 0,
+        router: 0,
+        intermediate: 0,
+        assigned: 0,
+        basic: 0,
+        spent: 0,
+    };
+    let sought = Sought {
+        destination: Destination::Other,
+        domain: 0,
+        length: 0,
+    };
+    let renewal = Renewal {
+        hops: 0,
+        counted: 0,
+        checksum: 0,
+        summed: 0,
+    };
+    Asked {
+        refusal,
+        target: Target::Here,
+        place: Place::Missing,
+        case,
+        ready: 0,
+        sought,
+        number: 0,
+        precedence: 0,
+        size: 0,
+        renewal,
+    }
+}
+
+// The ending of a refusal.
+pub fn ended_by(refusal: u32) -> Ending
     ensures { λ r. ⌜ r ≡ refusedBy refusal ⌝ }
 {
     let ruling = Ruling {
@@ -56,65 +128,140 @@ fn refused(refusal: u32) -> Ending
     }
 }
 
-// What the relay carries (8), a domain for addresses of one octet (7), the destination and the source that the header names by its arrival
-// port (6, by two checks), and the ruling.
-fn judge_header(state: &[u32], at: Arrival, h: Header) -> Ending
-    requires { ⌜ (length (now state) ≡ stateWords) × (h .length < lengthLimit) ⌝ }
-    ensures { λ r. ⌜ r ≡ headerEnding (decode (now (state .entry)) .relay) at h ⌝ }
+// An end system's address or a group's: its class (6), and by this and the ports its target.
+fn ask_node(board: &[u32], mission: &[u32], at: Arrival, h: Header, n: Renewal, a: Address) -> Asked
+    requires { ⌜ (length (now board) ≡ boardWords) × ((length (now mission) ≡ missionWords) × (h .length < lengthLimit)) ⌝ }
+    ensures { λ r. ⌜
+        r
+        ≡ elseAsked (pick (badClass (a .0)) 6 0)
+        (nodeAsked (seated (decodeBoard (now (board .entry))) (decode (now (mission .entry)))) (decode (now (mission .entry)) .number) at h n a)
+        ⌝ }
+{
+    let class = address::class_of(a);
+    if address::class_number(class) == 0 {
+        return refused(6);
+    }
+    let number = state_mission::number_of(mission);
+    let s = survey::named(board, number, a);
+    let target = verdict::local_half::target_of(class, s);
+    let place = lookup::for_target::place_for(mission, target, a, at.set);
+    let f = h.fields;
+    let from = at.address;
+    let qos = f.qos;
+    Asked {
+        refusal: 0,
+        target,
+        place,
+        case: crate::ruling::case_of(state_board::router_of(board), at.set, f),
+        ready: s.ready,
+        sought: crate::ruling::sought_of(Aim::Node(a), networks::domain_of(from), h.length as u32),
+        number,
+        precedence: meaning::asked::precedence_of(qos),
+        size: h.size,
+        renewal: n,
+    }
+}
+
+// A path: its form (6), and what its place says.
+fn ask_path(
+    board: &[u32],
+    mission: &[u32],
+    at: Arrival,
+    h: Header,
+    n: Renewal,
+    p: PathAddress,
+) -> Asked
+    requires { ⌜ (length (now board) ≡ boardWords) × ((length (now mission) ≡ missionWords) × (h .length < lengthLimit)) ⌝ }
+    ensures { λ r. ⌜
+        r
+        ≡ elseAsked (pick (badPath (p .0)) 6 0)
+        (pathAsked (seated (decodeBoard (now (board .entry))) (decode (now (mission .entry)))) (decode (now (mission .entry)) .number) at h n p)
+        ⌝ }
+{
+    if address::path_number(address::path_form(p)) == 0 {
+        return refused(6);
+    }
+    let f = h.fields;
+    let from = at.address;
+    let qos = f.qos;
+    Asked {
+        refusal: 0,
+        target: Target::Path,
+        place: lookup::path_place(mission, p),
+        case: crate::ruling::case_of(state_board::router_of(board), at.set, f),
+        ready: 0,
+        sought: crate::ruling::sought_of(Aim::Path(p), networks::domain_of(from), h.length as u32),
+        number: state_mission::number_of(mission),
+        precedence: meaning::asked::precedence_of(qos),
+        size: h.size,
+        renewal: n,
+    }
+}
+
+// What the relay carries (8), a domain for addresses of one octet (7), the source and the destination that the header names by its arrival
+// port (6, by two checks), and what is asked for these.
+fn ask_header(board: &[u32], mission: &[u32], at: Arrival, h: Header, n: Renewal) -> Asked
+    requires { ⌜ (length (now board) ≡ boardWords) × ((length (now mission) ≡ missionWords) × (h .length < lengthLimit)) ⌝ }
+    ensures { λ r. ⌜
+        r
+        ≡ carriedAsked (seated (decodeBoard (now (board .entry))) (decode (now (mission .entry)))) (decode (now (mission .entry)) .number) at h n
+        ⌝ }
 {
     let f = h.fields;
     let port = at.address;
     let addresses = f.addresses;
-    let qos = f.qos;
     let Check::Passed = meaning::check_carried(f) else {
         return refused(8);
     };
     let Check::Passed = meaning::check_domain(port, addresses) else {
         return refused(7);
     };
-    let aim = meaning::aim_of(port, addresses);
-    let Check::Passed = meaning::check_aim(aim) else {
-        return refused(6);
-    };
     let Check::Passed = meaning::check_origin(meaning::origin_of(port, addresses)) else {
         return refused(6);
     };
-    let ruling = crate::ruling::rule(state, at, aim, h);
-    Ending {
-        refusal: 0,
-        ruling,
-        precedence: meaning::asked::precedence_of(qos),
-        size: h.size,
+    match meaning::aim_of(port, addresses) {
+        Aim::Node(a) => ask_node(board, mission, at, h, n, a),
+        Aim::Path(p) => ask_path(board, mission, at, h, n, p),
+        Aim::Uncarried => refused(6),
     }
 }
 
 // Steps 2 and 3, and what follows.
-fn judge_octets(state: &[u32], at: Arrival, octets: &[u8]) -> Ending
-    requires { ⌜ length (now state) ≡ stateWords ⌝ }
-    ensures { λ r. ⌜ r ≡ octetsEnding (decode (now (state .entry)) .relay) at (readOf (now (octets .entry))) ⌝ }
+fn ask_octets(board: &[u32], mission: &[u32], at: Arrival, octets: &[u8]) -> Asked
+    requires { ⌜ (length (now board) ≡ boardWords) × (length (now mission) ≡ missionWords) ⌝ }
+    ensures { λ r. ⌜
+        r
+        ≡ octetsAsked (seated (decodeBoard (now (board .entry))) (decode (now (mission .entry)))) (decode (now (mission .entry)) .number) at
+        (foundOf (now (octets .entry)))
+        ⌝ }
 {
-    match reader::read_header(octets) {
-        Read::Good(h) => judge_header(state, at, h),
-        Read::Refused(number) => refused(number as u32),
+    match reader::find_header(octets) {
+        Found::Good(h, n) => ask_header(board, mission, at, h, n),
+        Found::Refused(number) => refused(number as u32),
     }
 }
 
-// The verdict on the octets that came in by a port, with so much room for output.
-pub fn judge(state: &[u32], port: u32, octets: &[u8], room: usize) -> Ending
-    requires { ⌜ length (now state) ≡ stateWords ⌝ }
-    ensures { λ r. ⌜ r ≡ endingOf (decode (now (state .entry)) .relay) port (now (octets .entry)) room ⌝ }
+// What is known before the search of the octets that came in by a port, with so much room for output.
+pub fn judge(board: &[u32], mission: &[u32], port: u32, octets: &[u8], room: usize) -> Asked
+    requires { ⌜ (length (now board) ≡ boardWords) × (length (now mission) ≡ missionWords) ⌝ }
+    ensures { λ r. ⌜
+        r
+        ≡ datagramAsked (seated (decodeBoard (now (board .entry))) (decode (now (mission .entry)))) (decode (now (mission .entry)) .number) port
+        (now (octets .entry)) room
+        ⌝ }
 {
-    let Check::Passed = state_ports::check_port(state, port) else {
+    let number = state_mission::number_of(mission);
+    let Check::Passed = state_board::check_port(board, number, port) else {
         return refused(16);
     };
     let Check::Passed = header::limits::check_room(room) else {
         return refused(17);
     };
-    let p = state_ports::port_of(state, port as usize);
+    let p = state_board::seen_port(board, number, port as usize);
     let address = p.address;
     let at = Arrival {
         set: sets::only_port(port),
         address,
     };
-    judge_octets(state, at, octets)
+    ask_octets(board, mission, at, octets)
 }

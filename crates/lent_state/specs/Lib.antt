@@ -1,2 +1,3 @@
--- What the contracts of the calls from C cite: the view of a lent state.
+-- What the contracts of the calls from C cite: the view of a lent state, and of a record read word by word.
 pub mod View
+pub mod Read

@@ -24,9 +24,6 @@ ghost use Rattle.meaning.specs.Names.{
   notCarried,
   noDomain,
   notUnicast,
-  badClass,
-  badPath,
-  badAim,
   badSource,
 };
 
@@ -132,35 +129,6 @@ fn check_unicast(a: Address) -> Check
     ensures { λ r. ⌜ r ≡ checkOf (notUnicast (a .0)) ⌝ }
 {
     if address::class_number(address::class_of(a)) != 1 {
-        return Check::Failed;
-    }
-    Check::Passed
-}
-
-// Step 6, first half: a destination of some class, or a valid path.
-pub fn check_aim(aim: Aim) -> Check
-    ensures { λ r. ⌜ r ≡ checkOf (badAim aim) ⌝ }
-{
-    match aim {
-        Aim::Node(a) => check_class(a),
-        Aim::Path(p) => check_path(p),
-        Aim::Uncarried => Check::Failed,
-    }
-}
-
-fn check_class(a: Address) -> Check
-    ensures { λ r. ⌜ r ≡ checkOf (badClass (a .0)) ⌝ }
-{
-    if address::class_number(address::class_of(a)) == 0 {
-        return Check::Failed;
-    }
-    Check::Passed
-}
-
-fn check_path(p: PathAddress) -> Check
-    ensures { λ r. ⌜ r ≡ checkOf (badPath (p .0)) ⌝ }
-{
-    if address::path_number(address::path_form(p)) == 0 {
         return Check::Failed;
     }
     Check::Passed

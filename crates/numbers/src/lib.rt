@@ -6,6 +6,7 @@
 // fields, and module `fields_from` makes the fields. The awkward number is one of an absent element: it is 0 on both ways, so that fields
 // have one set of numbers only.
 pub mod fields_from;
+pub mod in_words;
 pub mod validity;
 
 use header::Addresses;

@@ -3,7 +3,7 @@
 use Prim.Native.Nat.{ℕ, zero, suc, _+_, _*_, _/_, _%_, _^_, _≤_, _<_}
 use mathlib.Core.Path.{_≡_, refl, ap, sym, _∙_}
 use mathlib.Core.List.{List, [], _∷_, _++_, append-assoc}
-use native.Mathlib.Nat.{pow-suc, div-add-mod', div-lt-iff-lt-mul, add-zero}
+use native.Mathlib.Nat.{pow-suc, div-add-mod', div-lt-iff-lt-mul, add-zero, add-assoc}
 use native.Mathlib.Omega.{arith}
 use lib.Arith.{digits-lt}
 use lib.ListN.{getD, set, length, take, drop, length-append, length-take, take-append-drop, List·getD-append}
@@ -30,6 +30,16 @@ number-lt s at (suc n) h = bound-more n _ _ (number-lt s at n h) (h (at + n))
 pub octet-number : (s : List ℕ) (at : ℕ) → octet s at ≡ number s at 1
 unfolding number
 octet-number s at = rw add-zero (omega arith)
+
+-- four octets as two pairs
+pub two-pairs : (s : List ℕ) (at x y : ℕ) → x ≡ octet s at * 256 + octet s (at + 1) → y ≡ octet s (at + 2) * 256 + octet s (at + 3) → y + x * 65536 ≡ number s at 4
+unfolding number
+two-pairs s at x y p q = rw (p, q, add-zero at) (omega arith)
+
+-- eight octets as two words
+pub two-words : (s : List ℕ) (at x y : ℕ) → x ≡ number s at 4 → y ≡ number s (at + 4) 4 → x * 4294967296 + y ≡ number s at 8
+unfolding number
+two-words s at x y p q = rw (p, q, add-assoc at 4 0, add-assoc at 4 1, add-assoc at 4 2, add-assoc at 4 3) (omega arith)
 
 pub length-octets : (n v : ℕ) → length (octets n v) ≡ n
 unfolding octets

@@ -1,22 +1,22 @@
--- Which ports a set has: the bits of an intersection, of a set without another, of one port, and of what a walk gathers. Assumes nothing.
+-- Which ports a set has: the bits of an intersection, of a set without another, and of one port; what a walk gathers stands with the sets. Assumes nothing.
 use native.Mathlib.Omega.{arith}
-use native.Mathlib.Nat.{mod-lt, zero-lt-suc, div-div-eq-div-mul, pow-succ', div-one, div-eq-of-lt, add-zero, add-mul-div-right, eq-or-lt-of-le, le-of-suc-le-suc, lt-of-not-le}
+use native.Mathlib.Nat.{mod-lt, zero-lt-suc, div-div-eq-div-mul, pow-succ', div-one, div-eq-of-lt, eq-or-lt-of-le, lt-of-not-le}
 use native.Mathlib.Numerals.{one-add}
 use Prim.Native.Nat.{ℕ, zero, suc, _+_, _-_, _*_, _/_, _%_, _^_, _≤_, _<_, min}
 use mathlib.Core.Path.{_≡_, refl, sym, ap, ap₂, _∙_}
-use mathlib.Core.Bool.{Bool, true, false, not, _&&_}
+use mathlib.Core.Bool.{true, false, not, _&&_}
 use native.Mathlib.Decide.{decLe}
 use mathlib.Core.Logic.{_⊎_, inl, inr, ⊎-elim, by-cases}
 use lib.Bits.{bitAnd, and-step, and-high, and-le-l}
-use lib.Pow.{pow-pos, pow-add, pow-lt}
+use lib.Pow.{pow-pos, pow-lt}
 use Rattle.checks.proofs.Bools.{true-false}
 use borrow.Author.Tests.{eq-eqb, ne-eqb, lt-ltb}
 use lib.Dec.{eqb}
-use Rattle.checks.specs.Order.{pick}
 use Rattle.networks.proofs.Bits.{bit, bit-small, and-bit}
 use Rattle.verdict.specs.Rule.{exceptBy}
-use Rattle.sets.proofs.Loops.{portSet-below}
-use Rattle.sets.specs.Sets.{inSet, onlyPort, portSet}
+use Rattle.sets.specs.Sets.{inSet, onlyPort}
+use Rattle.sets.proofs.Members.{added-bit, top-bit, over-bit}
+pub use Rattle.sets.proofs.Members.{in-gathered}
 
 -- one bit of a set without another
 except-step : (g f : ℕ) → exceptBy g f ≡ exceptBy (g / 2) (f / 2) * 2 + (g % 2 - min (g % 2) (f % 2))
@@ -73,42 +73,6 @@ with-power s p = ap (bitAnd s) (let e : 2 ^ p ≡ 2 ^ (1 + p) - 2 ^ p = omega (a
 
 pub only-in : (p s : ℕ) → p < 8 → eqb (bitAnd s (onlyPort p)) 0 ≡ not (inSet p s)
 only-in p s h = simp (lt-ltb p 8 h) (rw (with-power s p) (met (bit p s) (2 ^ p) (bit-small p s) (pow-pos p)))
-
--- ---- what a walk over the ports gathers
-added-bit : (p k x : ℕ) → bit p (x + 2 ^ (suc k + p)) ≡ bit p x
-added-bit p k x =
-    let whole : 2 ^ (suc k + p) ≡ 2 ^ suc k * 2 ^ p = pow-add 2 (suc k) p in
-    ap (λ (n : ℕ). (x + n) / 2 ^ p % 2) whole
-    ∙ ap (λ (n : ℕ). n % 2) (add-mul-div-right x (2 ^ suc k) (pow-pos p))
-    ∙ omega (arith, pow-succ' 2 k)
-
-top-bit : (p x : ℕ) → x < 2 ^ p → bit p (x + 2 ^ p) ≡ 1
-top-bit p x h =
-    ap (λ (n : ℕ). (x + n) / 2 ^ p % 2) (let e : 2 ^ p ≡ 1 * 2 ^ p = omega arith in e)
-    ∙ ap (λ (n : ℕ). n % 2) (add-mul-div-right x 1 (pow-pos p) ∙ ap (λ (n : ℕ). n + 1) (div-eq-of-lt h))
-
-over-bit : (p x : ℕ) → x < 2 ^ p → bit p x ≡ 0
-over-bit p x h = ap (λ (n : ℕ). n % 2) (div-eq-of-lt h)
-
--- port p of the sets of one port more
-top-case : (t : Bool) (p x : ℕ) → x < 2 ^ p → inSet p (x + pick t (2 ^ p) 0) ≡ t
-top-case true p x h = simp (top-bit p x h)
-top-case false p x h = simp (add-zero x, over-bit p x h)
-
-lower-case : (t : Bool) (p k x : ℕ) → inSet p (x + pick t (2 ^ (suc k + p)) 0) ≡ inSet p x
-lower-case true p k x = ap (λ (b : ℕ). eqb b 1) (added-bit p k x)
-lower-case false p k x = simp (add-zero x)
-
-pub in-gathered : (test : ℕ → Bool) (p n : ℕ) → p < n → inSet p (portSet test n) ≡ test p
-in-gathered test p zero h = absurd (omega arith)
-in-gathered test p (suc m) h =
-    ⊎-elim
-    (λ e. rw e (top-case (test m) m (portSet test m) (portSet-below test m)))
-    (λ l.
-    ap (λ (n : ℕ). inSet p (portSet test m + pick (test m) (2 ^ n) 0)) (let e : m ≡ suc (m - suc p) + p = omega arith in e)
-    ∙ lower-case (test m) p (m - suc p) (portSet test m)
-    ∙ in-gathered test p m l)
-    (eq-or-lt-of-le (le-of-suc-le-suc h))
 
 -- the set of one port has that port alone
 pub only-that : (p q : ℕ) → q < 8 → inSet p (onlyPort q) ≡ true → p ≡ q

@@ -18,7 +18,7 @@ use Rattle.meaning.specs.declared.Aim.{Aim}
 use Rattle.meaning.specs.declared.Aim.the-variants.{Node, Path, Uncarried}
 use Rattle.records.specs.SetUp.{isSetUp}
 use Rattle.records.specs.declared.Port.{Port}
-use Rattle.state.specs.Relay.{Relay, portIn, queueIn, portSetUp}
+use Rattle.state.specs.Relay.{Relay, portIn, queueIn, amongPorts, portSetUp}
 use Rattle.survey.specs.Survey.{broadcastIs, ownBroadcast, isAddressed, isBroadcast, inDomain, isFitting, isFull, portsBelow, surveyBelow, surveyOf}
 use Rattle.survey.specs.declared.Sought.{Sought}
 use Rattle.verdict.specs.Rule.{exceptBy}
@@ -77,7 +77,7 @@ broadcast-is own d =
 -- ---- the sets
 module _ (r : Relay) where
   set-up-is : (p : ℕ) → p < 8 → isSetUp (portIn r p) ≡ portSetUp r p
-  unfolding portSetUp
+  unfolding amongPorts
   set-up-is p l = simp (lt-ltb p 8 l)
 
   gathered : (test : Ports) (p : ℕ) → p < 8 → inSet p (portsBelow r test 8) ≡ (portSetUp r p && test p)

@@ -25,7 +25,7 @@ use Rattle.routes.specs.Search.{longerMask}
 use Rattle.routes.specs.declared.Route.{Route}
 use Rattle.routes.proofs.Candidates.{candidate-is}
 use Rattle.routes.proofs.Longest.{Contiguous}
-use Rattle.state.specs.Relay.{Relay, portIn, portSetUp}
+use Rattle.state.specs.Relay.{Relay, portIn, amongPorts, portSetUp}
 use Rattle.verdict.specs.declared.Local.the-variants.{No}
 use Rattle.verdict.specs.declared.Onward.the-variants.{NotAsked}
 use Rattle.judge.specs.Ruling.{ruleOf}
@@ -124,7 +124,7 @@ module _ (r : Relay) (at : ℕ) (octets : List ℕ) (room : ℕ) where
 
   -- the arrival port is one of the eight
   arrival-inside : firstOf (stepRows r at octets room) ≡ 0 → at < 8
-  unfolding stepRows portSetUp
+  unfolding stepRows amongPorts
   arrival-inside e =
       let none = zero-none (stepRows r at octets room) (numbered (stepRows r at octets room) steps-numbers) e in
       ltb-true at 8 (and-true (ltb at 8) _ (not-false (portSetUp r at) (none .0)) .0)

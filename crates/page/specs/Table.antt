@@ -85,7 +85,8 @@ nothingBut at set = eqb set 0 || eqb set (2 ^ at)
 abbrev pub aimAt : Relay → ℕ → List ℕ → Aim
 aimAt r at octets = aimOf (portIn r at .address .0) (headerOf octets .fields .addresses)
 
--- ---- steps 1 to 6
+-- ---- steps 1 to 6. Before them a list of routes over 512 records ends the call by 21 (page 02, W-208): that is not of any relay, and is told where
+-- the list is lent (`heardEnding` of crate relay).
 unfoldable pub stepRows : Relay → ℕ → List ℕ → ℕ → Checks
 stepRows r at octets room =
     let own = portIn r at .address in
@@ -207,7 +208,7 @@ abbrev pub moreOnes : Route → Route → Bool
 moreOnes x y = ltb (onesOf (y .mask .0)) (onesOf (x .mask .0))
 
 module _ (more : Route → Route → Bool) where
-  -- the route at place p is rather taken than that at q; of two with as many ones the lower place is, but no history leaves two
+  -- the route at place p is rather taken than that at q; of two with as many ones the lower place is, but no list shows a mission two
   abbrev pub outdoes : Relay → Aim → ℕ → ℕ → Bool
   outdoes r x p q = matches r x p && (more (routeIn r p) (routeIn r q) || (not (more (routeIn r q) (routeIn r p)) && ltb p q))
 

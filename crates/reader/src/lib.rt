@@ -8,16 +8,28 @@ pub mod fields;
 
 use checks::Check;
 use header::Control;
+use header::Found;
 use header::Header;
 use header::Layout;
 use header::Read;
+use header::Renewal;
 use header::control_bits;
 ghost use mathlib.Core.Path.{_≡_};
-ghost use Prim.Native.Nat.{_<_};
+ghost use Prim.Native.Nat.{_≤_};
 ghost use lib.ListN.{length};
 ghost use lib.Dec.{ltb};
 ghost use Rattle.checks.specs.Order.{checkOf};
+ghost use Rattle.header.specs.Form.{layoutOf, hasHops, hasChecksum};
+ghost use Rattle.header.specs.Onward.{foundOf};
 ghost use Rattle.header.specs.Read.{otherVersion, cut, misfit, wrongChecksum, readOf};
+ghost use Rattle.reader.specs.Stages.{frontOf};
+ghost use Rattle.reader.specs.declared.Front.the-variants.{Good};
+
+// The control field, or the number of the check that refuses it.
+enum Front {
+    Good(Control),
+    Refused(u8),
+}
 
 // At least three octets are lent.
 fn check_start(s: &[u8]) -> Check
@@ -49,6 +61,27 @@ fn check_whole(s: &[u8], k: Control) -> Check
     Check::Passed
 }
 
+// The control field that the octets begin with, checks 1, 2, 1 and 4. A stage of its own: the compiler takes what stands behind a long row
+// of tests for rare, and would then call the fields' readers one by one.
+fn front_of(s: &[u8]) -> Front
+    ensures { λ r. ⌜ r ≡ frontOf (now (s .entry)) ⌝ }
+{
+    let Check::Passed = check_start(s) else {
+        return Front::Refused(1);
+    };
+    let Check::Passed = check_version(s) else {
+        return Front::Refused(2);
+    };
+    let k = layout::control_of(s);
+    let Check::Passed = check_whole(s, k) else {
+        return Front::Refused(1);
+    };
+    let Check::Passed = layout::check_form(k) else {
+        return Front::Refused(4);
+    };
+    Front::Good(k)
+}
+
 // The length field is within the octets lent and not under the header's own length.
 fn check_length(s: &[u8], l: Layout) -> Check
     ensures { λ r. ⌜ r ≡ checkOf (misfit (now (s .entry)) l) ⌝ }
@@ -65,7 +98,7 @@ fn check_length(s: &[u8], l: Layout) -> Check
 
 // The checksum element, where there is one, is what it should be.
 fn check_sum(s: &[u8], k: Control, l: Layout) -> Check
-    requires { ⌜ l .checksum < 64 ⌝ }
+    requires { ⌜ (l ≡ layoutOf (now s) k) × (l .size ≤ length (now s)) ⌝ }
     ensures { λ r. ⌜ r ≡ checkOf (wrongChecksum (now (s .entry)) k l) ⌝ }
 {
     if control_bits::has_checksum(k) != 1 {
@@ -79,34 +112,55 @@ fn check_sum(s: &[u8], k: Control, l: Layout) -> Check
     Check::Passed
 }
 
+// Where a header differs when it is sent on.
+fn renewal_of(k: Control, l: Layout) -> Renewal
+    ensures { λ r. ⌜ r ≡ record { hops = l .hops; counted = hasHops k; checksum = l .checksum; summed = hasChecksum k } ⌝ }
+{
+    Renewal {
+        hops: l.hops,
+        counted: control_bits::has_hops(k),
+        checksum: l.checksum,
+        summed: control_bits::has_checksum(k),
+    }
+}
+
+// Finds the header behind its control field, checks 3 and 5.
+fn find_behind(s: &[u8], k: Control) -> Found
+    requires { ⌜ Good k ≡ frontOf (now s) ⌝ }
+    ensures { λ r. ⌜ r ≡ foundOf (now (s .entry)) ⌝ }
+{
+    let l = layout::layout_of(s, k);
+    let Check::Passed = check_length(s, l) else {
+        return Found::Refused(3);
+    };
+    let Check::Passed = check_sum(s, k, l) else {
+        return Found::Refused(5);
+    };
+    let fields = crate::fields::fields_at(s, k, l);
+    let header = Header {
+        fields,
+        length: crate::fields::length_at(s),
+        size: l.size,
+    };
+    Found::Good(header, renewal_of(k, l))
+}
+
+// Finds the header that the octets begin with, and where it differs when it is sent on.
+pub fn find_header(s: &[u8]) -> Found
+    ensures { λ r. ⌜ r ≡ foundOf (now (s .entry)) ⌝ }
+{
+    match front_of(s) {
+        Front::Refused(number) => Found::Refused(number),
+        Front::Good(k) => find_behind(s, k),
+    }
+}
+
 // Reads the header that the octets begin with.
 pub fn read_header(s: &[u8]) -> Read
     ensures { λ r. ⌜ r ≡ readOf (now (s .entry)) ⌝ }
 {
-    let Check::Passed = check_start(s) else {
-        return Read::Refused(1);
-    };
-    let Check::Passed = check_version(s) else {
-        return Read::Refused(2);
-    };
-    let k = layout::control_of(s);
-    let Check::Passed = check_whole(s, k) else {
-        return Read::Refused(1);
-    };
-    let Check::Passed = layout::check_form(k) else {
-        return Read::Refused(4);
-    };
-    let l = layout::layout_of(s, k);
-    let Check::Passed = check_length(s, l) else {
-        return Read::Refused(3);
-    };
-    let Check::Passed = check_sum(s, k, l) else {
-        return Read::Refused(5);
-    };
-    let fields = crate::fields::fields_at(s, k, l);
-    Read::Good(Header {
-        fields,
-        length: crate::fields::length_at(s),
-        size: l.size,
-    })
+    match find_header(s) {
+        Found::Refused(number) => Read::Refused(number),
+        Found::Good(h, _) => Read::Good(h),
+    }
 }

@@ -2,3 +2,4 @@
 pub mod Fresh
 pub mod SetUp
 pub mod Held
+pub mod Owned

@@ -1,4 +1,4 @@
-// The records of the relay's settings: a port, a group place, a path place, and whose place it is.
+// The records of the relay's settings: a port and whose it is, a group place, a path place, and whose place it is.
 //
 // Each field is a whole word, and the flags are numbers: a state that C lends may hold any words, and each of them must be some
 // record. A flag says no by 0 and yes by anything else; settings write only 0 and 1. A set of ports has port p as 2^p. The record of
@@ -16,6 +16,13 @@ pub struct Port {
     pub address: Address,
     pub mask: Mask,
     pub mtu: u32,
+}
+
+// A port and the mission that it was given to when it was written.
+#[repr(C)]
+pub struct OwnedPort {
+    pub port: Port,
+    pub mission: u32,
 }
 
 // A multicast address, the set of ports to send to and the set of subscribed ports.

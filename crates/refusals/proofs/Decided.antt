@@ -2,21 +2,29 @@
 -- (page 01, "Refusal numbers"). One statement a list. Assumes nothing.
 use Prim.Native.Nat.{ℕ}
 use mathlib.Core.Path.{refl}
+use mathlib.Core.List.{List}
 use Rattle.address.specs.declared.Address.{Address}
 use Rattle.address.specs.declared.Mask.{Mask}
 use Rattle.address.specs.declared.PathAddress.{PathAddress}
-use Rattle.routes.specs.declared.Route.{Route}
+use Rattle.routes.specs.declared.Record.{Record}
 use Rattle.state.specs.Relay.{Relay}
+use Rattle.state.specs.Seen.{Board}
+use Rattle.listing.specs.Listed.{recordChecks}
 use Rattle.refusals.proofs.Chains.{Decided, decided}
-use Rattle.refusals.specs.Lists.{portChecks, routeChecks, groupChecks, pathChecks, routerChecks, clearChecks}
+use Rattle.refusals.specs.Lists.{portChecks, routeChecks, clearRouteChecks, groupChecks, pathChecks, routerChecks, missionChecks, clearChecks}
+
+-- a route's record, by itself: 21, 22 and 24
+pub record-decided : (b : Board) (x : Record) → Decided (recordChecks b x)
+record-decided b x = decided (recordChecks b x) refl
+
+module _ (b : Board) (i : ℕ) where
+  pub port-decided : (address : Address) (mask : Mask) (mtu mission : ℕ) → Decided (portChecks b i address mask mtu mission)
+  port-decided address mask mtu mission = decided (portChecks b i address mask mtu mission) refl
+
+  pub route-decided : (rs : List Record) (x : Record) → Decided (routeChecks b rs i x)
+  route-decided rs x = decided (routeChecks b rs i x) refl
 
 module _ (r : Relay) (i : ℕ) where
-  pub port-decided : (address : Address) (mask : Mask) (mtu : ℕ) → Decided (portChecks r i address mask mtu)
-  port-decided address mask mtu = decided (portChecks r i address mask mtu) refl
-
-  pub route-decided : (x : Route) → Decided (routeChecks r i x)
-  route-decided x = decided (routeChecks r i x) refl
-
   pub group-decided : (address : Address) (send subscribed : ℕ) → Decided (groupChecks r i address send subscribed)
   group-decided address send subscribed = decided (groupChecks r i address send subscribed) refl
 
@@ -26,5 +34,11 @@ module _ (r : Relay) (i : ℕ) where
 pub router-decided : (router : ℕ) → Decided (routerChecks router)
 router-decided router = decided (routerChecks router) refl
 
+pub mission-decided : (n : ℕ) → Decided (missionChecks n)
+mission-decided n = decided (missionChecks n) refl
+
 pub clear-decided : (place places : ℕ) → Decided (clearChecks place places)
 clear-decided place places = decided (clearChecks place places) refl
+
+pub clear-route-decided : (rs : List Record) (place : ℕ) → Decided (clearRouteChecks rs place)
+clear-route-decided rs place = decided (clearRouteChecks rs place) refl

@@ -1,7 +1,6 @@
--- The laws of the lists of tests. To be read: Decided and Record; Chains is for every function that takes checks in a row; Ready serves the
--- code's proofs, Places the calls.
+-- The laws of the lists of tests. To be read: Decided; Chains is for every function that takes checks in a row; Ready serves the code's proofs,
+-- Places the calls.
 pub mod Chains
-pub mod Record
 pub mod Decided
 pub mod Ready
 pub mod Places

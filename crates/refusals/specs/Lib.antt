@@ -1,6 +1,5 @@
--- What the contracts cite: for each setting the tests that may refuse it, in page 01's order; the ports that are set up; what a route's record
--- is refused by; whether another place holds the same entry.
+-- What the contracts cite: for each setting the tests that may refuse it, in page 01's order; the ports that are set up; whether another place holds
+-- the same entry.
 pub mod Lists
 pub mod Ready
-pub mod Record
 pub mod Elsewhere

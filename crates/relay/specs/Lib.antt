@@ -1,4 +1,4 @@
--- What the contract cites: receiving.
+-- What the contracts cite: receiving, Received; what goes out, Outgoing; receiving in two steps, Split.
 pub mod Received
--- What the contracts cite: what goes out.
 pub mod Outgoing
+pub mod Split

@@ -1,40 +1,217 @@
 // Receiving a datagram.
 //
-// To receive is to judge and then to do. The verdict reads the state and writes nothing; what it says is then counted, entered in the
-// queues of the ports that took a copy, and the header sent on is written.
+// To receive is to judge, to search the routes and then to do. Judging reads and writes nothing, `before`; what is to be sought in the list of
+// routes, if anything, is a query by value, `query_of`; with what the scan of the list found, the verdict is finished, counted, entered in the
+// queues of the ports that took a copy, and the header sent on is written, `after`. The list itself is lent to none of the three.
 //
-// The awkward case is the output: it is written only where some port took an entry, and then the header was read and there was room,
-// which the verdict has tested.
+// The awkward case is words of the wrong number, which hold no relay, and a list that is too long: both are refusals like others, but
+// nothing is counted. So is 17; every other refusal counts, and then the words are of the right number. The output is written only where some
+// port took an entry, and then the header was read and there was room, which the verdict has tested.
 pub mod outgoing;
 
 use address::Slot;
+use header::Renewal;
+use judge::Asked;
 use judge::Ending;
+use listing::Query;
+use listing::Scan;
 use queue::Entry;
+use survey::Destination;
+use verdict::Target;
+use verdict::Way;
 ghost use mathlib.Core.Path.{_≡_};
+ghost use mathlib.Core.List.{List};
+ghost use Prim.Native.Nat.{ℕ, _≤_};
+ghost use lib.Dec.{eqb};
 ghost use lib.ListN.{length};
-ghost use Rattle.state.specs.Layout.{stateWords, decode};
-ghost use Rattle.judge.specs.Ending.{endingOf};
+ghost use Rattle.checks.specs.Order.{pick};
+ghost use Rattle.address.specs.declared.Slot.{Slot};
+ghost use Rattle.header.specs.Form.{placesOf};
+ghost use Rattle.header.specs.Onward.{renewalOf};
+ghost use Rattle.header.specs.Limits.{longestHeader};
+ghost use Rattle.state.specs.Seen.{Board};
+ghost use Rattle.state.specs.Layout.{boardWords, missionWords, decode};
+ghost use Rattle.lent_state.specs.View.{lent};
+ghost use Rattle.answers.specs.Answers.{receiveNumber};
+ghost use Rattle.judge.specs.Asked.{routeSought, addressIn};
+ghost use Rattle.judge.specs.Ending.{refusedBy};
 ghost use Rattle.relay.specs.Outgoing.{sentOutput};
 ghost use Rattle.relay.specs.Received.{receivedState};
+ghost use Rattle.relay.specs.Split.{
+  askedOf,
+  queryOf,
+  wayIn,
+  Counted,
+  wordsRefused,
+  answerAfter,
+  wordsAfter,
+  outputAfter,
+  Following,
+};
 
-// What becomes of the octets that came in by a port; they are known to the caller by the slot.
-pub fn receive(state: &mut [u32], port: u32, slot: Slot, octets: &[u8], output: &mut [u8]) -> Ending
-    requires { ⌜ length (now state) ≡ stateWords ⌝ }
-    ensures { λ r. ⌜ r ≡ endingOf (decode (now (state .entry)) .relay) port (now (octets .entry)) (length (now (output .entry))) ⌝ }
-    ensures { λ r. ⌜ decode (now (state .exit)) ≡ receivedState (decode (now (state .entry))) slot r ⌝ }
-    ensures { λ r. ⌜ now (output .exit) ≡ sentOutput (r .ruling .took) (now (octets .entry)) (now (output .entry)) ⌝ }
+// What is known before the search, where so many routes are lent.
+pub fn before(
+    board: &[u32],
+    mission: &[u32],
+    count: usize,
+    port: u32,
+    octets: &[u8],
+    room: usize,
+) -> Asked
+    ensures { λ r. ⌜ r ≡ askedOf (now (board .entry)) (now (mission .entry)) count port (now (octets .entry)) room ⌝ }
 {
-    let e = judge::judge(state, port, octets, output.len());
+    if (sets::ROUTES as usize) < count {
+        return judge::refused(21);
+    }
+    if board.len() != state_board::BOARD_WORDS {
+        return judge::refused(16);
+    }
+    if mission.len() != state_mission::MISSION_WORDS {
+        return judge::refused(16);
+    }
+    judge::judge(board, mission, port, octets, room)
+}
+
+// 1 where a route is to be searched: nothing refuses, and the route line decides, on a router.
+fn route_sought(target: Target, router: u32) -> u32
+    ensures { λ r. ⌜ r ≡ routeSought target router ⌝ }
+{
+    match target {
+        Target::Here => 0,
+        Target::Broadcast => 0,
+        Target::Group => 0,
+        Target::Path => 0,
+        Target::Route => {
+            if router == 0 {
+                return 0;
+            }
+            1
+        }
+    }
+}
+
+fn searched_in(refusal: u32, target: Target, router: u32) -> u32
+    ensures { λ r. ⌜ r ≡ pick (eqb refusal 0) (routeSought target router) 0 ⌝ }
+{
+    if refusal != 0 {
+        return 0;
+    }
+    route_sought(target, router)
+}
+
+// The address that it is searched for.
+fn address_in(d: Destination) -> u32
+    ensures { λ r. ⌜ r ≡ addressIn d ⌝ }
+{
+    match d {
+        Destination::Node(a) => a.0,
+        Destination::Other => 0,
+    }
+}
+
+// What is asked of the list of routes.
+pub fn query_of(a: Asked) -> Query
+    ensures { λ r. ⌜ r ≡ queryOf a ⌝ }
+{
+    let target = a.target;
+    let case = a.case;
+    let asked = a.sought;
+    let destination = asked.destination;
+    Query {
+        refusal: a.refusal,
+        sought: searched_in(a.refusal, target, case.router),
+        address: address_in(destination),
+        mask: 0,
+        mission: a.number,
+        own: a.ready,
+    }
+}
+
+// The way by the route that was found.
+fn way_in(s: Scan) -> Way
+    ensures { λ r. ⌜ r ≡ wayIn s ⌝ }
+{
+    if s.found == 0 {
+        return Way::Lost;
+    }
+    Way::By(sets::only_port(s.port))
+}
+
+// A refusal: counted, but for three.
+fn refuse(mission: &mut [u32], refusal: u32) -> u64
+    requires { ⌜ (Counted refusal → length (now mission) ≡ missionWords) ⌝ }
+    ensures { λ r. ⌜ r ≡ receiveNumber (refusedBy refusal) ⌝ }
+    ensures { λ _. ⌜ ((b : List ℕ) (slot : Slot) → (Counted refusal → length b ≡ boardWords)
+        → lent (now (mission .exit)) ≡ wordsRefused b (now (mission .entry)) slot refusal) ⌝ }
+{
+    let e = judge::ended_by(refusal);
+    let answer = answers::receive_number(e);
+    if refusal == 16 {
+        return answer;
+    }
+    if refusal == 17 {
+        return answer;
+    }
+    if refusal == 21 {
+        return answer;
+    }
+    tally::count(mission, e);
+    answer
+}
+
+// An ending carried out: counted, entered and sent on.
+fn carry_out(
+    mission: &mut [u32],
+    slot: Slot,
+    octets: &[u8],
+    output: &mut [u8],
+    e: Ending,
+    renewal: Renewal,
+) -> u64
+    requires { ⌜ (length (now mission) ≡ missionWords)
+        × ((e .ruling .took ≡ 0 → ⊥) → (longestHeader ≤ length (now output))
+        × ((placesOf (now octets) .size ≤ length (now octets)) × (renewal ≡ renewalOf (now octets)))) ⌝ }
+    ensures { λ r. ⌜ r ≡ receiveNumber e ⌝ }
+    ensures { λ _. ⌜ ((b : Board) → decode (now (mission .exit)) ≡ receivedState b (decode (now (mission .entry))) slot e) ⌝ }
+    ensures { λ _. ⌜ now (output .exit) ≡ sentOutput (e .ruling .took) (now (octets .entry)) (now (output .entry)) ⌝ }
+{
     let took = e.ruling.took;
-    tally::count(state, e);
+    tally::count(mission, e);
     crate::outgoing::enter_all(
-        state,
+        mission,
         took,
         Entry {
             slot,
             precedence: e.precedence,
         },
     );
-    crate::outgoing::send(took, octets, output);
-    e
+    crate::outgoing::send(took, octets, output, renewal);
+    answers::receive_number(e)
+}
+
+// What becomes of the octets, with what the scan found; they are known to the caller by the slot.
+pub fn after(
+    board: &[u32],
+    mission: &mut [u32],
+    slot: u16,
+    octets: &[u8],
+    output: &mut [u8],
+    a: Asked,
+    s: Scan,
+) -> u64
+    requires { ⌜ Following (now board) (now mission) (now octets) (length (now output)) a ⌝ }
+    ensures { λ r. ⌜
+        (r ≡ answerAfter (now (board .entry)) (now (mission .entry)) a s)
+        × ((lent (now (mission .exit)) ≡ wordsAfter (now (board .entry)) (now (mission .entry)) slot a s)
+        × (now (output .exit) ≡ outputAfter (now (board .entry)) (now (mission .entry)) (now (octets .entry)) (now (output .entry)) a s))
+        ⌝ }
+{
+    let refusal = a.refusal;
+    if refusal != 0 {
+        return refuse(mission, refusal);
+    }
+    let renewal = a.renewal;
+    let way = way_in(s);
+    let e = judge::finishing::finish(board, mission, a, way);
+    carry_out(mission, Slot(slot), octets, output, e, renewal)
 }

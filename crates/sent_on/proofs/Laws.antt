@@ -8,11 +8,10 @@ use lib.Seq.{take-length, length-take-le, take-at}
 use Rattle.octets.specs.Octets.{pasted, fronted}
 use Rattle.octets.proofs.Laws.{pasted-front, put-two}
 use Rattle.header.specs.Limits.{longestHeader}
-use Rattle.header.specs.Form.{controlOf, layoutOf, placesOf, hasHops, hasChecksum}
+use Rattle.header.specs.Form.{controlOf, placesOf, hasHops, hasChecksum}
 use Rattle.header.specs.Build.{checksumOctets}
-use Rattle.header.specs.Onward.{lessened, sentBody, headerSentOn}
-use Rattle.header.specs.declared.Control.{Control}
-use Rattle.header.specs.declared.Layout.{Layout}
+use Rattle.header.specs.Onward.{lessened, sentBody, headerSentOn, renewalOf}
+use Rattle.header.specs.declared.Renewal.{Renewal}
 use Rattle.header.proofs.Bounds.{control-end, placed, header-size}
 use Rattle.header.proofs.SentOn.{lessened-append, hops-before, sent-body-length, sent-length}
 
@@ -21,27 +20,28 @@ pub copied : (s l m : List ℕ) (n : ℕ) → n ≤ length s → m ≡ take (len
 copied s l m n h e = e ∙ rw (take-length (take n s), length-take-le n s h)
 
 -- what is copied lies in the octets lent, and what is written in an output of 50 octets
-pub record Bounded (s : List ℕ) (p : Layout) : Type 0 where
-  pub copy : p .checksum ≤ length s
-  pub hops : p .hops ≤ 48
-  pub checksum : p .checksum ≤ 48
+pub record Bounded (s : List ℕ) (c : Renewal) : Type 0 where
+  pub copy : c .checksum ≤ length s
+  pub hops : c .hops ≤ 48
+  pub checksum : c .checksum ≤ 48
 
 -- what the output l holds after each step, and the answer r
-pub record Steps (s l : List ℕ) (k : Control) (p : Layout) (l₁ l₂ l₃ : List ℕ) (r : ℕ) : Type 0 where
-  pub copy : l₁ ≡ take (p .checksum) s ++ drop (p .checksum) l
-  pub less : l₂ ≡ lessened (hasHops k) (p .hops) l₁
-  pub sum : (r ≡ p .checksum + length (checksumOctets (hasChecksum k) (take (p .checksum) l₂))) × (l₃ ≡ pasted l₂ (p .checksum) (checksumOctets (hasChecksum k) (take (p .checksum) l₂)))
+pub record Steps (s l : List ℕ) (c : Renewal) (l₁ l₂ l₃ : List ℕ) (r : ℕ) : Type 0 where
+  pub copy : l₁ ≡ take (c .checksum) s ++ drop (c .checksum) l
+  pub less : l₂ ≡ lessened (c .counted) (c .hops) l₁
+  pub sum : (r ≡ c .checksum + length (checksumOctets (c .summed) (take (c .checksum) l₂))) × (l₃ ≡ pasted l₂ (c .checksum) (checksumOctets (c .summed) (take (c .checksum) l₂)))
 
 module _ (s : List ℕ) (fits : placesOf s .size ≤ length s) where
-  places-bounded : Bounded s (placesOf s)
+  places-bounded : Bounded s (renewalOf s)
+  unfolding renewalOf
   places-bounded =
       let b = placed s (controlOf s) (control-end s .1) in
       record { copy = omega arith; hops = omega arith; checksum = omega arith }
 
   -- the body stands in front after two steps, and its checksum behind it after the third
-  places-sent : (l l₁ l₂ l₃ : List ℕ) (r : ℕ) → longestHeader ≤ length l → Steps s l (controlOf s) (placesOf s) l₁ l₂ l₃ r
+  places-sent : (l l₁ l₂ l₃ : List ℕ) (r : ℕ) → longestHeader ≤ length l → Steps s l (renewalOf s) l₁ l₂ l₃ r
       → (r ≡ placesOf s .size) × (l₃ ≡ fronted (headerSentOn s) l)
-  unfolding headerSentOn sentBody
+  unfolding headerSentOn sentBody renewalOf
   places-sent l l₁ l₂ l₃ r room steps =
       let on = hasHops (controlOf s) in
       let hops = placesOf s .hops in
@@ -59,13 +59,10 @@ module _ (s : List ℕ) (fits : placesOf s .size ≤ length s) where
       let both = put-two l l₂ l₃ body sum 0 at r (omega arith, first) (rw before at (steps .sum)) (omega (arith, length-append body sum, header-size s)) in
       (omega (arith, both .0), both .1 ∙ pasted-front l (body ++ sum))
 
-  -- the same of a control field and of places that are those of s
-  module _ (k : Control) (p : Layout) (is-control : k ≡ controlOf s) (is-places : p ≡ layoutOf s k) where
-    are-places : p ≡ placesOf s
-    are-places = is-places ∙ ap (layoutOf s) is-control
+  -- the same where it is told where the header differs
+  module _ (c : Renewal) (is : c ≡ renewalOf s) where
+    pub bounded : Bounded s c
+    bounded = subst⁻¹ (Bounded s) is places-bounded
 
-    pub bounded : Bounded s p
-    bounded = subst⁻¹ (Bounded s) are-places places-bounded
-
-    pub sent : (l l₁ l₂ l₃ : List ℕ) (r : ℕ) → longestHeader ≤ length l → Steps s l k p l₁ l₂ l₃ r → (r ≡ placesOf s .size) × (l₃ ≡ fronted (headerSentOn s) l)
-    sent l l₁ l₂ l₃ r room steps = places-sent l l₁ l₂ l₃ r room (rw (is-control, are-places) at steps)
+    pub sent : (l l₁ l₂ l₃ : List ℕ) (r : ℕ) → longestHeader ≤ length l → Steps s l c l₁ l₂ l₃ r → (r ≡ placesOf s .size) × (l₃ ≡ fronted (headerSentOn s) l)
+    sent l l₁ l₂ l₃ r room steps = places-sent l l₁ l₂ l₃ r room (rw is at steps)

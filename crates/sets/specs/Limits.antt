@@ -1,4 +1,5 @@
--- How many there are of each thing that a relay has: page 01, "Numbers that hold everywhere". Ports, places and counters are numbered from 0.
+-- How many there are of each thing that a relay has: page 01, "Numbers that hold everywhere"; page 02, W-208 ("the 64
+-- route places of page 01 become 512"; two missions). Ports, places, counters and missions are numbered from 0.
 -- How many entries a queue holds stands with the queue. Assumes nothing.
 use Prim.Native.Nat.{ℕ}
 
@@ -6,7 +7,7 @@ abbrev pub portCount : ℕ
 portCount = 8
 
 abbrev pub routePlaces : ℕ
-routePlaces = 64
+routePlaces = 512
 
 abbrev pub groupPlaces : ℕ
 groupPlaces = 16
@@ -16,3 +17,6 @@ pathPlaces = 16
 
 abbrev pub counterCount : ℕ
 counterCount = 15
+
+abbrev pub missionCount : ℕ
+missionCount = 2

@@ -12,13 +12,15 @@ ghost use Rattle.sets.specs.Sets.{onlyPort};
 // How many there are of each; how many entries a queue holds stands with the queue.
 pub const PORTS: u32 = 8;
 
-pub const ROUTES: u32 = 64;
+pub const ROUTES: u32 = 512;
 
 pub const GROUPS: u32 = 16;
 
 pub const PATHS: u32 = 16;
 
 pub const COUNTERS: u32 = 15;
+
+pub const MISSIONS: u32 = 2;
 
 // The set of one port.
 pub fn only_port(port: u32) -> u32

@@ -1,8 +1,8 @@
 // When the values of a setting are refused.
 //
-// Each check here looks at values alone and has one refusal number: 21 for a place, a port or a set of ports, 22 for a port's mask, 24 for a
-// size or a yes/no number, 25 for an address of the wrong class. Page 01 tests them in the order 21, 25, 22, 24, 23, 35: that order
-// is their caller's, who also has what needs the state (a port set up, a same entry elsewhere, entries that wait). A check is total
+// Each check here looks at values alone: refusal 21 is for a place, a port or a set of ports, 22 for a port's mask, 24 for a
+// size, a yes/no number or a mission's number, 25 for an address of the wrong class. Page 01 tests them in the order 21, 25, 22, 24, 23, 35: numbers and
+// order are their caller's, who also has what needs the state (a port set up, a same entry elsewhere). A check is total
 // by itself: a mask is judged for an address of any class.
 use address::Address;
 use address::Class;
@@ -118,7 +118,7 @@ pub fn check_flag(v: u32) -> Check
     Check::Passed
 }
 
-// Refusal 21 of a place, or of a port's number, among so many.
+// Refusal 21 of a place or of a port's number among so many, and 24 of a mission's.
 pub fn check_place(place: u32, places: u32) -> Check
     ensures { λ r. ⌜ r ≡ checkOf (placeRefused place places) ⌝ }
 {

@@ -8,30 +8,38 @@ use mathlib.Core.List.{List}
 use lib.ListN.{length, set}
 use lib.Seq.{getD-set-same, getD-set-other, set-set}
 use Rattle.queue.specs.declared.Queue.{Queue}
-use Rattle.routes.specs.declared.Route.{Route}
-use Rattle.records.specs.declared.Port.{Port}
+use Rattle.records.specs.declared.OwnedPort.{OwnedPort}
 use Rattle.records.specs.declared.Group.{Group}
 use Rattle.records.specs.declared.PathPlace.{PathPlace}
-use Rattle.state.specs.Relay.{Relay, portIn, groupIn, pathIn, queueIn, counterIn, routeIn}
-use Rattle.state.specs.Relay.{withPort, withGroup, withPath, withQueue, withCounter, withRoute, added}
-use Rattle.state.proofs.Sizes.{Sized, many}
+use Rattle.state.specs.Relay.{Mission, Relay, groupAt, pathAt, queueAt, groupIn, pathIn, queueIn, counterIn}
+use Rattle.state.specs.Relay.{putGroup, putPath, putQueue, withGroup, withPath, withQueue, withCounter, added}
+use Rattle.state.specs.Seen.{Board, ownedAt, putOwned}
+use Rattle.state.proofs.Sizes.{Sized, SizedBoard, many}
 
 -- ---- what was written is read back
-module _ (r : Relay) (s : Sized r) (i : ℕ) where
-  pub port-back : (x : Port) → i < 8 → portIn (withPort r i x) i ≡ x
-  port-back x h = getD-set-same (r .ports) i x _ (rw (many r s 0) h)
+module _ (b : Board) (s : SizedBoard b) (i : ℕ) where
+  pub owned-back : (x : OwnedPort) → i < 8 → ownedAt (putOwned b i x) i ≡ x
+  owned-back x h = getD-set-same (b .ports) i x _ (rw s h)
 
+module _ (m : Mission) (s : Sized m) (i : ℕ) where
+  pub put-group-back : (x : Group) → i < 16 → groupAt (putGroup m i x) i ≡ x
+  put-group-back x h = getD-set-same (m .groups) i x _ (rw (many m s 0) h)
+
+  pub put-path-back : (x : PathPlace) → i < 16 → pathAt (putPath m i x) i ≡ x
+  put-path-back x h = getD-set-same (m .paths) i x _ (rw (many m s 1) h)
+
+  pub put-queue-back : (x : Queue) → i < 8 → queueAt (putQueue m i x) i ≡ x
+  put-queue-back x h = getD-set-same (m .queues) i x _ (rw (many m s 2) h)
+
+module _ (r : Relay) (s : Sized (r .mission)) (i : ℕ) where
   pub group-back : (x : Group) → i < 16 → groupIn (withGroup r i x) i ≡ x
-  group-back x h = getD-set-same (r .mission .groups) i x _ (rw (many r s 1) h)
+  group-back x h = put-group-back (r .mission) s i x h
 
   pub path-back : (x : PathPlace) → i < 16 → pathIn (withPath r i x) i ≡ x
-  path-back x h = getD-set-same (r .mission .paths) i x _ (rw (many r s 2) h)
+  path-back x h = put-path-back (r .mission) s i x h
 
   pub queue-back : (x : Queue) → i < 8 → queueIn (withQueue r i x) i ≡ x
-  queue-back x h = getD-set-same (r .mission .queues) i x _ (rw (many r s 3) h)
-
-  pub route-back : (x : Route) → i < 64 → routeIn (withRoute r i x) i ≡ x
-  route-back x h = getD-set-same (r .routes) i x _ (rw (many r s 4) h)
+  queue-back x h = put-queue-back (r .mission) s i x h
 
 module _ (cs : List ℕ) (s : length cs ≡ 15) (i : ℕ) where
   pub counter-back : (x : ℕ) → i < 15 → counterIn (withCounter cs i x) i ≡ x
@@ -54,10 +62,10 @@ module _ (cs : List ℕ) (s : length cs ≡ 15) (i : ℕ) where
       ∙ ap (λ (t : ℕ). t % 2 ^ 32) (add-assoc (counterIn cs i) m n))
 
 -- ---- another place of the same kind stays
-module _ (r : Relay) (i j : ℕ) (other : j ≢ i) where
-  pub port-left : (x : Port) → portIn (withPort r i x) j ≡ portIn r j
-  port-left x = getD-set-other (r .ports) i j x _ other
+pub owned-left : (b : Board) (i j : ℕ) → j ≢ i → (x : OwnedPort) → ownedAt (putOwned b i x) j ≡ ownedAt b j
+owned-left b i j other x = getD-set-other (b .ports) i j x _ other
 
+module _ (r : Relay) (i j : ℕ) (other : j ≢ i) where
   pub group-left : (x : Group) → groupIn (withGroup r i x) j ≡ groupIn r j
   group-left x = getD-set-other (r .mission .groups) i j x _ other
 
@@ -66,9 +74,6 @@ module _ (r : Relay) (i j : ℕ) (other : j ≢ i) where
 
   pub queue-left : (x : Queue) → queueIn (withQueue r i x) j ≡ queueIn r j
   queue-left x = getD-set-other (r .mission .queues) i j x _ other
-
-  pub route-left : (x : Route) → routeIn (withRoute r i x) j ≡ routeIn r j
-  route-left x = getD-set-other (r .routes) i j x _ other
 
 pub counter-left : (cs : List ℕ) (i j : ℕ) → j ≢ i → (x : ℕ) → counterIn (withCounter cs i x) j ≡ counterIn cs j
 counter-left cs i j other x = getD-set-other cs i j x 0 other

@@ -1,47 +1,49 @@
--- What the code reads from a part of the words is that part of the state. Assumes nothing.
+-- What the code reads from a part of the words is that part of the board, or of the state. Assumes nothing.
 use native.Mathlib.Omega.{arith}
 use Prim.Native.Nat.{ℕ, _+_, _-_, _*_, _<_}
 use mathlib.Core.Path.{_≡_, refl}
 use mathlib.Core.List.{List}
 use lib.ListN.{take, drop, getD}
 use Rattle.queue.specs.declared.Queue.{Queue}
-use Rattle.routes.specs.declared.Route.{Route}
-use Rattle.records.specs.declared.Port.{Port}
+use Rattle.records.specs.declared.OwnedPort.{OwnedPort}
 use Rattle.records.specs.declared.Group.{Group}
 use Rattle.records.specs.declared.PathPlace.{PathPlace}
 use Rattle.words.proofs.Sections.{record-read, word-read}
-use Rattle.state.specs.Relay.{portIn, groupIn, pathIn, queueIn, counterIn, routeIn}
-use Rattle.state.specs.Layout.{sections, stateOf, decode, portOf, groupOf, pathOf, queueOf, routeOf}
+use Rattle.state.specs.Relay.{groupAt, pathAt, queueAt, counterIn}
+use Rattle.state.specs.Seen.{ownedAt}
+use Rattle.state.specs.Layout.{boardSections, boardOf, decodeBoard, ownedOf, sections, stateOf, decode, groupOf, pathOf, queueOf}
 
 -- the k words of record i, in records that begin at word a, as the code takes them
 abbrev pub taken : ℕ → ℕ → ℕ → List ℕ → List ℕ
 taken a k i w = take (a + i * k + k - (a + i * k)) (drop (a + i * k) w)
 
 module _ (w : List ℕ) where
-  pub router-read : getD w 0 0 ≡ decode w .relay .router
-  unfolding decode stateOf
-  router-read = word-read sections w 0 (omega arith) 0 (omega arith)
+  -- ---- the board
+  pub router-read : getD w 0 0 ≡ decodeBoard w .router
+  unfolding decodeBoard boardOf
+  router-read = word-read boardSections w 0 (omega arith) 0 (omega arith)
 
-  pub port-read : (p : ℕ) (x : Port) → p < 8 → x ≡ portOf (taken 1 4 p w) → x ≡ portIn (decode w .relay) p
-  unfolding decode stateOf
-  port-read p x h e = record-read sections w 1 (omega arith) portOf 4 8 refl p _ x h e
+  pub owned-read : (p : ℕ) (x : OwnedPort) → p < 8 → x ≡ ownedOf (taken 1 5 p w) → x ≡ ownedAt (decodeBoard w) p
+  unfolding decodeBoard boardOf
+  owned-read p x h e = record-read boardSections w 1 (omega arith) ownedOf 5 8 refl p _ x h e
 
-  pub group-read : (i : ℕ) (x : Group) → i < 16 → x ≡ groupOf (taken 33 4 i w) → x ≡ groupIn (decode w .relay) i
+  -- ---- a mission's state
+  pub number-read : getD w 0 0 ≡ decode w .number
   unfolding decode stateOf
-  group-read i x h e = record-read sections w 2 (omega arith) groupOf 4 16 refl i _ x h e
+  number-read = word-read sections w 0 (omega arith) 0 (omega arith)
 
-  pub path-read : (i : ℕ) (x : PathPlace) → i < 16 → x ≡ pathOf (taken 97 4 i w) → x ≡ pathIn (decode w .relay) i
+  pub group-read : (i : ℕ) (x : Group) → i < 16 → x ≡ groupOf (taken 1 4 i w) → x ≡ groupAt (decode w .mission) i
   unfolding decode stateOf
-  path-read i x h e = record-read sections w 3 (omega arith) pathOf 4 16 refl i _ x h e
+  group-read i x h e = record-read sections w 1 (omega arith) groupOf 4 16 refl i _ x h e
 
-  pub queue-read : (p : ℕ) (x : Queue) → p < 8 → x ≡ queueOf (taken 161 33 p w) → x ≡ queueIn (decode w .relay) p
+  pub path-read : (i : ℕ) (x : PathPlace) → i < 16 → x ≡ pathOf (taken 65 4 i w) → x ≡ pathAt (decode w .mission) i
   unfolding decode stateOf
-  queue-read p x h e = record-read sections w 4 (omega arith) queueOf 33 8 refl p _ x h e
+  path-read i x h e = record-read sections w 2 (omega arith) pathOf 4 16 refl i _ x h e
 
-  pub counter-read : (i : ℕ) → i < 15 → getD w (425 + i) 0 ≡ counterIn (decode w .counters) i
+  pub queue-read : (p : ℕ) (x : Queue) → p < 8 → x ≡ queueOf (taken 129 33 p w) → x ≡ queueAt (decode w .mission) p
   unfolding decode stateOf
-  counter-read i h = word-read sections w 5 (omega arith) i h
+  queue-read p x h e = record-read sections w 3 (omega arith) queueOf 33 8 refl p _ x h e
 
-  pub route-read : (i : ℕ) (x : Route) → i < 64 → x ≡ routeOf (taken 440 6 i w) → x ≡ routeIn (decode w .relay) i
+  pub counter-read : (i : ℕ) → i < 15 → getD w (393 + i) 0 ≡ counterIn (decode w .counters) i
   unfolding decode stateOf
-  route-read i x h e = record-read sections w 6 (omega arith) routeOf 6 64 refl i _ x h e
+  counter-read i h = word-read sections w 4 (omega arith) i h

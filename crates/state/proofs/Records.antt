@@ -8,23 +8,22 @@ use lib.Arith.{digits-mod, digits-div}
 use lib.Seq.{take-at, getD-at, drop-cons}
 use Rattle.queue.specs.declared.Entry.{Entry}
 use Rattle.queue.specs.declared.Queue.{Queue}
-use Rattle.routes.specs.declared.Route.{Route}
-use Rattle.records.specs.declared.Port.{Port}
+use Rattle.records.specs.declared.OwnedPort.{OwnedPort}
 use Rattle.records.specs.declared.Group.{Group}
 use Rattle.records.specs.declared.PathPlace.{PathPlace}
 use Rattle.words.proofs.Parts.{spelled-whole}
-use Rattle.state.specs.Layout.{portOf, portWords, groupOf, groupWords, pathOf, pathWords, routeOf, routeWords}
+use Rattle.state.specs.Layout.{ownedOf, ownedWords, groupOf, groupWords, pathOf, pathWords}
 use Rattle.state.specs.Layout.{entryOfWord, entryWord, queueOf, queueWords}
 
 -- ---- a record of single words
-pub port-words : (l : List ℕ) → length l ≡ 4 → portWords (portOf l) ≡ l
-port-words l h = spelled-whole 4 l h
+pub owned-words : (l : List ℕ) → length l ≡ 5 → ownedWords (ownedOf l) ≡ l
+owned-words l h = spelled-whole 5 l h
 
-pub port-record : (x : Port) → portOf (portWords x) ≡ x
-port-record x = refl
+pub owned-record : (x : OwnedPort) → ownedOf (ownedWords x) ≡ x
+owned-record x = refl
 
-pub port-length : (x : Port) → length (portWords x) ≡ 4
-port-length x = refl
+pub owned-length : (x : OwnedPort) → length (ownedWords x) ≡ 5
+owned-length x = refl
 
 pub group-words : (l : List ℕ) → length l ≡ 4 → groupWords (groupOf l) ≡ l
 group-words l h = spelled-whole 4 l h
@@ -43,15 +42,6 @@ path-record x = refl
 
 pub path-length : (x : PathPlace) → length (pathWords x) ≡ 4
 path-length x = refl
-
-pub route-words : (l : List ℕ) → length l ≡ 6 → routeWords (routeOf l) ≡ l
-route-words l h = spelled-whole 6 l h
-
-pub route-record : (x : Route) → routeOf (routeWords x) ≡ x
-route-record x = refl
-
-pub route-length : (x : Route) → length (routeWords x) ≡ 6
-route-length x = refl
 
 -- ---- an entry
 entry-word : (w : ℕ) → entryWord (entryOfWord w) ≡ w

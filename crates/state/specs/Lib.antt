@@ -1,3 +1,4 @@
--- What the contracts cite: the relay's state, its words, and what is read of it and changed in it.
+-- What the contracts cite: page 01's relay; what is lent and what a mission sees; the words.
 pub mod Relay
+pub mod Seen
 pub mod Layout

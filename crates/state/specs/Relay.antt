@@ -1,14 +1,16 @@
--- The state of the relay: page 01, "Numbers that hold everywhere" and "Settings". The settings and the queues are one record, which the
--- rules read, and the counters stand beside it. Each view reads one part, each update changes one.
+-- Page 01's relay, "Numbers that hold everywhere" and "Settings": the settings and the queues, which the rules read. It is what one mission sees of
+-- the board, of the list of routes and of its own state (specs/Seen.antt); the counters, which no rule reads, stand beside it. Each view reads one
+-- part, each update changes one.
 -- The counters are fifteen, modulo 2^32, in this order: npInReceives, npInBadLength, npInBadVersion, npInBadAddress, npInBadChecksum,
 -- unsupported, npInAddrErrors, npInUnknownProtos, npInDelivers, npForwHopDiscard, npForwDatagrams, npOutNoRoutes, npOutDiscards,
 -- left domain, too big (page 01, "Refusal numbers"). Assumes nothing.
 use Prim.Native.Nat.{ℕ, _+_, _%_, _^_}
 use mathlib.Core.Bool.{Bool, _&&_}
 use mathlib.Core.List.{List}
-use lib.ListN.{getD, set, replicate}
+use lib.ListN.{getD, set}
 use lib.Dec.{ltb}
-use Rattle.sets.specs.Limits.{portCount, routePlaces, groupPlaces, pathPlaces, counterCount}
+use Rattle.sets.specs.Limits.{portCount}
+use Rattle.sets.specs.Sets.{portSet}
 use Rattle.queue.specs.declared.Queue.{Queue}
 use Rattle.queue.specs.Queue.{fresh as freshQueue}
 use Rattle.routes.specs.declared.Route.{Route}
@@ -19,7 +21,7 @@ use Rattle.records.specs.declared.PathPlace.{PathPlace}
 use Rattle.records.specs.Fresh.{freshPort, freshGroup, freshPath}
 use Rattle.records.specs.SetUp.{isSetUp}
 
--- what will be one mission's, its counters aside
+-- what is a mission's own, its number and counters aside
 pub record Mission : Type 0 where
   pub groups : List Group
   pub paths : List PathPlace
@@ -32,42 +34,29 @@ pub record Relay : Type 0 where
   pub mission : Mission
   pub routes : List Route
 
--- all that the words hold. The rules read the relay alone: page 01 gives no rule that reads a counter
-pub record State : Type 0 where
-  pub relay : Relay
-  pub counters : List ℕ
-
--- page 01, "Settings": no port, all places empty, a host, queues empty
-unfoldable pub freshRelay : Relay
-freshRelay =
-    record {
-      router = 0;
-      ports = replicate portCount freshPort;
-      mission =
-          record {
-            groups = replicate groupPlaces freshGroup;
-            paths = replicate pathPlaces freshPath;
-            queues = replicate portCount freshQueue;
-          };
-      routes = replicate routePlaces emptyRoute;
-    }
-
--- and counters 0
-unfoldable pub freshState : State
-freshState = record { relay = freshRelay; counters = replicate counterCount 0 }
-
 -- ---- views
+-- of a mission's own
+abbrev pub groupAt : Mission → ℕ → Group
+groupAt m i = getD (m .groups) i freshGroup
+
+abbrev pub pathAt : Mission → ℕ → PathPlace
+pathAt m i = getD (m .paths) i freshPath
+
+abbrev pub queueAt : Mission → ℕ → Queue
+queueAt m p = getD (m .queues) p freshQueue
+
+-- of the relay
 abbrev pub portIn : Relay → ℕ → Port
 portIn r p = getD (r .ports) p freshPort
 
 abbrev pub groupIn : Relay → ℕ → Group
-groupIn r i = getD (r .mission .groups) i freshGroup
+groupIn r i = groupAt (r .mission) i
 
 abbrev pub pathIn : Relay → ℕ → PathPlace
-pathIn r i = getD (r .mission .paths) i freshPath
+pathIn r i = pathAt (r .mission) i
 
 abbrev pub queueIn : Relay → ℕ → Queue
-queueIn r p = getD (r .mission .queues) p freshQueue
+queueIn r p = queueAt (r .mission) p
 
 abbrev pub counterIn : List ℕ → ℕ → ℕ
 counterIn l i = getD l i 0
@@ -76,13 +65,17 @@ abbrev pub routeIn : Relay → ℕ → Route
 routeIn r i = getD (r .routes) i emptyRoute
 
 -- a port's number that calls may name: "0 to 7", and set up
-unfoldable pub portSetUp : Relay → ℕ → Bool
-portSetUp r p = ltb p portCount && isSetUp (portIn r p)
+unfoldable pub amongPorts : List Port → ℕ → Bool
+amongPorts ports p = ltb p portCount && isSetUp (getD ports p freshPort)
+
+abbrev pub portSetUp : Relay → ℕ → Bool
+portSetUp r p = amongPorts (r .ports) p
+
+-- the set of the ports that are set up, port p as 2^p
+unfoldable pub readyOf : List Port → ℕ
+readyOf ports = portSet (λ (p : ℕ). isSetUp (getD ports p freshPort)) portCount
 
 -- ---- one field anew
-abbrev pub allPorts : Relay → List Port → Relay
-allPorts r x = record { router = r .router; ports = x; mission = r .mission; routes = r .routes }
-
 abbrev pub allRoutes : Relay → List Route → Relay
 allRoutes r x = record { router = r .router; ports = r .ports; mission = r .mission; routes = x }
 
@@ -99,23 +92,23 @@ abbrev pub allQueues : Mission → List Queue → Mission
 allQueues m x = record { groups = m .groups; paths = m .paths; queues = x }
 
 -- ---- updates: one place of a field anew
-abbrev pub withRouter : Relay → ℕ → Relay
-withRouter r x = record { router = x; ports = r .ports; mission = r .mission; routes = r .routes }
+abbrev pub putGroup : Mission → ℕ → Group → Mission
+putGroup m i x = allGroups m (set (m .groups) i x)
 
-abbrev pub withPort : Relay → ℕ → Port → Relay
-withPort r p x = allPorts r (set (r .ports) p x)
+abbrev pub putPath : Mission → ℕ → PathPlace → Mission
+putPath m i x = allPaths m (set (m .paths) i x)
+
+abbrev pub putQueue : Mission → ℕ → Queue → Mission
+putQueue m p x = allQueues m (set (m .queues) p x)
 
 abbrev pub withGroup : Relay → ℕ → Group → Relay
-withGroup r i x = withMission r (allGroups (r .mission) (set (r .mission .groups) i x))
+withGroup r i x = withMission r (putGroup (r .mission) i x)
 
 abbrev pub withPath : Relay → ℕ → PathPlace → Relay
-withPath r i x = withMission r (allPaths (r .mission) (set (r .mission .paths) i x))
+withPath r i x = withMission r (putPath (r .mission) i x)
 
 abbrev pub withQueue : Relay → ℕ → Queue → Relay
-withQueue r p x = withMission r (allQueues (r .mission) (set (r .mission .queues) p x))
-
-abbrev pub withRoute : Relay → ℕ → Route → Relay
-withRoute r i x = allRoutes r (set (r .routes) i x)
+withQueue r p x = withMission r (putQueue (r .mission) p x)
 
 abbrev pub withCounter : List ℕ → ℕ → ℕ → List ℕ
 withCounter l i x = set l i x
@@ -123,10 +116,3 @@ withCounter l i x = set l i x
 -- n more at counter i, modulo 2^32
 abbrev pub added : List ℕ → ℕ → ℕ → List ℕ
 added l i n = withCounter l i ((counterIn l i + n) % 2 ^ 32)
-
--- ---- one half of the state changed, and the other left
-abbrev pub onRelay : (Relay → Relay) → State → State
-onRelay f s = record { relay = f (s .relay); counters = s .counters }
-
-abbrev pub onCounters : (List ℕ → List ℕ) → State → State
-onCounters f s = record { relay = s .relay; counters = f (s .counters) }

@@ -1,22 +1,23 @@
-// The relay's state in lent words: the places of groups and of paths.
+// A mission's state in lent words: the places of groups and of paths.
 //
-// As in the crate `state_ports`: the caller lends the whole state, each function works on the words of one place, and each promise is over
+// As in the crate `state_mission`: the caller lends the whole state, each function works on the words of one place, and each promise is over
 // `decode` alone. An empty place is a record too, the fresh one where a call emptied it.
 ghost use mathlib.Core.Path.{_≡_};
 ghost use Prim.Native.Nat.{_<_};
 ghost use lib.ListN.{length};
 ghost use Rattle.sets.specs.Limits.{groupPlaces, pathPlaces};
-ghost use Rattle.state.specs.Layout.{stateWords, decode, groupOf, groupWords, pathOf, pathWords};
-ghost use Rattle.state.specs.Relay.{groupIn, pathIn, withGroup, withPath, onRelay};
+ghost use Rattle.state.specs.Layout.{missionWords, decode, groupOf, groupWords, pathOf, pathWords};
+ghost use Rattle.state.specs.Relay.{groupAt, pathAt, putGroup, putPath};
+ghost use Rattle.state.specs.Seen.{onMission};
 use address::Address;
 use address::PathAddress;
 use records::Group;
 use records::PathPlace;
 
 // Where the sections begin.
-const GROUPS_AT: usize = 33;
+const GROUPS_AT: usize = 1;
 
-const PATHS_AT: usize = 97;
+const PATHS_AT: usize = 65;
 
 const GROUP_WORDS: usize = 4;
 
@@ -44,22 +45,22 @@ fn write_group(s: &mut [u32], x: Group)
     s[3] = x.subscribed;
 }
 
-pub fn group_of(state: &[u32], i: usize) -> Group
-    requires { ⌜ (length (now state) ≡ stateWords) × (i < groupPlaces) ⌝ }
-    ensures { λ r. ⌜ r ≡ groupIn (decode (now (state .entry)) .relay) i ⌝ }
+pub fn group_of(mission: &[u32], i: usize) -> Group
+    requires { ⌜ (length (now mission) ≡ missionWords) × (i < groupPlaces) ⌝ }
+    ensures { λ r. ⌜ r ≡ groupAt (decode (now (mission .entry)) .mission) i ⌝ }
 {
     let from = GROUPS_AT + i * GROUP_WORDS;
     let to = from + GROUP_WORDS;
-    read_group(&state[from..to])
+    read_group(&mission[from..to])
 }
 
-pub fn put_group(state: &mut [u32], i: usize, x: Group)
-    requires { ⌜ (length (now state) ≡ stateWords) × (i < groupPlaces) ⌝ }
-    ensures { λ _. ⌜ decode (now (state .exit)) ≡ onRelay (λ r. withGroup r i x) (decode (now (state .entry))) ⌝ }
+pub fn put_group(mission: &mut [u32], i: usize, x: Group)
+    requires { ⌜ (length (now mission) ≡ missionWords) × (i < groupPlaces) ⌝ }
+    ensures { λ _. ⌜ decode (now (mission .exit)) ≡ onMission (λ m. putGroup m i x) (decode (now (mission .entry))) ⌝ }
 {
     let start = GROUPS_AT + i * GROUP_WORDS;
     let end = start + GROUP_WORDS;
-    write_group(&mut state[start..end], x);
+    write_group(&mut mission[start..end], x);
 }
 
 fn read_path(s: &[u32]) -> PathPlace
@@ -84,20 +85,20 @@ fn write_path(s: &mut [u32], x: PathPlace)
     s[3] = x.here;
 }
 
-pub fn path_of(state: &[u32], i: usize) -> PathPlace
-    requires { ⌜ (length (now state) ≡ stateWords) × (i < pathPlaces) ⌝ }
-    ensures { λ r. ⌜ r ≡ pathIn (decode (now (state .entry)) .relay) i ⌝ }
+pub fn path_of(mission: &[u32], i: usize) -> PathPlace
+    requires { ⌜ (length (now mission) ≡ missionWords) × (i < pathPlaces) ⌝ }
+    ensures { λ r. ⌜ r ≡ pathAt (decode (now (mission .entry)) .mission) i ⌝ }
 {
     let from = PATHS_AT + i * PATH_WORDS;
     let to = from + PATH_WORDS;
-    read_path(&state[from..to])
+    read_path(&mission[from..to])
 }
 
-pub fn put_path(state: &mut [u32], i: usize, x: PathPlace)
-    requires { ⌜ (length (now state) ≡ stateWords) × (i < pathPlaces) ⌝ }
-    ensures { λ _. ⌜ decode (now (state .exit)) ≡ onRelay (λ r. withPath r i x) (decode (now (state .entry))) ⌝ }
+pub fn put_path(mission: &mut [u32], i: usize, x: PathPlace)
+    requires { ⌜ (length (now mission) ≡ missionWords) × (i < pathPlaces) ⌝ }
+    ensures { λ _. ⌜ decode (now (mission .exit)) ≡ onMission (λ m. putPath m i x) (decode (now (mission .entry))) ⌝ }
 {
     let start = PATHS_AT + i * PATH_WORDS;
     let end = start + PATH_WORDS;
-    write_path(&mut state[start..end], x);
+    write_path(&mut mission[start..end], x);
 }

@@ -1,20 +1,21 @@
-// The relay's state in lent words: the queues of the ports.
+// A mission's state in lent words: its queues of the ports.
 //
-// As in the crate `state_ports`: the caller lends the whole state, each function works on the words of one queue, and each promise is over
+// As in the crate `state_mission`: the caller lends the whole state, each function works on the words of one queue, and each promise is over
 // `decode` alone. A queue is 33 words: its 32 entries, free ones too, and then how many of them wait. Slot and precedence of an entry,
 // of sixteen bits each, share a word: nothing is lost either way, and on the machines that we know a queue is copied as it stands.
 ghost use mathlib.Core.Path.{_≡_};
 ghost use Prim.Native.Nat.{_<_};
 ghost use lib.ListN.{length};
 ghost use Rattle.sets.specs.Limits.{portCount};
-ghost use Rattle.state.specs.Layout.{stateWords, decode, entryOfWord, entryWord, queueOf, queueWords};
-ghost use Rattle.state.specs.Relay.{queueIn, withQueue, onRelay};
+ghost use Rattle.state.specs.Layout.{missionWords, decode, entryOfWord, entryWord, queueOf, queueWords};
+ghost use Rattle.state.specs.Relay.{queueAt, putQueue};
+ghost use Rattle.state.specs.Seen.{onMission};
 use address::Slot;
 use queue::Entry;
 use queue::Queue;
 
 // Where the section begins.
-const QUEUES_AT: usize = 161;
+const QUEUES_AT: usize = 129;
 
 const QUEUE_WORDS: usize = 33;
 
@@ -71,13 +72,13 @@ fn write_queue(s: &mut [u32], q: Queue)
     s[ENTRIES] = q.count;
 }
 
-pub fn queue_of(state: &[u32], p: usize) -> Queue
-    requires { ⌜ (length (now state) ≡ stateWords) × (p < portCount) ⌝ }
-    ensures { λ r. ⌜ r ≡ queueIn (decode (now (state .entry)) .relay) p ⌝ }
+pub fn queue_of(mission: &[u32], p: usize) -> Queue
+    requires { ⌜ (length (now mission) ≡ missionWords) × (p < portCount) ⌝ }
+    ensures { λ r. ⌜ r ≡ queueAt (decode (now (mission .entry)) .mission) p ⌝ }
 {
     let from = QUEUES_AT + p * QUEUE_WORDS;
     let to = from + QUEUE_WORDS;
-    read_queue(&state[from..to])
+    read_queue(&mission[from..to])
 }
 
 fn read_count(s: &[u32]) -> u32
@@ -88,20 +89,20 @@ fn read_count(s: &[u32]) -> u32
 }
 
 // How many wait on a port, as its queue says.
-pub fn count_of(state: &[u32], p: usize) -> u32
-    requires { ⌜ (length (now state) ≡ stateWords) × (p < portCount) ⌝ }
-    ensures { λ r. ⌜ r ≡ queueIn (decode (now (state .entry)) .relay) p .count ⌝ }
+pub fn count_of(mission: &[u32], p: usize) -> u32
+    requires { ⌜ (length (now mission) ≡ missionWords) × (p < portCount) ⌝ }
+    ensures { λ r. ⌜ r ≡ queueAt (decode (now (mission .entry)) .mission) p .count ⌝ }
 {
     let from = QUEUES_AT + p * QUEUE_WORDS;
     let to = from + QUEUE_WORDS;
-    read_count(&state[from..to])
+    read_count(&mission[from..to])
 }
 
-pub fn put_queue(state: &mut [u32], p: usize, q: Queue)
-    requires { ⌜ (length (now state) ≡ stateWords) × (p < portCount) ⌝ }
-    ensures { λ _. ⌜ decode (now (state .exit)) ≡ onRelay (λ r. withQueue r p q) (decode (now (state .entry))) ⌝ }
+pub fn put_queue(mission: &mut [u32], p: usize, q: Queue)
+    requires { ⌜ (length (now mission) ≡ missionWords) × (p < portCount) ⌝ }
+    ensures { λ _. ⌜ decode (now (mission .exit)) ≡ onMission (λ m. putQueue m p q) (decode (now (mission .entry))) ⌝ }
 {
     let start = QUEUES_AT + p * QUEUE_WORDS;
     let end = start + QUEUE_WORDS;
-    write_queue(&mut state[start..end], q);
+    write_queue(&mut mission[start..end], q);
 }

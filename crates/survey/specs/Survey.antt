@@ -2,15 +2,18 @@
 -- port's first three octets; MTU; 32 waiting). Only ports that are set up are in a set. Assumes nothing.
 use Prim.Native.Nat.{ℕ, _+_, _<_}
 use mathlib.Core.Bool.{Bool, true, false, not, _&&_, _||_}
+use mathlib.Core.List.{List}
 use lib.Dec.{eqb, ltb}
+use lib.ListN.{getD}
 use Rattle.checks.specs.Order.{pick}
 use Rattle.sets.specs.Limits.{portCount}
-use Rattle.sets.specs.Sets.{portSet}
+use Rattle.sets.specs.Sets.{portSet, inSet}
 use Rattle.address.specs.declared.Address.{Address}
 use Rattle.networks.specs.Networks.{domainOf, subnetBroadcast, classBroadcast}
 use Rattle.networks.specs.declared.Broadcast.{Broadcast}
 use Rattle.networks.specs.declared.Broadcast.the-variants.{At, None}
 use Rattle.queue.specs.Queue.{entryPlaces}
+use Rattle.records.specs.Fresh.{freshPort}
 use Rattle.records.specs.SetUp.{isSetUp}
 use Rattle.records.specs.declared.Port.{Port}
 use Rattle.state.specs.Relay.{Relay, portIn, queueIn}
@@ -67,6 +70,47 @@ surveyBelow r q n =
 abbrev pub surveyOf : Relay → Sought → Survey
 surveyOf r q = surveyBelow r q portCount
 
+-- no port in any set
+abbrev pub noSurvey : Survey
+noSurvey = record { ready = 0; addressed = 0; broadcast = 0; domain = 0; fitting = 0; full = 0 }
+
+-- ---- before the search: which ports are set up, have the address, have it as a broadcast
+-- a port that is set up and passes a test
+abbrev pub setUpAnd : List Port → (Port → Bool) → ℕ → Bool
+setUpAnd ports test p = isSetUp (getD ports p freshPort) && test (getD ports p freshPort)
+
+unfoldable pub namedBelow : List Port → Address → ℕ → Survey
+namedBelow ports a n =
+    record {
+      ready = portSet (setUpAnd ports (λ (x : Port). true)) n;
+      addressed = portSet (setUpAnd ports (λ (x : Port). isAddressed (x .address) (Node a))) n;
+      broadcast = portSet (setUpAnd ports (λ (x : Port). isBroadcast x (Node a))) n;
+      domain = 0;
+      fitting = 0;
+      full = 0;
+    }
+
+abbrev pub namedOf : List Port → Address → Survey
+namedOf ports a = namedBelow ports a portCount
+
+-- ---- after it: domain, MTU and fullness of the ports of a set
+abbrev pub wantedBelow : Relay → ℕ → (ℕ → Bool) → ℕ → ℕ
+wantedBelow r set test n = portsBelow r (λ (p : ℕ). inSet p set && test p) n
+
+unfoldable pub surveyWithin : Relay → ℕ → Sought → ℕ → Survey
+surveyWithin r set q n =
+    record {
+      ready = 0;
+      addressed = 0;
+      broadcast = 0;
+      domain = wantedBelow r set (λ (p : ℕ). inDomain (portIn r p) q) n;
+      fitting = wantedBelow r set (λ (p : ℕ). isFitting (portIn r p) q) n;
+      full = wantedBelow r set (λ (p : ℕ). isFull (queueIn r p .count)) n;
+    }
+
+abbrev pub wantedOf : Relay → ℕ → Sought → Survey
+wantedOf r set q = surveyWithin r set q portCount
+
 -- ---- one turn of the walk
 -- room for one more port in each set
 abbrev pub Roomy : Survey → Type 0
@@ -76,14 +120,25 @@ Roomy s = (s .ready < 128) × ((s .addressed < 128) × ((s .broadcast < 128) × 
 abbrev pub joinedBy : ℕ → Bool → ℕ → ℕ
 joinedBy set test port = set + pick test port 0
 
--- the survey with one more port
-unfoldable pub seen : Survey → ℕ → Port → ℕ → Sought → Survey
-seen s port p waiting q =
+-- the survey with one more port: named, and wanted
+unfoldable pub withNamed : Survey → ℕ → Port → Address → Survey
+withNamed s port p a =
     record {
       ready = joinedBy (s .ready) (isSetUp p && true) port;
-      addressed = joinedBy (s .addressed) (isSetUp p && isAddressed (p .address) (q .destination)) port;
-      broadcast = joinedBy (s .broadcast) (isSetUp p && isBroadcast p (q .destination)) port;
-      domain = joinedBy (s .domain) (isSetUp p && inDomain p q) port;
-      fitting = joinedBy (s .fitting) (isSetUp p && isFitting p q) port;
-      full = joinedBy (s .full) (isSetUp p && isFull waiting) port;
+      addressed = joinedBy (s .addressed) (isSetUp p && isAddressed (p .address) (Node a)) port;
+      broadcast = joinedBy (s .broadcast) (isSetUp p && isBroadcast p (Node a)) port;
+      domain = s .domain;
+      fitting = s .fitting;
+      full = s .full;
+    }
+
+unfoldable pub withWanted : Survey → ℕ → Bool → Port → ℕ → Sought → Survey
+withWanted s port wanted p waiting q =
+    record {
+      ready = s .ready;
+      addressed = s .addressed;
+      broadcast = s .broadcast;
+      domain = joinedBy (s .domain) (isSetUp p && (wanted && inDomain p q)) port;
+      fitting = joinedBy (s .fitting) (isSetUp p && (wanted && isFitting p q)) port;
+      full = joinedBy (s .full) (isSetUp p && (wanted && isFull waiting)) port;
     }

@@ -1,9 +1,10 @@
 // What the eight ports say of a datagram.
 //
 // The verdict asks sets of ports: which are set up, which have the destination's address, of which it is a broadcast, which lie in the
-// arrival port's domain, which have an MTU that holds the datagram, which have a full queue. One walk over the ports gathers all six, so
-// that each port's words are looked at once. Only ports that are set up are in any of the sets: whatever else a state says of a port
-// that is not set up, nothing is granted to it. A path is no address: its number is compared with no port's, even where they are equal.
+// arrival port's domain, which have an MTU that holds the datagram, which have a full queue. The first three are asked before the route is
+// searched; the last three after it, and only of the ports that the datagram is wanted on. So there are two walks, and each leaves the
+// other's sets empty. Only ports that the mission sees and that are set up are in any of the sets: whatever else a state says of a port
+// that is not set up, nothing is granted to it. A path is no address: no port is asked for it.
 //
 // The awkward case is a port in net 10, of which two addresses are broadcasts: that of its own subnet, 10.x.y.255, and 10.255.255.255.
 use address::Address;
@@ -12,10 +13,25 @@ use records::Port;
 use sets::indexes::PORTS;
 use verdict::Survey;
 ghost use mathlib.Core.Path.{_≡_};
-ghost use Prim.Native.Nat.{_≤_, _<_};
+ghost use mathlib.Core.Bool.{true};
+ghost use Prim.Native.Nat.{_^_, _≤_, _<_};
 ghost use lib.ListN.{length};
-ghost use Rattle.state.specs.Layout.{stateWords, decode};
-ghost use Rattle.survey.specs.Survey.{broadcastIs, isAddressed, ownBroadcast, isBroadcast, Roomy, joinedBy, seen, surveyOf};
+ghost use Rattle.sets.specs.Limits.{portCount};
+ghost use Rattle.sets.specs.Sets.{inSet};
+ghost use Rattle.state.specs.Relay.{portIn, queueIn};
+ghost use Rattle.state.specs.Seen.{portsSeen, seated};
+ghost use Rattle.state.specs.Layout.{boardWords, decodeBoard, missionWords, decode};
+ghost use Rattle.survey.specs.Survey.{
+  broadcastIs,
+  ownBroadcast,
+  noSurvey,
+  Roomy,
+  joinedBy,
+  withNamed,
+  withWanted,
+  namedOf,
+  wantedOf,
+};
 
 // The destination: an end system's address or a group's, or none that a port could have.
 pub enum Destination {
@@ -30,16 +46,6 @@ pub struct Sought {
     pub length: u32,
 }
 
-// Whether the destination is a port's own address.
-fn is_addressed(own: Address, d: Destination) -> bool
-    ensures { λ r. ⌜ r ≡ isAddressed own d ⌝ }
-{
-    match d {
-        Destination::Node(a) => own.0 == a.0,
-        Destination::Other => false,
-    }
-}
-
 fn broadcast_is(b: Broadcast, a: Address) -> bool
     ensures { λ r. ⌜ r ≡ broadcastIs b a ⌝ }
 {
@@ -49,7 +55,8 @@ fn broadcast_is(b: Broadcast, a: Address) -> bool
     }
 }
 
-// Whether the address is a broadcast of a port's subnet or class network.
+// Whether the address is a broadcast of a port's subnet or class network. That of a class network ends with 255, so that for most addresses
+// no port's class is looked at.
 fn own_broadcast(p: Port, a: Address) -> bool
     ensures { λ r. ⌜ r ≡ ownBroadcast p a ⌝ }
 {
@@ -57,17 +64,10 @@ fn own_broadcast(p: Port, a: Address) -> bool
     if networks::subnet_broadcast(own, p.mask).0 == a.0 {
         return true;
     }
-    broadcast_is(networks::class_broadcast(own), a)
-}
-
-// Whether the destination is a broadcast of a port's.
-fn is_broadcast(p: Port, d: Destination) -> bool
-    ensures { λ r. ⌜ r ≡ isBroadcast p d ⌝ }
-{
-    match d {
-        Destination::Node(a) => own_broadcast(p, a),
-        Destination::Other => false,
+    if a.0 % 256 != 255 {
+        return false;
     }
+    broadcast_is(networks::class_broadcast(own), a)
 }
 
 // A set with one more port, where a test says so.
@@ -81,44 +81,104 @@ fn with_port(set: u32, test: bool, port: u32) -> u32
     set
 }
 
-// The survey with one more port, which is the set `port` and has so many entries waiting.
-fn see(s: Survey, port: u32, p: Port, waiting: u32, q: Sought) -> Survey
-    requires { ⌜ Roomy s × (port ≤ 128) ⌝ }
-    ensures { λ r. ⌜ r ≡ seen s port p waiting q ⌝ }
+// No port yet.
+fn none() -> Survey
+    ensures { λ r. ⌜ r ≡ noSurvey ⌝ }
 {
-    if p.ready == 0 {
-        return s;
-    }
-    let d = q.destination;
-    let own = p.address;
     Survey {
-        ready: with_port(s.ready, true, port),
-        addressed: with_port(s.addressed, is_addressed(own, d), port),
-        broadcast: with_port(s.broadcast, is_broadcast(p, d), port),
-        domain: with_port(s.domain, networks::domain_of(own) == q.domain, port),
-        fitting: with_port(s.fitting, !(p.mtu < q.length), port),
-        full: with_port(s.full, !(waiting < queue::ENTRIES), port),
-    }
-}
-
-// The survey of all ports.
-pub fn survey(state: &[u32], q: Sought) -> Survey
-    requires { ⌜ length (now state) ≡ stateWords ⌝ }
-    ensures { λ r. ⌜ r ≡ surveyOf (decode (now (state .entry)) .relay) q ⌝ }
-{
-    let mut s = Survey {
         ready: 0,
         addressed: 0,
         broadcast: 0,
         domain: 0,
         fitting: 0,
         full: 0,
-    };
+    }
+}
+
+// The survey with one more port, which is the set `port`, asked for an address.
+fn see_named(s: Survey, port: u32, p: Port, a: Address) -> Survey
+    requires { ⌜ Roomy s × (port ≤ 128) ⌝ }
+    ensures { λ r. ⌜ r ≡ withNamed s port p a ⌝ }
+{
+    if p.ready == 0 {
+        return s;
+    }
+    let own = p.address;
+    Survey {
+        ready: with_port(s.ready, true, port),
+        addressed: with_port(s.addressed, own.0 == a.0, port),
+        broadcast: with_port(s.broadcast, own_broadcast(p, a), port),
+        domain: s.domain,
+        fitting: s.fitting,
+        full: s.full,
+    }
+}
+
+// Before the search: the ports that are set up, those with the address, and those that have it as a broadcast.
+pub fn named(board: &[u32], number: u32, a: Address) -> Survey
+    requires { ⌜ length (now board) ≡ boardWords ⌝ }
+    ensures { λ r. ⌜ r ≡ namedOf (portsSeen number (decodeBoard (now (board .entry)))) a ⌝ }
+{
+    let mut s = none();
     let mut i = 0;
     while i < PORTS {
-        let p = state_ports::port_of(state, i);
-        let waiting = state_queues::count_of(state, i);
-        s = see(s, sets::only_port(i as u32), p, waiting, q);
+        let p = state_board::seen_port(board, number, i);
+        s = see_named(s, sets::only_port(i as u32), p, a);
+        i += 1;
+    }
+    s
+}
+
+// The survey with one more wanted port, which has so many entries waiting, asked for domain, MTU and fullness.
+fn see_wanted(s: Survey, port: u32, p: Port, waiting: u32, q: Sought) -> Survey
+    requires { ⌜ Roomy s × (port ≤ 128) ⌝ }
+    ensures { λ r. ⌜ r ≡ withWanted s port true p waiting q ⌝ }
+{
+    if p.ready == 0 {
+        return s;
+    }
+    let own = p.address;
+    Survey {
+        ready: s.ready,
+        addressed: s.addressed,
+        broadcast: s.broadcast,
+        domain: with_port(s.domain, networks::domain_of(own) == q.domain, port),
+        fitting: with_port(s.fitting, !(p.mtu < q.length), port),
+        full: with_port(s.full, !(waiting < queue::ENTRIES), port),
+    }
+}
+
+// The survey with port i, where it is in the set: the words of other ports are not looked at.
+fn see_if(board: &[u32], mission: &[u32], s: Survey, i: usize, set: u32, q: Sought) -> Survey
+    requires { ⌜ (length (now board) ≡ boardWords) × ((length (now mission) ≡ missionWords) × ((i < portCount) × Roomy s)) ⌝ }
+    ensures { λ r. ⌜
+        r
+        ≡ withWanted s (2 ^ i) (inSet i set) (portIn (seated (decodeBoard (now (board .entry))) (decode (now (mission .entry)))) i)
+        (queueIn (seated (decodeBoard (now (board .entry))) (decode (now (mission .entry)))) i .count) q
+        ⌝ }
+{
+    if (set >> i as u32) % 2 != 1 {
+        return s;
+    }
+    let p = state_board::seen_port(board, state_mission::number_of(mission), i);
+    see_wanted(
+        s,
+        sets::only_port(i as u32),
+        p,
+        state_queues::count_of(mission, i),
+        q,
+    )
+}
+
+// After the search: of the ports of a set, those in the domain, those whose MTU holds the datagram, and those with a full queue.
+pub fn wanted(board: &[u32], mission: &[u32], set: u32, q: Sought) -> Survey
+    requires { ⌜ (length (now board) ≡ boardWords) × (length (now mission) ≡ missionWords) ⌝ }
+    ensures { λ r. ⌜ r ≡ wantedOf (seated (decodeBoard (now (board .entry))) (decode (now (mission .entry)))) set q ⌝ }
+{
+    let mut s = none();
+    let mut i = 0;
+    while i < PORTS {
+        s = see_if(board, mission, s, i, set, q);
         i += 1;
     }
     s

@@ -11,27 +11,32 @@ use Rattle.queue.specs.declared.Entry.{Entry}
 use Rattle.queue.specs.declared.Head.the-variants.{First, Nothing}
 use Rattle.queue.specs.declared.Queue.{Queue}
 use Rattle.queue.specs.declared.Taken.{Taken}
-use Rattle.state.specs.Relay.{State, portSetUp, queueIn, withQueue, onRelay}
+use Rattle.state.specs.Relay.{amongPorts, queueAt, putQueue}
+use Rattle.state.specs.Seen.{Board, State, portsSeen, seated, onMission, onSeated}
 use Rattle.taking.specs.declared.Taking.the-variants.{Handed, Refused}
 use Rattle.taking.specs.Taking.{takeOutcome, takenRelay}
 
-module _ (s : State) (port : ℕ) {c : Check} (told : c ≡ checkOf (not (portSetUp (s .relay) port))) where
-  pub no-port : c ≡ Failed → (Refused 16 ≡ takeOutcome (s .relay) port) × (s ≡ onRelay (λ r. takenRelay r port) s)
+module _ (b : Board) (s : State) (port : ℕ) {number : ℕ} {c : Check} (own : number ≡ s .number)
+    (told : c ≡ checkOf (not (amongPorts (portsSeen number b) port))) where
+  told-own : c ≡ checkOf (not (amongPorts (portsSeen (s .number) b) port))
+  told-own = told ∙ ap (λ n. checkOf (not (amongPorts (portsSeen n b) port))) own
+
+  pub no-port : c ≡ Failed → (Refused 16 ≡ takeOutcome (seated b s) port) × (s ≡ onSeated b (λ r. takenRelay r port) s)
   unfolding takeOutcome takenRelay
-  no-port fails = let h = failed-true (not (portSetUp (s .relay) port)) (sym told ∙ fails) in (simp (h), simp (h))
+  no-port fails = let h = failed-true (not (amongPorts (portsSeen (s .number) b) port)) (sym told-own ∙ fails) in (simp (h), simp (h))
 
-  module _ (ready : c ≡ Passed) {q : Queue} {t : Taken} (eq : q ≡ queueIn (s .relay) port) (et : t ≡ takeOf q) where
-    open-port : not (portSetUp (s .relay) port) ≡ false
-    open-port = passed-false (not (portSetUp (s .relay) port)) (sym told ∙ ready)
+  module _ (ready : c ≡ Passed) {q : Queue} {t : Taken} (eq : q ≡ queueAt (s .mission) port) (et : t ≡ takeOf q) where
+    open-port : not (amongPorts (portsSeen (s .number) b) port) ≡ false
+    open-port = passed-false (not (amongPorts (portsSeen (s .number) b) port)) (sym told-own ∙ ready)
 
-    taken : takeOf (queueIn (s .relay) port) ≡ t
+    taken : takeOf (queueAt (s .mission) port) ≡ t
     taken = sym (et ∙ ap takeOf eq)
 
-    pub nothing-waits : t .head ≡ Nothing → (Refused 18 ≡ takeOutcome (s .relay) port) × (s ≡ onRelay (λ r. takenRelay r port) s)
+    pub nothing-waits : t .head ≡ Nothing → (Refused 18 ≡ takeOutcome (seated b s) port) × (s ≡ onSeated b (λ r. takenRelay r port) s)
     unfolding takeOutcome takenRelay
     nothing-waits h = (simp (open-port, taken, h), simp (open-port, taken, h))
 
-    pub one-handed : {left : State} (e : Entry)
-        → t .head ≡ First e → left ≡ onRelay (λ r. withQueue r port (t .queue)) s → (Handed e ≡ takeOutcome (s .relay) port) × (left ≡ onRelay (λ r. takenRelay r port) s)
+    pub one-handed : {left : State} (e : Entry) → t .head ≡ First e → left ≡ onMission (λ m. putQueue m port (t .queue)) s
+        → (Handed e ≡ takeOutcome (seated b s) port) × (left ≡ onSeated b (λ r. takenRelay r port) s)
     unfolding takeOutcome takenRelay
     one-handed e h es = (simp (open-port, taken, h), simp (open-port, taken, h) es)

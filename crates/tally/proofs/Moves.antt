@@ -8,7 +8,8 @@ use lib.Dec.{eqb, ltb}
 use borrow.Author.Tests.{ltb-true}
 use Rattle.checks.proofs.Bools.{and-true}
 use Rattle.checks.proofs.Laws.{either}
-use Rattle.state.specs.Relay.{State, added, onCounters}
+use Rattle.state.specs.Relay.{added}
+use Rattle.state.specs.Seen.{State, onCounters}
 use Rattle.address.specs.Mask.{onesOf}
 use Rattle.verdict.specs.Numbers.{obstacleNumber}
 use Rattle.verdict.specs.declared.Local.{Local}
@@ -49,7 +50,7 @@ onward-inside (Refused o) = number-inside (obstacleNumber o)
 -- the same of a counter that was told
 module _ {c : Counter} where
   pub receipt-told : (refusal : ℕ) → c ≡ receiptCounter refusal → Inside c
-  receipt-told refusal e = rw e (either Inside (eqb refusal 16 || eqb refusal 17) tt (omega arith))
+  receipt-told refusal e = rw e (either Inside (eqb refusal 21 || (eqb refusal 16 || eqb refusal 17)) tt (omega arith))
 
   pub number-told : (n : ℕ) → c ≡ counterFor n → Inside c
   number-told n e = rw e (number-inside n)

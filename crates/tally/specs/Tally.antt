@@ -49,9 +49,9 @@ inTable (row ∷ rows) n = pick (eqb n (row .0)) (At (row .1)) (inTable rows n)
 unfoldable pub counterFor : ℕ → Counter
 counterFor n = inTable numbered n
 
--- "These two count nothing. All later ends count one in npInReceives."
+-- "These two count nothing. All later ends count one in npInReceives."; and 21, a list over 512 records, comes before both (page 02, W-208)
 abbrev pub receiptCounter : ℕ → Counter
-receiptCounter refusal = pick (eqb refusal 16 || eqb refusal 17) Nothing (At 0)
+receiptCounter refusal = pick (eqb refusal 21 || (eqb refusal 16 || eqb refusal 17)) Nothing (At 0)
 
 -- "npInDelivers counts deliveries"
 abbrev pub localCounter : Local → Counter

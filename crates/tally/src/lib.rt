@@ -1,6 +1,6 @@
 // The counters that an ending moves.
 //
-// There are fifteen, and each end of a call but two counts in the first. A refusal's number has its counter by page 01's table; the local
+// There are fifteen of each mission, and each end of a call but three counts in the first. A refusal's number has its counter by page 01's table; the local
 // half counts a delivery or an unknown TP-ID; the onward half counts a datagram sent on, once however many ports took it, or its number;
 // and each copy that was dropped counts by itself. A counter is told by its place; what does not count has none, and moves nothing.
 //
@@ -12,8 +12,8 @@ use verdict::Ruling;
 ghost use mathlib.Core.Path.{_≡_};
 ghost use lib.ListN.{length};
 ghost use Rattle.address.specs.Mask.{onesOf};
-ghost use Rattle.state.specs.Relay.{onCounters};
-ghost use Rattle.state.specs.Layout.{stateWords, decode};
+ghost use Rattle.state.specs.Seen.{onCounters};
+ghost use Rattle.state.specs.Layout.{missionWords, decode};
 ghost use Rattle.tally.specs.Tally.{
   counterFor,
   receiptCounter,
@@ -57,10 +57,13 @@ fn counter_for(number: u32) -> Counter
     }
 }
 
-// npInReceives, but for a call that 16 or 17 ended.
+// npInReceives, but for a call that 21, 16 or 17 ended.
 fn receipt_counter(refusal: u32) -> Counter
     ensures { λ r. ⌜ r ≡ receiptCounter refusal ⌝ }
 {
+    if refusal == 21 {
+        return Counter::Nothing;
+    }
     if refusal == 16 {
         return Counter::Nothing;
     }
@@ -110,36 +113,36 @@ fn ports_in(set: u32) -> u32
 }
 
 // n more at a counter, where there is one.
-fn count_at(state: &mut [u32], counter: Counter, n: u32)
-    requires { ⌜ (length (now state) ≡ stateWords) × Inside counter ⌝ }
-    ensures { λ _. ⌜ decode (now (state .exit)) ≡ onCounters (λ l. countedAt l counter n) (decode (now (state .entry))) ⌝ }
+fn count_at(mission: &mut [u32], counter: Counter, n: u32)
+    requires { ⌜ (length (now mission) ≡ missionWords) × Inside counter ⌝ }
+    ensures { λ _. ⌜ decode (now (mission .exit)) ≡ onCounters (λ l. countedAt l counter n) (decode (now (mission .entry))) ⌝ }
 {
     let Counter::At(place) = counter else {
         return;
     };
-    state_ports::add_count(state, place as usize, n);
+    state_mission::add_count(mission, place as usize, n);
 }
 
 // What a ruling counts.
-fn count_ruling(state: &mut [u32], ruling: Ruling)
-    requires { ⌜ length (now state) ≡ stateWords ⌝ }
-    ensures { λ _. ⌜ decode (now (state .exit)) ≡ onCounters (λ l. countedAll l (rulingMoves ruling)) (decode (now (state .entry))) ⌝ }
+fn count_ruling(mission: &mut [u32], ruling: Ruling)
+    requires { ⌜ length (now mission) ≡ missionWords ⌝ }
+    ensures { λ _. ⌜ decode (now (mission .exit)) ≡ onCounters (λ l. countedAll l (rulingMoves ruling)) (decode (now (mission .entry))) ⌝ }
 {
     let local = ruling.local;
     let onward = ruling.onward;
     let dropped = ports_in(ruling.dropped);
-    count_at(state, local_counter(local), 1);
-    count_at(state, onward_counter(onward), 1);
-    count_at(state, discard_counter(ruling.dropped), dropped);
+    count_at(mission, local_counter(local), 1);
+    count_at(mission, onward_counter(onward), 1);
+    count_at(mission, discard_counter(ruling.dropped), dropped);
 }
 
 // All that an ending counts.
-pub fn count(state: &mut [u32], e: Ending)
-    requires { ⌜ length (now state) ≡ stateWords ⌝ }
-    ensures { λ _. ⌜ decode (now (state .exit)) ≡ onCounters (λ l. countedAll l (movesOf e)) (decode (now (state .entry))) ⌝ }
+pub fn count(mission: &mut [u32], e: Ending)
+    requires { ⌜ length (now mission) ≡ missionWords ⌝ }
+    ensures { λ _. ⌜ decode (now (mission .exit)) ≡ onCounters (λ l. countedAll l (movesOf e)) (decode (now (mission .entry))) ⌝ }
 {
     let ruling = e.ruling;
-    count_at(state, receipt_counter(e.refusal), 1);
-    count_at(state, counter_for(e.refusal), 1);
-    count_ruling(state, ruling);
+    count_at(mission, receipt_counter(e.refusal), 1);
+    count_at(mission, counter_for(e.refusal), 1);
+    count_ruling(mission, ruling);
 }

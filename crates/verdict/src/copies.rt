@@ -1,10 +1,9 @@
 // The copies of one datagram: of the ports that it is wanted on, those that are granted one, and those that take it.
 //
 // Three rules strike ports out, in the order 10, 13, 14: no hops left, another domain with addresses of one octet, an MTU that is too
-// small. What is left is granted. A port whose queue is full drops its copy. All this is arithmetic on sets of ports, numbers in which
-// port p is 2 to the power of p. The awkward case is a set that becomes empty: the rule
-// that struck out its last port gives the number, and full queues alone give 15, with every copy granted and dropped.
-use crate::Case;
+// small. Where no hops are left nothing is asked of the ports. What is left is granted. A port whose queue is full drops its copy. All
+// this is arithmetic on sets of ports, numbers in which port p is 2 to the power of p. The awkward case is a set that becomes empty: the
+// rule that struck out its last port gives the number, and full queues alone give 15, with every copy granted and dropped.
 use crate::Local;
 use crate::Obstacle;
 use crate::Onward;
@@ -12,7 +11,7 @@ use crate::Ruling;
 use crate::Survey;
 use crate::Wish;
 ghost use mathlib.Core.Path.{_≡_};
-ghost use Rattle.verdict.specs.Rule.{hopsLeft, sameDomain, largeEnough, afterHops, afterDomain, afterSize, grantedOf, copiesOf, rulingOf};
+ghost use Rattle.verdict.specs.Rule.{hopsLeft, sameDomain, largeEnough, afterHops, afterSize, copiesOf, rulingOf};
 
 // Hops left, else 10.
 fn hops_left(set: u32, spent: u32) -> Wish
@@ -50,23 +49,13 @@ fn large_enough(set: u32, fitting: u32) -> Wish
 }
 
 // Each strikes ports out of those that are wanted, and leaves what is not wanted as it is.
-fn after_hops(w: Wish, spent: u32) -> Wish
+pub fn after_hops(w: Wish, spent: u32) -> Wish
     ensures { λ r. ⌜ r ≡ afterHops w spent ⌝ }
 {
     match w {
         Wish::NotAsked => Wish::NotAsked,
         Wish::Refused(obstacle) => Wish::Refused(obstacle),
         Wish::Wanted(set) => hops_left(set, spent),
-    }
-}
-
-fn after_domain(w: Wish, basic: u32, domain: u32) -> Wish
-    ensures { λ r. ⌜ r ≡ afterDomain w basic domain ⌝ }
-{
-    match w {
-        Wish::NotAsked => Wish::NotAsked,
-        Wish::Refused(obstacle) => Wish::Refused(obstacle),
-        Wish::Wanted(set) => same_domain(set, basic, domain),
     }
 }
 
@@ -80,13 +69,12 @@ fn after_size(w: Wish, fitting: u32) -> Wish
     }
 }
 
-// The ports that are granted a copy, of those that are wanted: 10, then 13, then 14.
-pub fn granted_of(wanted: Wish, c: Case, s: Survey) -> Wish
-    ensures { λ r. ⌜ r ≡ grantedOf wanted c s ⌝ }
+// The ports that are granted a copy, of the wanted ones, which hops are left for: 13, then 14.
+pub fn granted_among(set: u32, basic: u32, s: Survey) -> Wish
+    ensures { λ r. ⌜ r ≡ afterSize (sameDomain set basic (s .domain)) (s .fitting) ⌝ }
 {
-    let hops = after_hops(wanted, c.spent);
-    let domain = after_domain(hops, c.basic, s.domain);
-    after_size(domain, s.fitting)
+    let near = same_domain(set, basic, s.domain);
+    after_size(near, s.fitting)
 }
 
 // The copies granted: each port whose queue is not full takes one, the others drop theirs; all dropped is 15.

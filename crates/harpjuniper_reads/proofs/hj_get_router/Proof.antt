@@ -1,6 +1,6 @@
 -- `harpjuniper_reads::hj_get_router` meets its contract. Assumes nothing.
 use mathlib.Core.Path.{_∙_}
-use Rattle.lent_state.proofs.Calls.{held-told, other-told}
+use Rattle.lent_state.proofs.Calls.{board-held-told, board-other-told}
 use borrow.Author.Needs.{needs}
 use Rattle.harpjuniper_reads.proofs.hj_get_router.Statement.{statement}
 use Rattle.harpjuniper_reads.proofs.hj_get_router.Tie as tie
@@ -9,7 +9,7 @@ refusal-number-requires : tie.Need-refusal-number-requires
 refusal-number-requires c κs = search needs
 
 returns : tie.Need-returns
-returns c = c .refusal-number .ensures ∙ other-told _ (c .before .if1 .taken) _ _
+returns c = c .refusal-number .ensures ∙ board-other-told _ (c .before .if1 .taken) _ _
 
 router-of-requires : tie.Need-router-of-requires
 router-of-requires c κs = search needs
@@ -18,7 +18,7 @@ cast-result : tie.Need-cast-result
 cast-result c = search needs
 
 returns-2 : tie.Need-returns-2
-returns-2 c = held-told _ (c .before .if1 .left) _ _ (c .router-of .ensures)
+returns-2 c = board-held-told _ (c .before .if1 .left) _ _ (c .router-of .ensures)
 
 pub hj-get-router-spec : {M : Type 1} → statement M
 hj-get-router-spec =

@@ -1,10 +1,13 @@
 -- `judge::judge` meets its contract. Assumes nothing.
 use native.Mathlib.Omega.{arith}
-use Rattle.state_ports.proofs.SetUp.{passed-port}
-use Rattle.judge.proofs.Stages.{no-port, no-room, judged}
+use Rattle.state_board.proofs.SetUp.{passed-port}
+use Rattle.judge.proofs.Stages.{port-told, port-seen, no-port, no-room, judged}
 use borrow.Author.Needs.{needs}
 use Rattle.judge.proofs.judge.Statement.{statement}
 use Rattle.judge.proofs.judge.Tie as tie
+
+number-of-requires : tie.Need-number-of-requires
+number-of-requires c κs = search needs
 
 check-port-requires : tie.Need-check-port-requires
 check-port-requires c κs = search needs
@@ -19,7 +22,7 @@ refused-requires : tie.Need-refused-requires
 refused-requires c κs = search needs
 
 returns : tie.Need-returns
-returns c = no-port _ _ _ _ (c .before .before .before .check-port .ensures) (c .before .enum-told2 .given .1) (c .refused .ensures)
+returns c = no-port _ _ _ _ _ (port-told _ _ (c .before .before .before .before .number-of .ensures) (c .before .before .before .check-port .ensures)) (c .before .enum-told2 .given .1) (c .refused .ensures)
 
 check-room-requires : tie.Need-check-room-requires
 check-room-requires c κs = search needs
@@ -34,24 +37,25 @@ refused-requires-2 : tie.Need-refused-requires-2
 refused-requires-2 c κs = search needs
 
 returns-2 : tie.Need-returns-2
-returns-2 c = no-room _ _ _ _ (c .before .before .before .before .before .before .check-port .ensures) (c .before .before .before .before .enum-told .given .1) (c .before .before .before .check-room .ensures) (c .before .enum-told4 .given .1) (c .refused2 .ensures)
+returns-2 c = no-room _ _ _ _ _ (port-told _ _ (c .before .before .before .before .before .before .before .number-of .ensures) (c .before .before .before .before .before .before .check-port .ensures)) (c .before .before .before .before .enum-told .given .1) (c .before .before .before .check-room .ensures) (c .before .enum-told4 .given .1) (c .refused2 .ensures)
 
-port-of-requires : tie.Need-port-of-requires
-port-of-requires c κs = let inside = passed-port _ _ (c .before .before .before .before .before .check-port .ensures) (c .before .before .before .enum-told .given .1) in (c .before .before .before .before .before .before .before .before .pre, omega (arith, inside))
+seen-port-requires : tie.Need-seen-port-requires
+seen-port-requires c κs = (c .before .before .before .before .before .before .before .before .before .before .pre .0, passed-port _ _ (c .before .before .before .before .before .check-port .ensures) (c .before .before .before .enum-told .given .1))
 
 only-port-requires : tie.Need-only-port-requires
 only-port-requires c κs = search needs
 
-judge-octets-requires : tie.Need-judge-octets-requires
-judge-octets-requires c κs = search needs
+ask-octets-requires : tie.Need-ask-octets-requires
+ask-octets-requires c κs = search needs
 
 returns-3 : tie.Need-returns-3
-returns-3 c = judged _ _ _ _ (c .before .before .before .before .before .before .before .before .before .check-port .ensures) (c .before .before .before .before .before .before .before .enum-told .given .1) (c .before .before .before .before .before .before .check-room .ensures) (c .before .before .before .before .enum-told3 .given .1) (c .before .before .before .port-of .ensures) (c .before .only-port .ensures) (c .judge-octets .ensures)
+returns-3 c = judged _ _ _ _ _ (port-told _ _ (c .before .before .before .before .before .before .before .before .before .before .number-of .ensures) (c .before .before .before .before .before .before .before .before .before .check-port .ensures)) (c .before .before .before .before .before .before .before .enum-told .given .1) (c .before .before .before .before .before .before .check-room .ensures) (c .before .before .before .before .enum-told3 .given .1) (port-seen _ _ (c .before .before .before .before .before .before .before .before .before .before .number-of .ensures) (c .before .before .before .seen-port .ensures)) (c .before .only-port .ensures) (c .ask-octets .ensures)
 
 pub judge-spec : {M : Type 1} → statement M
 judge-spec =
     tie.close
     (tie.spec
+    number-of-requires
     check-port-requires
     enum-told
     enum-told-2
@@ -62,7 +66,7 @@ judge-spec =
     enum-told-4
     refused-requires-2
     returns-2
-    port-of-requires
+    seen-port-requires
     only-port-requires
-    judge-octets-requires
+    ask-octets-requires
     returns-3)

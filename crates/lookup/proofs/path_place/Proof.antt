@@ -5,18 +5,19 @@ use mathlib.Core.Path.{_≡_, refl}
 use borrow.Author.Needs.{needs}
 use Rattle.sets.specs.Sets.{firstBelow}
 use Rattle.sets.proofs.Loops.{firstBelow-none}
+use Rattle.state.specs.Seen.{seated}
 use Rattle.state.specs.Layout.{decode}
-use Rattle.state.specs.Relay.{pathIn}
+use Rattle.state.specs.Relay.{pathAt}
 use Rattle.records.specs.Held.{holdsPath}
 use Rattle.lookup.proofs.Found.{test-read, path-there, path-missing}
 use Rattle.lookup.proofs.path_place.Statement.{statement}
 use Rattle.lookup.proofs.path_place.Tie as tie
 
 abbrev Inv-loop : tie.InvT-loop
-Inv-loop state p i₀ i = (i ≤ 16) × (firstBelow (λ (j : ℕ). holdsPath (pathIn (decode state .relay) j) p) i ≡ i)
+Inv-loop mission p i₀ i = (i ≤ 16) × (firstBelow (λ (j : ℕ). holdsPath (pathAt (decode mission .mission) j) p) i ≡ i)
 
 abbrev μ-loop : tie.MeasureT-loop
-μ-loop state p i₀ i = 16 - i
+μ-loop mission p i₀ i = 16 - i
 
 loop-holds : tie.Need-loop-holds Inv-loop μ-loop
 loop-holds c = (omega arith, refl)
@@ -28,8 +29,7 @@ holds-path-requires : tie.Need-holds-path-requires Inv-loop μ-loop
 holds-path-requires c κs = search needs
 
 returns : tie.Need-returns Inv-loop μ-loop
-returns c =
-    path-there (decode (c .before .before .before .before .before .before .args .state .now) .relay) (c .before .before .before .before .before .before .args .p) (c .before .before .before .before .loop .inv .1)
+returns c b = path-there (seated b (decode (c .before .before .before .before .before .before .args .mission .now))) (c .before .before .before .before .before .before .args .p) (c .before .before .before .before .loop .inv .1)
     (c .before .before .before .loop-test .taken) (c .before .before .path-of .ensures) (c .before .holds-path .ensures) (c .if1 .taken)
 
 add-i : tie.Need-add-i Inv-loop μ-loop
@@ -46,7 +46,7 @@ loop-again c = (
 )
 
 returns-2 : tie.Need-returns-2 Inv-loop μ-loop
-returns-2 c = path-missing (decode (c .before .before .before .args .state .now) .relay) (c .before .before .before .args .p) (c .before .loop .inv .1) (c .loop-test .left) (c .before .loop .inv .0)
+returns-2 c b = path-missing (seated b (decode (c .before .before .before .args .mission .now))) (c .before .before .before .args .p) (c .before .loop .inv .1) (c .loop-test .left) (c .before .loop .inv .0)
 
 pub path-place-spec : {M : Type 1} → statement M
 path-place-spec =

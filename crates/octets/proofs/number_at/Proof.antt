@@ -1,8 +1,8 @@
 -- `octets::number_at` meets its contract. The loop's invariant: the value is the number of the octets passed so far, and fits them.
 -- Assumes nothing.
 use borrow.Author.Needs.{needs}
-use Prim.Native.Nat.{_-_, _^_, _≤_, _<_}
-use mathlib.Core.Path.{_≡_, refl, _∙_}
+use Prim.Native.Nat.{_+_, _-_, _^_, _≤_, _<_}
+use mathlib.Core.Path.{_≡_, refl}
 use native.Mathlib.Nat.{pow-le-pow-right}
 use native.Mathlib.Numerals.{add-one}
 use native.Mathlib.Omega.{arith}
@@ -32,17 +32,23 @@ small c =
 mul-value : tie.Need-mul-value Inv-loop μ-loop
 mul-value c = omega (arith, small c)
 
-add-octet-at : tie.Need-add-octet-at Inv-loop μ-loop
-add-octet-at c = omega arith
+add-wide : tie.Need-add-wide Inv-loop μ-loop
+add-wide c = search needs
 
-octet-at-requires : tie.Need-octet-at-requires Inv-loop μ-loop
-octet-at-requires c κs = search needs
+shared-slice-read-wide : tie.Need-shared-slice-read-wide Inv-loop μ-loop
+shared-slice-read-wide c = search needs
 
 wide-requires : tie.Need-wide-requires Inv-loop μ-loop
 wide-requires c κs = search needs
 
+-- what was read is an octet
+octet : (c : tie.After-wide Inv-loop μ-loop) → c .wide .result < 256
+octet c =
+    let place = c .before .before .before .before .before .args .place in
+    rw (c .wide .ensures) (c .before .shared-slice-known2 .given (place + c .before .before .before .loop .i) .fits)
+
 add-value : tie.Need-add-value Inv-loop μ-loop
-add-value c = omega (arith, small (c .before .before))
+add-value c = omega (arith, small (c .before .before), octet c)
 
 add-i : tie.Need-add-i Inv-loop μ-loop
 add-i c = omega arith
@@ -54,9 +60,8 @@ loop-again : tie.Need-loop-again Inv-loop μ-loop
 loop-again c =
     let a = c .before .before .before .before .before .args in
     let l = c .before .before .before .loop in
-    let octet = c .wide .ensures ∙ c .before .octet-at .ensures in
-    let value = number-more (a .s .now) (a .place) (l .i) (l .value) (c .wide .result) (l .inv .1 .0) octet in
-    let fits = bound-more (l .i) (l .value) (c .wide .result) (l .inv .1 .1) (omega arith) in
+    let value = number-more (a .s .now) (a .place) (l .i) (l .value) (c .wide .result) (l .inv .1 .0) (c .wide .ensures) in
+    let fits = bound-more (l .i) (l .value) (c .wide .result) (l .inv .1 .1) (octet c) in
     rw add-one (omega arith, (value, fits))
 
 returns : tie.Need-returns Inv-loop μ-loop
@@ -73,8 +78,8 @@ number-at-spec =
     μ-loop
     loop-holds
     mul-value
-    add-octet-at
-    octet-at-requires
+    add-wide
+    shared-slice-read-wide
     wide-requires
     add-value
     add-i

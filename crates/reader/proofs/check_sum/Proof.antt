@@ -1,4 +1,7 @@
 -- `reader::check_sum` meets its contract: where there is a checksum, the number carried against the one due. Assumes nothing.
+use native.Mathlib.Omega.{arith}
+use mathlib.Core.Path.{sym, _∙_}
+use Rattle.reader.proofs.Rooms.{rooms}
 use borrow.Author.Needs.{needs}
 use borrow.Author.Tests.{eq-eqb, ne-eqb}
 use Rattle.header.proofs.Tests.{equal, other}
@@ -12,10 +15,16 @@ returns : tie.Need-returns
 returns c = simp (other (c .before .has-checksum .ensures) (c .if1 .taken))
 
 number-at-requires : tie.Need-number-at-requires
-number-at-requires c κs = search needs
+number-at-requires c κs =
+    let start = c .before .before .before in
+    let room = rooms _ _ _ _ (start .pre .0) (start .pre .1) .checksum in
+    let summed = sym (c .before .has-checksum .ensures) ∙ c .if1 .left in
+    (omega arith, omega (arith, room, summed))
 
 element-requires : tie.Need-element-requires
-element-requires c κs = search needs
+element-requires c κs =
+    let start = c .before .before .before .before in
+    omega (arith, rooms _ _ _ _ (start .pre .0) (start .pre .1) .checksum)
 
 cast-due : tie.Need-cast-due
 cast-due c = search needs

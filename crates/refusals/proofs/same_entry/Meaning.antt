@@ -8,14 +8,12 @@ use borrow.Author.Tests.{ne-eqb, eqb-false, not-true}
 use Rattle.checks.proofs.Bools.{and-true}
 use Rattle.address.specs.declared.Address.{Address}
 use Rattle.address.specs.declared.PathAddress.{PathAddress}
-use Rattle.routes.specs.declared.Route.{Route}
-use Rattle.routes.specs.Routes.{sameEntry}
-use Rattle.sets.specs.Limits.{routePlaces, groupPlaces, pathPlaces}
+use Rattle.sets.specs.Limits.{groupPlaces, pathPlaces}
 use Rattle.sets.specs.Sets.{anyBelow}
 use Rattle.sets.proofs.Anywhere.{any-is}
-use Rattle.state.specs.Relay.{Relay, groupIn, pathIn, routeIn}
+use Rattle.state.specs.Relay.{Mission, groupAt, pathAt}
 use Rattle.records.specs.Held.{holdsGroup, holdsPath}
-use Rattle.refusals.specs.Elsewhere.{routeElsewhere, groupElsewhere, pathElsewhere}
+use Rattle.refusals.specs.Elsewhere.{groupElsewhere, pathElsewhere}
 
 -- some place but i, among n, that the test holds at
 abbrev pub Elsewhere : (ℕ → Bool) → ℕ → ℕ → Type 0
@@ -33,15 +31,11 @@ elsewhere holds i n = (there, back)
     back : Elsewhere holds i n → anyBelow (λ j. not (eqb j i) && holds j) n ≡ true
     back at = any-is (λ j. not (eqb j i) && holds j) n .1 (at .0, at .1, rw (ne-eqb (at .0) i (at .2)) (at .3))
 
-module _ (r : Relay) (i : ℕ) where
-  pub route-elsewhere : (x : Route) → (routeElsewhere r i x ≡ true) ↔ Elsewhere (λ j. sameEntry (routeIn r j) x) i routePlaces
-  unfolding routeElsewhere
-  route-elsewhere x = elsewhere (λ j. sameEntry (routeIn r j) x) i routePlaces
-
-  pub group-elsewhere : (a : Address) → (groupElsewhere r i a ≡ true) ↔ Elsewhere (λ j. holdsGroup (groupIn r j) a) i groupPlaces
+module _ (m : Mission) (i : ℕ) where
+  pub group-elsewhere : (a : Address) → (groupElsewhere m i a ≡ true) ↔ Elsewhere (λ j. holdsGroup (groupAt m j) a) i groupPlaces
   unfolding groupElsewhere
-  group-elsewhere a = elsewhere (λ j. holdsGroup (groupIn r j) a) i groupPlaces
+  group-elsewhere a = elsewhere (λ j. holdsGroup (groupAt m j) a) i groupPlaces
 
-  pub path-elsewhere : (p : PathAddress) → (pathElsewhere r i p ≡ true) ↔ Elsewhere (λ j. holdsPath (pathIn r j) p) i pathPlaces
+  pub path-elsewhere : (p : PathAddress) → (pathElsewhere m i p ≡ true) ↔ Elsewhere (λ j. holdsPath (pathAt m j) p) i pathPlaces
   unfolding pathElsewhere
-  path-elsewhere p = elsewhere (λ j. holdsPath (pathIn r j) p) i pathPlaces
+  path-elsewhere p = elsewhere (λ j. holdsPath (pathAt m j) p) i pathPlaces

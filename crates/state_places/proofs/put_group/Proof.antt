@@ -34,7 +34,7 @@ same-length c = search needs
 returns : tie.Need-returns
 returns c =
     let start = c .before .before .before .before .before in
-    group-written (start .args .state .now) (start .pre .0) (start .args .i) (start .args .x) _ (start .pre .1)
+    group-written (start .args .mission .now) (start .pre .0) (start .args .i) (start .args .x) _ (start .pre .1)
     (c .before .before .write-group .ensures)
 
 pub put-group-spec : {M : Type 1} → statement M

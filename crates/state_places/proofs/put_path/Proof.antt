@@ -34,7 +34,7 @@ same-length c = search needs
 returns : tie.Need-returns
 returns c =
     let start = c .before .before .before .before .before in
-    path-written (start .args .state .now) (start .pre .0) (start .args .i) (start .args .x) _ (start .pre .1)
+    path-written (start .args .mission .now) (start .pre .0) (start .args .i) (start .args .x) _ (start .pre .1)
     (c .before .before .write-path .ensures)
 
 pub put-path-spec : {M : Type 1} → statement M

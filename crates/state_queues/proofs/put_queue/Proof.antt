@@ -39,7 +39,7 @@ returns c =
     let start = c .before .before .before .before .before in
     let q = start .args .q in
     let wide : length (q .entries) ≡ 32 = counted _ (q .entries) 32 (start .good .1 .1 .0 .1 .1 .0 .1 .0 .1) in
-    queue-written (start .args .state .now) (start .pre .0) (start .args .p) q _ wide
+    queue-written (start .args .mission .now) (start .pre .0) (start .args .p) q _ wide
     (held (q .entries) _ (start .good .1 .1 .0 .1 .1 .0 .1 .1)) (start .pre .1) (c .before .before .write-queue .ensures)
 
 pub put-queue-spec : {M : Type 1} → statement M

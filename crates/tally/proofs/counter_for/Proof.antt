@@ -1,5 +1,4 @@
 -- `tally::counter_for` meets its contract, row by row. Assumes nothing.
-use mathlib.Core.Path.{sym, ap}
 use borrow.Author.Tests.{ne-eqb}
 use Rattle.tally.specs.Tally.{counterFor}
 use Rattle.tally.proofs.counter_for.Statement.{statement}

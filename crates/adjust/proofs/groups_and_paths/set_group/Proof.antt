@@ -2,8 +2,9 @@
 use borrow.Author.Needs.{needs}
 use mathlib.Core.Path.{refl}
 use Rattle.sets.specs.Limits.{groupPlaces}
+use Rattle.state.specs.Layout.{decode}
 use Rattle.refusals.proofs.Places.{place-there}
-use Rattle.adjust.proofs.Settled.{refused, taken}
+use Rattle.adjust.proofs.Settled.{ownOf, refused, taken}
 use Rattle.adjust.proofs.groups_and_paths.set_group.Statement.{statement}
 use Rattle.adjust.proofs.groups_and_paths.set_group.Tie as tie
 
@@ -14,7 +15,9 @@ same-length : tie.Need-same-length
 same-length c = search needs
 
 returns : tie.Need-returns
-returns c = refused _ _ _ _ (c .before .group-refusal .ensures) (c .if1 .taken)
+returns c =
+    let start = c .before .before .before .before .before in
+    refused (ownOf (decode (start .args .mission .now))) _ _ _ _ (c .before .group-refusal .ensures) (c .if1 .taken)
 
 put-group-requires : tie.Need-put-group-requires
 put-group-requires c κs =
@@ -28,7 +31,8 @@ returns-2 : tie.Need-returns-2
 returns-2 c =
     let put = c .before .before in
     let test = put .before .before in
-    taken _ _ _ _ (test .before .group-refusal .ensures) _ (test .if1 .left) (put .put-group .ensures)
+    let start = test .before .before .before .before .before in
+    taken (ownOf (decode (start .args .mission .now))) _ _ _ _ (test .before .group-refusal .ensures) _ (test .if1 .left) (put .put-group .ensures)
 
 pub set-group-spec : {M : Type 1} → statement M
 set-group-spec = tie.close (tie.spec group-refusal-requires same-length returns put-group-requires same-length-2 returns-2)

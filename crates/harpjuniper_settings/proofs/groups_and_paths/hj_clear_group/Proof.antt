@@ -14,7 +14,9 @@ same-length : tie.Need-same-length
 same-length c = search needs
 
 returns-2 : tie.Need-returns-2
-returns-2 c = held-call _ (c .before .before .before .before .if1 .left) _ _ _ _ (search needs) (c .before .before .clear-group .ensures .0) (c .before .before .clear-group .ensures .1)
+returns-2 c =
+    let call = c .before .before in
+    held-call _ (call .before .before .if1 .left) _ _ _ _ (search needs) (call .clear-group .ensures .0) (call .clear-group .ensures .1)
 
 pub hj-clear-group-spec : {M : Type 1} → statement M
 hj-clear-group-spec = tie.close (tie.spec returns clear-group-requires same-length returns-2)

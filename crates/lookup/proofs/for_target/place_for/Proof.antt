@@ -22,19 +22,19 @@ enum-told-5 : tie.Need-enum-told-5
 enum-told-5 c = search needs
 
 returns : tie.Need-returns
-returns c = search needs
+returns c b = search needs
 
 returns-2 : tie.Need-returns-2
-returns-2 c = search needs
+returns-2 c b = search needs
 
 returns-3 : tie.Need-returns-3
-returns-3 c = rw (c .before .enum-told3 .given .1) (c .group-place .ensures)
+returns-3 c b = rw (c .before .enum-told3 .given .1) (c .group-place .ensures b)
 
 returns-4 : tie.Need-returns-4
-returns-4 c = search needs
+returns-4 c b = search needs
 
 returns-5 : tie.Need-returns-5
-returns-5 c = search needs
+returns-5 c b = search needs
 
 pub place-for-spec : {M : Type 1} → statement M
 place-for-spec =

@@ -1,35 +1,41 @@
 -- `reader::fields::fields_at` meets its contract: each field is what its own reader answers. Assumes nothing.
+use lib.ListN.{length}
+use Rattle.reader.proofs.Rooms.{Rooms, rooms}
 use borrow.Author.Needs.{needs}
 use Rattle.header.specs.Read.{fieldsOf}
 use Rattle.reader.proofs.fields.fields_at.Statement.{statement}
 use Rattle.reader.proofs.fields.fields_at.Tie as tie
 
+-- each element lies within the octets lent
+known : (c : tie.After-shared-slice-known) → Rooms (c .before .args .s .now) (c .before .args .k) (c .before .args .l) (length (c .before .args .s .now))
+known c = rooms _ _ _ _ (c .before .pre .1 .0) (c .before .pre .1 .1)
+
 addresses-at-requires : tie.Need-addresses-at-requires
-addresses-at-requires c κs = search needs
+addresses-at-requires c κs = (c .before .pre .0, known c .addresses)
 
 has-qos-requires : tie.Need-has-qos-requires
 has-qos-requires c κs = search needs
 
 qos-at-requires : tie.Need-qos-at-requires
-qos-at-requires c κs = search needs
+qos-at-requires c κs = rw (c .has-qos .ensures) (known (c .before .before) .qos)
 
 has-hops-requires : tie.Need-has-hops-requires
 has-hops-requires c κs = search needs
 
 element-at-requires : tie.Need-element-at-requires
-element-at-requires c κs = search needs
+element-at-requires c κs = rw (c .has-hops .ensures) (known (c .before .before .before .before) .hops)
 
 format-bits-requires : tie.Need-format-bits-requires
 format-bits-requires c κs = search needs
 
 stamp-at-requires : tie.Need-stamp-at-requires
-stamp-at-requires c κs = search needs
+stamp-at-requires c κs = rw (c .format-bits .ensures) (known (c .before .before .before .before .before .before) .stamp)
 
 has-expanded-requires : tie.Need-has-expanded-requires
 has-expanded-requires c κs = search needs
 
 element-at-requires-2 : tie.Need-element-at-requires-2
-element-at-requires-2 c κs = search needs
+element-at-requires-2 c κs = rw (c .has-expanded .ensures) (known (c .before .before .before .before .before .before .before .before) .expanded)
 
 octet-at-requires : tie.Need-octet-at-requires
 octet-at-requires c κs = search needs

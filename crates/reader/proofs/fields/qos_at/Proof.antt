@@ -9,12 +9,12 @@ returns : tie.Need-returns
 unfolding qosOf
 returns c = simp (eq-eqb _ _ (c .if1 .taken))
 
-octet-at-requires : tie.Need-octet-at-requires
-octet-at-requires c κs = search needs
+octet-within-requires : tie.Need-octet-within-requires
+octet-within-requires c κs = search needs
 
 returns-2 : tie.Need-returns-2
 unfolding qosOf
-returns-2 c = simp (ne-eqb _ _ (c .before .if1 .left), ← c .octet-at .ensures)
+returns-2 c = simp (ne-eqb _ _ (c .before .if1 .left), ← c .octet-within .ensures)
 
 pub qos-at-spec : {M : Type 1} → statement M
-qos-at-spec = tie.close (tie.spec returns octet-at-requires returns-2)
+qos-at-spec = tie.close (tie.spec returns octet-within-requires returns-2)

@@ -4,18 +4,18 @@ use Rattle.header.specs.Read.{sixOf}
 use Rattle.reader.proofs.fields.six_at.Statement.{statement}
 use Rattle.reader.proofs.fields.six_at.Tie as tie
 
-number-at-requires : tie.Need-number-at-requires
-number-at-requires c κs = search needs
+long-at-requires : tie.Need-long-at-requires
+long-at-requires c κs = search needs
 
-add-number-at : tie.Need-add-number-at
-add-number-at c = search needs
+add-long-at : tie.Need-add-long-at
+add-long-at c = search needs
 
-number-at-requires-2 : tie.Need-number-at-requires-2
-number-at-requires-2 c κs = search needs
+long-at-requires-2 : tie.Need-long-at-requires-2
+long-at-requires-2 c κs = search needs
 
 returns : tie.Need-returns
 unfolding sixOf
-returns c = rw (c .before .number-at .ensures .0, c .number-at2 .ensures .0)
+returns c = rw (c .before .long-at .ensures, c .long-at2 .ensures)
 
 pub six-at-spec : {M : Type 1} → statement M
-six-at-spec = tie.close (tie.spec number-at-requires add-number-at number-at-requires-2 returns)
+six-at-spec = tie.close (tie.spec long-at-requires add-long-at long-at-requires-2 returns)

@@ -1,4 +1,6 @@
 -- `reader::fields::stamp_at` meets its contract, format by format. Assumes nothing.
+use native.Mathlib.Omega.{arith}
+use Rattle.reader.proofs.Rooms.{implicit-room, explicit-room, binary-room}
 use borrow.Author.Needs.{needs}
 use borrow.Author.Tests.{ne-eqb}
 use Rattle.header.specs.Read.{stampOf}
@@ -6,10 +8,10 @@ use Rattle.reader.proofs.fields.stamp_at.Statement.{statement}
 use Rattle.reader.proofs.fields.stamp_at.Tie as tie
 
 number-at-requires : tie.Need-number-at-requires
-number-at-requires c κs = search needs
+number-at-requires c κs = (omega arith, implicit-room _ _ _ _ (c .before .before .pre) (c .match .keys2))
 
-octet-at-requires : tie.Need-octet-at-requires
-octet-at-requires c κs = search needs
+octet-within-requires : tie.Need-octet-within-requires
+octet-within-requires c κs = omega (arith, explicit-room _ _ _ _ (c .before .before .pre) (c .match .keys3))
 
 time-size-requires : tie.Need-time-size-requires
 time-size-requires c κs = search needs
@@ -18,10 +20,15 @@ add-number-at : tie.Need-add-number-at
 add-number-at c = search needs
 
 number-at-requires-2 : tie.Need-number-at-requires-2
-number-at-requires-2 c κs = search needs
+number-at-requires-2 c κs =
+    let first = c .before in
+    let room = explicit-room _ _ _ _ (c .before .before .before .before .pre) (first .before .match .keys3) in
+    rw (c .time-size .ensures, first .octet-within .ensures) (omega arith, omega (arith, room))
 
 number-at-requires-3 : tie.Need-number-at-requires-3
-number-at-requires-3 c κs = search needs
+number-at-requires-3 c κs =
+    let r = c .match .rest in
+    (omega arith, binary-room _ _ _ _ (c .before .before .pre) (r .0 .0 .1) (r .0 .1) (r .1))
 
 returns : tie.Need-returns
 unfolding stampOf
@@ -36,7 +43,7 @@ unfolding stampOf
 returns-3 c =
     let sized = c .before in
     let first = sized .before in
-    rw (c .number-at2 .ensures .0, sized .time-size .ensures, first .octet-at .ensures) (simp (first .before .match .keys3))
+    rw (c .number-at2 .ensures .0, sized .time-size .ensures, first .octet-within .ensures) (simp (first .before .match .keys3))
 
 returns-4 : tie.Need-returns-4
 unfolding stampOf
@@ -49,7 +56,7 @@ stamp-at-spec =
     tie.close
     (tie.spec
     number-at-requires
-    octet-at-requires
+    octet-within-requires
     time-size-requires
     add-number-at
     number-at-requires-2

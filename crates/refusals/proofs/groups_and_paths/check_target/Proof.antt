@@ -4,7 +4,6 @@ use mathlib.Core.Path.{_∙_}
 use mathlib.Core.Bool.{Bool}
 use Rattle.checks.proofs.Steps.{or-fails, or-passes}
 use Rattle.settings.specs.Refusals.{placeRefused}
-use Rattle.refusals.proofs.Ready.{against}
 use Rattle.refusals.proofs.groups_and_paths.check_target.Statement.{statement}
 use Rattle.refusals.proofs.groups_and_paths.check_target.Tie as tie
 
@@ -21,21 +20,16 @@ enum-told-2 : tie.Need-enum-told-2
 enum-told-2 c = search needs
 
 returns : tie.Need-returns
-returns c = or-fails (outside (c .before .before .before .before)) _ (c .before .before .check-place .ensures) (c .enum-told2 .given .1)
-
-ready-ports-requires : tie.Need-ready-ports-requires
-ready-ports-requires c κs = search needs
+returns c = or-fails (outside (c .before .before .before)) _ (c .before .before .check-place .ensures) (c .enum-told2 .given .1)
 
 check-set-requires : tie.Need-check-set-requires
 check-set-requires c κs = search needs
 
 returns-2 : tie.Need-returns-2
 returns-2 c =
-    let place = c .before .before in
-    against _ _ _ _ (c .before .ready-ports .ensures) (c .check-set .ensures)
-    ∙ or-passes (outside (place .before .before .before .before)) _ (place .before .before .check-place .ensures) (place .enum-told .given .1)
+    let place = c .before in
+    c .check-set .ensures
+    ∙ or-passes (outside (place .before .before .before)) _ (place .before .before .check-place .ensures) (place .enum-told .given .1)
 
 pub check-target-spec : {M : Type 1} → statement M
-check-target-spec =
-    tie.close
-    (tie.spec check-place-requires enum-told enum-told-2 returns ready-ports-requires check-set-requires returns-2)
+check-target-spec = tie.close (tie.spec check-place-requires enum-told enum-told-2 returns check-set-requires returns-2)

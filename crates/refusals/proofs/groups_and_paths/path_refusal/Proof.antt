@@ -1,31 +1,60 @@
 -- `refusals::groups_and_paths::path_refusal` meets its contract: past each check the rest of the list decides. Assumes nothing.
 use borrow.Author.Needs.{needs}
-use mathlib.Core.Path.{refl, _∙_}
-use Rattle.checks.specs.Order.{Checks}
+use Prim.Native.Nat.{ℕ}
+use mathlib.Core.Path.{_≡_, refl, _∙_}
+use mathlib.Core.Bool.{Bool, _||_}
+use Rattle.checks.specs.Order.{Checks, checkOf}
 use Rattle.checks.proofs.Steps.{fails-here, passes, none-left, joined}
-use Rattle.state.specs.Layout.{decode}
+use Rattle.sets.specs.Limits.{pathPlaces}
+use Rattle.settings.specs.Refusals.{placeRefused}
+use Rattle.settings.specs.Sets.{setRefused}
+use Rattle.state.specs.Seen.{seated}
+use Rattle.state.specs.Layout.{decodeBoard, decode}
 use Rattle.refusals.proofs.Chains.{Past}
+use Rattle.refusals.specs.Ready.{readySet}
 use Rattle.refusals.specs.Lists.{pathChecks}
+use Rattle.refusals.proofs.Ready.{target-against}
 use Rattle.refusals.proofs.groups_and_paths.path_refusal.Statement.{statement}
 use Rattle.refusals.proofs.groups_and_paths.path_refusal.Tie as tie
 
 -- ---- past the checks
 
 abbrev tests : tie.Start → Checks
-tests s = pathChecks (decode (s .args .state .now) .relay) (s .args .place) (s .args .path) (s .args .send) (s .args .here)
+tests s =
+    pathChecks (seated (decodeBoard (s .args .board .now)) (decode (s .args .mission .now))) (s .args .place) (s .args .path) (s .args .send)
+    (s .args .here)
 
-past-target : (c : tie.After-enum-told) → Past 2 (tests (c .before .before .before .before))
-past-target c = passes _ _ _ (c .before .before .check-target .ensures) (c .enum-told .given .1) refl ∙ joined _ _ _ _
+abbrev ports : tie.Start → ℕ
+ports s = readySet (seated (decodeBoard (s .args .board .now)) (decode (s .args .mission .now)))
 
-past-class : (c : tie.After-enum-told3) → Past 3 (tests (c .before .before .before .before .before .before .before))
+abbrev outside : tie.Start → Bool
+outside s = placeRefused (s .args .place) pathPlaces
+
+abbrev at-target : tie.After-check-target → tie.Start
+at-target c = c .before .before .before .before
+
+-- the place and the set to send to are tested against the ports that the mission sees
+targeted : (c : tie.After-check-target)
+    → c .check-target .result ≡ checkOf (outside (at-target c) || setRefused (at-target c .args .send) (ports (at-target c)))
+targeted c =
+    let start = at-target c in
+    target-against (start .args .send) _ (ports start) _ (c .before .ready-here .ensures) (start .args .place) pathPlaces (c .check-target .ensures)
+
+past-target : (c : tie.After-enum-told) → Past 2 (tests (at-target (c .before .before)))
+past-target c = passes _ _ _ (targeted (c .before .before)) (c .enum-told .given .1) refl ∙ joined _ _ _ _
+
+past-class : (c : tie.After-enum-told3) → Past 3 (tests (at-target (c .before .before .before .before .before)))
 past-class c =
     passes _ _ _ (c .before .before .check-path-class .ensures) (c .enum-told3 .given .1) refl
     ∙ past-target (c .before .before .before)
 
-past-flag : (c : tie.After-enum-told5) → Past 4 (tests (c .before .before .before .before .before .before .before .before .before .before))
+past-flag : (c : tie.After-enum-told5) → Past 4 (tests (at-target (c .before .before .before .before .before .before .before .before)))
 past-flag c = passes _ _ _ (c .before .before .check-flag .ensures) (c .enum-told5 .given .1) refl ∙ past-class (c .before .before .before)
 
 -- ---- the needs
+
+ready-here-requires : tie.Need-ready-here-requires
+ready-here-requires c κs = search needs
 
 check-target-requires : tie.Need-check-target-requires
 check-target-requires c κs = search needs
@@ -37,7 +66,7 @@ enum-told-2 : tie.Need-enum-told-2
 enum-told-2 c = search needs
 
 returns : tie.Need-returns
-returns c = fails-here _ _ _ (c .before .before .check-target .ensures) (c .enum-told2 .given .1) ∙ joined _ _ _ _
+returns c = fails-here _ _ _ (targeted (c .before .before)) (c .enum-told2 .given .1) ∙ joined _ _ _ _
 
 check-path-class-requires : tie.Need-check-path-class-requires
 check-path-class-requires c κs = search needs
@@ -88,6 +117,7 @@ pub path-refusal-spec : {M : Type 1} → statement M
 path-refusal-spec =
     tie.close
     (tie.spec
+    ready-here-requires
     check-target-requires
     enum-told
     enum-told-2

@@ -8,10 +8,10 @@ use Rattle.refusals.proofs.same_entry.check_other_groups.Statement.{sta
 use Rattle.refusals.proofs.same_entry.check_other_groups.Tie as tie
 
 abbrev Inv-loop : tie.InvT-loop
-Inv-loop state place a i₀ i = (i ≤ 16) × NoneBelow (otherGroup (decode state .relay) place a) i
+Inv-loop mission place a i₀ i = (i ≤ 16) × NoneBelow (otherGroup (decode mission .mission) place a) i
 
 abbrev μ-loop : tie.MeasureT-loop
-μ-loop state place a i₀ i = 16 - i
+μ-loop mission place a i₀ i = 16 - i
 
 loop-holds : tie.Need-loop-holds Inv-loop μ-loop
 loop-holds c = (search needs, at-first _)

@@ -8,10 +8,10 @@ use Rattle.refusals.proofs.same_entry.check_other_paths.Statement.{stat
 use Rattle.refusals.proofs.same_entry.check_other_paths.Tie as tie
 
 abbrev Inv-loop : tie.InvT-loop
-Inv-loop state place p i₀ i = (i ≤ 16) × NoneBelow (otherPath (decode state .relay) place p) i
+Inv-loop mission place p i₀ i = (i ≤ 16) × NoneBelow (otherPath (decode mission .mission) place p) i
 
 abbrev μ-loop : tie.MeasureT-loop
-μ-loop state place p i₀ i = 16 - i
+μ-loop mission place p i₀ i = 16 - i
 
 loop-holds : tie.Need-loop-holds Inv-loop μ-loop
 loop-holds c = (search needs, at-first _)

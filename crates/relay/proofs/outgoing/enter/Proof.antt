@@ -18,7 +18,7 @@ same-length : tie.Need-same-length
 same-length c = search needs
 
 returns : tie.Need-returns
-returns c = one-entered (decode (c .before .before .before .before .before .before .before .before .before .args .state .now)) (c .before .before .before .before .before .before .before .before .before .args .p) _ (c .before .before .before .before .before .before .queue-of .ensures) (c .before .before .before .before .before .put .ensures) (c .before .before .put-queue .ensures)
+returns c b = one-entered b (decode (c .before .before .before .before .before .before .before .before .before .args .mission .now)) (c .before .before .before .before .before .before .before .before .before .args .p) _ (c .before .before .before .before .before .before .queue-of .ensures) (c .before .before .before .before .before .put .ensures) (c .before .before .put-queue .ensures)
 
 pub enter-spec : {M : Type 1} → statement M
 enter-spec =

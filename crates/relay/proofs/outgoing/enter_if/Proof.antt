@@ -11,7 +11,7 @@ only-port-requires : tie.Need-only-port-requires
 only-port-requires c κs = search needs
 
 returns : tie.Need-returns
-returns c = not-in _ _ _ _ (c .before .only-port .ensures) (c .if1 .taken)
+returns c b = not-in b _ _ _ _ (c .before .only-port .ensures) (c .if1 .taken)
 
 enter-requires : tie.Need-enter-requires
 enter-requires c κs = search needs
@@ -20,7 +20,7 @@ same-length : tie.Need-same-length
 same-length c = search needs
 
 returns-2 : tie.Need-returns-2
-returns-2 c = is-in _ _ _ _ (c .before .before .before .before .before .only-port .ensures) (c .before .before .before .before .if1 .left) (c .before .before .enter .ensures)
+returns-2 c b = is-in b _ _ _ _ (c .before .before .before .before .before .only-port .ensures) (c .before .before .before .before .if1 .left) (c .before .before .enter .ensures b)
 
 pub enter-if-spec : {M : Type 1} → statement M
 enter-if-spec =

@@ -1,0 +1,190 @@
+-- Wrong relays for two customers (page 02, W-208), each told by what it would give back to C. None of them is a relay whose calls keep their contracts: for
+-- each there are steps after which it would have to give back something else. That there are such steps at all, for any words to begin with, is
+-- demand 1. Assumes nothing.
+use native.Mathlib.Omega.{arith}
+use Prim.Native.Nat.{ℕ, _<_}
+use mathlib.Core.Path.{_≡_, refl, sym, ap, _∙_}
+use mathlib.Core.Bool.{Bool, true, _&&_}
+use mathlib.Core.Logic.{_≢_}
+use mathlib.Core.List.{List, [], _∷_, _++_, map, append-nil}
+use lib.ListN.{replicate}
+use lib.Dec.{ltb}
+use borrow.Author.Tests.{ltb-true}
+use Rattle.checks.specs.Answer.{refusalNumber}
+use Rattle.checks.proofs.Bools.{true-false, and-true}
+use Rattle.queue.specs.Order.{Each}
+use Rattle.address.specs.declared.Slot.{Slot}
+use Rattle.header.specs.Limits.{longestHeader}
+use Rattle.routes.specs.Records.{emptyRecord}
+use Rattle.routes.specs.declared.Record.{Record}
+use Rattle.records.specs.SetUp.{isSetUp}
+use Rattle.state.specs.Seen.{ownedAt, freshState}
+use Rattle.state.specs.Layout.{freshBoardWords, freshWords}
+use Rattle.state.proofs.Fresh.{fresh-board-length, fresh-length}
+use Rattle.tally.specs.Tally.{counterFor, countedAt}
+use Rattle.harpjuniper_relay.specs.Face.{counterAnswer, waitingAnswer}
+use Rattle.contracts.specs.Promised.{Result}
+use Rattle.contracts.specs.Contracts.{Says}
+use Rattle.contracts.proofs.Answers.{each-call-answers}
+use Rattle.contracts.proofs.Kept.{getD-each}
+use Rattle.answers.specs.Answers.{partAt}
+use Rattle.history.specs.Calls.{Order, setRoute, orders, MissionCall, hears, takes, looks, counter, waiting, Call, own}
+use Rattle.history.specs.Marked.{port, routerWithPorts, allRoutes, datagram}
+use Rattle.history.specs.Outcome.{ended}
+use Rattle.history.proofs.Marked.{opened}
+use Rattle.demands.specs.Trace.{Customer, first, second, Step, operates, flies, stepOf, Words, made, historyOf, boardOf, Passes, AllPass, Gives}
+use Rattle.demands.specs.Demand1.{NoBoard}
+use Rattle.demands.proofs.Traced.{history-more}
+use Rattle.demands.proofs.Lasts.{passable, gives-lasts}
+use Rattle.demands.proofs.Told.{gives-row, order-told}
+use Rattle.demands.proofs.Demand1.{demand-1}
+use Rattle.demands.proofs.Demand2.{demand-2}
+use Rattle.demands.proofs.Demand3.{pass-more}
+use Rattle.demands.proofs.Apart.{apart}
+
+-- ---- steps that can be made
+abbrev blank : Words
+blank = record { board = freshBoardWords; zero = freshWords 0; one = freshWords 0 }
+
+given : (steps : List Step) → AllPass steps → (c : Step) → Passes c → (x : Result) × Gives steps c x
+given steps all c fits =
+    let g = gives-lasts blank fresh-board-length (fresh-length 0) (fresh-length 0) steps all c fits in
+    (g .0, g .1 .0)
+
+abbrev orders-of : List Order → List Step
+orders-of os = map (λ (o : Order). operates (orders o)) os
+
+-- one port, which is the second customer's
+abbrev theirs : List Step
+theirs = orders-of (port 1 0 ∷ [])
+
+theirs-pass : AllPass theirs
+theirs-pass = ((omega arith, (omega arith, (omega arith, (omega arith, tt)))), tt)
+
+-- five ports, which are the first customer's; and a datagram that it hears, of which port 3 takes an entry
+abbrev ours : List Step
+ours = orders-of (routerWithPorts 0)
+
+abbrev hearing : MissionCall
+hearing = hears (allRoutes 0) 4 (record { 0 = 1 }) (datagram 10 4 9 14 0) (replicate longestHeader 0)
+
+abbrev heard : List Step
+heard = ours ++ (flies first hearing ∷ [])
+
+-- ---- the other's ports
+-- It does not hand out, or find empty, whatever port is set up, whosever it is.
+pub seeing-the-others-port :
+    ((who : Customer) (steps : List Step) (p : ℕ) (x : Result) → isSetUp (ownedAt (boardOf steps) p .port) ≡ true → Gives steps (flies who (takes p)) x
+    → x .answer ≡ refusalNumber 16 → ⊥)
+    → ⊥
+unfolding opened
+seeing-the-others-port wrong =
+    let g = given theirs theirs-pass (flies first (takes 0)) tt in
+    wrong first theirs 0 (g .0) refl (g .1) (demand-2 .takings first theirs 0 (g .0) (g .1) .0 .1 refl)
+
+-- It does not take a route of one customer's to the other's port.
+pub routing-to-the-others-port :
+    ((steps : List Step) (rs : List Record) (i prefix mask p mission : ℕ) (x : Result)
+    → Gives steps (operates (orders (setRoute rs i prefix mask p 1 0 mission))) x → mission < 2 → x .answer ≡ 24 → ⊥)
+    → ⊥
+unfolding opened
+routing-to-the-others-port wrong =
+    let o = setRoute (emptyRecord ∷ []) 0 0 0 0 1 0 0 in
+    let g = given theirs theirs-pass (operates (orders o)) tt in
+    wrong theirs (emptyRecord ∷ []) 0 0 0 0 0 (g .0) (g .1) (omega arith) (order-told first theirs (g .0) o (g .1) .0)
+
+-- It does not write a port twice.
+pub writing-a-port-again :
+    ((steps : List Step) (o : Order) (x : Result) → Gives steps (operates (orders o)) x → x .answer ≡ 35 → ⊥)
+    → ⊥
+unfolding opened
+writing-a-port-again wrong =
+    let g = given theirs theirs-pass (operates (orders (port 0 0))) (theirs-pass .0 .0, (theirs-pass .0 .1 .0, (theirs-pass .0 .1 .1 .0, (omega arith, tt)))) in
+    wrong theirs (port 0 0) (g .0) (g .1) (order-told first theirs (g .0) (port 0 0) (g .1) .0)
+
+-- ---- what the other does
+-- No call of the other customer's, put between a customer's own, shows in what this one is given back.
+pub showing-the-others-calls : (who other : Customer) → who ≢ other → (steps : List Step) (c : MissionCall) (d : Call) (x y : Result)
+    → Gives steps (stepOf who d) x → Gives (steps ++ (flies other c ∷ [])) (stepOf who d) y → (x ≡ y → ⊥) → ⊥
+showing-the-others-calls who other differ steps c d x y g k wrong =
+    let more = steps ++ (flies other c ∷ []) in
+    wrong (apart .same-next who steps more (sym (history-more who steps (flies other c ∷ []) ∙ left-out who other differ)) d x y g k)
+  where
+    left-out : (who other : Customer) → who ≢ other → historyOf who steps ++ historyOf who (flies other c ∷ []) ≡ historyOf who steps
+    left-out first first differ = absurd (differ refl)
+    left-out first second differ = append-nil (historyOf first steps)
+    left-out second first differ = append-nil (historyOf second steps)
+    left-out second second differ = absurd (differ refl)
+
+-- ---- what is each customer's own
+port-passes : (p : ℕ) → p < 8 → Passes (operates (orders (port 0 p)))
+port-passes p h = (omega (arith, h), (omega arith, (omega arith, (omega arith, tt))))
+
+ports-pass : AllPass ours
+ports-pass =
+    (tt, (port-passes 0 (omega arith), (port-passes 1 (omega arith), (port-passes 2 (omega arith), (port-passes 3 (omega arith), last-passes)))))
+  where
+    last-passes : AllPass (operates (orders (port 0 4)) ∷ [])
+    last-passes = (port-passes 4 (omega arith), tt)
+
+-- numbers that a test finds to be octets
+abbrev allOctets : List ℕ → Bool
+allOctets [] = true
+allOctets (n ∷ l) = ltb n 256 && allOctets l
+
+octets-so : (l : List ℕ) → allOctets l ≡ true → Each (λ (n : ℕ). n < 256) l
+octets-so [] h = tt
+octets-so (n ∷ l) h = let both = and-true (ltb n 256) (allOctets l) h in (ltb-true n 256 (both .0), octets-so l (both .1))
+
+hearing-passes : Passes (flies first hearing)
+hearing-passes = (
+  omega arith,
+  λ i. getD-each (λ (n : ℕ). n < 256) (datagram 10 4 9 14 0) i 0 (omega arith) (octets-so (datagram 10 4 9 14 0) refl),
+)
+
+heard-pass : AllPass heard
+heard-pass = pass-more ours (flies first hearing) ports-pass hearing-passes
+
+-- It does not keep one queue for both: what the first customer heard does not wait for the second.
+pub sharing-queues :
+    ((steps : List Step) (p : ℕ) (x y : Result) → Gives steps (flies first (looks (waiting p))) x → Gives steps (flies second (looks (waiting p))) y
+    → x .answer ≡ y .answer)
+    → ⊥
+unfolding opened waitingAnswer
+sharing-queues wrong =
+    let g = given heard heard-pass (flies first (looks (waiting 3))) tt in
+    let k = given heard heard-pass (flies second (looks (waiting 3))) tt in
+    let one : g .0 .answer ≡ 1 = gives-row first heard (own (looks (waiting 3))) (g .0) (g .1) .answer in
+    let none : k .0 .answer ≡ 0 = gives-row second heard (own (looks (waiting 3))) (k .0) (k .1) .answer in
+    let same : _≡_ {A = ℕ} 1 0 = sym one ∙ wrong heard 3 (g .0) (k .0) (g .1) (k .1) ∙ none in omega arith
+
+-- Nor one set of counters: npInReceives counts it for the first alone.
+pub sharing-counters :
+    ((steps : List Step) (i : ℕ) (x y : Result) → Gives steps (flies first (looks (counter i))) x → Gives steps (flies second (looks (counter i))) y
+    → x .answer ≡ y .answer)
+    → ⊥
+unfolding opened counterAnswer freshState counterFor countedAt
+sharing-counters wrong =
+    let g = given heard heard-pass (flies first (looks (counter 0))) tt in
+    let k = given heard heard-pass (flies second (looks (counter 0))) tt in
+    let one : g .0 .answer ≡ 1 = gives-row first heard (own (looks (counter 0))) (g .0) (g .1) .answer in
+    let none : k .0 .answer ≡ 0 = gives-row second heard (own (looks (counter 0))) (k .0) (k .1) .answer in
+    let same : _≡_ {A = ℕ} 1 0 = sym one ∙ wrong heard 0 (g .0) (k .0) (g .1) (k .1) ∙ none in omega arith
+
+-- ---- the order of tests
+-- It does not look at the words before the list: of one that is too long it says 21, not 16.
+refusal-of : {a b c d a′ b′ c′ d′ : ℕ} → ended a b c d ≡ ended a′ b′ c′ d′ → a ≡ a′
+refusal-of e = cc
+
+pub words-before-the-list :
+    ((w : Words) (rs : List Record) (p : ℕ) (slot : Slot) (octets output : List ℕ) (x : Result) → NoBoard (w .board)
+    → Says (made w (flies first (hears rs p slot octets output))) x → x .answer ≡ 16)
+    → ⊥
+words-before-the-list wrong =
+    let w : Words = record { board = []; zero = []; one = [] } in
+    let rs = replicate 513 emptyRecord in
+    let c = hears rs 0 (record { 0 = 0 }) [] [] in
+    let a = each-call-answers (made w (flies first c)) (passable w (flies first c) (omega arith, λ i. omega arith)) in
+    let short = wrong w rs 0 (record { 0 = 0 }) [] [] (a .0) (λ e. true-false cc) (a .1) in
+    let long = demand-1 .long-lists w first (own c) (a .0) refl (a .1) .0 in
+    let same : _≡_ {A = ℕ} 16 21 = sym (ap (λ (n : ℕ). partAt 0 n) short) ∙ refusal-of long in omega arith

@@ -1,0 +1,2 @@
+-- Told: what the pieces of each call come to over the list.
+pub mod Told

@@ -1,0 +1,199 @@
+-- Judging, searching and finishing give the ending: what is looked up by itself, and in parts, is what the definition of the whole looks up. Assumes
+-- nothing.
+use native.Mathlib.Omega.{arith}
+use Prim.Native.Nat.{ℕ}
+use mathlib.Core.Path.{_≡_, refl, sym, ap, _∙_}
+use mathlib.Core.Bool.{Bool, true, false, not}
+use mathlib.Core.List.{List}
+use lib.Dec.{eqb}
+use Rattle.checks.specs.Order.{pick, firstOf}
+use Rattle.address.specs.Class.{classOf}
+use borrow.Author.Tests.{eq-eqb, ne-eqb, eqb-true}
+use Rattle.checks.proofs.Bools.{true-false}
+use Rattle.checks.proofs.Laws.{zero-none}
+use Rattle.address.specs.declared.Address.{Address}
+use Rattle.address.specs.declared.PathAddress.{PathAddress}
+use Rattle.header.specs.Read.{readOf}
+use Rattle.header.specs.declared.Header.{Header}
+use Rattle.header.specs.Onward.{foundOf}
+use Rattle.header.specs.declared.Renewal.{Renewal}
+use Rattle.header.specs.declared.Found.{Found}
+use Rattle.header.specs.declared.Found.the-variants as found
+use Rattle.header.proofs.FoundLaws.{found-good, found-refused}
+use Rattle.header.specs.declared.Read.the-variants as read
+use Rattle.header.proofs.Refusals.{never-zero}
+use Rattle.networks.specs.Networks.{domainOf}
+use Rattle.meaning.specs.Names.{aimOf, badAim}
+use Rattle.meaning.specs.Arrival.{arrivalChecks}
+use Rattle.meaning.specs.Asked.{precedenceAsked}
+use Rattle.meaning.specs.declared.Aim.{Aim}
+use Rattle.meaning.specs.declared.Aim.the-variants as aim
+use Rattle.routes.specs.Search.{searchOf}
+use Rattle.routes.specs.declared.Route.{Route}
+use Rattle.state.specs.Relay.{Relay, allRoutes}
+use Rattle.survey.specs.Survey.{namedBelow, namedOf, surveyBelow, surveyOf}
+use Rattle.survey.specs.declared.Sought.{Sought}
+use Rattle.lookup.specs.Lookup.{groupPlace, pathPlace}
+use Rattle.lookup.specs.ForTarget.{placeFor, wayFor, wayOf}
+use Rattle.verdict.specs.Rule.{targetOf, localOf, routerLine, hostLine, lineOf, grantedOf, rulingOf}
+use Rattle.verdict.specs.declared.Target.{Target}
+use Rattle.verdict.specs.declared.Target.the-variants as target
+use Rattle.verdict.specs.declared.Place.{Place}
+use Rattle.verdict.specs.declared.Way.{Way}
+use Rattle.verdict.specs.declared.Way.the-variants.{Lost}
+use Rattle.verdict.specs.declared.Wish.{Wish}
+use Rattle.verdict.specs.declared.Case.{Case}
+use Rattle.verdict.specs.declared.Local.{Local}
+use Rattle.verdict.specs.declared.Survey.{Survey}
+use Rattle.verdict.specs.declared.Ruling.{Ruling}
+use Rattle.judge.specs.Ruling.{caseOf, soughtOf, ruledBy, ruleTarget, ruleOf}
+use Rattle.judge.specs.Ending.{orElse, refusedBy, callChecks, arrivalAt, ruledEnding, headerEnding, octetsEnding, endingOf}
+use Rattle.judge.specs.Asked.{routeSought, searchedIn, addressIn, refusedAsked, elseAsked, targetAsked, nodeAsked, pathAsked, aimAsked, carriedAsked, octetsAsked, datagramAsked, wishedOf, ruledAsked, finishedOf}
+use Rattle.judge.specs.declared.ruling.Arrival.{Arrival}
+use Rattle.judge.specs.declared.Asked.{Asked}
+use Rattle.judge.specs.declared.Ending.{Ending}
+
+-- ---- a line that does not ask for the route, or for the ports set up
+route-line : (c : Case) (p : Place) (w v : Way) (ready : ℕ) (local : Local)
+    → (routeSought target.Route (c .router) ≡ 1 → w ≡ v) → lineOf target.Route p w c ready local ≡ lineOf target.Route p v c ready local
+unfolding lineOf
+route-line c p w v ready local same = by-router (eqb (c .router) 0) same
+  where
+    by-router : (host : Bool) → (_≡_ {A = ℕ} (pick host 0 1) 1 → w ≡ v)
+        → pick host (hostLine target.Route local) (routerLine target.Route p w (c .arrival) ready) ≡ pick host (hostLine target.Route local) (routerLine target.Route p v (c .arrival) ready)
+    by-router true h = refl
+    by-router false h = rw (h refl)
+
+line-way : (t : Target) (c : Case) (p : Place) (w v : Way) (ready : ℕ) (local : Local)
+    → (routeSought t (c .router) ≡ 1 → w ≡ v) → lineOf t p w c ready local ≡ lineOf t p v c ready local
+unfolding lineOf
+line-way target.Here c p w v ready local same = refl
+line-way target.Broadcast c p w v ready local same = refl
+line-way target.Group c p w v ready local same = refl
+line-way target.Path c p w v ready local same = refl
+line-way target.Route c p w v ready local same = route-line c p w v ready local same
+
+wished-ruled : (r : Relay) (q : Sought) (c : Case) (t : Target) (p : Place) (w v : Way) (ready : ℕ) (s : Survey)
+    → s ≡ surveyOf r q → ready ≡ s .ready → (routeSought t (c .router) ≡ 1 → w ≡ v)
+    → wishedOf r (localOf t p c) (lineOf t p w c ready (localOf t p c)) c q ≡ ruledBy t p v c s
+unfolding wishedOf ruledBy
+wished-ruled r q c t p w v ready s es er h = let line = line-way t c p w v ready (localOf t p c) h in cc
+
+-- a number that refuses is not 0
+refused-some : (s : List ℕ) (n : ℕ) → readOf s ≡ read.Refused n → eqb n 0 ≡ false
+refused-some s n e = ne-eqb n 0 (λ z. never-zero s (e ∙ ap read.Refused z))
+
+-- an ending that is no refusal
+abbrev ended : ℕ → ℕ → Ruling → Ending
+ended size precedence x = record { refusal = 0; ruling = x; precedence = precedence; size = size }
+
+pub finish-told : (r : Relay) (a : Asked) (w : Way) {local : Local} {wish : Wish} {x : Ruling}
+    → a .refusal ≡ 0
+    → local ≡ localOf (a .target) (a .place) (a .case)
+    → wish ≡ lineOf (a .target) (a .place) w (a .case) (a .ready) local
+    → x ≡ wishedOf r local wish (a .case) (a .sought)
+    → _≡_ {A = Ending} (record { refusal = 0; ruling = x; precedence = a .precedence; size = a .size }) (finishedOf r a w)
+unfolding finishedOf ruledAsked
+finish-told r a w zero e1 e2 e3 = simp (eq-eqb (a .refusal) 0 zero) cc
+
+-- ---- one datagram
+module _ (r : Relay) (rs : List Route) (number : ℕ) (w : Way) where
+  abbrev full : Relay
+  full = allRoutes r rs
+
+  -- what the search has to have answered for what is asked
+  abbrev Searched : Asked → Type 0
+  Searched a = searchedIn a ≡ 1 → w ≡ wayOf (searchOf (record { 0 = addressIn (a .sought .destination) }) rs)
+
+  -- the routes are no part of what else is looked up
+  place-same : (t : Target) (a : Address) (arrival : ℕ) → placeFor full t a arrival ≡ placeFor r t a arrival
+  unfolding groupPlace
+  place-same target.Here a arrival = refl
+  place-same target.Broadcast a arrival = refl
+  place-same target.Group a arrival = refl
+  place-same target.Path a arrival = refl
+  place-same target.Route a arrival = refl
+
+  survey-same : (q : Sought) → surveyOf full q ≡ surveyOf r q
+  unfolding surveyBelow
+  survey-same q = refl
+
+  way-sought : (t : Target) (a : Address) (router : ℕ) → (routeSought t router ≡ 1 → w ≡ wayOf (searchOf a rs)) → routeSought t router ≡ 1 → w ≡ wayFor full t a
+  way-sought target.Here a router h is = absurd (omega arith)
+  way-sought target.Broadcast a router h is = absurd (omega arith)
+  way-sought target.Group a router h is = absurd (omega arith)
+  way-sought target.Path a router h is = absurd (omega arith)
+  way-sought target.Route a router h is = h is
+
+  refused-is : (n : ℕ) → eqb n 0 ≡ false → finishedOf r (refusedAsked n) w ≡ refusedBy n
+  unfolding finishedOf
+  refused-is n h = rw h
+
+  -- a number that refuses, or what follows
+  else-is : (n : ℕ) (a : Asked) (rest : Ending)
+      → Searched (elseAsked n a) → (eqb n 0 ≡ true → Searched a → finishedOf r a w ≡ rest) → finishedOf r (elseAsked n a) w ≡ orElse n rest
+  else-is n a rest k h = by-number (eqb n 0) refl k
+    where
+      by-number : (t : Bool) → eqb n 0 ≡ t → Searched (pick t a (refusedAsked n)) → finishedOf r (pick t a (refusedAsked n)) w ≡ pick t rest (refusedBy n)
+      by-number true e j = h e j
+      by-number false e j = refused-is n e
+
+  module _ (at : Arrival) (h : Header) (n : Renewal) where
+    abbrev node : Address → Sought
+    node a = soughtOf (aim.Node a) (domainOf (at .address)) (h .length)
+
+    target-same : (a : Address) → targetAsked r a ≡ targetOf (classOf (a .0)) (surveyOf full (node a))
+    unfolding targetOf namedBelow surveyBelow
+    target-same a = refl
+
+    ready-same : (a : Address) → namedOf (r .ports) a .ready ≡ surveyOf full (node a) .ready
+    unfolding namedBelow surveyBelow
+    ready-same a = refl
+
+    node-ruled : (a : Address) → Searched (nodeAsked r number at h n a) → ruledAsked r (nodeAsked r number at h n a) w ≡ ruleOf full at (aim.Node a) h
+    unfolding ruledAsked nodeAsked ruleOf ruleTarget
+    node-ruled a k =
+        let t = targetAsked r a in
+        let c = caseOf (r .router) (at .set) (h .fields) in
+        let s = surveyOf full (node a) in
+        let u = targetOf (classOf (a .0)) s in
+        wished-ruled r (node a) c t (placeFor r t a (at .set)) w (wayFor full t a) (namedOf (r .ports) a .ready) s (survey-same (node a)) (ready-same a)
+        (way-sought t a (r .router) k)
+        ∙ ap (λ (x : Target). ruledBy x (placeFor r x a (at .set)) (wayFor full x a) c s) (target-same a)
+        ∙ ap (λ (x : Place). ruledBy u x (wayFor full u a) c s) (sym (place-same u a (at .set)))
+
+    path-ruled : (p : PathAddress) → ruledAsked r (pathAsked r number at h n p) w ≡ ruleOf full at (aim.Path p) h
+    unfolding ruledAsked wishedOf pathAsked ruleOf ruledBy lineOf pathPlace surveyBelow
+    path-ruled p = refl
+
+    aim-is : (x : Aim) → badAim x ≡ false → Searched (aimAsked r number at h n x)
+        → finishedOf r (aimAsked r number at h n x) w
+        ≡ record { refusal = 0; ruling = ruleOf full at x h; precedence = precedenceAsked (h .fields .qos); size = h .size }
+    unfolding finishedOf aimAsked nodeAsked pathAsked
+    aim-is (aim.Node a) g k = ap (ended (h .size) (precedenceAsked (h .fields .qos))) (node-ruled a k)
+    aim-is (aim.Path p) g k = ap (ended (h .size) (precedenceAsked (h .fields .qos))) (path-ruled p)
+    aim-is aim.Uncarried g k = true-false g
+
+    header-is : Searched (carriedAsked r number at h n) → finishedOf r (carriedAsked r number at h n) w ≡ headerEnding full at h
+    unfolding carriedAsked headerEnding
+    header-is k =
+        let cs = arrivalChecks (at .address) (h .fields) in
+        let x = aimOf (at .address .0) (h .fields .addresses) in
+        else-is (firstOf cs) (aimAsked r number at h n x) (ruledEnding full at h) k
+        (λ zero j.
+        let none = zero-none cs ((λ z. omega arith), ((λ z. omega arith), ((λ z. omega arith), ((λ z. omega arith), tt)))) (eqb-true (firstOf cs) 0 zero) in
+        aim-is x (none .1 .1 .0) j)
+
+  octets-is : (at : Arrival) (s : List ℕ) (x : Found) → foundOf s ≡ x → Searched (octetsAsked r number at x)
+      → finishedOf r (octetsAsked r number at x) w ≡ octetsEnding full at (readOf s)
+  octets-is at s (found.Good h n) e k = rw (found-good s h n e .0) (header-is at h n k)
+  octets-is at s (found.Refused n) e k = rw (found-refused s n e) (refused-is n (refused-some s n (found-refused s n e)))
+
+  -- judged, searched and finished: the ending of the relay with these routes
+  pub finished-is : (port : ℕ) (octets : List ℕ) (room : ℕ) → Searched (datagramAsked r number port octets room)
+      → finishedOf r (datagramAsked r number port octets room) w ≡ endingOf full port octets room
+  unfolding datagramAsked endingOf callChecks
+  finished-is port octets room k =
+      else-is (firstOf (callChecks r port room)) (octetsAsked r number (arrivalAt r port) (foundOf octets))
+      (octetsEnding full (arrivalAt full port) (readOf octets)) k
+      (λ zero j. octets-is (arrivalAt r port) octets (foundOf octets) refl j)

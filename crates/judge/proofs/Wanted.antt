@@ -1,0 +1,147 @@
+-- The ports that a datagram is wanted on are enough to ask: what the others say changes no ruling. Assumes nothing.
+use native.Mathlib.Omega.{arith}
+use Prim.Native.Nat.{ℕ, zero, suc, _+_, _-_, _^_, _<_}
+use mathlib.Core.Path.{_≡_, refl, sym, ap, ap₂, _∙_}
+use mathlib.Core.Bool.{Bool, true, false, not, _&&_}
+use lib.Bits.{bitAnd}
+use lib.Dec.{eqb}
+use Rattle.checks.specs.Order.{pick}
+use Rattle.checks.proofs.Bools.{true-false, and-true}
+use Rattle.sets.specs.Sets.{inSet, portSet}
+use Rattle.sets.proofs.Members.{in-gathered}
+use Rattle.records.specs.SetUp.{isSetUp}
+use Rattle.state.specs.Relay.{Relay, portIn, queueIn}
+use Rattle.survey.specs.Survey.{inDomain, isFitting, isFull, surveyBelow, surveyOf, surveyWithin, wantedOf}
+use Rattle.survey.specs.declared.Sought.{Sought}
+use Rattle.survey.proofs.Within.{within}
+use Rattle.verdict.specs.Rule.{exceptBy, sameDomain, largeEnough, afterHops, afterDomain, afterSize, grantedOf, copiesOf, rulingOf}
+use Rattle.verdict.specs.declared.Case.{Case}
+use Rattle.verdict.specs.declared.Local.{Local}
+use Rattle.verdict.specs.declared.Obstacle.{Obstacle}
+use Rattle.verdict.specs.declared.Obstacle.the-variants.{LeavesDomain, TooBig}
+use Rattle.verdict.specs.declared.Onward.the-variants as onward
+use Rattle.verdict.specs.declared.Ruling.{Ruling}
+use Rattle.verdict.specs.declared.Wish.{Wish}
+use Rattle.verdict.specs.declared.Wish.the-variants.{NotAsked, Refused, Wanted}
+use Rattle.judge.specs.Asked.{amongOf, wishedOf}
+
+-- ---- sets of the eight ports that a walk gathers
+abbrev gathered : (ℕ → Bool) → ℕ
+gathered test = portSet test 8
+
+same-sets : (f g : ℕ → Bool) (n : ℕ) → ((p : ℕ) → p < n → f p ≡ g p) → portSet f n ≡ portSet g n
+same-sets f g zero e = refl
+same-sets f g (suc n) e =
+    ap₂ (λ (s : ℕ) (t : Bool). s + pick t (2 ^ n) 0) (same-sets f g n (λ p h. e p (omega arith))) (e n (omega arith))
+
+swapped : (t u v : Bool) → (t && (u && v)) ≡ (u && (t && v))
+swapped true true v = refl
+swapped true false v = refl
+swapped false true v = refl
+swapped false false v = refl
+
+implied : (t u v : Bool) → (t ≡ true → u ≡ true) → (t && (u && v)) ≡ (t && v)
+implied true u v h = rw (h refl)
+implied false u v h = refl
+
+-- x has ports of the set alone
+abbrev Inside : ℕ → ℕ → Type 0
+Inside x set = (p : ℕ) → p < 8 → inSet p x ≡ true → inSet p set ≡ true
+
+-- of such a set what is gathered of the set is what is gathered of all
+met-same : (x set : ℕ) (test : ℕ → Bool) → Inside x set → bitAnd x (gathered (λ (p : ℕ). inSet p set && test p)) ≡ bitAnd x (gathered test)
+met-same x set test h =
+    within x (λ (p : ℕ). inSet p set && test p) 8
+    ∙ same-sets _ _ 8 (λ p l. implied (inSet p x) (inSet p set) (test p) (h p l))
+    ∙ sym (within x test 8)
+
+met-inside : (x set : ℕ) (test : ℕ → Bool) → Inside x set → Inside (bitAnd x (gathered test)) set
+met-inside x set test h p l is =
+    let both : (inSet p x && test p) ≡ true = sym (in-gathered (λ (q : ℕ). inSet q x && test q) p 8 l) ∙ ap (inSet p) (sym (within x test 8)) ∙ is in
+    h p l (and-true (inSet p x) (test p) both .0)
+
+-- ---- the ruling on a set
+module _ (r : Relay) (q : Sought) (set : ℕ) where
+  abbrev setUp : (ℕ → Bool) → ℕ → Bool
+  setUp test p = isSetUp (portIn r p) && test p
+
+  abbrev among : (ℕ → Bool) → ℕ
+  among test = gathered (setUp (λ (p : ℕ). inSet p set && test p))
+
+  among-met : (x : ℕ) (test : ℕ → Bool) → Inside x set → bitAnd x (among test) ≡ bitAnd x (gathered (setUp test))
+  among-met x test h =
+      ap (bitAnd x) (same-sets _ _ 8 (λ p l. swapped (isSetUp (portIn r p)) (inSet p set) (test p))) ∙ met-same x set (setUp test) h
+
+  abbrev near : ℕ → Bool
+  near p = inDomain (portIn r p) q
+
+  abbrev wide : ℕ → Bool
+  wide p = isFitting (portIn r p) q
+
+  abbrev filled : ℕ → Bool
+  filled p = isFull (queueIn r p .count)
+
+  -- the copies of a set inside
+  copies-same : (local : Local) (g : ℕ) → Inside g set → copiesOf local g (among filled) ≡ copiesOf local g (gathered (setUp filled))
+  unfolding copiesOf
+  copies-same local g h = rw (among-met g filled h)
+
+  size-same : (local : Local) (x : ℕ) → Inside x set
+      → rulingOf local (largeEnough x (among wide)) (among filled) ≡ rulingOf local (largeEnough x (gathered (setUp wide))) (gathered (setUp filled))
+  unfolding rulingOf
+  size-same local x h = rw (among-met x wide h) (fits (eqb (bitAnd x (gathered (setUp wide))) 0))
+    where
+      g : ℕ
+      g = bitAnd x (gathered (setUp wide))
+
+      fits : (none : Bool) → rulingOf local (pick none (Refused TooBig) (Wanted g)) (among filled) ≡ rulingOf local (pick none (Refused TooBig) (Wanted g)) (gathered (setUp filled))
+      fits true = refl
+      fits false = copies-same local g (met-inside x set (setUp wide) h)
+
+  -- the two sides of what is to be shown, of what is left after the domain
+  abbrev asked : Local → Wish → Ruling
+  asked local w = rulingOf local (afterSize w (among wide)) (among filled)
+
+  abbrev whole : Local → Wish → Ruling
+  whole local w = rulingOf local (afterSize w (gathered (setUp wide))) (gathered (setUp filled))
+
+  domain-same : (local : Local) (basic : ℕ) → asked local (sameDomain set basic (among near)) ≡ whole local (sameDomain set basic (gathered (setUp near)))
+  unfolding rulingOf
+  domain-same local basic = rw (among-met set near (λ p l is. is)) (by-basic (eqb basic 0))
+    where
+      x : ℕ
+      x = bitAnd set (gathered (setUp near))
+
+      by-left : (none : Bool) → asked local (pick none (Refused LeavesDomain) (Wanted x)) ≡ whole local (pick none (Refused LeavesDomain) (Wanted x))
+      by-left true = refl
+      by-left false = size-same local x (met-inside set set (setUp near) (λ p l is. is))
+
+      by-basic : (t : Bool) → asked local (pick t (Wanted set) (pick (eqb x 0) (Refused LeavesDomain) (Wanted x))) ≡ whole local (pick t (Wanted set) (pick (eqb x 0) (Refused LeavesDomain) (Wanted x)))
+      by-basic true = size-same local set (λ p l is. is)
+      by-basic false = by-left (eqb x 0)
+
+  among-is : (local : Local) (basic : ℕ)
+      → amongOf r local set basic q ≡ rulingOf local (afterSize (sameDomain set basic (surveyOf r q .domain)) (surveyOf r q .fitting)) (surveyOf r q .full)
+  unfolding amongOf surveyBelow surveyWithin
+  among-is local basic = domain-same local basic
+
+-- ---- the three cases, once hops are asked for
+module _ (r : Relay) (local : Local) (wish : Wish) (c : Case) (q : Sought) {hops : Wish} (is : hops ≡ afterHops wish (c .spent)) {out : Ruling} where
+  by-hops : (w : Wish) → hops ≡ w
+      → out ≡ rulingOf local (afterSize (afterDomain w (c .basic) (surveyOf r q .domain)) (surveyOf r q .fitting)) (surveyOf r q .full)
+      → out ≡ wishedOf r local wish c q
+  unfolding wishedOf grantedOf
+  by-hops w same e =
+      e ∙ ap (λ (x : Wish). rulingOf local (afterSize (afterDomain x (c .basic) (surveyOf r q .domain)) (surveyOf r q .fitting)) (surveyOf r q .full)) (sym same ∙ is)
+
+  pub wished-not : hops ≡ NotAsked → out ≡ record { local = local; onward = onward.NotAsked; granted = 0; took = 0; dropped = 0 } → out ≡ wishedOf r local wish c q
+  unfolding rulingOf
+  wished-not same e = by-hops NotAsked same e
+
+  pub wished-refused : (o : Obstacle) → hops ≡ Refused o
+      → out ≡ record { local = local; onward = onward.Refused o; granted = 0; took = 0; dropped = 0 } → out ≡ wishedOf r local wish c q
+  unfolding rulingOf
+  wished-refused o same e = by-hops (Refused o) same e
+
+  pub wished-among : (set : ℕ) → hops ≡ Wanted set → out ≡ amongOf r local set (c .basic) q → out ≡ wishedOf r local wish c q
+  wished-among set same e = by-hops (Wanted set) same (e ∙ among-is r q set local (c .basic))

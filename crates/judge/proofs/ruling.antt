@@ -1,2 +1,0 @@
--- What the looking up hands together.
-pub mod Steps

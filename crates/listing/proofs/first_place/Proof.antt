@@ -1,0 +1,13 @@
+-- `listing::first_place` meets its contract. Assumes nothing.
+use borrow.Author.Tests.{eq-eqb, ne-eqb}
+use Rattle.listing.proofs.first_place.Statement.{statement}
+use Rattle.listing.proofs.first_place.Tie as tie
+
+returns : tie.Need-returns
+returns c = simp (eq-eqb _ _ (c .if1 .taken))
+
+returns-2 : tie.Need-returns-2
+returns-2 c = simp (ne-eqb _ _ (c .if1 .left))
+
+pub first-place-spec : {M : Type 1} → statement M
+first-place-spec = tie.close (tie.spec returns returns-2)

@@ -1,0 +1,2 @@
+-- What the reader's own stages answer.
+pub mod Stages

@@ -1,2 +1,0 @@
--- What serves the loop over the ports.
-pub mod Ready

@@ -1,0 +1,2 @@
+-- What serves the loops over the ports.
+pub mod Ready

@@ -1,2 +1,0 @@
--- A port that is set up, over plain variables.
-pub mod SetUp

@@ -1,2 +1,0 @@
--- What the search's helper promises of the best place.
-pub mod Best

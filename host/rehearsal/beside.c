@@ -1,0 +1,157 @@
+/*
+ * beside.c: one mission on two nodes, side by side (W-208). The operator's
+ * calls and that mission's were the same on both, the slots too; on one of them
+ * the other mission has been busy. Then each answer, each header that was
+ * written, each counter and what waits must be equal, and the table shows that
+ * they are.
+ */
+#include "beside.h"
+
+#include <inttypes.h>
+#include <stdio.h>
+#include <string.h>
+
+#include "expect.h"
+#include "line.h"
+#include "names.h"
+
+#define MOST_ANSWERS 200
+#define WIDTH 62
+
+/* One answer as it is shown. */
+struct answer {
+    char text[120];
+    uint8_t header[HJ_OUTPUT_ROOM]; /* zeros where none was written */
+};
+
+static struct {
+    struct answer answers[MOST_ANSWERS];
+    uint32_t count;
+} books[MOST_NODES][HJ_MISSIONS];
+
+void beside_scene(void)
+{
+    memset(books, 0, sizeof books);
+}
+
+/* The next answer of the mission that has the port; the last place again where
+ * all are full. */
+static struct answer *next_answer(const struct node *node, uint32_t port)
+{
+    uint32_t mission = node_mission(node, port);
+    uint32_t *count = &books[node - nodes][mission].count;
+
+    if (*count < MOST_ANSWERS)
+        ++*count;
+    return &books[node - nodes][mission].answers[*count - 1];
+}
+
+void beside_receive(const struct node *node, hj_arrival arrival,
+                    hj_verdict verdict, const uint8_t *header)
+{
+    struct answer *answer = next_answer(node, arrival.port);
+
+    snprintf(answer->text, sizeof answer->text,
+             "port %u, slot %u: ended %u, here %u, onward %u, took %u, dropped "
+             "%u",
+             (unsigned)arrival.port, (unsigned)arrival.slot,
+             (unsigned)hj_ended_by(verdict), (unsigned)hj_local(verdict),
+             (unsigned)hj_onward(verdict), (unsigned)hj_took(verdict),
+             (unsigned)hj_dropped(verdict));
+    memcpy(answer->header, header, hj_header_octets(verdict));
+}
+
+void beside_take(const struct node *node, uint32_t port, hj_answer entry)
+{
+    struct answer *answer;
+
+    if (hj_refusal(entry) != HJ_DONE)
+        return;
+    answer = next_answer(node, port);
+    snprintf(answer->text, sizeof answer->text,
+             "port %u: a take gives slot %u, precedence %u", (unsigned)port,
+             (unsigned)hj_slot(entry), (unsigned)hj_precedence(entry));
+}
+
+/* ---- The table --------------------------------------------------------- */
+
+/* A row; whether its two sides are equal. */
+static bool row(const char *one, const char *other)
+{
+    bool equal = strcmp(one, other) == 0;
+
+    printf("   %-*s | %s%s\n", WIDTH, one, other,
+           equal ? "" : "  NOT EQUAL");
+    return equal;
+}
+
+static bool answer_rows(uint32_t one, uint32_t other, uint32_t mission)
+{
+    const struct answer *ones = books[one][mission].answers;
+    const struct answer *others = books[other][mission].answers;
+    uint32_t count = books[one][mission].count;
+    bool equal = count == books[other][mission].count;
+
+    if (count < books[other][mission].count)
+        count = books[other][mission].count;
+    for (uint32_t i = 0; i < count; i++)
+        equal = row(ones[i].text, others[i].text) &&
+                memcmp(ones[i].header, others[i].header,
+                       sizeof ones[i].header) == 0 &&
+                equal;
+    return equal;
+}
+
+static bool number_row(const char *name, uint32_t one, uint32_t other)
+{
+    char left[WIDTH + 1], right[WIDTH + 1];
+
+    snprintf(left, sizeof left, "%s %" PRIu32, name, one);
+    snprintf(right, sizeof right, "%s %" PRIu32, name, other);
+    return row(left, right);
+}
+
+/* The counters that either has, and what waits on the mission's ports. */
+static bool number_rows(uint32_t one, uint32_t other, uint32_t mission)
+{
+    char name[40];
+    bool equal = true;
+
+    for (uint32_t i = 0; i < HJ_COUNTERS; i++) {
+        uint32_t left = node_counter(&nodes[one], mission, i);
+        uint32_t right = node_counter(&nodes[other], mission, i);
+
+        if (left != 0 || right != 0)
+            equal = number_row(COUNTER_NAMES[i], left, right) && equal;
+    }
+    for (uint32_t port = 0; port < HJ_PORTS; port++) {
+        hj_port found = hj_get_port(LENT_BOARD(&nodes[one]), port);
+
+        if (!found.ready || found.mission != mission)
+            continue;
+        snprintf(name, sizeof name, "waiting on port %u:", (unsigned)port);
+        equal = number_row(name, node_waiting(&nodes[one], port),
+                           node_waiting(&nodes[other], port)) &&
+                equal;
+    }
+    return equal;
+}
+
+void beside(void)
+{
+    uint32_t one = line_node();
+    uint32_t other = line_node();
+    uint32_t mission = 0;
+    bool equal;
+
+    if (line_is("mission"))
+        mission = line_number("a mission, 0 or 1", 0, 1);
+    line_end();
+    printf("   %-*s | %s, mission %" PRIu32 "\n", WIDTH, nodes[one].name,
+           nodes[other].name, mission);
+    equal = answer_rows(one, other, mission);
+    equal = number_rows(one, other, mission) && equal;
+    expect_said(equal);
+    printf("   %s mission %" PRIu32 " is told the same by both\n",
+           equal ? "as expected:" : "NOT AS EXPECTED:", mission);
+}

@@ -1,0 +1,53 @@
+/*
+ * header_mixed.c: programs that mix up what is lent. Without a definition it is
+ * a good program; with -DMIXED=N it is one of the wrong ones, and must not
+ * compile. `make header` tries each of them, MIXED=1 to MIXED_LAST.
+ */
+#include "harpjuniper.h"
+
+#define MIXED_LAST 8
+
+#ifndef MIXED
+#define MIXED 0
+#endif
+
+#define BOARD &board, HJ_BOARD_WORDS
+#define MISSION &mission, HJ_MISSION_WORDS
+#define ROUTES routes, HJ_ROUTES
+
+int mixed(void);
+
+int mixed(void)
+{
+    static hj_board board;
+    static hj_mission mission;
+    static hj_record routes[HJ_ROUTES];
+    static uint8_t octets[HJ_OUTPUT_ROOM];
+    hj_arrival arrival = {0, 0, 0};
+
+    (void)board, (void)mission, (void)routes, (void)octets, (void)arrival;
+#if MIXED == 0
+    return hj_refusal(hj_take(BOARD, MISSION, 0)) +
+           hj_ended_by(hj_receive(BOARD, MISSION, ROUTES, arrival, octets, 0,
+                                  octets, 0)) != 0;
+#elif MIXED == 1 /* the two words swapped */
+    return hj_refusal(hj_take(MISSION, BOARD, 0)) != 0;
+#elif MIXED == 2 /* a mission for a board */
+    return hj_fresh_board(MISSION) != 0;
+#elif MIXED == 3 /* a board for a mission */
+    return hj_fresh_mission(BOARD, 0) != 0;
+#elif MIXED == 4 /* a mission for the routes */
+    return hj_clear_route(MISSION, 0) != 0;
+#elif MIXED == 5 /* the routes for a board */
+    return hj_refusal(hj_get_router(ROUTES)) != 0;
+#elif MIXED == 6 /* a mission may not write the board that it is lent */
+    const hj_board *lent = &board;
+    return hj_set_router(lent, HJ_BOARD_WORDS, 1) != 0;
+#elif MIXED == 7 /* nor the routes */
+    const hj_record *lent = routes;
+    return hj_clear_route(lent, HJ_ROUTES, 0) != 0;
+#elif MIXED == 8 /* a port and a slot for the arrival */
+    return hj_ended_by(hj_receive(BOARD, MISSION, ROUTES, 0, octets, 0, octets,
+                                  0)) != 0;
+#endif
+}
