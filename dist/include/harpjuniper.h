@@ -13,9 +13,9 @@
  *   - a mission's state: its number, its groups, paths, queues and counters;
  *   - the routes, the operator's: a list of up to HJ_ROUTES records, each with
  *     the mission that may use it. The list may be shorter, or empty.
- * A mission's call is lent the board and the routes to read, and its own state
- * to change. It is never lent the other mission's state, and sees neither the
- * other's ports nor its routes.
+ * A mission's call is lent its own state and, where it needs them, the board
+ * and the routes to read. It is never lent the other mission's state, and sees
+ * neither the other's ports nor its routes.
  *
  * What the caller must ensure, since no proof reaches across the call:
  *   - each pointer is valid for as many octets, words or records as the count
@@ -382,7 +382,8 @@ static inline uint32_t hj_found_port(hj_found found)
 
 /*
  * The settings as they stand. Every other number is 0 with a refusal, and where
- * the port is not set up or the place is empty.
+ * the port is not set up or the place of a group or a path is empty. A record of
+ * the list is given as it stands, an empty one too.
  */
 typedef struct hj_port {
     uint32_t refusal;
@@ -674,7 +675,7 @@ hj_answer hj_counter(const hj_mission *mission, size_t mission_words,
 
 /*
  * How many entries of the mission wait on a port. Nothing waits on a port that
- * is not set up or not the mission's.
+ * is not set up or not the mission's, unless the board was made fresh since.
  *
  * Returns an answer: hj_value is that number, 0 to HJ_QUEUE, or hj_refusal is
  *   HJ_BAD_NUMBER (21)  not the right words, or port is over 7.
@@ -937,7 +938,9 @@ static inline hj_verdict hj_receive(const hj_board *board, size_t board_words,
  *
  * Returns a structure whose refusal is
  *   HJ_DONE (0)         the other numbers are the setting, all 0 where the
- *                       port is not set up or the place is empty;
+ *                       port is not set up or the place of a group or a path
+ *                       is empty; a record of the list is given as it stands,
+ *                       an empty one too;
  *   HJ_BAD_NUMBER (21)  route_count is over HJ_ROUTES, not the right words, or
  *                       no such port or place.
  */

@@ -1,12 +1,41 @@
 -- What a customer is told and left does not depend on the other customer. The two histories share a lane (proofs/Lane.antt), and no call in it has a
 -- choice. Assumes nothing.
+use Prim.Native.Nat.{ℕ}
 use mathlib.Core.Path.{_≡_, refl, sym, subst, _∙_}
 use mathlib.Core.Logic.{_≢_}
 use mathlib.Core.List.{List, [], map}
 use Rattle.lent_state.proofs.Same.{board-injective, lent-injective}
-use Rattle.contracts.specs.Promised.{Result}
-use Rattle.contracts.proofs.Rows.{one-result-by-contract}
-use Rattle.history.specs.Calls.{OperatorCall, MissionCall, Call, operator, own}
+use Rattle.lent_state.specs.View.{lentBoard}
+use Rattle.contracts.specs.Promised.{Result, lentTo, promised}
+use Rattle.contracts.specs.Contracts.{Says}
+use Rattle.contracts.proofs.Rows.{says-row, one-result-by-contract}
+use Rattle.history.specs.Calls.{
+  OperatorCall,
+  setGroup,
+  setPath,
+  clearGroup,
+  clearPath,
+  groupWord,
+  pathWord,
+  search,
+  counter,
+  waiting,
+  read,
+  build,
+  class,
+  form,
+  checksum,
+  boardSize,
+  missionSize,
+  MissionCall,
+  sets,
+  hears,
+  takes,
+  looks,
+  Call,
+  operator,
+  own,
+}
 use Rattle.demands.specs.Trace.{Customer, first, second, Step, flies, stepOf, Words, missionOf, wordsAfter, Begun, historyOf, ordersOf, Gives}
 use Rattle.demands.specs.Apart.{givenTo, leftTo, Apart}
 use Rattle.demands.proofs.Fresh.{fresh-board-holds, fresh-mission-holds}
@@ -62,6 +91,35 @@ module _ (who : Customer) (cs ds : List Step) (same : historyOf who cs ≡ histo
       let words = same-lanes (g .begun) (k .begun) who same .1 in
       one-result-by-contract (madeBy (g .before .board) (missionOf who (g .before)) (own c)) x y (g .says) (rw (words .1, words .0) (k .says))
 
+-- ---- what a mission's call leaves of what it is lent to read
+left-as-lent : (b m : List ℕ) (c : MissionCall)
+    → (promised (madeBy b m (own c)) .board ≡ lentBoard (lentTo (madeBy b m (own c)) .board))
+    × (promised (madeBy b m (own c)) .routes ≡ lentTo (madeBy b m (own c)) .routes)
+left-as-lent b m (sets (setGroup i address send subscribed)) = (refl, refl)
+left-as-lent b m (sets (setPath i path send here)) = (refl, refl)
+left-as-lent b m (sets (clearGroup i)) = (refl, refl)
+left-as-lent b m (sets (clearPath i)) = (refl, refl)
+left-as-lent b m (hears rs p slot octets output) = (refl, refl)
+left-as-lent b m (takes p) = (refl, refl)
+left-as-lent b m (looks (groupWord i word)) = (refl, refl)
+left-as-lent b m (looks (pathWord i word)) = (refl, refl)
+left-as-lent b m (looks (search rs a)) = (refl, refl)
+left-as-lent b m (looks (counter i)) = (refl, refl)
+left-as-lent b m (looks (waiting p)) = (refl, refl)
+left-as-lent b m (looks (read octets)) = (refl, refl)
+left-as-lent b m (looks (build fields size output)) = (refl, refl)
+left-as-lent b m (looks (class a)) = (refl, refl)
+left-as-lent b m (looks (form p)) = (refl, refl)
+left-as-lent b m (looks (checksum octets)) = (refl, refl)
+left-as-lent b m (looks boardSize) = (refl, refl)
+left-as-lent b m (looks missionSize) = (refl, refl)
+
+stay : (b m : List ℕ) (c : MissionCall) (x : Result) → Says (madeBy b m (own c)) x
+    → (x .left .board ≡ lentTo (madeBy b m (own c)) .board) × (x .left .routes ≡ lentTo (madeBy b m (own c)) .routes)
+stay b m c x says =
+    let row = says-row (madeBy b m (own c)) x says in
+    let kept = left-as-lent b m c in (board-injective _ _ (row .board ∙ kept .0), row .routes ∙ kept .1)
+
 -- ---- the other customer's step
 words-apart : (who other : Customer) → who ≢ other → (w : Words) (c : MissionCall) (x : Result)
     → leftTo who (wordsAfter w (flies other c) x) ≡ leftTo who w
@@ -77,6 +135,7 @@ apart =
           let is = same-lanes b d who same in
           (is .0, rw (is .1 .1, is .1 .0));
       same-next = same-next;
+      board-and-list-stay = λ who w c x says. stay (w .board) (missionOf who w) c x says;
       operator-same = λ cs ds same c x y g k.
           let board = same-boards (g .begun) (k .begun) same in
           one-result-by-contract (madeBy (g .before .board) [] (operator c)) x y (g .says) (rw board (k .says));

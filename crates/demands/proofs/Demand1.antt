@@ -203,13 +203,10 @@ ended-lack false = refl
 read-21 : refusalIn (refusalNumber 21) ≡ 21
 read-21 = refusal-out 21 (omega arith)
 
-read-16 : refusalIn (refusalNumber 16) ≡ 16
-read-16 = refusal-out 16 (omega arith)
-
 own-lack-out : (b m : List ℕ) (c : MissionCall) → MissionLacks b m c → ownOut c (lackAnswer (own c)) ≡ refusedOwn c (lackNumber c)
 own-lack-out b m (sets s) w = refl
 own-lack-out b m (hears rs p slot octets output) w = ended-lack (tooLong rs)
-own-lack-out b m (takes p) w = rw read-16
+own-lack-out b m (takes p) w = rw (refusal-out 16 (omega arith))
 own-lack-out b m (looks (groupWord i word)) w = rw read-21
 own-lack-out b m (looks (pathWord i word)) w = rw read-21
 own-lack-out b m (looks (search rs a)) w = refl

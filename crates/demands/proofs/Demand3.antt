@@ -1,6 +1,6 @@
 -- Demand 3 is kept. Assumes nothing.
 use native.Mathlib.Omega.{arith}
-use Prim.Native.Nat.{ℕ, _+_, _<_}
+use Prim.Native.Nat.{ℕ, _<_}
 use mathlib.Core.Path.{_≡_, refl, sym, ap, subst, _∙_}
 use mathlib.Core.Bool.{false, Bool, true}
 use mathlib.Core.List.{List, [], _∷_, _++_, append-nil}

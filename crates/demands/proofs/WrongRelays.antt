@@ -32,6 +32,7 @@ use Rattle.history.specs.Calls.{Order, setRoute, orders, MissionCall, hears, ta
 use Rattle.history.specs.Marked.{port, routerWithPorts, allRoutes, datagram}
 use Rattle.history.specs.Outcome.{ended}
 use Rattle.history.proofs.Marked.{opened}
+use Rattle.history.proofs.WrongRelays.{ended-by}
 use Rattle.demands.specs.Trace.{Customer, first, second, Step, operates, flies, stepOf, Words, made, historyOf, boardOf, Passes, AllPass, Gives}
 use Rattle.demands.specs.Demand1.{NoBoard}
 use Rattle.demands.proofs.Traced.{history-more}
@@ -173,9 +174,6 @@ sharing-counters wrong =
 
 -- ---- the order of tests
 -- It does not look at the words before the list: of one that is too long it says 21, not 16.
-refusal-of : {a b c d a′ b′ c′ d′ : ℕ} → ended a b c d ≡ ended a′ b′ c′ d′ → a ≡ a′
-refusal-of e = cc
-
 pub words-before-the-list :
     ((w : Words) (rs : List Record) (p : ℕ) (slot : Slot) (octets output : List ℕ) (x : Result) → NoBoard (w .board)
     → Says (made w (flies first (hears rs p slot octets output))) x → x .answer ≡ 16)
@@ -187,4 +185,4 @@ words-before-the-list wrong =
     let a = each-call-answers (made w (flies first c)) (passable w (flies first c) (omega arith, λ i. omega arith)) in
     let short = wrong w rs 0 (record { 0 = 0 }) [] [] (a .0) (λ e. true-false cc) (a .1) in
     let long = demand-1 .long-lists w first (own c) (a .0) refl (a .1) .0 in
-    let same : _≡_ {A = ℕ} 16 21 = sym (ap (λ (n : ℕ). partAt 0 n) short) ∙ refusal-of long in omega arith
+    let same : _≡_ {A = ℕ} 16 21 = sym (ap (λ (n : ℕ). partAt 0 n) short) ∙ ended-by long in omega arith

@@ -7,9 +7,10 @@ use mathlib.Core.Path.{_≡_}
 use mathlib.Core.Logic.{_≢_}
 use mathlib.Core.List.{List, [], _∷_}
 use Rattle.checks.specs.Order.{pick}
-use Rattle.contracts.specs.Promised.{Result}
+use Rattle.contracts.specs.Promised.{Result, lentTo}
+use Rattle.contracts.specs.Contracts.{Says}
 use Rattle.history.specs.Calls.{OperatorCall, Call, MissionCall}
-use Rattle.demands.specs.Trace.{Customer, Step, operates, flies, stepOf, Words, missionOf, isOf, wordsAfter, Trace, Begun, historyOf, ordersOf, Gives}
+use Rattle.demands.specs.Trace.{Customer, Step, operates, flies, stepOf, Words, missionOf, isOf, made, wordsAfter, Trace, Begun, historyOf, ordersOf, Gives}
 
 -- all that is given back to A and to the operator, one call after the other
 abbrev pub givenTo : (who : Customer) (cs : List Step) (w v : Words) → Trace w cs v → List Result
@@ -35,6 +36,10 @@ pub record Apart : Type 0 where
   -- the operator is given back the same wherever the operator's calls are the same, whatever either customer does
   pub operator-same : (cs ds : List Step) → ordersOf cs ≡ ordersOf ds → (c : OperatorCall) (x y : Result)
       → Gives cs (operates c) x → Gives ds (operates c) y → x ≡ y
-  -- a step of the other customer leaves the board and A's words as they are, whatever it gives back
+  -- a customer's call leaves the board and the list that it is lent as they were
+  pub board-and-list-stay : (who : Customer) (w : Words) (c : MissionCall) (x : Result) → Says (made w (flies who c)) x
+      → (x .left .board ≡ lentTo (made w (flies who c)) .board) × (x .left .routes ≡ lentTo (made w (flies who c)) .routes)
+  -- and a step of the other customer leaves the board and A's words as they are: it is lent the board to read and A's words not at all, so that this
+  -- holds whatever it gives back
   pub words-apart : (who other : Customer) → who ≢ other → (w : Words) (c : MissionCall) (x : Result)
       → leftTo who (wordsAfter w (flies other c) x) ≡ leftTo who w

@@ -133,7 +133,7 @@ abbrev pub Lacks : Words → Step → Type 0
 Lacks w (operates c) = OperatorLacks (w .board) c
 Lacks w (flies who c) = MissionLacks (w .board) (missionOf who w) c
 
--- what it answers then: 16 of a datagram, but 21 of one with too long a list, and of a take; 21 of all else
+-- what it answers then: 16 of a take and of a datagram, but 21 of a datagram with too long a list; 21 of all else
 abbrev pub lackNumber : MissionCall → ℕ
 lackNumber (sets s) = 21
 lackNumber (hears rs p slot octets output) = pick (tooLong rs) 21 16

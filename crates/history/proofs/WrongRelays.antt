@@ -153,10 +153,10 @@ portsOf (number n) = 0
 portsOf (ended refusal local onward took) = took
 portsOf (entry e) = 0
 
--- 21 and 17 end a datagram with no ruling, and no counter is theirs
-ended-by : {refusal local onward took refusal' local' onward' took' : ℕ} → ended refusal local onward took ≡ ended refusal' local' onward' took' → refusal ≡ refusal'
+pub ended-by : {refusal local onward took refusal' local' onward' took' : ℕ} → ended refusal local onward took ≡ ended refusal' local' onward' took' → refusal ≡ refusal'
 ended-by e = cc
 
+-- 21 and 17 end a datagram with no ruling, and no counter is theirs
 unmoved-by : (n : ℕ) (e : Ending) (i : ℕ) → e .refusal ≡ n → e .ruling ≡ noRuling
     → sumAt ((receiptCounter n, 1) ∷ (counterFor n, 1) ∷ rulingMoves noRuling) i ≡ 0 → sumAt (movesOf e) i ≡ 0
 unmoved-by n e i is bare none =

@@ -3,7 +3,7 @@
 use native.Mathlib.Omega.{arith}
 use Prim.Native.Nat.{ℕ}
 use mathlib.Core.Path.{_≡_, refl, sym, ap, _∙_}
-use mathlib.Core.Bool.{Bool, true, false, not}
+use mathlib.Core.Bool.{Bool, true, false}
 use mathlib.Core.List.{List}
 use lib.Dec.{eqb}
 use Rattle.checks.specs.Order.{pick, firstOf}
@@ -35,12 +35,11 @@ use Rattle.survey.specs.Survey.{namedBelow, namedOf, surveyBelow, surveyOf}
 use Rattle.survey.specs.declared.Sought.{Sought}
 use Rattle.lookup.specs.Lookup.{groupPlace, pathPlace}
 use Rattle.lookup.specs.ForTarget.{placeFor, wayFor, wayOf}
-use Rattle.verdict.specs.Rule.{targetOf, localOf, routerLine, hostLine, lineOf, grantedOf, rulingOf}
+use Rattle.verdict.specs.Rule.{targetOf, localOf, routerLine, hostLine, lineOf}
 use Rattle.verdict.specs.declared.Target.{Target}
 use Rattle.verdict.specs.declared.Target.the-variants as target
 use Rattle.verdict.specs.declared.Place.{Place}
 use Rattle.verdict.specs.declared.Way.{Way}
-use Rattle.verdict.specs.declared.Way.the-variants.{Lost}
 use Rattle.verdict.specs.declared.Wish.{Wish}
 use Rattle.verdict.specs.declared.Case.{Case}
 use Rattle.verdict.specs.declared.Local.{Local}

@@ -22,7 +22,7 @@ use Rattle.meaning.specs.declared.Aim.{Aim}
 use Rattle.meaning.specs.declared.Aim.the-variants as aim
 use Rattle.header.proofs.Passed.{passed}
 use Rattle.state.specs.Relay.{Relay}
-use Rattle.verdict.specs.Rule.{localOf, lineOf, grantedOf, rulingOf}
+use Rattle.verdict.specs.Rule.{lineOf, grantedOf, rulingOf}
 use Rattle.verdict.specs.declared.Way.{Way}
 use Rattle.judge.specs.declared.ruling.Arrival.{Arrival}
 use Rattle.judge.specs.declared.Asked.{Asked}

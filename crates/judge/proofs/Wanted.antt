@@ -1,20 +1,20 @@
 -- The ports that a datagram is wanted on are enough to ask: what the others say changes no ruling. Assumes nothing.
 use native.Mathlib.Omega.{arith}
-use Prim.Native.Nat.{ℕ, zero, suc, _+_, _-_, _^_, _<_}
+use Prim.Native.Nat.{ℕ, zero, suc, _+_, _^_, _<_}
 use mathlib.Core.Path.{_≡_, refl, sym, ap, ap₂, _∙_}
-use mathlib.Core.Bool.{Bool, true, false, not, _&&_}
+use mathlib.Core.Bool.{Bool, true, false, _&&_}
 use lib.Bits.{bitAnd}
 use lib.Dec.{eqb}
 use Rattle.checks.specs.Order.{pick}
-use Rattle.checks.proofs.Bools.{true-false, and-true}
+use Rattle.checks.proofs.Bools.{and-true}
 use Rattle.sets.specs.Sets.{inSet, portSet}
 use Rattle.sets.proofs.Members.{in-gathered}
 use Rattle.records.specs.SetUp.{isSetUp}
 use Rattle.state.specs.Relay.{Relay, portIn, queueIn}
-use Rattle.survey.specs.Survey.{inDomain, isFitting, isFull, surveyBelow, surveyOf, surveyWithin, wantedOf}
+use Rattle.survey.specs.Survey.{inDomain, isFitting, isFull, surveyBelow, surveyOf, surveyWithin}
 use Rattle.survey.specs.declared.Sought.{Sought}
 use Rattle.survey.proofs.Within.{within}
-use Rattle.verdict.specs.Rule.{exceptBy, sameDomain, largeEnough, afterHops, afterDomain, afterSize, grantedOf, copiesOf, rulingOf}
+use Rattle.verdict.specs.Rule.{sameDomain, largeEnough, afterHops, afterDomain, afterSize, grantedOf, copiesOf, rulingOf}
 use Rattle.verdict.specs.declared.Case.{Case}
 use Rattle.verdict.specs.declared.Local.{Local}
 use Rattle.verdict.specs.declared.Obstacle.{Obstacle}

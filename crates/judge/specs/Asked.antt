@@ -19,7 +19,6 @@ use Rattle.meaning.specs.Asked.{precedenceAsked}
 use Rattle.meaning.specs.declared.Aim.{Aim}
 use Rattle.meaning.specs.declared.Aim.the-variants as aim
 use Rattle.state.specs.Relay.{Relay}
-use Rattle.state.specs.Seen.{Board, State, seated}
 use Rattle.verdict.specs.Rule.{targetOf, localOf, lineOf, sameDomain, afterSize, grantedOf, rulingOf}
 use Rattle.verdict.specs.declared.Target.{Target}
 use Rattle.verdict.specs.declared.Target.the-variants.{Here, Broadcast, Group, Path, Route}

@@ -1,9 +1,8 @@
 -- What a place says where one is found, and where none is; groups and paths differ in their record only. Assumes nothing.
 use Prim.Native.Nat.{ℕ, _≤_, _<_}
-use mathlib.Core.Path.{_≡_, refl, sym, ap, _∙_}
-use mathlib.Core.Bool.{Bool, true, false}
+use mathlib.Core.Path.{_≡_, sym, ap, _∙_}
+use mathlib.Core.Bool.{Bool, true}
 use borrow.Author.Tests.{lt-ltb, le-ltb}
-use Rattle.checks.specs.Order.{pick}
 use Rattle.sets.specs.Sets.{firstBelow}
 use Rattle.sets.proofs.Loops.{firstBelow-found, firstBelow-end}
 use Rattle.records.specs.Held.{holdsGroup, holdsPath}
@@ -12,8 +11,7 @@ use Rattle.address.specs.declared.PathAddress.{PathAddress}
 use Rattle.records.specs.declared.Group.{Group}
 use Rattle.records.specs.declared.PathPlace.{PathPlace}
 use Rattle.state.specs.Relay.{Relay, groupIn, pathIn}
-use Rattle.verdict.specs.declared.Place.{Place}
-use Rattle.verdict.specs.declared.Place.the-variants.{Held, Missing}
+use Rattle.verdict.specs.declared.Place.the-variants.{Missing}
 use Rattle.lookup.specs.Lookup.{groupFound, pathFound, groupSays, pathSays, groupPlace, pathPlace}
 
 -- what is tested of a record that was read is what is tested of it in the state

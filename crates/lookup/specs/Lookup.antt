@@ -1,8 +1,7 @@
 -- The place of a group or a path: page 01, "Settings" ("Group and path addresses are matched exactly"), "Local half" and "Onward half".
 -- Assumes nothing.
 use Prim.Native.Nat.{ℕ}
-use mathlib.Core.Bool.{Bool, not, _&&_}
-use lib.Dec.{eqb, ltb}
+use lib.Dec.{ltb}
 use lib.Bits.{bitAnd}
 use Rattle.checks.specs.Order.{pick}
 use Rattle.sets.specs.Limits.{groupPlaces, pathPlaces}

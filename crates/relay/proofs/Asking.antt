@@ -7,13 +7,11 @@ use mathlib.Core.List.{List}
 use lib.ListN.{length}
 use lib.Dec.{eqb, ltb}
 use borrow.Author.Tests.{eq-eqb, ne-eqb, lt-ltb, le-ltb, ltb-true, ltb-false, eqb-true, eqb-false}
-use Rattle.checks.specs.Order.{pick}
 use Rattle.header.specs.Form.{placesOf}
 use Rattle.header.specs.Onward.{renewalOf}
 use Rattle.state.specs.Relay.{Relay}
 use Rattle.state.specs.Seen.{Board, State, seated}
 use Rattle.state.specs.Layout.{boardWords, missionWords, decodeBoard, decode}
-use Rattle.lent_state.specs.View.{toldBoth}
 use Rattle.lent_state.proofs.Calls.{both-held-told, no-board-told, no-mission-told}
 use Rattle.verdict.specs.declared.Target.{Target}
 use Rattle.verdict.specs.declared.Target.the-variants as target

@@ -3,7 +3,7 @@ use Prim.Native.Nat.{ℕ}
 use mathlib.Core.Path.{_≡_, refl, sym, ap, _∙_}
 use mathlib.Core.List.{List}
 use lib.ListN.{length}
-use borrow.Author.Tests.{eq-eqb, ne-eqb}
+use borrow.Author.Tests.{ne-eqb}
 use Rattle.address.specs.declared.Slot.{Slot}
 use Rattle.state.specs.Relay.{Mission}
 use Rattle.state.specs.Seen.{Board, State, seated, onCounters, onSeated}

@@ -1,6 +1,5 @@
 -- `judge::ask_header` meets its contract: the checks gone through one by one. Assumes nothing.
 use native.Mathlib.Omega.{arith}
-use mathlib.Core.Path.{sym, _∙_}
 use Rattle.checks.proofs.Steps.{fails-here, passes}
 use Rattle.judge.proofs.Stages.{header-refused, source-refused, header-aimed, at-node, at-path}
 use Rattle.meaning.specs.declared.Aim.the-variants as aim

@@ -1,5 +1,4 @@
 -- `judge::judge` meets its contract. Assumes nothing.
-use native.Mathlib.Omega.{arith}
 use Rattle.state_board.proofs.SetUp.{passed-port}
 use Rattle.judge.proofs.Stages.{port-told, port-seen, no-port, no-room, judged}
 use borrow.Author.Needs.{needs}

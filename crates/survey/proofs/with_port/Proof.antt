@@ -1,6 +1,5 @@
 -- `survey::with_port` meets its contract. Assumes nothing.
 use native.Mathlib.Nat.{add-zero}
-use mathlib.Core.Path.{sym}
 use borrow.Author.Needs.{needs}
 use Rattle.survey.proofs.with_port.Statement.{statement}
 use Rattle.survey.proofs.with_port.Tie as tie
