@@ -1,2 +1,2 @@
--- What the contracts cite: the state that a setting leaves.
+-- What the contracts cite: the board, the list or the state that a setting leaves.
 pub mod Settled

@@ -1,4 +1,4 @@
--- The ruling on a datagram whose header is good, over the relay's state: page 01, "Local half" and "Onward half". Assumes nothing.
+-- The ruling on a datagram whose header is good, over the relay that a mission sees: page 01, "Local half" and "Onward half". Assumes nothing.
 use Prim.Native.Nat.{ℕ}
 use Rattle.address.specs.Class.{classOf}
 use Rattle.address.specs.declared.Address.{Address}

@@ -5,7 +5,7 @@
 // the last address of its network, the host bits all ones; it is made by `|`, which can neither wrap nor leave the network. Net 10
 // counts as one network: its broadcast is 10.255.255.255, and so page 01's third form, "10.255.255.255 with a port in 10", is
 // not made apart.
-// The answers hold for all 2^32 numbers. The awkward ones stand only in a state that no history leaves: a mixed mask, of which
+// The answers hold for all 2^32 numbers. The awkward ones stand only on a board that no history leaves: a mixed mask, of which
 // every zero is a host bit, and an address of no network, multicast or invalid, which has no class broadcast.
 use address::Address;
 use address::Family;

@@ -1,6 +1,6 @@
-// The records of the relay's settings: a port and whose it is, a group place, a path place, and whose place it is.
+// The records of the relay's settings: a port and whose it is, a group place, a path place; and whether a place holds an address.
 //
-// Each field is a whole word, and the flags are numbers: a state that C lends may hold any words, and each of them must be some
+// Each field is a whole word, and the flags are numbers: a board or a state that C lends may hold any words, and each of them must be some
 // record. A flag says no by 0 and yes by anything else; settings write only 0 and 1. A set of ports has port p as 2^p. The record of
 // a route stands with the search, the queue in a crate of its own.
 use address::Address;
@@ -53,14 +53,14 @@ fn holds(filled: u32, held: u32, wanted: u32) -> bool
     held == wanted
 }
 
-// Whether a place is a group's.
+// Whether a place holds this group address.
 pub fn holds_group(g: Group, a: Address) -> bool
     ensures { λ r. ⌜ r ≡ holdsGroup g a ⌝ }
 {
     holds(g.filled, g.address.0, a.0)
 }
 
-// Whether a place is a path's.
+// Whether a place holds this path address.
 pub fn holds_path(x: PathPlace, p: PathAddress) -> bool
     ensures { λ r. ⌜ r ≡ holdsPath x p ⌝ }
 {

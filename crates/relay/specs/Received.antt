@@ -1,4 +1,4 @@
--- What receiving does to the state: page 01, "One received datagram, step by step". Assumes nothing.
+-- What receiving does to the mission's state: page 01, "One received datagram, step by step". Assumes nothing.
 use Prim.Native.Nat.{ℕ}
 use mathlib.Core.List.{List}
 use Rattle.checks.specs.Order.{pick}

@@ -5,7 +5,7 @@
 // queues of the ports that took a copy, and the header sent on is written, `after`. The list itself is lent to none of the three.
 //
 // The awkward case is words of the wrong number, which hold no relay, and a list that is too long: both are refusals like others, but
-// nothing is counted. So is 17; every other refusal counts, and then the words are of the right number. The output is written only where some
+// nothing is counted. Nor is anything by 16 and 17 otherwise; every other refusal counts, and then the words are of the right number. The output is written only where some
 // port took an entry, and then the header was read and there was room, which the verdict has tested.
 pub mod outgoing;
 
@@ -137,7 +137,7 @@ fn way_in(s: Scan) -> Way
     Way::By(sets::only_port(s.port))
 }
 
-// A refusal: counted, but for three.
+// A refusal: counted, but for 16, 17 and 21.
 fn refuse(mission: &mut [u32], refusal: u32) -> u64
     requires { ⌜ (Counted refusal → length (now mission) ≡ missionWords) ⌝ }
     ensures { λ r. ⌜ r ≡ receiveNumber (refusedBy refusal) ⌝ }

@@ -1,4 +1,4 @@
-// How many ports, places and counters a relay has; sets of ports, and places that a test holds at.
+// How many ports, places, counters and missions there are, and records in a list; sets of ports, and places that a test holds at.
 //
 // A set of ports is a number in which port p is 2 to the power of p. What a loop over ports or places gathers is said once, for any
 // test, and the laws that such loops are proved by stand beside it. Each definition grows at its end, as the loops do: what is gathered

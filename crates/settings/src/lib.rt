@@ -2,7 +2,7 @@
 //
 // Each check here looks at values alone: refusal 21 is for a place, a port or a set of ports, 22 for a port's mask, 24 for a
 // size, a yes/no number or a mission's number, 25 for an address of the wrong class. Page 01 tests them in the order 21, 25, 22, 24, 23, 35: numbers and
-// order are their caller's, who also has what needs the state (a port set up, a same entry elsewhere). A check is total
+// order are their caller's, who also has what needs the board, the mission or the list (a port set up, a same entry elsewhere). A check is total
 // by itself: a mask is judged for an address of any class.
 use address::Address;
 use address::Class;

@@ -3,7 +3,7 @@
 // The verdict asks sets of ports: which are set up, which have the destination's address, of which it is a broadcast, which lie in the
 // arrival port's domain, which have an MTU that holds the datagram, which have a full queue. The first three are asked before the route is
 // searched; the last three after it, and only of the ports that the datagram is wanted on. So there are two walks, and each leaves the
-// other's sets empty. Only ports that the mission sees and that are set up are in any of the sets: whatever else a state says of a port
+// other's sets empty. Only ports that the mission sees and that are set up are in any of the sets: whatever else a board says of a port
 // that is not set up, nothing is granted to it. A path is no address: no port is asked for it.
 //
 // The awkward case is a port in net 10, of which two addresses are broadcasts: that of its own subnet, 10.x.y.255, and 10.255.255.255.

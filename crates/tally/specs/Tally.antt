@@ -1,4 +1,4 @@
--- The counters that an ending moves: page 01, "Refusal numbers" and what stands below its table. The counters' order is that of the state
+-- The counters that an ending moves: page 01, "Refusal numbers" and what stands below its table. The counters' order is that of a mission's state
 -- (specs/Relay.antt of the crate state). Assumes nothing.
 use Prim.Native.Nat.{ℕ, _<_}
 use mathlib.Core.Bool.{_||_}
