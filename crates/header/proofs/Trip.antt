@@ -142,16 +142,16 @@ right on body userData e =
     let there : Stands s (length body) (octets 2 (checksumOf (body ++ 0 ∷ 0 ∷ []))) userData = record { is = rw e (drop-append-seam body _) } in
     number-there 2 _ there (omega arith) ∙ rw (take-append-seam body (checksumOctets on body ++ userData))
 
--- a built header, with at least n octets behind it, is read as what it was built from
-pub read-built : (f : Fields) (n : ℕ) (userData : List ℕ) → InRange f → n ≤ mostData → n ≤ length userData
+-- a header of the built form, with at least n octets behind it, is read as what it was built from, wherever the datagram's length fits its field
+pub read-formed : (f : Fields) (n : ℕ) (userData : List ℕ) → InRange f → sizeOf f + n < lengthLimit → n ≤ length userData
     → readOf (headerOctets f n ++ userData) ≡ Good (record { fields = f; length = sizeOf f + n; size = sizeOf f })
 unfolding headerOctets headerOf sizeOf builtControl
-read-built f n userData r short enough =
+read-formed f n userData r short enough =
     let len = sizeOf f + n in
     let body = bodyOctets f len in
     let s = body ++ (checksumOctets (f .checksum) body ++ userData) in
     let size = built-size f r in
-    let b = begun f len (checksumOctets (f .checksum) body ++ userData) r (omega arith) in
+    let b = begun f len (checksumOctets (f .checksum) body ++ userData) r short in
     let cut : headerOctets f n ++ userData ≡ s = append-assoc body _ userData in
     let long : length s ≡ sizeOf f + length userData =
     omega (arith, ap length cut, length-append (headerOctets f n) userData, header-length f n (r .checksum)) in
@@ -167,3 +167,8 @@ read-built f n userData r short enough =
       right = λ on. rw (b .checksum) (right (f .checksum) body userData (sym (bits f r .checksum) ∙ rw (b .control) at on));
       is = rw (b .fields, b .length-is, b .size);
     }))
+
+-- with the builder's limit of data it always does
+pub read-built : (f : Fields) (n : ℕ) (userData : List ℕ) → InRange f → n ≤ mostData → n ≤ length userData
+    → readOf (headerOctets f n ++ userData) ≡ Good (record { fields = f; length = sizeOf f + n; size = sizeOf f })
+read-built f n userData r few enough = read-formed f n userData r (omega (arith, built-size f r .1)) enough
