@@ -8,11 +8,12 @@ use header::Timestamp;
 ghost use mathlib.Core.Path.{_≡_};
 ghost use Prim.Native.Nat.{_<_};
 ghost use lib.ListN.{length};
-ghost use Rattle.header.specs.Build.{addressesOctets, stampOctets, restOctets, sizeOf};
+ghost use Rattle.header.specs.Build.{restOctets, sizeOf};
+ghost use Rattle.builder.specs.Measure.{addressesSize, timestampSize};
 
 // The addresses, by their row of table 3-5.
 fn addresses_size(a: Addresses) -> usize
-    ensures { λ r. ⌜ r ≡ length (addressesOctets a) ⌝ }
+    ensures { λ r. ⌜ r ≡ addressesSize a ⌝ }
 {
     match a {
         Addresses::BasicPath(_) => 1,
@@ -25,7 +26,7 @@ fn addresses_size(a: Addresses) -> usize
 
 // A timestamp, by its format.
 fn stamp_size(t: Timestamp) -> usize
-    ensures { λ r. ⌜ r ≡ length (stampOctets t) ⌝ }
+    ensures { λ r. ⌜ r ≡ timestampSize t ⌝ }
 {
     match t {
         Timestamp::Absent => 0,
