@@ -58,9 +58,12 @@ widened arrival (BasicEndSystem d s) = ExtendedEndSystem (record { 0 = filledIn 
 widened arrival (ExtendedEndSystem d s) = ExtendedEndSystem d s
 widened arrival (Ipv6 d s) = Ipv6 d s
 
+abbrev pub widens : Bool → Addresses → Bool
+widens far a = far && isNarrow a
+
 -- a copy is rewritten where its addresses are widened or an element is added
 unfoldable pub rewrites : Bool → ℕ → Fields → Bool
-rewrites far code f = (far && isNarrow (f .addresses)) || adds code f
+rewrites far code f = widens far (f .addresses) || adds code f
 
 -- ---- the fields that it is then built of
 -- "with 64 as the first hop count"; one that came is one less

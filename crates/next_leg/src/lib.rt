@@ -14,7 +14,7 @@ use header::Header;
 use header::Octet;
 use header::Renewal;
 ghost use mathlib.Core.Path.{_≡_};
-ghost use Prim.Native.Nat.{_≤_, _<_};
+ghost use Prim.Native.Nat.{_*_, _≤_, _<_};
 ghost use lib.ListN.{length};
 ghost use Rattle.octets.specs.Octets.{fronted};
 ghost use Rattle.header.specs.Limits.{longestHeader, lengthLimit};
@@ -30,6 +30,7 @@ ghost use Rattle.next_leg.specs.Leg.{
   adds,
   isNarrow,
   widened,
+  widens,
   rewrites,
   hopsNext,
   checksumNext,
@@ -69,14 +70,20 @@ pub struct Legs {
 fn asks_checksum(code: u32) -> bool
     ensures { λ r. ⌜ r ≡ asksChecksum code ⌝ }
 {
-    code == 1 || code == 4
+    if code == 1 {
+        return true;
+    }
+    code == 4
 }
 
 // Whether it asks for a hop count.
 fn asks_hops(code: u32) -> bool
     ensures { λ r. ⌜ r ≡ asksHops code ⌝ }
 {
-    code == 2 || code == 4
+    if code == 2 {
+        return true;
+    }
+    code == 4
 }
 
 fn is_absent(o: Octet) -> bool
@@ -88,24 +95,39 @@ fn is_absent(o: Octet) -> bool
     }
 }
 
-// Whether an element is asked for that the header lacks.
-pub fn adds_any(code: u32, f: Fields) -> bool
-    ensures { λ r. ⌜ r ≡ adds code f ⌝ }
+// Whether a hop count is asked for that the header lacks.
+fn adds_hops(code: u32, hops: Octet) -> bool
+    ensures { λ r. ⌜ r ≡ addsHops code hops ⌝ }
 {
-    let hops = f.hops;
     if asks_hops(code) {
-        if is_absent(hops) {
-            return true;
-        }
-    }
-    if asks_checksum(code) {
-        return f.checksum == 0;
+        return is_absent(hops);
     }
     false
 }
 
+// Whether a checksum is.
+fn adds_checksum(code: u32, on: u8) -> bool
+    ensures { λ r. ⌜ r ≡ addsChecksum code on ⌝ }
+{
+    if asks_checksum(code) {
+        return on == 0;
+    }
+    false
+}
+
+// Whether either is.
+fn adds_any(code: u32, f: Fields) -> bool
+    ensures { λ r. ⌜ r ≡ adds code f ⌝ }
+{
+    let hops = f.hops;
+    if adds_hops(code, hops) {
+        return true;
+    }
+    adds_checksum(code, f.checksum)
+}
+
 // Whether the addresses are those of end systems, in one octet each.
-pub fn is_narrow(a: Addresses) -> bool
+fn is_narrow(a: Addresses) -> bool
     ensures { λ r. ⌜ r ≡ isNarrow a ⌝ }
 {
     match a {
@@ -133,15 +155,23 @@ fn widen(arrival: Address, a: Addresses) -> Addresses
     }
 }
 
-// Whether the copy for a port is rewritten; far says that the port lies in another domain.
-pub fn is_rewritten(far: bool, code: u32, f: Fields) -> bool
+// Whether the addresses are widened for a port; far says that it lies in another domain.
+fn widens_for(far: bool, a: Addresses) -> bool
+    ensures { λ r. ⌜ r ≡ widens far a ⌝ }
+{
+    if far {
+        return is_narrow(a);
+    }
+    false
+}
+
+// Whether the copy for a port is rewritten.
+fn is_rewritten(far: bool, code: u32, f: Fields) -> bool
     ensures { λ r. ⌜ r ≡ rewrites far code f ⌝ }
 {
     let addresses = f.addresses;
-    if far {
-        if is_narrow(addresses) {
-            return true;
-        }
+    if widens_for(far, addresses) {
+        return true;
     }
     adds_any(code, f)
 }
@@ -181,7 +211,7 @@ fn checksum_next(code: u32, on: u8) -> u8
 }
 
 // The fields that a rewritten header is built of.
-pub fn fields_next(far: bool, arrival: Address, code: u32, f: Fields) -> Fields
+fn fields_next(far: bool, arrival: Address, code: u32, f: Fields) -> Fields
     ensures { λ r. ⌜ r ≡ nextFields far (arrival .0) code f ⌝ }
 {
     let addresses = f.addresses;
@@ -207,10 +237,11 @@ pub fn length_next(far: bool, arrival: Address, code: u32, h: Header) -> usize
     ensures { λ r. ⌜ (r ≡ nextLength far (arrival .0) code h) × (r < 2 * lengthLimit) ⌝ }
 {
     let f = h.fields;
-    if !is_rewritten(far, code, f) {
-        return h.length;
+    if is_rewritten(far, code, f) {
+        let size = builder::measure::header_size(fields_next(far, arrival, code, f));
+        return size + (h.length - h.size);
     }
-    builder::measure::header_size(fields_next(far, arrival, code, f)) + (h.length - h.size)
+    h.length
 }
 
 // No port took a copy.
@@ -276,7 +307,7 @@ pub fn legs_of(took: u32, domain: u32, l: Leg) -> Legs
     }
 }
 
-// Writes the header for a port to the front of its stretch of the output; answers its length.
+// Writes the header for a port to the front of its stretch of the output.
 pub fn write_next(
     far: bool,
     arrival: Address,
@@ -290,9 +321,9 @@ pub fn write_next(
     ensures { λ _. ⌜ now (out .exit) ≡ fronted (nextHeader far (arrival .0) code (now (octets .entry))) (now (out .entry)) ⌝ }
 {
     let f = h.fields;
-    if !is_rewritten(far, code, f) {
-        sent_on::send_on(octets, out, renewal);
+    if is_rewritten(far, code, f) {
+        builder::write_header(fields_next(far, arrival, code, f), h.length - h.size, out);
         return;
     }
-    builder::write_header(fields_next(far, arrival, code, f), h.length - h.size, out);
+    sent_on::send_on(octets, out, renewal);
 }

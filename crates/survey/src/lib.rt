@@ -143,7 +143,7 @@ fn size_at(near: bool, q: Sought) -> u32
 }
 
 // Whether a datagram of so many octets goes by a port: its MTU holds them, and so does the length field.
-fn fits(mtu: u32, size: u32) -> bool
+fn fits_port(mtu: u32, size: u32) -> bool
     ensures { λ r. ⌜ r ≡ fitsPort mtu size ⌝ }
 {
     if mtu < size {
@@ -167,7 +167,7 @@ fn see_wanted(s: Survey, port: u32, p: Port, waiting: u32, q: Sought) -> Survey
         addressed: s.addressed,
         broadcast: s.broadcast,
         domain: with_port(s.domain, near, port),
-        fitting: with_port(s.fitting, fits(p.mtu, size_at(near, q)), port),
+        fitting: with_port(s.fitting, fits_port(p.mtu, size_at(near, q)), port),
         full: with_port(s.full, !(waiting < queue::ENTRIES), port),
     }
 }

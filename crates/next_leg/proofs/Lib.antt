@@ -1,0 +1,2 @@
+-- The header of a copy over plain variables, its laws, and the proofs of the functions. Assumes nothing.
+pub mod Made
