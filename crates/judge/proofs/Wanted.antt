@@ -146,7 +146,7 @@ module _ (r : Relay) (q : Sought) (set : ℕ) where
   unfolding rulingOf copiesOf
   took-inside local NotAsked full h p l is = true-false (sym is ∙ in-none p)
   took-inside local (Refused o) full h p l is = true-false (sym is ∙ in-none p)
-  took-inside local (Wanted g) full h = taken-inside g full (h g refl)
+  took-inside local (Wanted g) full h p l is = taken-inside g full (h g refl) p l is
 
   left-inside : (x : ℕ) (o : Obstacle) (none : Bool) → Inside x set → (g : ℕ) → pick none (Refused o) (Wanted x) ≡ Wanted g → Inside g set
   left-inside x o true h g e = absurd (refused-wanted o g e)
