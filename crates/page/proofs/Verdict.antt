@@ -144,7 +144,7 @@ module _ (more : Route → Route → Bool) (r : Relay) (chooses : Chooses more r
   unfolding ruleOf judged
   by-steps n true e inside = record {
     refusal = refl;
-    ruling = aim-agrees more r chooses at (inside (eqb-true n 0 e)) h (flag-small r at octets room) (aimOf (portIn r at .address .0) (h .fields .addresses));
+    ruling = aim-agrees more r chooses at (inside (eqb-true n 0 e)) h (flag-small r at octets room) (aimOf (portIn r at .address .0) (h .fields .addresses)) .0;
   }
   by-steps n false e inside = record {
     refusal = refl;
