@@ -51,7 +51,7 @@ module _ (r : Relay) (at : ℕ) (h : Header) (p : ℕ) where
   near-case true far e one = not-true far (and-true (portSetUp r p) (not far) e .1)
   near-case false far e one = true-false (sym one)
 
-  granted-passed : (ports : Ports) (code : ℕ) → grantedPorts r at h ports code p ≡ true → (ports p ≡ true) × Passed r at h code p
+  pub granted-passed : (ports : Ports) (code : ℕ) → grantedPorts r at h ports code p ≡ true → (ports p ≡ true) × Passed r at h code p
   granted-passed ports code e =
       let n = sizeAfter r at h code p in
       let over = ltb (portIn r p .mtu) n in
@@ -71,7 +71,7 @@ module _ (r : Relay) (at : ℕ) (h : Header) (p : ℕ) where
         },
       )
 
-  line-passed : (l : Line) → lineGrants r at h l p ≡ true → Passed r at h (lineCode l) p
+  pub line-passed : (l : Line) → lineGrants r at h l p ≡ true → Passed r at h (lineCode l) p
   line-passed notAsked e = true-false (sym e)
   line-passed (refused n) e = true-false (sym e)
   line-passed (wanted ports code) e = granted-passed ports code e .1
