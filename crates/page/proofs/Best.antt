@@ -144,8 +144,8 @@ module _ (more : Route → Route → Bool) (r : Relay) (chooses : Chooses more r
     port-alone : Alone (bestPort more r (Node a))
     port-alone p q l k hp hq = eqb-true p (x .port) (port-is p ∙ hp) ∙ sym (eqb-true q (x .port) (port-is q ∙ hq))
 
-    -- And what it asks for is the code.
-    code-is : x .capabilities ≡ bestCode more r (Node a)
+    -- And what it asks for is the table's code.
+    pub code-is : x .capabilities ≡ bestCode more r (Node a)
     unfolding bestCode
     code-is =
         let none : (q : ℕ) → q < place → best q ≡ false = λ q l. refuted (best q) (λ h. let e = only-best q h in omega (arith, e, l)) in

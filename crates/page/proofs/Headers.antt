@@ -8,8 +8,9 @@ use mathlib.Core.Bool.{Bool, true, false, not, _&&_}
 use mathlib.Core.List.{List}
 use lib.Dec.{eqb}
 use borrow.Author.Tests.{eqb-true}
-use Rattle.checks.specs.Order.{pick, firstOf}
+use Rattle.checks.specs.Order.{pick, firstOf, noneHolds}
 use Rattle.checks.proofs.Bools.{true-false, and-true, refuted}
+use Rattle.checks.proofs.Laws.{none-zero}
 use Rattle.sets.specs.Sets.{inSet}
 use Rattle.header.specs.Read.{headerOf}
 use Rattle.header.specs.declared.Fields.{Fields}
@@ -26,7 +27,7 @@ use Rattle.verdict.specs.Rule.{exceptBy}
 use Rattle.judge.specs.Ruling.{soughtOf, codeFor, legFor, surveyFor, ruleOf, legsFor}
 use Rattle.judge.specs.Ending.{refusedBy, ruledEnding, arrivalAt, endingOf}
 use Rattle.judge.specs.declared.Ending.{Ending}
-use Rattle.page.specs.Table.{somePort, nobody, aimAt, stepRows, moreOnes, Line, notAsked, refused, wanted, onwardLine, liesFar, hasRoom, lineGrants, lineCode, judged, refusedWith, verdictBy, verdictOf}
+use Rattle.page.specs.Table.{Ports, somePort, nobody, aimAt, stepRows, moreOnes, Line, notAsked, refused, wanted, onwardLine, liesFar, hasRoom, lineGrants, lineCode, judged, refusedWith, verdictBy, verdictOf}
 use Rattle.page.specs.Ends.{HeadersAs, Chooses}
 use Rattle.page.proofs.Bits.{in-none, in-except}
 use Rattle.page.proofs.Sets.{empty-is}
@@ -36,6 +37,7 @@ use Rattle.page.proofs.Small.{aim-small}
 use Rattle.page.proofs.Halves.{Ruled, aim-agrees}
 use Rattle.page.proofs.Legs.{legs-rewritten, legs-header, legs-size}
 use Rattle.page.proofs.Verdict.{ending-by-steps, arrival-inside, flag-small, masks-choose, ones-choose}
+use Rattle.page.proofs.Exactly.{code-number}
 use Rattle.page.proofs.Sought.{granted-passed, line-passed}
 
 -- an element is added only where a route asks for it
@@ -130,6 +132,16 @@ module _ (more : Route → Route → Bool) (r : Relay) (chooses : Chooses more r
             → (t && rewrites (liesFar r at p) (codeFor r x) (h .fields)) ≡ (t && rewrites (liesFar r at p) (lineCode line) (h .fields))
         coded p l true e = ap (λ (n : ℕ). rewrites (liesFar r at p) n (h .fields)) (code-is p l e)
         coded p l false e = refl
+
+  coded-line : (l : Line) → Coded (codeFor r x) l → (ports : Ports) (code : ℕ) → l ≡ wanted ports code → codeFor r x ≡ lineCode l
+  coded-line l c ports code e = subst (λ (k : Line). Coded (codeFor r x) k → codeFor r x ≡ lineCode k) (sym e) (λ d. d .0) c
+
+  -- Where ports are wanted, the verdict's code is what the route asks for that the search takes.
+  pub code-exactly : noneHolds (stepRows r at octets room) → (ports : Ports) (code : ℕ) → line ≡ wanted ports code
+      → verdictBy more r at octets room .code ≡ codeFor r x
+  code-exactly none ports code is =
+      code-number r at octets room more chooses none
+      ∙ sym (coded-line line (ruled (arrival-inside r at octets room (none-zero (stepRows r at octets room) none)) .1) ports code is)
 
   -- a refusal has no copy
   refused-headers : (n : ℕ) → HeadersAs r at octets (refusedBy n) (refusedWith n)

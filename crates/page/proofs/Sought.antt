@@ -35,7 +35,7 @@ use Rattle.page.specs.Sought.{RouteSought, RouteTaken}
 use Rattle.page.proofs.Verdict.{masks-choose, ones-choose}
 use Rattle.page.proofs.Exactly as exactly
 
--- ---- what a port that is granted a copy has passed: it was wanted, and the datagram for it, which is asked for so much, fits
+-- ---- what a port that is granted a copy has passed, its route asking for what the code says: 10, 13 and both tests of 14
 pub record Passed (r : Relay) (at : ℕ) (h : Header) (code p : ℕ) : Type 0 where
   pub set-up : portSetUp r p ≡ true
   pub hops : hopsUsedUp (h .fields .hops) ≡ false
