@@ -79,7 +79,8 @@ pub fields-made : (far : Bool) (arrival code : ℕ) (f : Fields) {a : Addresses}
 unfolding nextFields
 fields-made far arrival code f ea eh ec = cc
 
-checksum-case : (t : Bool) (on : ℕ) → on < 2 → pick t 1 on < 2
+-- a checksum is there or not, before and after
+pub checksum-case : (t : Bool) (on : ℕ) → on < 2 → pick t 1 on < 2
 checksum-case true on h = omega arith
 checksum-case false on h = h
 

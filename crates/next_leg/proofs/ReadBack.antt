@@ -2,9 +2,9 @@
 -- W-214. So for a header of the built form, and for one that keeps the form in which it came. Assumes nothing.
 use native.Mathlib.Omega.{arith}
 use Prim.Native.Nat.{ℕ, _+_, _-_, _^_, _≤_, _<_}
-use mathlib.Core.Path.{_≡_, refl, sym, ap, _∙_}
+use mathlib.Core.Path.{_≡_, refl}
 use mathlib.Core.List.{List, _++_}
-use mathlib.Core.Bool.{Bool, true, false, _&&_, _||_}
+use mathlib.Core.Bool.{Bool, true, false, _&&_}
 use lib.Dec.{eqb}
 use lib.ListN.{getD, length, drop, length-drop}
 use borrow.Author.Tests.{eqb-false}
@@ -14,9 +14,9 @@ use Rattle.checks.proofs.Laws.{either}
 use Rattle.header.specs.Limits.{lengthLimit}
 use Rattle.header.specs.Form.{controlOf}
 use Rattle.header.specs.Read.{headerOf, readOf}
-use Rattle.header.specs.Build.{sizeOf, headerOctets}
+use Rattle.header.specs.Build.{sizeOf}
 use Rattle.header.specs.Shortest.{shortest, unusedZero}
-use Rattle.header.specs.Onward.{headerSentOn, oneLess, withHops}
+use Rattle.header.specs.Onward.{oneLess, withHops}
 use Rattle.header.specs.Range.{addressesFit, octetFits, InRange}
 use Rattle.header.specs.declared.Addresses.{Addresses}
 use Rattle.header.specs.declared.Addresses.the-variants.{BasicPath, ExtendedPath, BasicEndSystem, ExtendedEndSystem, Ipv6}
@@ -29,9 +29,11 @@ use Rattle.header.proofs.Passed.{passed}
 use Rattle.header.proofs.Answers.{read-in-range, read-bounds}
 use Rattle.header.proofs.BuiltLaws.{header-length, header-small}
 use Rattle.header.proofs.Trip.{read-formed}
+use Rattle.header.proofs.Shortest.{formed-shortest}
 use Rattle.header.proofs.SentOn.{sent-small, sent-size, read-sent-on}
 use Rattle.meaning.specs.Names.{filledIn}
-use Rattle.next_leg.specs.Leg.{asksHops, asksChecksum, isAbsent, addsHops, addsChecksum, adds, isNarrow, widened, widens, rewrites, hopsNext, checksumNext, addressesNext, nextFields, dataOf, nextSize, nextLength, nextHeader}
+use Rattle.next_leg.specs.Leg.{asksHops, asksChecksum, addsHops, addsChecksum, adds, isNarrow, widened, widens, rewrites, hopsNext, checksumNext, nextFields, dataOf, nextSize, nextLength, nextHeader}
+use Rattle.next_leg.proofs.Made.{checksum-case}
 
 -- ---- what is built anew is in range
 
@@ -49,9 +51,6 @@ hops-fit : (code : ℕ) (h : Octet) → octetFits h → octetFits (hopsNext code
 hops-fit code octet.Absent fits = either octetFits (asksHops code) (omega arith) tt
 hops-fit code (octet.Present v) fits = omega arith
 
-checksum-fits : (code on : ℕ) → on < 2 → checksumNext code on < 2
-checksum-fits code on fits = either (λ (n : ℕ). n < 2) (asksChecksum code) (omega arith) fits
-
 next-in-range : (far : Bool) (arrival code : ℕ) (f : Fields) → arrival < 2 ^ 32 → InRange f → InRange (nextFields far arrival code f)
 unfolding nextFields
 next-in-range far arrival code f h r =
@@ -62,7 +61,7 @@ next-in-range far arrival code f h r =
       hops = hops-fit code (f .hops) (r .hops);
       stamp = r .stamp;
       expanded = r .expanded;
-      checksum = checksum-fits code (f .checksum) (r .checksum);
+      checksum = checksum-case (asksChecksum code) (f .checksum) (r .checksum);
       intermediate = r .intermediate;
     }
 
@@ -119,7 +118,7 @@ module _ (far : Bool) (arrival code : ℕ) (s : List ℕ) (h : Header) (small : 
   unfolding nextHeader nextSize nextFields
   length-case true is e =
       rw (← passed s h e .is, is)
-      (header-length (nextFields far arrival code (h .fields)) (dataOf h) (checksum-fits code (h .fields .checksum) (read-in-range s h small e .checksum)))
+      (header-length (nextFields far arrival code (h .fields)) (dataOf h) (checksum-case (asksChecksum code) (h .fields .checksum) (read-in-range s h small e .checksum)))
   length-case false is e = rw (← passed s h e .is, is) (sent-size s h small e)
 
   -- it has the octets that its size says
@@ -141,3 +140,11 @@ module _ (far : Bool) (arrival code : ℕ) (s : List ℕ) (h : Header) (small : 
       → readOf (nextHeader far arrival code s ++ drop (h .size) s)
       ≡ Good (record { fields = nextFields far arrival code (h .fields); length = nextLength far arrival code h; size = nextSize far arrival code h })
   read-next = read-case _ refl
+
+  -- "A rewritten header has the built form" (page 01), whatever stands behind it: the shortest control field, and unused bits that are zero
+  pub rewritten-shortest : arrival < 2 ^ 32 → readOf s ≡ Good h → nextLength far arrival code h < lengthLimit → rewrites far code (h .fields) ≡ true → (rest : List ℕ)
+      → shortest (controlOf (nextHeader far arrival code s ++ rest)) × unusedZero (controlOf (nextHeader far arrival code s ++ rest))
+  unfolding nextHeader nextLength
+  rewritten-shortest here e short is rest =
+      let range = next-in-range far arrival code (h .fields) here (read-in-range s h small e) in
+      rw (← passed s h e .is, is) (formed-shortest (nextFields far arrival code (h .fields)) (dataOf h) rest range (rw is at short))
