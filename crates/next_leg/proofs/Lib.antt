@@ -2,3 +2,4 @@
 pub mod Made
 pub mod ReadBack
 pub mod Names
+pub mod Copies
