@@ -37,7 +37,7 @@ rewritten-exactly took far code p f part = copy-case (adds code f) (isNarrow (f 
 -- ---- one size for all of them: it is taken for another domain where any port is far, and then each port whose header is rewritten is
 
 -- a set that has none of the ports is empty
-pub none-in : (n : ℕ) → n < 256 → ((q : ℕ) → q < 8 → inSet q n ≡ false) → n ≡ 0
+none-in : (n : ℕ) → n < 256 → ((q : ℕ) → q < 8 → inSet q n ≡ false) → n ≡ 0
 none-in n small out = same-bits 8 n 0 small (omega arith) (λ q l. omega (arith, over-bit q 0 (pow-pos q), bit-small q n, eqb-false (bit q n) 1 (out q l)))
 
 some-in : (n p : ℕ) → inSet p n ≡ true → n ≡ 0 → ⊥

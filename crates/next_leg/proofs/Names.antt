@@ -114,6 +114,6 @@ checksum-added far arrival code f = checksum-exactly (asksChecksum code) (f .che
 pub added-without-route : (f : Fields) → adds 0 f ≡ false
 added-without-route f = refl
 
--- and the capability that is neither asks for none
+-- nor does 3, which is no capability (page 01: "both is 4 and 3 is refused")
 pub three-adds-nothing : (f : Fields) → adds 3 f ≡ false
 three-adds-nothing f = refl

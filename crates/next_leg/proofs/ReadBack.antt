@@ -102,18 +102,19 @@ parts-case : (t : Bool) (n size len : ℕ) → size ≤ len → pick t (n + (len
 parts-case true n size len fits = refl
 parts-case false n size len fits = omega arith
 
--- "the copy's length field is header plus data"
+-- the copy's length field is its header plus the data
 pub next-length-parts : (far : Bool) (arrival code : ℕ) (h : Header) → h .size ≤ h .length → nextLength far arrival code h ≡ nextSize far arrival code h + dataOf h
 unfolding nextLength nextSize
 next-length-parts far arrival code h fits =
     parts-case (rewrites far code (h .fields)) (sizeOf (nextFields far arrival code (h .fields))) (h .size) (h .length) fits
 
-module _ (far : Bool) (arrival code : ℕ) (s : List ℕ) (h : Header) (small : (i : ℕ) → getD s i 0 < 256) where
-  -- each octet of its header is below 256
-  pub next-small-octets : (i : ℕ) → getD (nextHeader far arrival code s) i 0 < 256
-  unfolding nextHeader
-  next-small-octets = either (λ (l : List ℕ). (i : ℕ) → getD l i 0 < 256) (rewrites far code (headerOf s .fields)) (header-small _ _) (sent-small s small)
+-- each octet of its header is below 256
+pub next-small-octets : (far : Bool) (arrival code : ℕ) (s : List ℕ) → ((i : ℕ) → getD s i 0 < 256) → (i : ℕ) → getD (nextHeader far arrival code s) i 0 < 256
+unfolding nextHeader
+next-small-octets far arrival code s small =
+    either (λ (l : List ℕ). (i : ℕ) → getD l i 0 < 256) (rewrites far code (headerOf s .fields)) (header-small _ _) (sent-small s small)
 
+module _ (far : Bool) (arrival code : ℕ) (s : List ℕ) (h : Header) (small : (i : ℕ) → getD s i 0 < 256) where
   length-case : (t : Bool) → rewrites far code (h .fields) ≡ t → readOf s ≡ Good h → length (nextHeader far arrival code s) ≡ nextSize far arrival code h
   unfolding nextHeader nextSize nextFields
   length-case true is e =
