@@ -125,13 +125,12 @@ begun f len last r short =
       size = rw (h .control, e .end, b .checksum);
     }
 
--- the control field of a built header, whatever stands behind it
-pub built-control : (f : Fields) (n : ℕ) (rest : List ℕ) → InRange f → n ≤ mostData → controlOf (headerOctets f n ++ rest) ≡ builtControl f
+-- the control field of a header of the built form, whatever stands behind it, wherever the datagram's length fits its field
+pub formed-control : (f : Fields) (n : ℕ) (rest : List ℕ) → InRange f → sizeOf f + n < lengthLimit → controlOf (headerOctets f n ++ rest) ≡ builtControl f
 unfolding headerOctets
-built-control f n rest r few =
+formed-control f n rest r short =
     let body = bodyOctets f (sizeOf f + n) in
-    let size = built-size f r in
-    rw (append-assoc body (checksumOctets (f .checksum) body) rest) (begun f (sizeOf f + n) (checksumOctets (f .checksum) body ++ rest) r (omega arith) .control)
+    rw (append-assoc body (checksumOctets (f .checksum) body) rest) (begun f (sizeOf f + n) (checksumOctets (f .checksum) body ++ rest) r short .control)
 
 -- a checksum element that is asked for is what it should be
 pub right : (on : ℕ) (body userData : List ℕ) → on ≡ 1

@@ -1,7 +1,7 @@
 -- What the functions answer, over plain variables. Assumes nothing.
 use native.Mathlib.Omega.{arith}
 use Prim.Native.Nat.{ℕ, _+_, _*_, _-_, _≤_, _<_}
-use mathlib.Core.Path.{_≡_, refl, sym, ap, _∙_}
+use mathlib.Core.Path.{_≡_, sym, ap, _∙_}
 use mathlib.Core.Bool.{Bool, true, false, not, _&&_, _||_}
 use mathlib.Core.List.{List}
 use lib.Dec.{eqb}
@@ -11,7 +11,7 @@ use Rattle.checks.specs.Order.{pick}
 use Rattle.octets.specs.Octets.{fronted}
 use Rattle.header.specs.Limits.{longestHeader, lengthLimit}
 use Rattle.header.specs.Read.{headerOf}
-use Rattle.header.specs.Build.{sizeOf, headerOctets, restOctets, present, secondOctet, thirdOctet}
+use Rattle.header.specs.Build.{sizeOf, headerOctets, secondOctet, thirdOctet}
 use Rattle.header.specs.Onward.{headerSentOn}
 use Rattle.header.specs.declared.Addresses.{Addresses}
 use Rattle.header.specs.declared.Addresses.the-variants.{BasicEndSystem, ExtendedEndSystem}
@@ -25,7 +25,7 @@ use Rattle.meaning.specs.Names.{filledIn}
 use Rattle.verdict.specs.Rule.{exceptBy}
 use Rattle.next_leg.specs.declared.Leg.{Leg}
 use Rattle.next_leg.specs.declared.Legs.{Legs}
-use Rattle.next_leg.specs.Leg.{asksHops, asksChecksum, adds, widened, widens, rewrites, firstHops, hopsNext, checksumNext, addressesNext, nextFields, dataOf, nextLength, nextHeader, Sound, noLegs, rewrittenAmong, rewrittenOctets, legsOf}
+use Rattle.next_leg.specs.Leg.{asksHops, asksChecksum, adds, widened, widens, rewrites, firstHops, hopsNext, checksumNext, addressesNext, nextFields, nextLength, nextHeader, Sound, noLegs, rewrittenAmong, rewrittenOctets, legsOf}
 
 -- ---- a test that another decides
 pub both-so : {t u : Bool} (v w : Bool) → t ≡ v → t ≡ true → u ≡ w → u ≡ (v && w)
@@ -79,7 +79,8 @@ pub fields-made : (far : Bool) (arrival code : ℕ) (f : Fields) {a : Addresses}
 unfolding nextFields
 fields-made far arrival code f ea eh ec = cc
 
-checksum-case : (t : Bool) (on : ℕ) → on < 2 → pick t 1 on < 2
+-- a checksum is there or not, before and after
+pub checksum-case : (t : Bool) (on : ℕ) → on < 2 → pick t 1 on < 2
 checksum-case true on h = omega arith
 checksum-case false on h = h
 
