@@ -13,7 +13,7 @@ use Rattle.header.proofs.Refusals.{read-good}
 use Rattle.address.specs.declared.Slot.{Slot}
 use Rattle.judge.specs.declared.Ending.{Ending}
 use Rattle.page.proofs.Verdict.{verdict-is-the-page}
-use Rattle.page.proofs.Bits.{in-none}
+use Rattle.survey.proofs.Bits.{in-none}
 use Rattle.sets.specs.Limits.{portCount, counterCount}
 use Rattle.sets.specs.Sets.{inSet}
 use Rattle.queue.specs.Queue.{entryPlaces}

@@ -31,7 +31,7 @@ use Rattle.history.specs.Calls.{sets, hears, takes, looks, Call, operato
 use Rattle.history.specs.Outcome.{next, runFrom, seatAfter}
 use Rattle.history.specs.Line.{Copy, copyOf, takenBy, lineBy, lineFrom, lineAt}
 use Rattle.page.specs.Table.{oneOctet, hasRoom}
-use Rattle.page.proofs.Bits.{in-none}
+use Rattle.survey.proofs.Bits.{in-none}
 use Rattle.page.proofs.Exactly.{took-exactly}
 use Rattle.history.proofs.Heard.{heard-so}
 use Rattle.history.proofs.Ports.{seen-stays}

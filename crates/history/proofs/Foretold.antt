@@ -70,7 +70,7 @@ use Rattle.history.specs.Ledger.{one as oneIf, outBy, handedOut}
 use Rattle.history.specs.Line.{Copy, entryOf, takenBy, handedBy, leftBy, lineBy, lineFrom, takenFrom, handedFrom, lineAt, takenAt, takingOf, times, InTurn}
 use Rattle.history.specs.Foretold.{andThen, handedSince, takesSince, answeredBy, answeredFrom, answeredSince, before, Idle, isHanded, waitsFrom, higherEnter, CountsNothing, takenSince, whileWaits}
 use Rattle.history.proofs.Line.{queue-waits, taken-turn, taken-later, taken-in-turn, line-turns}
-use Rattle.page.proofs.Bits.{in-none}
+use Rattle.survey.proofs.Bits.{in-none}
 use Rattle.history.proofs.Untaken.{took-none}
 use Rattle.history.proofs.Takes.{take-is}
 

@@ -85,7 +85,7 @@ use Rattle.history.proofs.Small.{sets-small}
 use Rattle.history.proofs.Line.{line-each, queue-waits}
 use Rattle.history.proofs.Takes.{take-is}
 use Rattle.page.specs.Table.{hasRoom}
-use Rattle.page.proofs.Bits.{in-none}
+use Rattle.survey.proofs.Bits.{in-none}
 use Rattle.page.proofs.Exactly.{took-exactly}
 use Rattle.page.proofs.Sought.{granted-set-up}
 

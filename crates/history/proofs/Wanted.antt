@@ -49,7 +49,7 @@ use Rattle.history.specs.Calls.{Call}
 use Rattle.history.specs.Outcome.{seatAfter}
 use Rattle.history.proofs.Ports.{ready-is}
 use Rattle.history.proofs.Reach.{Kept, kept-after}
-use Rattle.page.proofs.Bits.{in-except, in-gathered, only-that}
+use Rattle.survey.proofs.Bits.{in-except, in-gathered, only-that}
 
 -- ---- the first place that a test holds at
 first-case : (test : ℕ → Bool) (i : ℕ) (f : ℕ) (t u : Bool) → eqb f i ≡ t → test i ≡ u → f ≤ i → (f < i → test f ≡ true)

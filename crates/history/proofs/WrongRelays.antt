@@ -37,7 +37,7 @@ use Rattle.history.specs.Outcome.{Answer, number, ended, entry, Outcome,
 use Rattle.history.specs.Tally.{sumAt, tally, stateAfter}
 use Rattle.history.specs.Marked.{ordered, port, routerWithPorts, A, B, C, D, allRoutes, withoutA, datagram, heard, sentBy, notSent}
 use Rattle.history.proofs.Counters.{counters}
-use Rattle.page.proofs.Bits.{in-none}
+use Rattle.survey.proofs.Bits.{in-none}
 use Rattle.history.proofs.Fair.{fair}
 use Rattle.history.proofs.Refusals.{heard-grants-nothing, counts-nothing}
 use Rattle.history.proofs.Marked.{opened, marked-cases}

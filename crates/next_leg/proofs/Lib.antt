@@ -2,4 +2,3 @@
 pub mod Made
 pub mod ReadBack
 pub mod Names
-pub mod Copies

@@ -38,7 +38,7 @@ use Rattle.verdict.specs.declared.Survey.{Survey}
 use Rattle.judge.specs.Ruling.{caseOf, destinationAsked, soughtOf}
 use Rattle.page.specs.Table.{Ports, somePort, Line, notAsked, refused, wanted, hopsUsedUp, oneOctetPath, liesFar, sizeAfter, hasRoom, withRoom, withoutRoom, ofDomain, ofSize, grantedPorts, copyRows, Verdict, lineNumber, lineGrants, halves}
 use Rattle.page.specs.Ends.{Agrees}
-use Rattle.page.proofs.Bits.{in-none, in-and, in-except}
+use Rattle.survey.proofs.Bits.{in-none, in-and, in-except}
 use Rattle.page.proofs.Sets.{empty-is}
 use Rattle.page.proofs.Local.{pick-zero}
 use Rattle.page.proofs.Ports.{domain-in, fitting-in, domain-small, fitting-small, full-in}

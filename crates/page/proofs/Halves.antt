@@ -40,7 +40,7 @@ use Rattle.judge.specs.Ruling.{caseOf, soughtOf, targetAsked, codeFor, legFor, 
 use Rattle.judge.specs.Ending.{arrivalAt}
 use Rattle.page.specs.Table.{somePort, without, nothingBut, destinationIs, equalsPort, isLimited, broadcastOf, broadcastOfOurs, isMulticast, hasGroup, hasPath, isSubscribed, isHere, localRows, matches, someMatches, bestPort, bestCode, Line, notAsked, refused, wanted, isHost, otherPorts, groupSet, groupPorts, onwardLine, halves, judged}
 use Rattle.page.specs.Ends.{Agrees, Chooses}
-use Rattle.page.proofs.Bits.{only-in}
+use Rattle.survey.proofs.Bits.{only-in}
 use Rattle.page.proofs.Ports.{addressed-none, broadcast-none}
 use Rattle.page.proofs.Copies.{Coded, Same, same-coded, line-agrees}
 use Rattle.page.proofs.Best.{route-same}

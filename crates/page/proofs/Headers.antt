@@ -29,7 +29,7 @@ use Rattle.judge.specs.Ending.{refusedBy, ruledEnding, arrivalAt, endingOf}
 use Rattle.judge.specs.declared.Ending.{Ending}
 use Rattle.page.specs.Table.{Ports, somePort, nobody, aimAt, stepRows, moreOnes, Line, notAsked, refused, wanted, onwardLine, liesFar, hasRoom, lineGrants, lineCode, judged, refusedWith, verdictBy, verdictOf}
 use Rattle.page.specs.Ends.{HeadersAs, Chooses}
-use Rattle.page.proofs.Bits.{in-none, in-except}
+use Rattle.survey.proofs.Bits.{in-none, in-except}
 use Rattle.page.proofs.Sets.{empty-is}
 use Rattle.page.proofs.Ports.{domain-in}
 use Rattle.page.proofs.Copies.{Coded}

@@ -16,7 +16,7 @@ use Rattle.next_leg.specs.Leg.{adds, isNarrow, rewrites, nextFields, nextSize, 
 use Rattle.next_leg.specs.declared.Leg.{Leg}
 use Rattle.next_leg.specs.declared.Legs.{Legs}
 use Rattle.verdict.specs.Rule.{exceptBy}
-use Rattle.page.proofs.Bits.{in-none}
+use Rattle.survey.proofs.Bits.{in-none}
 
 -- a set that has a port is not empty
 not-empty : (p set : ℕ) → inSet p set ≡ true → set ≢ 0

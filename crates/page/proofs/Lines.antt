@@ -26,7 +26,7 @@ use Rattle.verdict.specs.declared.Wish.{Wish}
 use Rattle.verdict.specs.declared.Wish.the-variants.{NotAsked, Refused, Wanted}
 use Rattle.judge.specs.Ruling.{destinationAsked}
 use Rattle.page.specs.Table.{somePort, without, nothingBut, hasGroup, hasPath, isSubscribed, isHere, Line, notAsked, refused, wanted, otherPorts, groupSet, pathSet, groupPorts, pathPorts}
-use Rattle.page.proofs.Bits.{in-except, only-in}
+use Rattle.survey.proofs.Bits.{in-except, only-in}
 use Rattle.page.proofs.Sets.{only-is, nothing-is}
 use Rattle.page.proofs.Ports.{others-in, others-none}
 use Rattle.page.proofs.Copies.{Same, no-route}

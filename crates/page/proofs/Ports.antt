@@ -25,7 +25,7 @@ use Rattle.verdict.specs.Rule.{exceptBy}
 use Rattle.verdict.specs.declared.Survey.{Survey}
 use Rattle.judge.specs.Ruling.{destinationAsked}
 use Rattle.page.specs.Table.{Ports, somePort, destinationIs, equalsPort, endsNet, broadcastOf, broadcastOfOurs, otherPorts, hasRoom}
-use Rattle.page.proofs.Bits.{in-except, in-gathered}
+use Rattle.survey.proofs.Bits.{in-except, in-gathered}
 use Rattle.page.proofs.Sets.{empty-is, only-is}
 
 -- ---- a broadcast of ours

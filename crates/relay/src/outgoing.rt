@@ -1,9 +1,12 @@
-// What goes out: an entry in the queue of each port that took one, and the header sent on.
+// What goes out: an entry in the queue of each port that took one, and its header in the output.
 //
 // Both are done by the ruling's set of ports that took. Fullness is as it was before the call, and the ruling has counted on it: each
-// queue that is put to here has room. The awkward case is a set that is empty, where nothing is put and no octet of the output is
-// touched; it is also every refusal's.
+// queue that is put to here has room. Each port has a stretch of 50 octets of the output, since headers differ from port to port. The awkward case is a
+// set that is empty, where nothing is put and no octet of the output is touched.
+use header::Header;
 use header::Renewal;
+use header::limits::LONGEST_HEADER;
+use next_leg::Legs;
 use queue::Entry;
 use sets::indexes::PORTS;
 ghost use mathlib.Core.Path.{_≡_};
@@ -11,11 +14,13 @@ ghost use Prim.Native.Nat.{_≤_, _<_};
 ghost use lib.ListN.{length};
 ghost use Rattle.header.specs.Form.{placesOf};
 ghost use Rattle.header.specs.Onward.{renewalOf};
-ghost use Rattle.header.specs.Limits.{longestHeader};
+ghost use Rattle.header.specs.Read.{headerOf};
+ghost use Rattle.next_leg.specs.Leg.{Sound};
+ghost use Rattle.judge.specs.Ending.{outputRoom};
 ghost use Rattle.sets.specs.Limits.{portCount};
 ghost use Rattle.state.specs.Seen.{Board, onSeated};
 ghost use Rattle.state.specs.Layout.{missionWords, decode};
-ghost use Rattle.relay.specs.Outgoing.{entered, enteredIf, enteredAll, sentOutput};
+ghost use Rattle.relay.specs.Outgoing.{entered, enteredIf, enteredAll, sentIf, sentBelow};
 
 // The entry in the queue of a port.
 fn enter(mission: &mut [u32], p: usize, e: Entry)
@@ -51,13 +56,54 @@ pub fn enter_all(mission: &mut [u32], took: u32, e: Entry)
     }
 }
 
-// The header sent on at the front of the output, where a port took an entry.
-pub fn send(took: u32, octets: &[u8], output: &mut [u8], renewal: Renewal)
-    requires { ⌜ ((took ≡ 0 → ⊥) → (longestHeader ≤ length (now output)) × ((placesOf (now octets) .size ≤ length (now octets)) × (renewal ≡ renewalOf (now octets)))) ⌝ }
-    ensures { λ _. ⌜ now (output .exit) ≡ sentOutput took (now (octets .entry)) (now (output .entry)) ⌝ }
+// The header for a port in its stretch of the output, where the port took an entry.
+fn send_if(
+    p: usize,
+    took: u32,
+    legs: Legs,
+    header: Header,
+    renewal: Renewal,
+    octets: &[u8],
+    output: &mut [u8],
+)
+    requires { ⌜ (p < portCount) × ((outputRoom ≤ length (now output))
+        × (Sound header × ((header ≡ headerOf (now octets)) × ((placesOf (now octets) .size ≤ length (now octets)) × (renewal ≡ renewalOf (now octets)))))) ⌝ }
+    ensures { λ _. ⌜ now (output .exit) ≡ sentIf took legs (now (octets .entry)) p (now (output .entry)) ⌝ }
 {
-    if took == 0 {
+    if (took >> p as u32) % 2 != 1 {
         return;
     }
-    sent_on::send_on(octets, output, renewal);
+    let arrival = legs.arrival;
+    let from = LONGEST_HEADER * p;
+    let to = from + LONGEST_HEADER;
+    let far = (legs.far >> p as u32) % 2 == 1;
+    next_leg::write_next(
+        far,
+        arrival,
+        legs.code,
+        header,
+        renewal,
+        octets,
+        &mut output[from..to],
+    );
+}
+
+// The headers for all ports that took an entry.
+pub fn send_all(
+    took: u32,
+    legs: Legs,
+    header: Header,
+    renewal: Renewal,
+    octets: &[u8],
+    output: &mut [u8],
+)
+    requires { ⌜ (outputRoom ≤ length (now output))
+        × (Sound header × ((header ≡ headerOf (now octets)) × ((placesOf (now octets) .size ≤ length (now octets)) × (renewal ≡ renewalOf (now octets))))) ⌝ }
+    ensures { λ _. ⌜ now (output .exit) ≡ sentBelow took legs (now (octets .entry)) (now (output .entry)) portCount ⌝ }
+{
+    let mut p = 0;
+    while p < PORTS {
+        send_if(p, took, legs, header, renewal, octets, output);
+        p += 1;
+    }
 }
