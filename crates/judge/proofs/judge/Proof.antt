@@ -1,61 +1,45 @@
+-- `judge::judge` meets its contract. Assumes nothing.
+use Rattle.state_board.proofs.SetUp.{passed-port}
+use Rattle.judge.proofs.Stages.{port-told, port-seen, no-port, no-room, judged}
 use borrow.Author.Needs.{needs}
 use Rattle.judge.proofs.judge.Statement.{statement}
 use Rattle.judge.proofs.judge.Tie as tie
-use Rattle.judge.proofs.judge.Reads as reads
-use Rattle.judge.proofs.judge.Lts as lts
-use Rattle.judge.proofs.ask_octets.Reads as ask-octets-reads
-use Rattle.judge.proofs.refused.Reads as refused-reads
-use Rattle.sets.proofs.only_port.Reads as only-port-reads
-use Rattle.state_board.proofs.check_port.Reads as check-port-reads
-use Rattle.state_board.proofs.seen_port.Reads as seen-port-reads
-use Rattle.state_mission.proofs.number_of.Reads as number-of-reads
 
--- src/lib.rt:282:9
 number-of-requires : tie.Need-number-of-requires
 number-of-requires c κs = search needs
 
--- src/lib.rt:283:25
 check-port-requires : tie.Need-check-port-requires
 check-port-requires c κs = search needs
 
 enum-told : tie.Need-enum-told
 enum-told c = search needs
 
--- src/lib.rt:284:9
 enum-told-2 : tie.Need-enum-told-2
 enum-told-2 c = search needs
 
--- src/lib.rt:284:9
 refused-requires : tie.Need-refused-requires
 refused-requires c κs = search needs
 
--- src/lib.rt:284:9
 returns : tie.Need-returns
-returns c = search needs
+returns c = no-port _ _ _ _ _ (port-told _ _ (c .before .before .before .before .number-of .ensures) (c .before .before .before .check-port .ensures)) (c .before .enum-told2 .given .1) (c .refused .ensures)
 
--- src/lib.rt:287:9
 refused-requires-2 : tie.Need-refused-requires-2
 refused-requires-2 c κs = search needs
 
--- src/lib.rt:287:9
 returns-2 : tie.Need-returns-2
-returns-2 c = search needs
+returns-2 c = no-room _ _ _ _ _ (port-told _ _ (c .before .before .before .before .before .number-of .ensures) (c .before .before .before .before .check-port .ensures)) (c .before .before .enum-told .given .1) (c .before .if1 .taken) (c .refused2 .ensures)
 
--- src/lib.rt:289:9
 seen-port-requires : tie.Need-seen-port-requires
-seen-port-requires c κs = search needs
+seen-port-requires c κs = (c .before .before .before .before .before .before .before .before .pre .0, passed-port _ _ (c .before .before .before .check-port .ensures) (c .before .enum-told .given .1))
 
--- src/lib.rt:292:14
 only-port-requires : tie.Need-only-port-requires
 only-port-requires c κs = search needs
 
--- src/lib.rt:295:5
 ask-octets-requires : tie.Need-ask-octets-requires
 ask-octets-requires c κs = search needs
 
--- src/lib.rt:274:1
 returns-3 : tie.Need-returns-3
-returns-3 c = search needs
+returns-3 c = judged _ _ _ _ _ (port-told _ _ (c .before .before .before .before .before .before .before .before .number-of .ensures) (c .before .before .before .before .before .before .before .check-port .ensures)) (c .before .before .before .before .before .enum-told .given .1) (c .before .before .before .before .if1 .left) (port-seen _ _ (c .before .before .before .before .before .before .before .before .number-of .ensures) (c .before .before .before .seen-port .ensures)) (c .before .only-port .ensures) (c .ask-octets .ensures)
 
 pub judge-spec : {M : Type 1} → statement M
 judge-spec =
