@@ -27,7 +27,7 @@ fn octets_part(n: usize) -> u64
 // The five parts of the ruling in one number.
 fn ruling_parts(refusal: u64, local: u64, onward: u64, took: u64, dropped: u64) -> u64
     requires { ⌜ (refusal < 256) × ((local < 256) × ((onward < 256) × ((took < 256) × (dropped < 256)))) ⌝ }
-    ensures { λ r. ⌜ r ≡ rulingParts refusal local onward took dropped ⌝ }
+    ensures { λ r. ⌜ (r ≡ rulingParts refusal local onward took dropped) × (r < 2 ^ 40) ⌝ }
 {
     let halves = refusal + local * 0x100 + onward * 0x1_0000;
     halves + took * 0x100_0000 + dropped * 0x1_0000_0000
