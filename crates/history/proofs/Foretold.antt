@@ -45,7 +45,7 @@ use Rattle.taking.specs.Taking.{takeOutcome, takenRelay}
 use Rattle.taking.specs.declared.Taking.{Taking}
 use Rattle.taking.specs.declared.Taking.the-variants.{Handed, Refused}
 use Rattle.judge.specs.Ruling.{ruledBy, ruleTarget, ruleOf}
-use Rattle.judge.specs.Ending.{endingOf, callChecks, headerEnding}
+use Rattle.judge.specs.Ending.{endingOf, outputRoom, callChecks, headerEnding}
 use Rattle.relay.specs.Outgoing.{enteredIf, enteredAll}
 use Rattle.relay.specs.Received.{receivedRelay, heardEnding}
 use Rattle.history.specs.Seat.{Seat, freshSeat, relayIn}
@@ -498,7 +498,7 @@ abbrev datagram : ℕ → List ℕ
 datagram precedence = 32 ∷ 7 ∷ 26 ∷ 66 ∷ 255 ∷ 20 ∷ 16 * precedence ∷ []
 
 abbrev heard : ℕ → ℕ → Call
-heard port precedence = own (hears [] port (record { 0 = 7 }) (datagram precedence) (replicate 50 0))
+heard port precedence = own (hears [] port (record { 0 = 7 }) (datagram precedence) (replicate outputRoom 0))
 
 -- the copy on port 1 of what call n brought by port 0
 abbrev copy : ℕ → ℕ → Copy
@@ -508,6 +508,7 @@ copy n precedence =
       arrival = record { 0 = dotted 10 4 9 14 };
       octets = datagram precedence;
       size = 7;
+      header = datagram precedence;
       entry = record { slot = record { 0 = 7 }; precedence = precedence };
     }
 

@@ -104,7 +104,7 @@ abbrev pub grantedAnywhere : Wish → Case → Survey → Wish
 grantedAnywhere w c s = afterSize (afterHops w (c .spent)) (s .fitting)
 
 abbrev oneOctet : Case
-oneOctet = record { arrival = 1; router = 1; intermediate = 0; assigned = 1; basic = 1; spent = 0 }
+oneOctet = record { arrival = 1; router = 1; intermediate = 0; assigned = 1; bound = 1; spent = 0 }
 
 abbrev port0InDomain : Survey
 port0InDomain = record { ready = 3; addressed = 0; broadcast = 0; domain = 1; fitting = 3; full = 0 }

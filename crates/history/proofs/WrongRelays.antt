@@ -25,7 +25,7 @@ use Rattle.state.specs.Relay.{routeIn, queueAt, counterIn}
 use Rattle.state.specs.Seen.{State, freshState}
 use Rattle.adjust.specs.Settled.{newRecord}
 use Rattle.verdict.specs.declared.Ruling.{Ruling}
-use Rattle.judge.specs.Ending.{noRuling}
+use Rattle.judge.specs.Ending.{noRuling, outputRoom}
 use Rattle.judge.specs.declared.Ending.{Ending}
 use Rattle.taking.specs.Taking.{takeOutcome}
 use Rattle.taking.specs.declared.Taking.{Taking}
@@ -77,7 +77,7 @@ abbrev pub basic : Call
 basic =
     own
     (hears (newRecord (dotted 10 4 9 14) (maskOf 32) 1 1 0 0 ∷ []) 0 (record { 0 = 1 })
-    (32 ∷ 6 ∷ (4 * 16 + bitWeight 20 + bitWeight 22) ∷ bitWeight 25 ∷ 14 ∷ 16 ∷ []) (replicate 50 0))
+    (32 ∷ 6 ∷ (4 * 16 + bitWeight 20 + bitWeight 22) ∷ bitWeight 25 ∷ 14 ∷ 16 ∷ []) (replicate outputRoom 0))
 
 -- a route as if it were up, whatever its availability
 abbrev pub asIfUp : Route → Route
@@ -230,7 +230,7 @@ module _ (does : List Call → Call → Outcome) (kept : (cs : List Call) (c : C
       ≡ does (ordered settings) (own (hears rs port slot first output)) .answer)
       → ⊥
   copying-answers wrong =
-      let same = wrong (routerWithPorts 0) (allRoutes 0) 4 (record { 0 = 1 }) (datagram 10 4 9 14 0) (datagram 10 4 9 16 0) (replicate 50 0) in
+      let same = wrong (routerWithPorts 0) (allRoutes 0) 4 (record { 0 = 1 }) (datagram 10 4 9 14 0) (datagram 10 4 9 16 0) (replicate outputRoom 0) in
       let later = answers (begun ++ forD (allRoutes 0) ∷ []) forC ∙ cases .octets in
       let ports : _≡_ {A = ℕ} 4 8 = ap portsOf (sym later ∙ same ∙ in-case-a) in omega arith
 
@@ -241,7 +241,7 @@ module _ (does : List Call → Call → Outcome) (kept : (cs : List Call) (c : C
       ≡ does (ordered settings) (own (hears rs port slot octets output)) .answer)
       → ⊥
   copying-over-lists wrong =
-      let same = wrong (routerWithPorts 0) (allRoutes 0) (withoutA 0) 4 (record { 0 = 1 }) (datagram 192 0 2 1 0) (replicate 50 0) in
+      let same = wrong (routerWithPorts 0) (allRoutes 0) (withoutA 0) 4 (record { 0 = 1 }) (datagram 192 0 2 1 0) (replicate outputRoom 0) in
       let later = answers (begun ++ forA (allRoutes 0) ∷ []) (forA (withoutA 0)) ∙ cases .cleared in
       let ports : _≡_ {A = ℕ} 0 1 = ap portsOf (sym later ∙ same ∙ in-case-d) in omega arith
 
@@ -252,7 +252,7 @@ module _ (does : List Call → Call → Outcome) (kept : (cs : List Call) (c : C
       ≡ does (ordered settings) (own (hears rs port slot octets output)) .answer)
       → ⊥
   copying-over-settings wrong =
-      let same = wrong (routerWithPorts 0) (setRouter 0) (allRoutes 0) 4 (record { 0 = 1 }) (datagram 192 0 2 1 0) (replicate 50 0) in
+      let same = wrong (routerWithPorts 0) (setRouter 0) (allRoutes 0) 4 (record { 0 = 1 }) (datagram 192 0 2 1 0) (replicate outputRoom 0) in
       let later = answers (begun ++ forA (allRoutes 0) ∷ operator (orders (setRouter 0)) ∷ []) (forA (allRoutes 0)) ∙ cases .host in
       let ports : _≡_ {A = ℕ} 0 1 = ap portsOf (sym later ∙ same ∙ in-case-d) in omega arith
 
@@ -322,7 +322,7 @@ module _ (leaves : List Call → State) (kept : (cs : List Call) → leaves cs �
       ≡ queueAt (leaves (ordered settings) .mission) p .count)
       → ⊥
   entering-nothing wrong =
-      let same = wrong (routerWithPorts 0) (allRoutes 0) 4 (record { 0 = 1 }) (datagram 10 4 9 14 0) (replicate 50 0) 3 in
+      let same = wrong (routerWithPorts 0) (allRoutes 0) 4 (record { 0 = 1 }) (datagram 10 4 9 14 0) (replicate outputRoom 0) 3 in
       let left : (cs : List Call) → queueAt (leaves cs .mission) 3 .count ≡ queueAt (seatAfter 0 cs .mission) 3 .count =
       λ cs. ap (λ s. queueAt (s .mission) 3 .count) (kept cs) in
       let none : _≡_ {A = ℕ} 1 0 = sym (cases .waits .1) ∙ sym (left (waitingForD 1)) ∙ same ∙ left (waitingForD 0) ∙ cases .waits .0 in omega arith
@@ -334,7 +334,7 @@ module _ (leaves : List Call → State) (kept : (cs : List Call) → leaves cs �
       ≡ counterIn (leaves (ordered settings) .counters) i)
       → ⊥
   counting-nothing wrong =
-      let same = wrong (routerWithPorts 0) (allRoutes 0) 4 (record { 0 = 1 }) (datagram 10 4 9 14 0) (replicate 50 0) 0 in
+      let same = wrong (routerWithPorts 0) (allRoutes 0) 4 (record { 0 = 1 }) (datagram 10 4 9 14 0) (replicate outputRoom 0) 0 in
       let left : (cs : List Call) → counterIn (leaves cs .counters) 0 ≡ counterIn (stateAfter 0 cs .counters) 0 =
       λ cs. ap (λ s. counterIn (s .counters) 0) (kept cs) in
       let none : _≡_ {A = ℕ} 1 0 = sym (cases .receipts .1) ∙ sym (left (waitingForD 1)) ∙ same ∙ left (waitingForD 0) ∙ cases .receipts .0 in omega arith
