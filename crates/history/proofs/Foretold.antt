@@ -42,7 +42,7 @@ use Rattle.routes.specs.declared.Record.{Record}
 use Rattle.records.specs.Owned.{seenPort}
 use Rattle.state.specs.Relay.{queueAt, amongPorts, portSetUp}
 use Rattle.state.specs.Seen.{freshBoard, freshMission, portsSeen}
-use Rattle.survey.specs.Survey.{ownBroadcast, surveyBelow}
+use Rattle.survey.specs.Survey.{namedBelow, ownBroadcast, surveyBelow}
 use Rattle.taking.specs.Taking.{takeOutcome, takenRelay}
 use Rattle.taking.specs.declared.Taking.{Taking}
 use Rattle.taking.specs.declared.Taking.the-variants.{Handed, Refused}
@@ -599,7 +599,7 @@ mistakes =
     ∷ []
 
 breaks : Each Breaks mistakes
-unfolding firstOf heardEnding endingOf callChecks amongPorts portsSeen seenPort otherClass classOf classIn familyOf scpsClass portMaskRefused formRefused maskForm onesOf onesBelow onesRefused freshBoard freshMission freshQueue readOf readChecks controlOf forbidden lengthOf layoutOf addressSize stampSize headerEnding headerOf fieldsOf qosOf addressesOf aimOf originOf ruleOf ruleTarget ruledBy rulingOf grantedOf lineOf targetOf surveyBelow ownBroadcast subnetBroadcast octetOf copiesOf takeOutcome receivedRelay enteredAll enteredIf putOf takeOf insertBy chosen takenRelay rewrites nextLength nextHeader legsFor legsOf lessened sentBody headerSentOn checksumOctets
+unfolding firstOf heardEnding endingOf callChecks amongPorts portsSeen seenPort otherClass classOf classIn familyOf scpsClass portMaskRefused formRefused maskForm onesOf onesBelow onesRefused freshBoard freshMission freshQueue readOf readChecks controlOf forbidden lengthOf layoutOf addressSize stampSize headerEnding headerOf fieldsOf qosOf addressesOf aimOf originOf ruleOf ruleTarget ruledBy rulingOf grantedOf lineOf targetOf surveyBelow ownBroadcast namedBelow subnetBroadcast octetOf copiesOf takeOutcome receivedRelay enteredAll enteredIf putOf takeOf insertBy chosen takenRelay rewrites nextLength nextHeader legsFor legsOf lessened sentBody headerSentOn checksumOctets
 breaks = ((refl, refl, refl, refl), ((refl, refl, refl, refl), ((refl, refl, refl, refl), ((refl, refl, refl, refl), ((refl, refl, refl, refl), tt)))))
 
 pub all-mistaken : Each (λ (m : Mistake). Holds (m .rule) → ⊥) mistakes

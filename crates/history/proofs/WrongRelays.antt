@@ -24,6 +24,8 @@ use Rattle.routes.proofs.Longest.{CandidateAt}
 use Rattle.routes.proofs.Marked as marked
 use Rattle.settings.specs.Refusals.{pathClassRefused}
 use Rattle.settings.specs.Sets.{namesOther, setRefused}
+use Rattle.refusals.specs.Elsewhere.{pathElsewhere}
+use Rattle.lookup.specs.Lookup.{pathPlace}
 use Rattle.verdict.specs.Rule.{pathLine}
 use Rattle.state.specs.Relay.{routeIn, queueAt, counterIn}
 use Rattle.state.specs.Seen.{State, freshState}
@@ -132,7 +134,7 @@ pub record Cases : Type 0 where
   pub domain : outcome (seatAfter 0 twoDomains) basic .answer ≡ notSent 13
 
 pub cases : Cases
-unfolding opened freshState countedAt counterFor pathForm pathClassRefused setRefused namesOther pathLine
+unfolding opened freshState countedAt counterFor pathForm pathClassRefused setRefused namesOther pathElsewhere pathPlace pathLine
 cases =
     record {
       octets = refl;
