@@ -1,6 +1,6 @@
--- Demand 2, the domain, when a copy goes out and of the octets that go out: each copy that waits on a port names there, at that moment, the systems
--- that it named where it came in. A port that is set up is never written anew: 35 prevents it. The theorem is `waiting-copies-name-the-same`. Assumes
--- nothing.
+-- Demand 2, the domain, when a copy goes out and of the octets that go out (page 02, W-214): what each copy that waits on a port goes out as names there, at
+-- that moment, the systems that what came named where it came in. A port that is set up is never written anew: 35 prevents it. The theorem is
+-- `waiting-copies-name-the-same`, and `goes-out` is how the octets are read. Assumes nothing.
 use native.Mathlib.Omega.{arith}
 use Prim.Native.Nat.{ℕ, suc, _+_, _/_, _^_, _<_, _≤_}
 use mathlib.Core.Path.{_≡_, refl, sym, ap, _∙_}
@@ -132,8 +132,9 @@ pub record NamesTheSame (x : Port) (c : Copy) : Type 0 where
   pub size : c .size ≡ came .size
   -- the address that one-octet ones are filled in from
   pub arrival : c .arrival .0 < 2 ^ 32
-  -- the header that goes out is the one that W-214 gives it
+  -- the header that goes out is the one that W-214 gives it, by whether the port lies in another domain and by what the route taken asks for
   pub far : Bool
+  pub lies : far ≡ not (eqb (domainOf (x .address)) (domainOf (c .arrival)))
   pub code : ℕ
   pub header : c .header ≡ nextHeader far (c .arrival .0) code (c .octets)
   pub short : nextLength far (c .arrival .0) code came < lengthLimit
@@ -178,6 +179,7 @@ module _ (p : ℕ) (inside : p < 8) where
           size = was .size;
           arrival = set-up-small seat k port (arrival-set-up p inside r port octets room (was .header) (was .read) granted);
           far = liesFar r port p;
+          lies = refl;
           code = verdictBy longerMask r port octets room .code;
           header = headers-of-any-relay r port octets room .header p inside took;
           short = stays-short p inside r port octets room (was .header) (was .read) granted;

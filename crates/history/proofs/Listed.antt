@@ -4,7 +4,6 @@ use Prim.Native.Nat.{ℕ}
 use mathlib.Core.Path.{_≡_, refl, sym, ap, _∙_}
 use mathlib.Core.Bool.{Bool, true, false, not, _&&_, _||_, or-true}
 use mathlib.Core.List.{List, [], _∷_}
-use lib.ListN.{length}
 use lib.Bits.{bitAnd}
 use lib.Dec.{eqb}
 use borrow.Author.Tests.{eqb-true, eqb-false}
@@ -312,7 +311,7 @@ judged t p w c s =
 -- ---- what holds of every ruling holds of every ending
 
 -- a law of every ruling, and of none, is one of every ending
-module _ (P : Ruling → Type 0) 
+module _ (P : Ruling → Type 0)
     (every : (r : Relay) (x : Aim) (q : Sought) (t : Target) (p : Place) (w : Way) (c : Case) → P (ruledBy t p w c (surveyOf r (destinationAsked x) q))) where
   every-aim : (r : Relay) (q : Sought) (x : Aim) (c : Case) → P (ruleAim r x c (surveyOf r (destinationAsked x) q))
   unfolding ruleTarget

@@ -4,7 +4,7 @@ use native.Mathlib.Omega.{arith}
 use native.Mathlib.Nat.{mod-eq-of-lt}
 use Prim.Native.Nat.{ℕ, _/_, _^_, _<_}
 use mathlib.Core.Path.{_≡_, refl, ap, _∙_}
-use mathlib.Core.Bool.{Bool, true, false, not, _&&_}
+use mathlib.Core.Bool.{Bool, true, not, _&&_}
 use mathlib.Core.List.{List, [], _∷_}
 use mathlib.Core.Logic.{⊎-elim}
 use lib.Dec.{eqb, ltb}
@@ -112,9 +112,10 @@ legs-fit took domain l few on =
     let rewritten = rewrittenAmong took far (l .code) f in
     let next = nextFields (not (eqb far 0)) (l .arrival .0) (l .code) f in
     let short = small-size next (checksum-case (asksChecksum (l .code)) (f .checksum) on) in
-    either LegsFit (eqb took 0) (omega arith, omega arith)
-    (either (λ n. n < 256) (eqb rewritten 0) (omega arith) (omega (arith, short)),
-    either (λ n. n < 256) (adds (l .code) f) few (either (λ n. n < 256) (isNarrow (f .addresses)) (omega arith) (omega arith)))
+    either LegsFit (eqb took 0) (omega arith, omega arith) (
+      either (λ n. n < 256) (eqb rewritten 0) (omega arith) (omega (arith, short)),
+      either (λ n. n < 256) (adds (l .code) f) few (either (λ n. n < 256) (isNarrow (f .addresses)) (omega arith) (omega arith)),
+    )
 
 abbrev Fits : Ending → Type 0
 Fits e = (e .size < 256) × LegsFit (e .legs)
