@@ -93,15 +93,15 @@ numbers-counted = (refl, (refl, refl))
 pub mtu-equal-holds : (p : Port) (q : Sought) → p .mtu ≡ sizeAt (inDomain p q) q → p .mtu < lengthLimit → isFitting p q ≡ true
 mtu-equal-holds p q h short = rw (← h) (simp (le-ltb (p .mtu) (p .mtu) (omega arith), lt-ltb (p .mtu) lengthLimit short))
 
--- the length that came tested, not that of the copy: it does not fit a port whose MTU the rewrite oversteps
-abbrev pub fittingAsItCame : Port → Sought → Bool
-fittingAsItCame p q = fitsPort (p .mtu) (q .near)
+-- one size tested for all ports: in another domain the copy may be too big where the one of the arrival port's domain is not
+abbrev pub fittingAsNear : Port → Sought → Bool
+fittingAsNear p q = fitsPort (p .mtu) (q .near)
 
 abbrev smallPort : Port
 smallPort = record { ready = 1; address = record { 0 = 0 }; mask = record { 0 = 0 }; mtu = 10 }
 
-pub size-after-the-rewrite : ((p : Port) (q : Sought) → isFitting p q ≡ fittingAsItCame p q) → ⊥
-size-after-the-rewrite same = true-false (sym (same smallPort (record { domain = 1; near = 10; far = 16 })))
+pub each-port-its-own-size : ((p : Port) (q : Sought) → isFitting p q ≡ fittingAsNear p q) → ⊥
+each-port-its-own-size same = true-false (sym (same smallPort (record { domain = 1; near = 10; far = 16 })))
 
 -- a queue full with 31 waiting: it takes one more
 abbrev pub fullFrom31 : ℕ → Bool
