@@ -240,7 +240,7 @@ module _ (p : ℕ) where
   enters-none seat n (own (sets s)) h = refl
   enters-none seat n (own (hears rs port slot octets output)) h =
       let e = heardBy seat rs port octets (length output) in
-      ap (λ (t : Bool). pick t (copyOf n seat port slot octets e ∷ []) [])
+      ap (λ (t : Bool). pick t (copyOf p n seat port slot octets e ∷ []) [])
       (refuted (inSet p (e .ruling .took)) (λ t. true-false (sym (ending-up seat rs p port octets (length output) t) ∙ h)))
   enters-none seat n (own (takes port)) h = refl
   enters-none seat n (own (looks l)) h = refl
