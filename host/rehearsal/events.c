@@ -117,7 +117,7 @@ static void build(const hj_fields *fields, const char *text,
 {
     uint32_t data = (uint32_t)strlen(text);
     hj_answer built =
-        hj_build(*fields, data, datagram->octets, HJ_OUTPUT_ROOM);
+        hj_build(*fields, data, datagram->octets, HJ_HEADER_ROOM);
 
     if (hj_refusal(built) != HJ_DONE)
         line_refuse("fields that hj_build takes",
