@@ -132,12 +132,11 @@ build/settings_batch: examples/settings_batch.c
 build/soak: $(SOAK) $(PLAIN)
 build/readme: build/readme.c
 
-# The rehearsal on a wrong relay, which it has to find out: one that loses entries or, by
-# WRONG_TAKE, swaps two or hands one out twice. The soak with faults put between it and
-# the library, which it has to find.
-build/rehearsal_wrong: $(REHEARSAL) tests/wrong_take.c
+# The rehearsal on wrong relays, which it has to find out; WRONG_RELAY says which. The
+# soak with faults put between it and the library, which it has to find.
+build/rehearsal_wrong: $(REHEARSAL) tests/wrong_relay.c
 build/soak_faulty: $(SOAK) $(PLAIN) tests/soak_faults.c
-build/rehearsal_wrong: wrapped := take
+build/rehearsal_wrong: wrapped := take receive_at
 build/soak_faulty: wrapped := class take counter waiting search set_port receive_at
 
 LINKED := $(addprefix build/,replay rehearsal rehearsal_wrong calls relay_calls bench \
