@@ -178,7 +178,7 @@ void plain_copies_write(const plain_datagram *d, const plain_copies *copies,
     if (rewritten.bits != 0) {
         uint8_t *first = first_header(rewritten, output);
 
-        plain_header_write(&copies->fields,
+        plain_header_write(&copies->fields, copies->rewritten_octets,
                            header->length - header->header_length, first);
         copy_to_others(rewritten, first, copies->rewritten_octets, output);
     }
