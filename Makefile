@@ -197,14 +197,16 @@ readme: build/readme
 	cmp build/readme.output build/readme.expected
 
 host-tests: build/calls build/relay_calls build/test_plain build/test_relay \
-	build/test_missions build/replay build/plain build/ledger build/generate build/coverage \
-	build/bench build/flight_loop build/settings_batch build/rehearsal \
-	build/rehearsal_wrong build/soak build/soak_faulty build/coverage-plain/plain
+	build/test_missions build/test_legs build/replay build/plain build/ledger \
+	build/generate build/coverage build/bench build/flight_loop build/settings_batch \
+	build/rehearsal build/rehearsal_wrong build/soak build/soak_faulty \
+	build/coverage-plain/plain
 	build/calls
 	build/relay_calls
 	build/test_plain
 	build/test_relay
 	build/test_missions
+	build/test_legs
 	build/flight_loop > build/flight_loop.output
 	diff examples/flight_loop.expected build/flight_loop.output
 	build/settings_batch > build/settings_batch.output
