@@ -212,29 +212,28 @@ static plain_refusal strike_out(const plain_view *view, const datagram *d,
     return wanted->bits != 0 ? PLAIN_GOOD : PLAIN_TOO_BIG;
 }
 
-/* The ports of the set that took an entry; the others drop theirs. */
-static plain_set put_copies(const plain_view *view, plain_set granted,
-                            plain_entry entry)
+/* Each port of the set takes an entry or drops its copy. */
+static void put_copies(const plain_view *view, plain_set granted,
+                       plain_entry entry, plain_verdict *verdict)
 {
-    plain_set took = {0};
-
     for (uint32_t port = 0; port < PLAIN_PORTS; port++) {
         if (!plain_set_has(granted, port))
             continue;
-        if (plain_queue_put(&view->mission->queues[port], entry))
-            took.bits |= (uint32_t)1 << port;
-        else
+        if (plain_queue_put(&view->mission->queues[port], entry)) {
+            verdict->took.bits |= (uint32_t)1 << port;
+        } else {
+            verdict->dropped.bits |= (uint32_t)1 << port;
             plain_count(&view->mission->counters, PLAIN_OUT_DISCARDS);
+        }
     }
-    return took;
 }
 
 static uint32_t onward_half(const plain_view *view, const datagram *d,
-                            uint32_t local, plain_slot slot, plain_set *took)
+                            plain_slot slot, plain_verdict *verdict)
 {
     plain_entry entry = {slot, (uint16_t)d->header.fields.precedence};
     plain_set wanted = {0};
-    plain_refusal refusal = wanted_ports(view, d, local, &wanted);
+    plain_refusal refusal = wanted_ports(view, d, verdict->local, &wanted);
 
     if (refusal != PLAIN_GOOD)
         return refusal;
@@ -243,8 +242,8 @@ static uint32_t onward_half(const plain_view *view, const datagram *d,
     refusal = strike_out(view, d, &wanted);
     if (refusal != PLAIN_GOOD)
         return refusal;
-    *took = put_copies(view, wanted, entry);
-    if (took->bits == 0)
+    put_copies(view, wanted, entry, verdict);
+    if (verdict->took.bits == 0)
         return PLAIN_ALL_FULL;
     return PLAIN_ONWARD_SENT;
 }
@@ -270,14 +269,14 @@ static plain_refusal judge_call(const plain_view *view, uint32_t arrival,
         return PLAIN_SET_NUMBER;
     if (!plain_set_has(plain_own_ports(view), arrival))
         return PLAIN_NO_PORT;
-    return room < PLAIN_HEADER_MOST ? PLAIN_NO_ROOM : PLAIN_GOOD;
+    return room < PLAIN_OUTPUT_ROOM ? PLAIN_NO_ROOM : PLAIN_GOOD;
 }
 
 plain_verdict plain_receive(const plain_view *view, uint32_t arrival,
                             plain_slot slot, const uint8_t *octets,
                             size_t count, uint8_t *output, size_t room)
 {
-    plain_verdict verdict = {PLAIN_GOOD, 0, 0, {0}, 0};
+    plain_verdict verdict = {PLAIN_GOOD, 0, 0, {0}, {0}, {0}, 0, 0};
     datagram d;
 
     verdict.refusal = judge_call(view, arrival, room);
@@ -292,12 +291,12 @@ plain_verdict plain_receive(const plain_view *view, uint32_t arrival,
     }
     recognise(view, &d);
     verdict.local = local_half(&d);
-    verdict.onward =
-        onward_half(view, &d, verdict.local, slot, &verdict.ports);
+    verdict.arriving_octets = d.header.header_length;
+    verdict.onward = onward_half(view, &d, slot, &verdict);
     count_halves(&view->mission->counters, &verdict);
-    if (verdict.ports.bits != 0) {
-        plain_header_send_on(&d.header, octets, output);
-        verdict.header_length = d.header.header_length;
-    }
+    for (uint32_t port = 0; port < PLAIN_PORTS; port++)
+        if (plain_set_has(verdict.took, port))
+            plain_header_send_on(&d.header, octets,
+                                 output + plain_header_at(port));
     return verdict;
 }

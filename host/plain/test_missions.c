@@ -97,7 +97,7 @@ static plain_verdict send(uint32_t mission, uint32_t arrival,
                            .source = {0, 0x0a0a0a04}};
     plain_view view = seen_by(mission);
     plain_slot slot = {7};
-    uint8_t octets[PLAIN_HEADER_MOST], output[PLAIN_HEADER_MOST];
+    uint8_t octets[PLAIN_HEADER_MOST], output[PLAIN_OUTPUT_ROOM];
     uint32_t length = 0;
 
     fields.destination.low = destination;
@@ -171,7 +171,7 @@ static void test_the_other_addresses_are_not_ours(void)
     CHECK_EQUAL(send(1, 4, 0xc00002ff).local, PLAIN_LOCAL_DELIVERED);
     CHECK_EQUAL(send(1, 4, 0xc00002ff).onward, PLAIN_ONWARD_NOT_ASKED);
     CHECK_EQUAL(send(1, 4, 0x0affffff).local, PLAIN_LOCAL_NO);
-    CHECK_EQUAL(send(0, 0, 0x0affffff).ports.bits, 2);
+    CHECK_EQUAL(send(0, 0, 0x0affffff).took.bits, 2);
     CHECK_EQUAL(missions[0].counters.counts[PLAIN_IN_RECEIVES], 4);
     CHECK_EQUAL(missions[1].counters.counts[PLAIN_IN_RECEIVES], 4);
 }
@@ -192,8 +192,8 @@ static void test_routes_of_each(void)
     CHECK_EQUAL(found(0xc0000901, 1), MOST);
     CHECK_EQUAL(set_route(9, route(4, 1)), 0);
     CHECK_EQUAL(found(0xc0000901, 1), 9);
-    CHECK_EQUAL(send(0, 0, 0xc0000901).ports.bits, 2);
-    CHECK_EQUAL(send(1, 4, 0xc0000901).ports.bits, 0x10);
+    CHECK_EQUAL(send(0, 0, 0xc0000901).took.bits, 2);
+    CHECK_EQUAL(send(1, 4, 0xc0000901).took.bits, 0x10);
     CHECK_EQUAL(waits(0, 1), 1);
     CHECK_EQUAL(waits(1, 1), 0);
     CHECK_EQUAL(waits(1, 4), 1);
@@ -250,10 +250,10 @@ static void test_same_entries(void)
     records[4] = route(1, 0);
     records[7] = route(0, 0);
     CHECK_EQUAL(found(0xc0000901, 0), 4);
-    CHECK_EQUAL(send(0, 0, 0xc0000901).ports.bits, 2);
+    CHECK_EQUAL(send(0, 0, 0xc0000901).took.bits, 2);
     records[4].availability = PLAIN_TESTING;
     CHECK_EQUAL(found(0xc0000901, 0), 2);
-    CHECK_EQUAL(send(0, 0, 0xc0000901).ports.bits, 1);
+    CHECK_EQUAL(send(0, 0, 0xc0000901).took.bits, 1);
     records[4].mission = 1; /* refused: the port is not its own */
     CHECK_EQUAL(found(0xc0000901, 0), 7);
     records[4] = down(route(1, 0));
@@ -316,7 +316,7 @@ static void test_long_lists(void)
     CHECK_EQUAL(records[0].filled, 1);
     CHECK_EQUAL(missions[0].counters.counts[PLAIN_IN_RECEIVES], 0);
     lent = PLAIN_ROUTES;
-    CHECK_EQUAL(send(0, 0, 0xc0000901).ports.bits, 2);
+    CHECK_EQUAL(send(0, 0, 0xc0000901).took.bits, 2);
 }
 
 /* One mission's full queue is nothing to the other. */
@@ -329,7 +329,7 @@ static void test_queues_of_each(void)
         send(0, 0, 0xc0000901);
     CHECK_EQUAL(waits(0, 1), 32);
     CHECK_EQUAL(missions[0].counters.counts[PLAIN_OUT_DISCARDS], 8);
-    CHECK_EQUAL(send(1, 4, 0xc0000901).ports.bits, 0x10);
+    CHECK_EQUAL(send(1, 4, 0xc0000901).took.bits, 0x10);
     CHECK_EQUAL(waits(1, 4), 1);
     CHECK_EQUAL(missions[1].counters.counts[PLAIN_OUT_DISCARDS], 0);
     CHECK_EQUAL(missions[1].counters.counts[PLAIN_IN_RECEIVES], 1);

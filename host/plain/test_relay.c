@@ -36,16 +36,16 @@ static const plain_view view = {
     &relay.board, &relay.mission, {relay.records, PLAIN_ROUTES}};
 static const plain_list list = {relay.records, PLAIN_ROUTES};
 
-static uint8_t output[PLAIN_HEADER_MOST + 8];
+static uint8_t output[PLAIN_OUTPUT_ROOM + 8];
 static uint8_t octets[PLAIN_LENGTH_MOST + 8];
 
-#define CHECK_VERDICT(verdict, refusal_due, local_due, onward_due, ports_due) \
+#define CHECK_VERDICT(verdict, refusal_due, local_due, onward_due, took_due) \
     do { \
         plain_verdict got = (verdict); \
         CHECK_EQUAL(got.refusal, refusal_due); \
         CHECK_EQUAL(got.local, local_due); \
         CHECK_EQUAL(got.onward, onward_due); \
-        CHECK_EQUAL(got.ports.bits, ports_due); \
+        CHECK_EQUAL(got.took.bits, took_due); \
     } while (0)
 
 #define CHECK_COUNT(counter, due) \
@@ -96,6 +96,15 @@ static void fresh_router(uint32_t ports)
                     PLAIN_GOOD);
 }
 
+/* Nothing is written but the headers of the ports that took an entry. */
+static void check_the_rest(const plain_verdict *verdict)
+{
+    for (uint32_t at = 0; at < sizeof output; at++)
+        if (at % PLAIN_HEADER_MOST >=
+            plain_header_octets(verdict, at / PLAIN_HEADER_MOST))
+            CHECK_EQUAL(output[at], UNTOUCHED);
+}
+
 static plain_verdict receive(uint32_t arrival, uint16_t slot, size_t count)
 {
     plain_slot number = {slot};
@@ -103,11 +112,11 @@ static plain_verdict receive(uint32_t arrival, uint16_t slot, size_t count)
 
     memset(output, UNTOUCHED, sizeof output);
     verdict = plain_receive(&view, arrival, number, octets, count, output,
-                            PLAIN_HEADER_MOST);
-    CHECK_EQUAL(verdict.header_length > 0, verdict.ports.bits != 0);
-    CHECK_EQUAL(verdict.onward == PLAIN_ONWARD_SENT, verdict.ports.bits != 0);
-    for (size_t at = verdict.header_length; at < sizeof output; at++)
-        CHECK_EQUAL(output[at], UNTOUCHED);
+                            PLAIN_OUTPUT_ROOM);
+    CHECK_EQUAL(verdict.arriving_octets > 0, verdict.refusal == PLAIN_GOOD);
+    CHECK_EQUAL(verdict.onward == PLAIN_ONWARD_SENT, verdict.took.bits != 0);
+    CHECK_EQUAL(verdict.took.bits & verdict.dropped.bits, 0);
+    check_the_rest(&verdict);
     return verdict;
 }
 
@@ -291,8 +300,9 @@ static void test_hop_count(void)
     CHECK_EQUAL(set_route(0, 0x0a0a0b00, net24, 1, PLAIN_UP), 0);
     verdict = receive_octets(0, arriving, sizeof arriving);
     CHECK_VERDICT(verdict, 0, 0, 1, 2);
-    CHECK_EQUAL(verdict.header_length, sizeof sent_on);
-    CHECK_EQUAL(memcmp(output, sent_on, sizeof sent_on), 0);
+    CHECK_EQUAL(plain_header_octets(&verdict, 1), sizeof sent_on);
+    CHECK_EQUAL(memcmp(output + plain_header_at(1), sent_on, sizeof sent_on),
+                0);
     CHECK_VERDICT(receive_octets(0, sent_on, sizeof sent_on), 0, 0,
                   PLAIN_HOPS_USED_UP, 0);
     fields.hop_present = 1;
@@ -359,7 +369,7 @@ static void test_port_and_room(void)
     CHECK_VERDICT(send(1, to(HERE)), PLAIN_NO_PORT, 0, 0, 0);
     CHECK_VERDICT(send(8, to(HERE)), PLAIN_NO_PORT, 0, 0, 0);
     CHECK_VERDICT(send(4294967295, to(HERE)), PLAIN_NO_PORT, 0, 0, 0);
-    verdict = plain_receive(&view, 0, slot, octets, 12, output, 49);
+    verdict = plain_receive(&view, 0, slot, octets, 12, output, 399);
     CHECK_VERDICT(verdict, PLAIN_NO_ROOM, 0, 0, 0);
     verdict = plain_receive(&view, 1, slot, octets, 12, output, 0);
     CHECK_VERDICT(verdict, PLAIN_NO_PORT, 0, 0, 0);
