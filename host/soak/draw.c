@@ -105,9 +105,13 @@ static void draw_receive(struct soak_call *call, const struct world *world,
                            ? soak_odd_number(world, random)
                            : world_port(world, random);
     call->numbers[1] = random_below(random, 65536);
-    call->room = random_one_in(random, 6)
-                     ? random_below(random, SOAK_MOST_ROOM + 1)
-                     : HJ_OUTPUT_ROOM;
+    call->room = HJ_OUTPUT_ROOM;
+    if (random_one_in(random, 8))
+        call->room += random_below(random, SOAK_MOST_ROOM - HJ_OUTPUT_ROOM + 1);
+    else if (random_one_in(random, 24))
+        call->room = random_one_in(random, 3)
+                         ? HJ_OUTPUT_ROOM - 1
+                         : random_below(random, HJ_OUTPUT_ROOM);
     soak_draw_octets(call, world, random);
 }
 
