@@ -418,30 +418,45 @@ static void put_checksum(uint8_t *header, uint32_t header_length)
                checksum_due(header, header_length), CHECKSUM_OCTETS);
 }
 
-plain_refusal plain_header_build(const plain_fields *fields, uint32_t data,
-                                 uint8_t *output, size_t room,
-                                 uint32_t *header_length)
+uint32_t plain_header_measure(const plain_fields *fields)
 {
-    uint32_t control, count;
-    const uint8_t *end;
+    uint32_t control = shortest_control(fields);
+    uint32_t addresses = fields->source_present ? 2 : 1;
 
-    if (room < PLAIN_HEADER_MOST)
-        return PLAIN_NO_ROOM;
-    if (!fields_fit(fields))
-        return PLAIN_FIELD_OUT_OF_RANGE;
-    control = shortest_control(fields);
-    if (!control_allowed(control))
-        return PLAIN_FIELD_OUT_OF_RANGE;
-    if (data > PLAIN_DATA_MOST)
-        return PLAIN_TOO_MUCH_DATA;
+    return 3 + has(control, CONTINUES_IN_OCTET_4) +
+           has(control, CONTINUES_IN_OCTET_5) +
+           addresses * plain_address_octets(fields) +
+           fields->basic_qos_present + fields->hop_present +
+           plain_stamp_octets(fields->stamp_format, fields->p_field) +
+           fields->expanded_present +
+           (fields->checksum_present ? CHECKSUM_OCTETS : 0);
+}
 
-    end = put_elements(output + 2, control, fields);
-    count = (uint32_t)(end - output);
+uint32_t plain_header_write(const plain_fields *fields, uint32_t data,
+                            uint8_t *output)
+{
+    const uint8_t *end =
+        put_elements(output + 2, shortest_control(fields), fields);
+    uint32_t count = (uint32_t)(end - output);
+
     count += fields->checksum_present ? CHECKSUM_OCTETS : 0;
     put_number(output, (uint32_t)VERSION << 13 | (count + data), 2);
     if (fields->checksum_present)
         put_checksum(output, count);
-    *header_length = count;
+    return count;
+}
+
+plain_refusal plain_header_build(const plain_fields *fields, uint32_t data,
+                                 uint8_t *output, size_t room,
+                                 uint32_t *header_length)
+{
+    if (room < PLAIN_HEADER_MOST)
+        return PLAIN_NO_ROOM;
+    if (!fields_fit(fields) || !control_allowed(shortest_control(fields)))
+        return PLAIN_FIELD_OUT_OF_RANGE;
+    if (data > PLAIN_DATA_MOST)
+        return PLAIN_TOO_MUCH_DATA;
+    *header_length = plain_header_write(fields, data, output);
     return PLAIN_GOOD;
 }
 

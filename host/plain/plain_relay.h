@@ -31,6 +31,14 @@ typedef enum {
     PLAIN_OUT = 4
 } plain_availability;
 
+/* The capabilities of a route: what a copy that takes it is to have. */
+typedef enum {
+    PLAIN_ASKS_NOTHING = 0,
+    PLAIN_ASKS_CHECKSUM = 1,
+    PLAIN_ASKS_HOP_COUNT = 2,
+    PLAIN_ASKS_BOTH = 4
+} plain_capabilities;
+
 typedef struct {
     plain_address address;
     plain_mask mask;
@@ -45,7 +53,7 @@ typedef struct {
     plain_mask mask;
     uint32_t port;
     uint32_t availability;
-    uint32_t capabilities; /* what a copy by this route is to have */
+    uint32_t capabilities;
     uint32_t mission;
 } plain_record;
 

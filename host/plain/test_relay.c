@@ -709,6 +709,7 @@ static void test_search_of_routes_not_up(void)
     check_found(0xc0000301, 1, 24, 0);
 }
 
+/* A one-octet path stays in its domain; one-octet addresses need not. */
 static void test_leaving_the_domain(void)
 {
     plain_fields path = {.tp_id = 6, .destination = {0, 0x06}};
@@ -717,38 +718,43 @@ static void test_leaving_the_domain(void)
     CHECK_EQUAL(set_port(2, 0x0a0a0a08, net24, 8191), 0);
     CHECK_EQUAL(set_port(3, 0xc0000201, net24, 8191), 0);
     CHECK_EQUAL(set_route(0, 0x0a0a0a20, 0xffffffff, 1, PLAIN_UP), 0);
-    CHECK_EQUAL(set_route(1, 0x0a0a0a22, 0xffffffff, 2, PLAIN_UP), 0);
     CHECK_EQUAL(set_path(0, 0x0a0a0a06, 0xe, 0), 0);
-    CHECK_VERDICT(send(0, to_octet(0x20)), 0, 0, PLAIN_LEAVES_DOMAIN, 0);
-    CHECK_VERDICT(send(0, to(0x0a0a0a20)), 0, 0, 1, 2);
-    CHECK_VERDICT(send(0, to_octet(0x22)), 0, 0, 1, 4);
     CHECK_VERDICT(send(0, path), 0, 0, 1, 4);
-    CHECK_VERDICT(send(0, to_octet(0xff)), 0, 1, 1, 4);
-    CHECK_VERDICT(send(1, to_octet(0xff)), 0, 1, PLAIN_LEAVES_DOMAIN, 0);
-    check_counters((const uint32_t[]){6, 0, 0, 0, 0, 0, 0, 0, 2, 0, 4, 0, 0,
+    CHECK_VERDICT(send(0, by_path(0x0a0a0a06)), 0, 0, 1, 0xe);
+    CHECK_EQUAL(set_path(0, 0x0a0a0a06, 0xa, 0), 0);
+    CHECK_VERDICT(send(0, path), 0, 0, PLAIN_LEAVES_DOMAIN, 0);
+    CHECK_EQUAL(set_path(0, 0x0a0a0a06, 0xa, 1), 0);
+    CHECK_VERDICT(send(0, path), 0, 1, PLAIN_LEAVES_DOMAIN, 0);
+    CHECK_VERDICT(send(0, to_octet(0x20)), 0, 0, 1, 2);
+    CHECK_VERDICT(send(0, to_octet(0xff)), 0, 1, 1, 0xe);
+    CHECK_VERDICT(send(1, to_octet(0xff)), 0, 1, 1, 0xd);
+    check_counters((const uint32_t[]){7, 0, 0, 0, 0, 0, 0, 0, 3, 0, 5, 0, 0,
                                       2, 0});
 }
 
 /* 10 before 13 before 14 before 15. */
 static void test_order_of_striking_out(void)
 {
-    plain_fields fields = to_octet(0xff); /* a header of 6 octets, hop 7 */
+    /* A header of 4 octets, with a hop count 6. */
+    plain_fields path = {.tp_id = 6, .destination = {0, 0x06}};
 
     fresh_router(1);
-    CHECK_EQUAL(set_port(1, FAR, net24, 6), 0);
-    fields.hop_present = 1;
-    fields.hop = 1;
-    CHECK_VERDICT(send(0, fields), 0, 1, PLAIN_HOPS_USED_UP, 0);
-    fields.hop = 2;
-    CHECK_VERDICT(send(0, fields), 0, 1, PLAIN_LEAVES_DOMAIN, 0);
-    CHECK_EQUAL(set_port(2, 0x0a0a0a06, net24, 6), 0);
-    CHECK_VERDICT(send(0, fields), 0, 1, PLAIN_TOO_BIG, 0);
-    fields.hop_present = 0;
-    fields.hop = 0;
+    CHECK_EQUAL(set_port(1, FAR, net24, 5), 0);
+    CHECK_EQUAL(set_port(2, 0x0a0a0a08, net24, 5), 0);
+    CHECK_EQUAL(set_path(0, 0x0a0a0a06, 2, 1), 0);
+    path.hop_present = 1;
+    path.hop = 1;
+    CHECK_VERDICT(send(0, path), 0, 1, PLAIN_HOPS_USED_UP, 0);
+    path.hop = 2;
+    CHECK_VERDICT(send(0, path), 0, 1, PLAIN_LEAVES_DOMAIN, 0);
+    CHECK_EQUAL(set_path(0, 0x0a0a0a06, 6, 1), 0);
+    CHECK_VERDICT(send(0, path), 0, 1, PLAIN_TOO_BIG, 0);
+    path.hop_present = 0;
+    path.hop = 0;
     for (unsigned round = 0; round < 32; round++)
-        CHECK_VERDICT(send(0, fields), 0, 1, 1, 4);
-    CHECK_VERDICT(send_slot(0, 1, fields, 1), 0, 1, PLAIN_TOO_BIG, 0);
-    CHECK_VERDICT(send(0, fields), 0, 1, PLAIN_ALL_FULL, 0);
+        CHECK_VERDICT(send_slot(0, 1, path, 1), 0, 1, 1, 4);
+    CHECK_VERDICT(send_slot(0, 1, path, 2), 0, 1, PLAIN_TOO_BIG, 0);
+    CHECK_VERDICT(send_slot(0, 1, path, 1), 0, 1, PLAIN_ALL_FULL, 0);
     CHECK_COUNT(PLAIN_OUT_DISCARDS, 1);
     CHECK_COUNT(PLAIN_IN_DELIVERS, 37);
 }
