@@ -169,14 +169,12 @@ static void note_route(const struct soak_call *call, struct world *world,
                        bool filled)
 {
     const uint32_t *n = call->numbers;
+    struct world_route route = {filled, n[0], n[1], n[2],
+                                n[3],   n[4], n[5], n[6]};
 
     for (uint32_t i = 0; i < WORLD_ROUTES; i++) {
-        if (world->routes[i].place != n[0])
-            continue;
-        world->routes[i].filled = filled;
-        world->routes[i].prefix = n[1];
-        world->routes[i].mask = n[2];
-        world->routes[i].mission = n[6];
+        if (world->routes[i].place == n[0])
+            world->routes[i] = route;
     }
 }
 
