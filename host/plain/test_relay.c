@@ -4,40 +4,22 @@
  * half, and where one check comes before another. Each test starts from a
  * fresh relay and looks at the answer, at what was written to the output and
  * at the counters. All ports and routes are mission 0's; what two missions see
- * of each other, and what a list may hold, is tried in test_missions.c.
+ * of each other, and what a list may hold, is tried in test_missions.c, and
+ * what becomes of the header on its way out in test_legs.c.
  *
  * The awkward case is what does not happen: a refusal that writes, counts
- * twice or sends on. So every call goes through `receive` below, which looks
- * at the octets that should have stayed as lent.
+ * twice or sends on. So every call goes through `receive` of plain_bed.h.
  */
 #include <string.h>
 
-#include "plain_check.h"
+#include "plain_bed.h"
 #include "plain_header.h"
-#include "plain_relay.h"
 
 enum {
-    UNTOUCHED = 0xa5,
     HERE = 0x0a0a0a02,   /* port 0 */
     BESIDE = 0x0a0a0a04, /* another node on its net */
     FAR = 0x0a0a0b02     /* port 1 */
 };
-
-static const uint32_t net24 = 0xffffff00;
-
-/* All that lasts. */
-static struct {
-    plain_board board;
-    plain_mission mission;
-    plain_record records[PLAIN_ROUTES];
-} relay;
-
-static const plain_view view = {
-    &relay.board, &relay.mission, {relay.records, PLAIN_ROUTES}};
-static const plain_list list = {relay.records, PLAIN_ROUTES};
-
-static uint8_t output[PLAIN_OUTPUT_ROOM + 8];
-static uint8_t octets[PLAIN_LENGTH_MOST + 8];
 
 #define CHECK_VERDICT(verdict, refusal_due, local_due, onward_due, took_due) \
     do { \
@@ -48,42 +30,11 @@ static uint8_t octets[PLAIN_LENGTH_MOST + 8];
         CHECK_EQUAL(got.took.bits, took_due); \
     } while (0)
 
-#define CHECK_COUNT(counter, due) \
-    CHECK_EQUAL(relay.mission.counters.counts[counter], due)
-
-static plain_refusal set_port(uint32_t number, uint32_t address,
-                              uint32_t mask, uint32_t mtu)
-{
-    plain_port port = {{address}, {mask}, mtu, 0};
-    return plain_set_port(&relay.board, number, &port);
-}
-
 static plain_refusal set_route(uint32_t place, uint32_t prefix, uint32_t mask,
                                uint32_t port, uint32_t availability)
 {
     plain_record route = {1, {prefix}, {mask}, port, availability, 0, 0};
     return plain_set_route(&relay.board, list, place, &route);
-}
-
-static plain_refusal set_group(uint32_t place, uint32_t address,
-                               uint32_t send, uint32_t subscribed)
-{
-    plain_group group = {{address}, {send}, {subscribed}};
-    return plain_set_group(&view, place, &group);
-}
-
-static plain_refusal set_path(uint32_t place, uint32_t path, uint32_t send,
-                              uint32_t here)
-{
-    plain_path_place setting = {{path}, {send}, here};
-    return plain_set_path(&view, place, &setting);
-}
-
-static void fresh(void)
-{
-    plain_board_fresh(&relay.board);
-    CHECK_EQUAL(plain_mission_fresh(&relay.mission, 0), PLAIN_GOOD);
-    memset(relay.records, 0, sizeof relay.records);
 }
 
 /* A router with as many ports, 10.10.10.2, 10.10.11.2 and so on. */
@@ -94,30 +45,6 @@ static void fresh_router(uint32_t ports)
     for (uint32_t port = 0; port < ports; port++)
         CHECK_EQUAL(set_port(port, HERE + (port << 8), net24, 8191),
                     PLAIN_GOOD);
-}
-
-/* Nothing is written but the headers of the ports that took an entry. */
-static void check_the_rest(const plain_verdict *verdict)
-{
-    for (uint32_t at = 0; at < sizeof output; at++)
-        if (at % PLAIN_HEADER_MOST >=
-            plain_header_octets(verdict, at / PLAIN_HEADER_MOST))
-            CHECK_EQUAL(output[at], UNTOUCHED);
-}
-
-static plain_verdict receive(uint32_t arrival, uint16_t slot, size_t count)
-{
-    plain_slot number = {slot};
-    plain_verdict verdict;
-
-    memset(output, UNTOUCHED, sizeof output);
-    verdict = plain_receive(&view, arrival, number, octets, count, output,
-                            PLAIN_OUTPUT_ROOM);
-    CHECK_EQUAL(verdict.arriving_octets > 0, verdict.refusal == PLAIN_GOOD);
-    CHECK_EQUAL(verdict.onward == PLAIN_ONWARD_SENT, verdict.took.bits != 0);
-    CHECK_EQUAL(verdict.took.bits & verdict.dropped.bits, 0);
-    check_the_rest(&verdict);
-    return verdict;
 }
 
 static plain_verdict receive_octets(uint32_t arrival, const uint8_t *lent,
