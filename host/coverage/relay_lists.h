@@ -276,7 +276,8 @@ static inline bool set_up_port(const struct view *v, uint32_t port)
     ROW("14, path", r->onward == 14 && BY("path"))                            \
     ROW("14, route", r->onward == 14 && BY("route"))                          \
     ROW("14, one octet over the MTU",                                         \
-        r->onward == 14 && BY("route") && route_mtu(v, r) + 1 == route_size(r)) \
+        r->onward == 14 && BY("route") &&                                     \
+            route_mtu(v, r) + 1 == route_size(r))                             \
     ROW("14, length 8,191",                                                   \
         r->onward == 14 && r->datagram.length == 8191)                        \
     ROW("sent on, of the MTU's length",                                       \

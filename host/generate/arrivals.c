@@ -8,9 +8,9 @@
  *
  * The awkward case is the length: a datagram of an MTU's length is 8,191 octets
  * long where the MTU is, so such long ones are rare, and yet each line of the
- * rules about lengths has to be reached. So the length is aimed too: at what the
- * MTU of the port that the datagram probably goes to leaves room for, once the
- * header was rewritten.
+ * rules about lengths has to be reached. So the length is aimed too: at what
+ * the MTU of the port that the datagram probably goes to leaves room for, once
+ * the header was rewritten.
  */
 #include "arrivals.h"
 

@@ -5,10 +5,10 @@
  *     ledger < ANSWERED
  *
  * Each mission has its own books. For each port: what took an entry, one copy
- * per port and receipt, is what was handed out by takes and what waits
- * (`waiting` lines). Each entry handed out is the oldest of the highest
- * precedence that waits, by a plain list. Each counter of a `counters` line is
- * what the answers since `new` add up to.
+ * per port and receipt and each with a header, is what was handed out by takes
+ * and what waits (`waiting` lines). Each entry handed out is the oldest of the
+ * highest precedence that waits, by a plain list. Each counter of a `counters`
+ * line is what the answers since `new` add up to.
  *
  * The awkward counter is npOutDiscards: an answer gives the ports that took an
  * entry, not those that dropped theirs. Only a port with 32 waiting drops one,
@@ -139,6 +139,25 @@ static void bound_discards(uint32_t refusal, uint32_t onward)
         expect(full > 0, "15 without a full port", 1, full);
 }
 
+static uint32_t ports_in(uint32_t set)
+{
+    uint32_t ports = 0;
+
+    for (; set != 0; set &= set - 1)
+        ports++;
+    return ports;
+}
+
+/* Joined by commas, `-` for none. */
+static uint32_t headers_in(struct trace_word out)
+{
+    uint32_t headers = !trace_is(out, "-");
+
+    for (size_t i = 0; i < out.length; i++)
+        headers += out.text[i] == ',';
+    return headers;
+}
+
 static bool book_receive(const struct trace_call *call,
                          const struct trace_call *answer)
 {
@@ -154,6 +173,9 @@ static bool book_receive(const struct trace_call *call,
     bound_discards(refusal, onward);
     expect((ports != 0) == (refusal == 0 && onward == 1),
            "ports exactly where sent on", onward, ports);
+    expect(headers_in(answer->words[4]) == ports_in(ports),
+           "a header for each port that took", ports_in(ports),
+           headers_in(answer->words[4]));
     if (!trace_octets(call->words[4], octets, &length))
         return false;
     newcomer.precedence = arriving_read(octets, length).precedence;
