@@ -4,7 +4,8 @@
  *
  * The awkward case is what does not happen: an octet written that should have
  * stayed as lent. So `receive` looks at the whole output after every call, and
- * at the octets behind it.
+ * at the octets behind it. No two stretches are lent alike, so that octets
+ * copied from one to another are seen.
  */
 #ifndef PLAIN_BED_H
 #define PLAIN_BED_H
@@ -13,8 +14,6 @@
 
 #include "plain_check.h"
 #include "plain_relay.h"
-
-enum { UNTOUCHED = 0xa5 };
 
 static const uint32_t net24 = 0xffffff00;
 
@@ -63,13 +62,24 @@ static void fresh(void)
     memset(relay.records, 0, sizeof relay.records);
 }
 
+static uint8_t lent_at(uint32_t at)
+{
+    return (uint8_t)(0xa5 ^ at);
+}
+
+static void lend_output(void)
+{
+    for (uint32_t at = 0; at < sizeof output; at++)
+        output[at] = lent_at(at);
+}
+
 /* Nothing is written but the headers of the ports that took an entry. */
 static void check_the_rest(const plain_verdict *verdict)
 {
     for (uint32_t at = 0; at < sizeof output; at++)
         if (at % PLAIN_HEADER_MOST >=
             plain_header_octets(verdict, at / PLAIN_HEADER_MOST))
-            CHECK_EQUAL(output[at], UNTOUCHED);
+            CHECK_EQUAL(output[at], lent_at(at));
 }
 
 static plain_verdict receive(uint32_t arrival, uint16_t slot, size_t count)
@@ -77,7 +87,7 @@ static plain_verdict receive(uint32_t arrival, uint16_t slot, size_t count)
     plain_slot number = {slot};
     plain_verdict verdict;
 
-    memset(output, UNTOUCHED, sizeof output);
+    lend_output();
     verdict = plain_receive(&view, arrival, number, octets, count, output,
                             PLAIN_OUTPUT_ROOM);
     CHECK_EQUAL(verdict.arriving_octets > 0, verdict.refusal == PLAIN_GOOD);

@@ -106,11 +106,12 @@ plain_refusal plain_copies_grant(const plain_view *view,
         far = outside_domain(view, copies->ports, d->arrival);
     if (d->by_path) {
         copies->ports.bits &= ~far.bits;
-        far.bits = 0;
+        copies->rewritten.bits = 0;
+        if (copies->ports.bits == 0)
+            return PLAIN_LEAVES_DOMAIN;
+    } else {
+        settle_headers(d, far, copies);
     }
-    if (copies->ports.bits == 0)
-        return PLAIN_LEAVES_DOMAIN;
-    settle_headers(d, far, copies);
     strike_small(view, &d->header, copies);
     return copies->ports.bits != 0 ? PLAIN_GOOD : PLAIN_TOO_BIG;
 }

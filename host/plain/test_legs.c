@@ -315,6 +315,23 @@ static void test_two_forms(void)
     CHECK_EQUAL(plain_header_octets(&verdict, 8), 0);
 }
 
+/* Each port in its turn of either form, the last one too. */
+static void test_eight_ports(void)
+{
+    fresh_router();
+    for (uint32_t port = 1; port < PLAIN_PORTS; port++)
+        CHECK_EQUAL(set_port(port, HERE + (port % 2 << 8), net24, 8191), 0);
+    CHECK_LINE(2, to_all,
+               "0 1 1 251 170 20061a40ff04,200c1a410a0a0aff0a0a0a04,"
+               "200c1a410a0a0aff0a0a0a04,20061a40ff04,"
+               "200c1a410a0a0aff0a0a0a04,20061a40ff04,"
+               "200c1a410a0a0aff0a0a0a04");
+    CHECK_LINE(3, to_all,
+               "0 1 1 247 85 200c1a410a0a0bff0a0a0b04,20061a40ff04,"
+               "200c1a410a0a0bff0a0a0b04,200c1a410a0a0bff0a0a0b04,"
+               "20061a40ff04,200c1a410a0a0bff0a0a0b04,20061a40ff04");
+}
+
 /* One-octet 255 is the broadcast of all SCPS on both sides. */
 static void test_all_scps(void)
 {
@@ -475,11 +492,12 @@ static void test_room(void)
     plain_verdict verdict;
 
     fresh_router();
-    arrive(0, to_14); /* lends the octets */
-    memset(output, UNTOUCHED, sizeof output);
+    arrive(0, to_14); /* puts the octets that are lent below */
+    lend_output();
     verdict = plain_receive(&view, 0, slot, octets, 6, output, 399);
     CHECK_EQUAL(verdict.refusal, PLAIN_NO_ROOM);
     CHECK_EQUAL(verdict.arriving_octets, 0);
+    check_the_rest(&verdict);
     verdict = plain_receive(&view, 0, slot, octets, 6, output, 400);
     CHECK_EQUAL(verdict.refusal, PLAIN_GOOD);
     verdict = plain_receive(&view, 0, slot, octets, 6, output, 401);
@@ -579,6 +597,7 @@ int main(void)
     test_the_route_that_was_taken();
     test_copies_without_a_route();
     test_two_forms();
+    test_eight_ports();
     test_all_scps();
     test_paths();
     test_size_of_one_leg();

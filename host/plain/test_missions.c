@@ -90,21 +90,28 @@ static uint32_t found(uint32_t address, uint32_t mission)
     return answer.found ? answer.place : (uint32_t)MOST;
 }
 
-static plain_verdict send(uint32_t mission, uint32_t arrival,
-                          uint32_t destination)
+static plain_verdict send_fields(uint32_t mission, uint32_t arrival,
+                                 plain_fields fields)
 {
-    plain_fields fields = {.tp_id = 6, .source_present = 1, .extended = 1,
-                           .source = {0, 0x0a0a0a04}};
     plain_view view = seen_by(mission);
     plain_slot slot = {7};
     uint8_t octets[PLAIN_HEADER_MOST], output[PLAIN_OUTPUT_ROOM];
     uint32_t length = 0;
 
-    fields.destination.low = destination;
     CHECK_EQUAL(plain_header_build(&fields, 0, octets, sizeof octets, &length),
                 0);
     return plain_receive(&view, arrival, slot, octets, length, output,
                          sizeof output);
+}
+
+static plain_verdict send(uint32_t mission, uint32_t arrival,
+                          uint32_t destination)
+{
+    plain_fields fields = {.tp_id = 6, .source_present = 1, .extended = 1,
+                           .source = {0, 0x0a0a0a04}};
+
+    fields.destination.low = destination;
+    return send_fields(mission, arrival, fields);
 }
 
 static uint32_t waits(uint32_t mission, uint32_t port)
@@ -174,6 +181,35 @@ static void test_the_other_addresses_are_not_ours(void)
     CHECK_EQUAL(send(0, 0, 0x0affffff).took.bits, 2);
     CHECK_EQUAL(missions[0].counters.counts[PLAIN_IN_RECEIVES], 4);
     CHECK_EQUAL(missions[1].counters.counts[PLAIN_IN_RECEIVES], 4);
+}
+
+/* A board made fresh alone, whose port 1 is now the other's. A group and a
+ * path still want it, but for the mission it has no address and no MTU. */
+static void test_sets_of_an_older_board(void)
+{
+    plain_group group = {{0x0a0a0a0f}, {2}, {0}};
+    plain_path_place place = {{0x0a0a0a10}, {2}, 0};
+    plain_fields octet = {.tp_id = 6, .source_present = 1,
+                          .destination = {0, 0x0f}, .source = {0, 0x04}};
+    plain_fields path = {.tp_id = 6, .destination = {0, 0x10}};
+    plain_fields wide_path = {.tp_id = 6, .extended = 1,
+                              .destination = {0, 0x0a0a0a10}};
+    plain_view ours;
+
+    fresh();
+    ours = seen_by(0);
+    CHECK_EQUAL(plain_set_group(&ours, 0, &group), 0);
+    CHECK_EQUAL(plain_set_path(&ours, 0, &place), 0);
+    plain_board_fresh(&board);
+    CHECK_EQUAL(plain_set_router(&board, 1), 0);
+    CHECK_EQUAL(set_port(0, OURS, 0), 0);
+    CHECK_EQUAL(set_port(1, 0x0a0a0a06, 1), 0);
+    CHECK_EQUAL(send(0, 0, 0x0a0a0a0f).onward, PLAIN_TOO_BIG);
+    CHECK_EQUAL(send_fields(0, 0, octet).onward, PLAIN_TOO_BIG);
+    CHECK_EQUAL(send_fields(0, 0, wide_path).onward, PLAIN_TOO_BIG);
+    CHECK_EQUAL(send_fields(0, 0, path).onward, PLAIN_LEAVES_DOMAIN);
+    CHECK_EQUAL(waits(0, 1), 0);
+    CHECK_EQUAL(waits(1, 1), 0);
 }
 
 static void test_routes_of_each(void)
@@ -341,6 +377,7 @@ int main(void)
     test_ports_of_each();
     test_the_other_ports_are_not_there();
     test_the_other_addresses_are_not_ours();
+    test_sets_of_an_older_board();
     test_routes_of_each();
     test_refused_records();
     test_filled_numbers();
