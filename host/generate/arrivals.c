@@ -200,7 +200,7 @@ static struct form sent_form(const struct world *world,
 
     sent.has_checksum |= asked == 1 || asked == 4;
     sent.has_hop_count |= asked == 2 || asked == 4;
-    if (form->address_octets == 1 &&
+    if (form->address_octets == 1 && form->has_source &&
         domain_of(world, port) != domain_of(world, arrival))
         sent.address_octets = 4;
     if (sent.has_checksum != form->has_checksum ||
