@@ -80,16 +80,17 @@ static void settle_headers(const plain_datagram *d, plain_set far,
 static void strike_small(const plain_view *view, const plain_header *header,
                          plain_copies *copies)
 {
-    plain_set own = plain_own_ports(view);
+    plain_set *ports = &copies->ports;
     uint32_t data = header->length - header->header_length;
 
-    for (uint32_t port = 0; port < PLAIN_PORTS; port++) {
+    ports->bits &= plain_own_ports(view).bits;
+    for (uint32_t port = 0; ports->bits >> port != 0; port++) {
         uint32_t size = plain_set_has(copies->rewritten, port)
                             ? copies->rewritten_octets + data
                             : header->length;
 
-        if (!plain_set_has(own, port) || view->board->ports[port].mtu < size)
-            copies->ports.bits &= ~((uint32_t)1 << port);
+        if (view->board->ports[port].mtu < size)
+            ports->bits &= ~((uint32_t)1 << port);
     }
 }
 
@@ -122,7 +123,7 @@ plain_refusal plain_copies_put(const plain_view *view,
 {
     plain_mission *mission = view->mission;
 
-    for (uint32_t port = 0; port < PLAIN_PORTS; port++) {
+    for (uint32_t port = 0; copies->ports.bits >> port != 0; port++) {
         if (!plain_set_has(copies->ports, port))
             continue;
         if (plain_queue_put(&mission->queues[port], entry)) {
