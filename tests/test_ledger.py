@@ -56,6 +56,18 @@ class Ledger(unittest.TestCase):
         self.refused("relay-rewrite.trace", line, line[:line.index(",")],
                      "a header for each port that took: due 2, found 1")
 
+    def test_another_header(self):
+        line = "receive 0 1 400 20061a401604 0 = 0 0 1 4 200f1b610a0a0a160a0a0a04405c61"
+        for old, new, says in (("0a0a0a16", "0a0a0b16", "a header names another system"),  # the port's own domain
+                               ("0a0a0a04", "0a0a0b04", "a header names another system"),
+                               ("405c61", "3f5d61", "another hop count"),
+                               ("200f1b", "20061b", "a length field that is not header and data"),
+                               ("200f1b", "200f2b", "a header says something else")):
+            self.refused("relay-rewrite.trace", line, line[:20] + line[20:].replace(old, new), says)
+        line = "receive 0 1 400 20061a40ff04 0 = 0 1 1 6 20061a40ff04,200c1a410a0a0aff0a0a0a04"
+        self.refused("relay-rewrite.trace", line, line.replace("200c1a410a0a0aff0a0a0a04", "20061a40ff04"),
+                     "a header names another system")  # one octet in another domain
+
     def test_another_number_waits(self):
         self.refused("relay-queues.trace", "waiting 1 0 = 32", "waiting 1 0 = 31", "took = handed out + waiting")
 
