@@ -205,7 +205,8 @@ static void check_rewritten(void)
     verdict = receive("20081a400e04");
     expect(hj_took(verdict) == 8 && hj_rewritten(verdict) == 8 &&
                hj_rewritten_octets(verdict) == 15 &&
-               hj_data_from(verdict) == 6 && hj_header_octets(verdict, 3) == 15,
+               hj_data_from(verdict) == 6 &&
+               hj_header_octets(verdict, 3) == 15,
            "rewritten");
     due_header(3, "20111b610a0a0a0e0a0a0a04405c67");
     expect_output("rewritten: its header, and no other octet");
@@ -227,8 +228,8 @@ static void check_same_length(void)
     set_route(0, 0x0a0a0a0e, 5, HJ_CAPABLE_HOP_COUNT);
     set_route(1, 0x0a0a0a10, 5, HJ_CAPABLE_NONE);
     verdict = receive("20071ac0000e04");
-    expect(hj_rewritten(verdict) == 0x20 && hj_rewritten_octets(verdict) == 7 &&
-               hj_data_from(verdict) == 7,
+    expect(hj_rewritten(verdict) == 0x20 &&
+               hj_rewritten_octets(verdict) == 7 && hj_data_from(verdict) == 7,
            "rewritten, and as long as before");
     due_header(5, "20071a600e0440");
     expect_output("a shorter control field, and a hop count");
@@ -293,7 +294,8 @@ static void expect_ends(const char *header, uint32_t local, uint32_t onward,
 {
     hj_verdict verdict = receive(header);
 
-    expect(verdict == ((hj_verdict)data_from << 40 | onward << 16 | local << 8),
+    expect(verdict ==
+               ((hj_verdict)data_from << 40 | onward << 16 | local << 8),
            what);
     expect_output(what);
 }

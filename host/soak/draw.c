@@ -107,7 +107,8 @@ static void draw_receive(struct soak_call *call, const struct world *world,
     call->numbers[1] = random_below(random, 65536);
     call->room = HJ_OUTPUT_ROOM;
     if (random_one_in(random, 8))
-        call->room += random_below(random, SOAK_MOST_ROOM - HJ_OUTPUT_ROOM + 1);
+        call->room +=
+            random_below(random, SOAK_MOST_ROOM - HJ_OUTPUT_ROOM + 1);
     else if (random_one_in(random, 24))
         call->room = random_one_in(random, 3)
                          ? HJ_OUTPUT_ROOM - 1
