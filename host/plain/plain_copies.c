@@ -10,8 +10,9 @@
  *
  * The awkward cases: 10 looks at the hop count that came, so an added one is
  * never used up here; addresses are widened by what they meant at the arrival
- * port, whatever the port that they leave by; and a path is never widened, for
- * it has no route and a copy that would need it is struck out by 13.
+ * port, whatever the port that they leave by; and a path is never rewritten,
+ * for it has no route, and a copy that would have to be widened is struck out
+ * by 13.
  */
 #include "plain_copies.h"
 
@@ -177,7 +178,7 @@ void plain_copies_write(const plain_datagram *d, const plain_copies *copies,
     if (rewritten.bits != 0) {
         uint8_t *first = first_header(rewritten, output);
 
-        plain_header_write(&copies->fields,
+        plain_header_write(&copies->fields, copies->rewritten_octets,
                            header->length - header->header_length, first);
         copy_to_others(rewritten, first, copies->rewritten_octets, output);
     }

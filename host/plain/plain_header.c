@@ -392,8 +392,8 @@ static uint8_t *put_stamp(uint8_t *at, const plain_fields *fields)
 }
 
 /* All elements from the control field to the one before the checksum. */
-static uint8_t *put_elements(uint8_t *at, uint32_t control,
-                             const plain_fields *fields)
+static void put_elements(uint8_t *at, uint32_t control,
+                         const plain_fields *fields)
 {
     uint32_t count = plain_address_octets(fields);
 
@@ -408,8 +408,7 @@ static uint8_t *put_elements(uint8_t *at, uint32_t control,
         at = put_number(at, fields->hop, 1);
     at = put_stamp(at, fields);
     if (fields->expanded_present)
-        at = put_number(at, fields->expanded, 1);
-    return at;
+        put_number(at, fields->expanded, 1);
 }
 
 static void put_checksum(uint8_t *header, uint32_t header_length)
@@ -432,18 +431,13 @@ uint32_t plain_header_measure(const plain_fields *fields)
            (fields->checksum_present ? CHECKSUM_OCTETS : 0);
 }
 
-uint32_t plain_header_write(const plain_fields *fields, uint32_t data,
-                            uint8_t *output)
+void plain_header_write(const plain_fields *fields, uint32_t header_length,
+                        uint32_t data, uint8_t *output)
 {
-    const uint8_t *end =
-        put_elements(output + 2, shortest_control(fields), fields);
-    uint32_t count = (uint32_t)(end - output);
-
-    count += fields->checksum_present ? CHECKSUM_OCTETS : 0;
-    put_number(output, (uint32_t)VERSION << 13 | (count + data), 2);
+    put_number(output, (uint32_t)VERSION << 13 | (header_length + data), 2);
+    put_elements(output + 2, shortest_control(fields), fields);
     if (fields->checksum_present)
-        put_checksum(output, count);
-    return count;
+        put_checksum(output, header_length);
 }
 
 plain_refusal plain_header_build(const plain_fields *fields, uint32_t data,
@@ -456,7 +450,8 @@ plain_refusal plain_header_build(const plain_fields *fields, uint32_t data,
         return PLAIN_FIELD_OUT_OF_RANGE;
     if (data > PLAIN_DATA_MOST)
         return PLAIN_TOO_MUCH_DATA;
-    *header_length = plain_header_write(fields, data, output);
+    *header_length = plain_header_measure(fields);
+    plain_header_write(fields, *header_length, data, output);
     return PLAIN_GOOD;
 }
 

@@ -117,7 +117,7 @@ typedef struct {
     uint32_t onward;
     plain_set took;            /* the ports that took an entry */
     plain_set dropped;         /* the granted ports that were full */
-    plain_set rewritten;       /* those that took, and whose header is such */
+    plain_set rewritten;       /* those that took, with the header rewritten */
     uint32_t arriving_octets;  /* of the header that came: data begin there */
     uint32_t rewritten_octets; /* of the rewritten header, 0 for none */
 } plain_verdict;

@@ -52,7 +52,7 @@ extern const plain_meaning plain_header_words[];
 void plain_output_lend(plain_session *session, uint32_t room);
 
 /* Puts a stretch of the output without the a5 octets at its end, and sets it
- * to a5 again, so that what is left changed changed outside. */
+ * to a5 again, so that what is not a5 in the end lies outside. */
 void plain_output_stretch(plain_session *session, uint32_t from,
                           uint32_t count);
 

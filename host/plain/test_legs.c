@@ -400,7 +400,7 @@ static void test_size_of_each_leg(void)
     CHECK_COUNT(PLAIN_TOO_BIG_COUNT, 1);
 }
 
-/* Whatever the builder takes: 8,177 octets of data behind 14 of header. */
+/* More data than the builder takes: 8,177 octets behind a header of 14. */
 static void test_longest(void)
 {
     fresh_with_legs();
@@ -414,7 +414,7 @@ static void test_longest(void)
     route_all(2, PLAIN_ASKS_NOTHING);
     CHECK_LINE(0, "3fff1a410a04090e0a0a0a04",
                "0 0 1 4 0 3fff1a410a04090e0a0a0a04");
-    /* A whole octet over, with nothing but the hop count added. */
+    /* Where nothing but a hop count is added, one octet decides. */
     route_all(1, PLAIN_ASKS_HOP_COUNT);
     CHECK_LINE(0, "3ffe1a400e04", "0 0 1 2 2 3fff1a600e0440");
     CHECK_LINE(0, "3fff1a400e04", "0 0 14 0 0");
