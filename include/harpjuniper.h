@@ -350,7 +350,7 @@ static inline uint32_t hj_rewritten(hj_verdict verdict)
     return (uint32_t)(verdict >> 56 & 0xffu);
 }
 
-/* Octets of the header for a port; 0 for one that took no entry, or is over 7. */
+/* Octets of the header for a port; 0 where it took no entry, or is over 7. */
 static inline uint32_t hj_header_octets(hj_verdict verdict, uint32_t port)
 {
     if (port >= HJ_PORTS || (hj_took(verdict) >> port & 1u) == 0)
