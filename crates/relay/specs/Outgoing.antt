@@ -1,5 +1,7 @@
 -- What goes out where ports took an entry: page 01, the end of "Onward half". Assumes nothing.
 use Prim.Native.Nat.{ℕ, zero, suc, _*_}
+use mathlib.Core.Path.{_≡_}
+use mathlib.Core.Bool.{true}
 use mathlib.Core.List.{List}
 use lib.Dec.{eqb}
 use lib.Bits.{bitAnd}
@@ -8,6 +10,7 @@ use Rattle.octets.specs.Octets.{pasted}
 use Rattle.sets.specs.Limits.{portCount}
 use Rattle.sets.specs.Sets.{inSet, onlyPort}
 use Rattle.header.specs.Limits.{longestHeader}
+use Rattle.header.specs.Onward.{headerSentOn}
 use Rattle.next_leg.specs.Leg.{headerFor}
 use Rattle.next_leg.specs.declared.Legs.{Legs}
 use Rattle.judge.specs.declared.Ending.{Ending}
@@ -40,6 +43,18 @@ sentIf took l octets p lent = pick (inSet p took) (pasted lent (stretchOf p) (he
 unfoldable pub sentBelow : ℕ → Legs → List ℕ → List ℕ → ℕ → List ℕ
 sentBelow took l octets lent zero = lent
 sentBelow took l octets lent (suc p) = sentIf took l octets p (sentBelow took l octets lent p)
+
+-- the same where every header is kept (law `kept-sent`)
+unfoldable pub keptIf : ℕ → List ℕ → ℕ → List ℕ → List ℕ
+keptIf took octets p lent = pick (inSet p took) (pasted lent (stretchOf p) (headerSentOn octets)) lent
+
+unfoldable pub keptBelow : ℕ → List ℕ → List ℕ → ℕ → List ℕ
+keptBelow took octets lent zero = lent
+keptBelow took octets lent (suc p) = keptIf took octets p (keptBelow took octets lent p)
+
+-- no port that took an entry has another header than the one kept
+abbrev pub KeptAll : ℕ → Legs → List ℕ → Type 0
+KeptAll took l octets = l .rewritten ≡ 0 → (p : ℕ) → inSet p took ≡ true → headerFor l octets p ≡ headerSentOn octets
 
 unfoldable pub sentOutput : Ending → List ℕ → List ℕ → List ℕ
 sentOutput e octets lent = sentBelow (e .ruling .took) (e .legs) octets lent portCount

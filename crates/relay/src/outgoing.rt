@@ -20,7 +20,7 @@ ghost use Rattle.judge.specs.Ending.{outputRoom};
 ghost use Rattle.sets.specs.Limits.{portCount};
 ghost use Rattle.state.specs.Seen.{Board, onSeated};
 ghost use Rattle.state.specs.Layout.{missionWords, decode};
-ghost use Rattle.relay.specs.Outgoing.{entered, enteredIf, enteredAll, sentIf, sentBelow};
+ghost use Rattle.relay.specs.Outgoing.{entered, enteredIf, enteredAll, sentIf, sentBelow, keptIf, keptBelow, KeptAll};
 
 // The entry in the queue of a port.
 fn enter(mission: &mut [u32], p: usize, e: Entry)
@@ -88,8 +88,33 @@ fn send_if(
     );
 }
 
-// The headers for all ports that took an entry.
-pub fn send_all(
+// The kept header in the stretch of a port, where the port took an entry.
+fn keep_if(p: usize, took: u32, renewal: Renewal, octets: &[u8], output: &mut [u8])
+    requires { ⌜ (p < portCount) × ((outputRoom ≤ length (now output)) × ((placesOf (now octets) .size ≤ length (now octets)) × (renewal ≡ renewalOf (now octets)))) ⌝ }
+    ensures { λ _. ⌜ now (output .exit) ≡ keptIf took (now (octets .entry)) p (now (output .entry)) ⌝ }
+{
+    if (took >> p as u32) % 2 != 1 {
+        return;
+    }
+    let from = LONGEST_HEADER * p;
+    let to = from + LONGEST_HEADER;
+    sent_on::send_on(octets, &mut output[from..to], renewal);
+}
+
+// The kept header for all ports that took an entry.
+fn keep_all(took: u32, renewal: Renewal, octets: &[u8], output: &mut [u8])
+    requires { ⌜ (outputRoom ≤ length (now output)) × ((placesOf (now octets) .size ≤ length (now octets)) × (renewal ≡ renewalOf (now octets))) ⌝ }
+    ensures { λ _. ⌜ now (output .exit) ≡ keptBelow took (now (octets .entry)) (now (output .entry)) portCount ⌝ }
+{
+    let mut p = 0;
+    while p < PORTS {
+        keep_if(p, took, renewal, octets, output);
+        p += 1;
+    }
+}
+
+// The header for each port that took an entry, by the port.
+fn send_each(
     took: u32,
     legs: Legs,
     header: Header,
@@ -106,4 +131,25 @@ pub fn send_all(
         send_if(p, took, legs, header, renewal, octets, output);
         p += 1;
     }
+}
+
+// The headers for all ports that took an entry. Most datagrams have no rewritten header, and for these none is made ready.
+pub fn send_all(
+    took: u32,
+    legs: Legs,
+    header: Header,
+    renewal: Renewal,
+    octets: &[u8],
+    output: &mut [u8],
+)
+    requires { ⌜ KeptAll took legs (now octets)
+        × ((outputRoom ≤ length (now output))
+        × (Sound header × ((header ≡ headerOf (now octets)) × ((placesOf (now octets) .size ≤ length (now octets)) × (renewal ≡ renewalOf (now octets)))))) ⌝ }
+    ensures { λ _. ⌜ now (output .exit) ≡ sentBelow took legs (now (octets .entry)) (now (output .entry)) portCount ⌝ }
+{
+    if legs.rewritten == 0 {
+        keep_all(took, renewal, octets, output);
+        return;
+    }
+    send_each(took, legs, header, renewal, octets, output);
 }
