@@ -14,7 +14,7 @@ use Rattle.checks.specs.Answer.{refusalNumber}
 use Rattle.checks.proofs.Bools.{true-false, and-true}
 use Rattle.queue.specs.Order.{Each}
 use Rattle.address.specs.declared.Slot.{Slot}
-use Rattle.header.specs.Limits.{longestHeader}
+use Rattle.judge.specs.Ending.{outputRoom}
 use Rattle.routes.specs.Records.{emptyRecord}
 use Rattle.routes.specs.declared.Record.{Record}
 use Rattle.records.specs.SetUp.{isSetUp}
@@ -67,7 +67,7 @@ abbrev ours : List Step
 ours = orders-of (routerWithPorts 0)
 
 abbrev hearing : MissionCall
-hearing = hears (allRoutes 0) 4 (record { 0 = 1 }) (datagram 10 4 9 14 0) (replicate longestHeader 0)
+hearing = hears (allRoutes 0) 4 (record { 0 = 1 }) (datagram 10 4 9 14 0) (replicate outputRoom 0)
 
 abbrev heard : List Step
 heard = ours ++ (flies first hearing ∷ [])
