@@ -51,9 +51,10 @@ use Rattle.page.specs.Table.{oneOctet, liesFar, hasRoom, verdictBy}
 use Rattle.survey.proofs.Bits.{in-none}
 use Rattle.page.proofs.Exactly.{took-exactly}
 use Rattle.page.proofs.Headers.{headers-of-any-relay}
+use Rattle.page.proofs.Verdict.{masks-choose}
 use Rattle.history.proofs.Heard.{heard-so}
 use Rattle.history.proofs.Ports.{seen-stays}
-use Rattle.history.proofs.Meaning.{arrival-set-up, stays-short, stays-in-its-domain, names-the-same}
+use Rattle.history.proofs.Meaning.{has-passed, arrival-set-up, stays-in-its-domain, names-the-same}
 use Rattle.history.proofs.Reach.{Kept, one-kept, fresh-kept}
 use Rattle.history.proofs.Line.{line-each}
 use Rattle.history.proofs.Ranges.{NoneWaits, none-comes, next-none}
@@ -116,7 +117,7 @@ unicast-small a h = by (ltb (a .0) (2 ^ 32)) refl
     by true e = ltb-true (a .0) (2 ^ 32) e
     by false e = true-false (sym (ap not (class-above (a .0) (ltb-false (a .0) (2 ^ 32) e))) ∙ h)
 
-set-up-small : (seat : Seat) → Kept seat → (p : ℕ) → portSetUp (relayIn seat) p ≡ true → portIn (relayIn seat) p .address .0 < 2 ^ 32
+pub set-up-small : (seat : Seat) → Kept seat → (p : ℕ) → portSetUp (relayIn seat) p ≡ true → portIn (relayIn seat) p .address .0 < 2 ^ 32
 unfolding amongPorts
 set-up-small seat k p up =
     let both = and-true (ltb p 8) (isSetUp (portIn (relayIn seat) p)) up in
@@ -172,20 +173,20 @@ module _ (p : ℕ) (inside : p < 8) where
         let was = page-read r port octets room (λ z. true-false (sym (sym (ap (inSet p) z) ∙ took) ∙ in-none p)) in
         let granted =
         and-true (inSet p (endingOf r port octets room .ruling .granted)) (hasRoom r p) (sym (took-exactly r port octets room p inside) ∙ took) .0 in
-        let names = names-the-same p inside r port octets room (was .header) (was .read) granted in
+        let names = names-the-same longerMask r (masks-choose r) p inside port octets room (was .header) (was .read) granted in
         record {
           came = was .header;
           read = was .read;
           size = was .size;
-          arrival = set-up-small seat k port (arrival-set-up p inside r port octets room (was .header) (was .read) granted);
+          arrival = set-up-small seat k port (arrival-set-up longerMask r (masks-choose r) p inside port octets room (was .header) (was .read) granted);
           far = liesFar r port p;
           lies = refl;
           code = verdictBy longerMask r port octets room .code;
           header = headers-of-any-relay r port octets room .header p inside took;
-          short = stays-short p inside r port octets room (was .header) (was .read) granted;
+          short = has-passed longerMask r (masks-choose r) p inside port octets room (was .header) (was .read) granted .short;
           aim = names .0;
           origin = names .1;
-          domain = stays-in-its-domain p inside r port octets room (was .header) (was .read) granted;
+          domain = stays-in-its-domain longerMask r (masks-choose r) p inside port octets room (was .header) (was .read) granted;
         }
 
     new-copy : Kept seat → inSet p (heardBy seat rs port octets room .ruling .took) ≡ true
