@@ -88,12 +88,12 @@ fn send_if(
     );
 }
 
-// The kept header in the stretch of a port, where the port took an entry.
-fn keep_if(p: usize, took: u32, renewal: Renewal, octets: &[u8], output: &mut [u8])
+// The kept header in the stretch of a port, where the port is in the set.
+fn keep_if(p: usize, ports: u32, renewal: Renewal, octets: &[u8], output: &mut [u8])
     requires { ⌜ (p < portCount) × ((outputRoom ≤ length (now output)) × ((placesOf (now octets) .size ≤ length (now octets)) × (renewal ≡ renewalOf (now octets)))) ⌝ }
-    ensures { λ _. ⌜ now (output .exit) ≡ keptIf took (now (octets .entry)) p (now (output .entry)) ⌝ }
+    ensures { λ _. ⌜ now (output .exit) ≡ keptIf ports (now (octets .entry)) p (now (output .entry)) ⌝ }
 {
-    if (took >> p as u32) % 2 != 1 {
+    if (ports >> p as u32) % 2 != 1 {
         return;
     }
     let from = LONGEST_HEADER * p;

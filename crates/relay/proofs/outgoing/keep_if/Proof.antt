@@ -36,7 +36,7 @@ same-length : tie.Need-same-length
 same-length c = search needs
 
 returns-2 : tie.Need-returns-2
-returns-2 c = one-kept (c .before .before .before .before .before .before .before .args .took) _ (c .before .before .before .before .before .before .before .args .p) (c .before .before .before .before .before .before .before .args .output .now) (c .before .before .before .before .if1 .left) (c .before .before .before .before .before .before .before .pre .1 .1 .0) (omega (arith, c .before .before .before .before .before .before .before .pre)) (c .before .before .send-on .ensures .1)
+returns-2 c = one-kept (c .before .before .before .before .before .before .before .args .ports) _ (c .before .before .before .before .before .before .before .args .p) (c .before .before .before .before .before .before .before .args .output .now) (c .before .before .before .before .if1 .left) (c .before .before .before .before .before .before .before .pre .1 .1 .0) (omega (arith, c .before .before .before .before .before .before .before .pre)) (c .before .before .send-on .ensures .1)
 
 pub keep-if-spec : {M : Type 1} → statement M
 keep-if-spec =
