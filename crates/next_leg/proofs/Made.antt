@@ -19,7 +19,10 @@ use Rattle.header.specs.declared.Octet.{Octet}
 use Rattle.header.specs.declared.Octet.the-variants as octet
 use Rattle.header.specs.declared.Fields.{Fields}
 use Rattle.header.specs.declared.Header.{Header}
+use Rattle.header.specs.Form.{placesOf}
 use Rattle.header.proofs.Pieces.{present-le}
+use Rattle.header.proofs.BuiltLaws.{header-length}
+use Rattle.header.proofs.SentOn.{sent-length}
 use Rattle.builder.proofs.Laws.{rest-le}
 use Rattle.meaning.specs.Names.{filledIn}
 use Rattle.verdict.specs.Rule.{exceptBy}
@@ -112,14 +115,16 @@ module _ (far : Bool) (arrival code : ℕ) (h : Header) (s : Sound h) {t : Bool}
 
 -- ---- the header
 module _ (far : Bool) (arrival code : ℕ) (h : Header) (octets lent : List ℕ) (is : h ≡ headerOf octets) {t : Bool} (et : t ≡ rewrites far code (h .fields)) {out : List ℕ} where
-  pub header-kept : t ≡ false → out ≡ fronted (headerSentOn octets) lent → out ≡ fronted (nextHeader far arrival code octets) lent
+  pub header-kept : t ≡ false → placesOf octets .size ≤ length octets → {n : ℕ} → n ≡ placesOf octets .size → out ≡ fronted (headerSentOn octets) lent
+      → (n ≡ length (nextHeader far arrival code octets)) × (out ≡ fronted (nextHeader far arrival code octets) lent)
   unfolding nextHeader
-  header-kept ht e = rw (← is, ← et, ht) e
+  header-kept ht inside en e = rw (← is, ← et, ht) (en ∙ sym (sent-length octets inside), e)
 
-  pub header-made : t ≡ true → {f : Fields} → f ≡ nextFields far arrival code (h .fields) → out ≡ fronted (headerOctets f (h .length - h .size)) lent
-      → out ≡ fronted (nextHeader far arrival code octets) lent
+  pub header-made : t ≡ true → {f : Fields} → f ≡ nextFields far arrival code (h .fields) → f .checksum < 2 → {n : ℕ} → n ≡ sizeOf f
+      → out ≡ fronted (headerOctets f (h .length - h .size)) lent
+      → (n ≡ length (nextHeader far arrival code octets)) × (out ≡ fronted (nextHeader far arrival code octets) lent)
   unfolding nextHeader
-  header-made ht ef e = rw (← is, ← et, ht, ← ef) e
+  header-made ht {f} ef small en e = rw (← is, ← et, ht, ← ef) (en ∙ sym (header-length f (h .length - h .size) small), e)
 
 -- ---- the copies
 pub octets-none : (rewritten far : ℕ) (l : Leg) → rewritten ≡ 0 → 0 ≡ rewrittenOctets rewritten far l

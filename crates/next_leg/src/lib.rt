@@ -307,7 +307,7 @@ pub fn legs_of(took: u32, domain: u32, l: Leg) -> Legs
     }
 }
 
-// Writes the header for a port to the front of its stretch of the output.
+// Writes the header for a port to the front of the output; answers its length.
 pub fn write_next(
     far: bool,
     arrival: Address,
@@ -316,14 +316,14 @@ pub fn write_next(
     renewal: Renewal,
     octets: &[u8],
     out: &mut [u8],
-)
+) -> usize
     requires { ⌜ Sound h × ((longestHeader ≤ length (now out)) × ((h ≡ headerOf (now octets)) × ((placesOf (now octets) .size ≤ length (now octets)) × (renewal ≡ renewalOf (now octets))))) ⌝ }
+    ensures { λ r. ⌜ r ≡ length (nextHeader far (arrival .0) code (now (octets .entry))) ⌝ }
     ensures { λ _. ⌜ now (out .exit) ≡ fronted (nextHeader far (arrival .0) code (now (octets .entry))) (now (out .entry)) ⌝ }
 {
     let f = h.fields;
     if is_rewritten(far, code, f) {
-        builder::write_header(fields_next(far, arrival, code, f), h.length - h.size, out);
-        return;
+        return builder::write_header(fields_next(far, arrival, code, f), h.length - h.size, out);
     }
-    sent_on::send_on(octets, out, renewal);
+    sent_on::send_on(octets, out, renewal)
 }

@@ -14,15 +14,9 @@ use Rattle.verdict.specs.declared.Target.{Target}
 use Rattle.verdict.specs.declared.Target.the-variants as target
 use Rattle.judge.specs.declared.Asked.{Asked}
 use Rattle.judge.specs.Ending.{outputRoom}
-use Rattle.judge.specs.Asked.{routeSought, refusedAsked, datagramAsked, legAsked, wishedOf, ruledAsked, finishedOf}
-use Rattle.judge.specs.declared.Ending.{Ending}
-use Rattle.verdict.specs.declared.Way.{Way}
-use Rattle.header.specs.Read.{headerOf}
-use Rattle.state.specs.Relay.{Relay}
+use Rattle.judge.specs.Asked.{routeSought, refusedAsked, datagramAsked}
 use Rattle.judge.proofs.Took.{WasRead, asked-good}
-use Rattle.relay.specs.Outgoing.{KeptAll}
 use Rattle.relay.specs.Split.{askedOf, Following}
-use Rattle.relay.proofs.outgoing.Headers.{legs-kept}
 
 -- ---- a route is sought by the route line alone, on a router
 pub routed-not : {t : Target} (router : ℕ) → t ≡ target.Route → router ≡ 0 → 0 ≡ routeSought t router
@@ -94,14 +88,3 @@ judged-read b w octets room a f zero =
     let is = j .1 .1 .1 in
     subst⁻¹ (λ (x : Asked). (outputRoom ≤ room) × WasRead octets x) is
     (asked-good (seated (decodeBoard b) (decode w)) (decode w .number) (j .1 .1 .0) octets room (sym (ap (λ (x : Asked). x .refusal) is) ∙ zero))
-
--- where no header is told to be rewritten, every port gets the one kept
-kept-finished : (r : Relay) (a : Asked) (w : Way) (octets : List ℕ) → a .refusal ≡ 0 → a .header ≡ headerOf octets
-    → KeptAll (finishedOf r a w .ruling .took) (finishedOf r a w .legs) octets
-unfolding finishedOf ruledAsked wishedOf
-kept-finished r a w octets zero is = rw (eq-eqb (a .refusal) 0 zero) (λ none p some. legs-kept _ _ (legAsked a w) octets is p some none)
-
-pub finished-kept : (r : Relay) (a : Asked) (w : Way) (octets : List ℕ) {e : Ending} → a .refusal ≡ 0 → a .header ≡ headerOf octets → e ≡ finishedOf r a w
-    → KeptAll (e .ruling .took) (e .legs) octets
-finished-kept r a w octets zero is ended =
-    subst⁻¹ (λ (x : Ending). KeptAll (x .ruling .took) (x .legs) octets) ended (kept-finished r a w octets zero is)

@@ -1,8 +1,8 @@
 -- What goes out where ports took an entry: page 01, the end of "Onward half". Assumes nothing.
-use Prim.Native.Nat.{ℕ, zero, suc, _*_}
+use Prim.Native.Nat.{ℕ, zero, suc, _*_, _≤_}
 use mathlib.Core.Path.{_≡_}
-use mathlib.Core.Bool.{true}
 use mathlib.Core.List.{List}
+use lib.ListN.{take}
 use lib.Dec.{eqb}
 use lib.Bits.{bitAnd}
 use Rattle.checks.specs.Order.{pick}
@@ -10,7 +10,6 @@ use Rattle.octets.specs.Octets.{pasted}
 use Rattle.sets.specs.Limits.{portCount}
 use Rattle.sets.specs.Sets.{inSet, onlyPort}
 use Rattle.header.specs.Limits.{longestHeader}
-use Rattle.header.specs.Onward.{headerSentOn}
 use Rattle.next_leg.specs.Leg.{headerFor}
 use Rattle.next_leg.specs.declared.Legs.{Legs}
 use Rattle.judge.specs.declared.Ending.{Ending}
@@ -44,17 +43,17 @@ unfoldable pub sentBelow : ℕ → Legs → List ℕ → List ℕ → ℕ → Li
 sentBelow took l octets lent zero = lent
 sentBelow took l octets lent (suc p) = sentIf took l octets p (sentBelow took l octets lent p)
 
--- the same where every header is kept (law `kept-sent`)
-unfoldable pub keptIf : ℕ → List ℕ → ℕ → List ℕ → List ℕ
-keptIf took octets p lent = pick (inSet p took) (pasted lent (stretchOf p) (headerSentOn octets)) lent
+-- the same with two headers made ready, for ports of the arrival port's domain and for those of the set far (law `ready-sent`)
+unfoldable pub chosenIf : ℕ → ℕ → List ℕ → List ℕ → ℕ → List ℕ → List ℕ
+chosenIf took far near other p lent = pick (inSet p took) (pasted lent (stretchOf p) (pick (inSet p far) other near)) lent
 
-unfoldable pub keptBelow : ℕ → List ℕ → List ℕ → ℕ → List ℕ
-keptBelow took octets lent zero = lent
-keptBelow took octets lent (suc p) = keptIf took octets p (keptBelow took octets lent p)
+unfoldable pub chosenBelow : ℕ → ℕ → List ℕ → List ℕ → List ℕ → ℕ → List ℕ
+chosenBelow took far near other lent zero = lent
+chosenBelow took far near other lent (suc p) = chosenIf took far near other p (chosenBelow took far near other lent p)
 
--- no port that took an entry has another header than the one kept
-abbrev pub KeptAll : ℕ → Legs → List ℕ → Type 0
-KeptAll took l octets = l .rewritten ≡ 0 → (p : ℕ) → inSet p took ≡ true → headerFor l octets p ≡ headerSentOn octets
+-- a header of so many octets stands ready at the front of these, where any of the ports is to get it
+abbrev pub Ready : ℕ → List ℕ → ℕ → List ℕ → Type 0
+Ready ports header size made = (size ≤ longestHeader) × ((ports ≡ 0 → ⊥) → take size made ≡ header)
 
 unfoldable pub sentOutput : Ending → List ℕ → List ℕ → List ℕ
 sentOutput e octets lent = sentBelow (e .ruling .took) (e .legs) octets lent portCount

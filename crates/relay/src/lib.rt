@@ -37,7 +37,7 @@ ghost use Rattle.lent_state.specs.View.{lent};
 ghost use Rattle.answers.specs.Answers.{receiveNumber};
 ghost use Rattle.judge.specs.Asked.{routeSought, addressIn};
 ghost use Rattle.judge.specs.Ending.{outputRoom, refusedBy};
-ghost use Rattle.relay.specs.Outgoing.{KeptAll, sentOutput};
+ghost use Rattle.relay.specs.Outgoing.{sentOutput};
 ghost use Rattle.relay.specs.Received.{receivedState};
 ghost use Rattle.relay.specs.Split.{
   askedOf,
@@ -173,7 +173,6 @@ fn carry_out(
     requires { ⌜ (length (now mission) ≡ missionWords)
         × ((outputRoom ≤ length (now output))
         × (Sound header × ((header ≡ headerOf (now octets)) × ((placesOf (now octets) .size ≤ length (now octets)) × (renewal ≡ renewalOf (now octets)))))) ⌝ }
-    requires { ⌜ KeptAll (e .ruling .took) (e .legs) (now octets) ⌝ }
     ensures { λ r. ⌜ r ≡ receiveNumber e ⌝ }
     ensures { λ _. ⌜ ((b : Board) → decode (now (mission .exit)) ≡ receivedState b (decode (now (mission .entry))) slot e) ⌝ }
     ensures { λ _. ⌜ now (output .exit) ≡ sentOutput e (now (octets .entry)) (now (output .entry)) ⌝ }

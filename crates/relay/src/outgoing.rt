@@ -14,13 +14,14 @@ ghost use Prim.Native.Nat.{_≤_, _<_};
 ghost use lib.ListN.{length};
 ghost use Rattle.header.specs.Form.{placesOf};
 ghost use Rattle.header.specs.Onward.{renewalOf};
+ghost use Rattle.header.specs.Limits.{longestHeader};
 ghost use Rattle.header.specs.Read.{headerOf};
-ghost use Rattle.next_leg.specs.Leg.{Sound};
+ghost use Rattle.next_leg.specs.Leg.{nextHeader, Sound};
 ghost use Rattle.judge.specs.Ending.{outputRoom};
 ghost use Rattle.sets.specs.Limits.{portCount};
 ghost use Rattle.state.specs.Seen.{Board, onSeated};
 ghost use Rattle.state.specs.Layout.{missionWords, decode};
-ghost use Rattle.relay.specs.Outgoing.{entered, enteredIf, enteredAll, sentIf, sentBelow, keptIf, keptBelow, KeptAll};
+ghost use Rattle.relay.specs.Outgoing.{entered, enteredIf, enteredAll, sentBelow, chosenIf, chosenBelow, Ready};
 
 // The entry in the queue of a port.
 fn enter(mission: &mut [u32], p: usize, e: Entry)
@@ -56,65 +57,57 @@ pub fn enter_all(mission: &mut [u32], took: u32, e: Entry)
     }
 }
 
-// The header for a port in its stretch of the output, where the port took an entry.
-fn send_if(
-    p: usize,
-    took: u32,
-    legs: Legs,
-    header: Header,
-    renewal: Renewal,
-    octets: &[u8],
-    output: &mut [u8],
-)
-    requires { ⌜ (p < portCount) × ((outputRoom ≤ length (now output))
-        × (Sound header × ((header ≡ headerOf (now octets)) × ((placesOf (now octets) .size ≤ length (now octets)) × (renewal ≡ renewalOf (now octets)))))) ⌝ }
-    ensures { λ _. ⌜ now (output .exit) ≡ sentIf took legs (now (octets .entry)) p (now (output .entry)) ⌝ }
+// The header of a port in its stretch of the output, where the port took an entry: that of the near ones, or that of the others.
+fn send_if(p: usize, took: u32, far: u32, near: &[u8], other: &[u8], output: &mut [u8])
+    requires { ⌜ (p < portCount) × ((outputRoom ≤ length (now output)) × ((length (now near) ≤ longestHeader) × (length (now other) ≤ longestHeader))) ⌝ }
+    ensures { λ _. ⌜ now (output .exit) ≡ chosenIf took far (now (near .entry)) (now (other .entry)) p (now (output .entry)) ⌝ }
 {
     if (took >> p as u32) % 2 != 1 {
         return;
     }
-    let arrival = legs.arrival;
     let from = LONGEST_HEADER * p;
     let to = from + LONGEST_HEADER;
-    let far = (legs.far >> p as u32) % 2 == 1;
-    next_leg::write_next(
-        far,
-        arrival,
-        legs.code,
-        header,
-        renewal,
-        octets,
-        &mut output[from..to],
-    );
-}
-
-// The kept header in the stretch of a port, where the port is in the set.
-fn keep_if(p: usize, ports: u32, renewal: Renewal, octets: &[u8], output: &mut [u8])
-    requires { ⌜ (p < portCount) × ((outputRoom ≤ length (now output)) × ((placesOf (now octets) .size ≤ length (now octets)) × (renewal ≡ renewalOf (now octets)))) ⌝ }
-    ensures { λ _. ⌜ now (output .exit) ≡ keptIf ports (now (octets .entry)) p (now (output .entry)) ⌝ }
-{
-    if (ports >> p as u32) % 2 != 1 {
+    if (far >> p as u32) % 2 == 1 {
+        bytes::copy(other, &mut output[from..to]);
         return;
     }
-    let from = LONGEST_HEADER * p;
-    let to = from + LONGEST_HEADER;
-    sent_on::send_on(octets, &mut output[from..to], renewal);
+    bytes::copy(near, &mut output[from..to]);
 }
 
-// The kept header for all ports that took an entry.
-fn keep_all(took: u32, renewal: Renewal, octets: &[u8], output: &mut [u8])
-    requires { ⌜ (outputRoom ≤ length (now output)) × ((placesOf (now octets) .size ≤ length (now octets)) × (renewal ≡ renewalOf (now octets))) ⌝ }
-    ensures { λ _. ⌜ now (output .exit) ≡ keptBelow took (now (octets .entry)) (now (output .entry)) portCount ⌝ }
+// The headers of all ports that took an entry.
+fn send_each(took: u32, far: u32, near: &[u8], other: &[u8], output: &mut [u8])
+    requires { ⌜ (outputRoom ≤ length (now output)) × ((length (now near) ≤ longestHeader) × (length (now other) ≤ longestHeader)) ⌝ }
+    ensures { λ _. ⌜ now (output .exit) ≡ chosenBelow took far (now (near .entry)) (now (other .entry)) (now (output .entry)) portCount ⌝ }
 {
     let mut p = 0;
     while p < PORTS {
-        keep_if(p, took, renewal, octets, output);
+        send_if(p, took, far, near, other, output);
         p += 1;
     }
 }
 
-// The header for each port that took an entry, by the port.
-fn send_each(
+// Makes a header ready, where some port is to get it; answers its length.
+fn make_if(
+    ports: u32,
+    far: bool,
+    legs: Legs,
+    header: Header,
+    renewal: Renewal,
+    octets: &[u8],
+    out: &mut [u8],
+) -> usize
+    requires { ⌜ Sound header × ((longestHeader ≤ length (now out)) × ((header ≡ headerOf (now octets)) × ((placesOf (now octets) .size ≤ length (now octets)) × (renewal ≡ renewalOf (now octets))))) ⌝ }
+    ensures { λ r. ⌜ Ready ports (nextHeader far (legs .arrival .0) (legs .code) (now (octets .entry))) r (now (out .exit)) ⌝ }
+{
+    if ports == 0 {
+        return 0;
+    }
+    let arrival = legs.arrival;
+    next_leg::write_next(far, arrival, legs.code, header, renewal, octets, out)
+}
+
+// The headers for all ports that took an entry. There are two at the most, and each is made once.
+pub fn send_all(
     took: u32,
     legs: Legs,
     header: Header,
@@ -126,30 +119,26 @@ fn send_each(
         × (Sound header × ((header ≡ headerOf (now octets)) × ((placesOf (now octets) .size ≤ length (now octets)) × (renewal ≡ renewalOf (now octets))))) ⌝ }
     ensures { λ _. ⌜ now (output .exit) ≡ sentBelow took legs (now (octets .entry)) (now (output .entry)) portCount ⌝ }
 {
-    let mut p = 0;
-    while p < PORTS {
-        send_if(p, took, legs, header, renewal, octets, output);
-        p += 1;
-    }
-}
-
-// The headers for all ports that took an entry. Most datagrams have no rewritten header, and for these none is made ready.
-pub fn send_all(
-    took: u32,
-    legs: Legs,
-    header: Header,
-    renewal: Renewal,
-    octets: &[u8],
-    output: &mut [u8],
-)
-    requires { ⌜ KeptAll took legs (now octets)
-        × ((outputRoom ≤ length (now output))
-        × (Sound header × ((header ≡ headerOf (now octets)) × ((placesOf (now octets) .size ≤ length (now octets)) × (renewal ≡ renewalOf (now octets)))))) ⌝ }
-    ensures { λ _. ⌜ now (output .exit) ≡ sentBelow took legs (now (octets .entry)) (now (output .entry)) portCount ⌝ }
-{
-    if legs.rewritten == 0 {
-        keep_all(took, renewal, octets, output);
+    if took == 0 {
         return;
     }
-    send_each(took, legs, header, renewal, octets, output);
+    let mut near = [0u8; LONGEST_HEADER];
+    let near_size = make_if(
+        verdict::except(took, legs.far),
+        false,
+        legs,
+        header,
+        renewal,
+        octets,
+        &mut near,
+    );
+    let mut other = [0u8; LONGEST_HEADER];
+    let other_size = make_if(legs.far, true, legs, header, renewal, octets, &mut other);
+    send_each(
+        took,
+        legs.far,
+        &near[..near_size],
+        &other[..other_size],
+        output,
+    );
 }

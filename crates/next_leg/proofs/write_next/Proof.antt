@@ -21,7 +21,7 @@ same-length : tie.Need-same-length
 same-length c = search needs
 
 returns : tie.Need-returns
-returns c = header-made _ _ _ _ _ _ (c .before .before .before .before .before .before .before .before .before .before .before .pre .1 .1 .0) (c .before .before .before .before .before .before .before .is-rewritten .ensures) (c .before .before .before .before .before .before .if1 .taken) (c .before .before .before .before .before .fields-next .ensures) (c .before .before .write-header .ensures .1)
+returns c = header-made _ _ _ _ _ _ (c .before .before .before .before .before .before .before .before .before .before .before .pre .1 .1 .0) (c .before .before .before .before .before .before .before .is-rewritten .ensures) (c .before .before .before .before .before .before .if1 .taken) (c .before .before .before .before .before .fields-next .ensures) (next-small _ _ _ _ (c .before .before .before .before .before .before .before .before .before .before .before .pre .0) (c .before .before .before .before .before .fields-next .ensures) .1 .0) (c .before .before .write-header .ensures .0) (c .before .before .write-header .ensures .1)
 
 send-on-requires : tie.Need-send-on-requires
 send-on-requires c κs = (c .before .before .before .before .before .before .pre .1 .0, c .before .before .before .before .before .before .pre .1 .1 .1)
@@ -30,7 +30,7 @@ same-length-2 : tie.Need-same-length-2
 same-length-2 c = search needs
 
 returns-2 : tie.Need-returns-2
-returns-2 c = header-kept _ _ _ _ _ _ (c .before .before .before .before .before .before .before .before .before .pre .1 .1 .0) (c .before .before .before .before .before .is-rewritten .ensures) (c .before .before .before .before .if1 .left) (c .before .before .send-on .ensures .1)
+returns-2 c = header-kept _ _ _ _ _ _ (c .before .before .before .before .before .before .before .before .before .pre .1 .1 .0) (c .before .before .before .before .before .is-rewritten .ensures) (c .before .before .before .before .if1 .left) (c .before .before .before .before .before .before .before .before .before .pre .1 .1 .1 .0) (c .before .before .send-on .ensures .0) (c .before .before .send-on .ensures .1)
 
 pub write-next-spec : {M : Type 1} → statement M
 write-next-spec =

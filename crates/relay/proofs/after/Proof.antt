@@ -3,7 +3,7 @@ use mathlib.Core.Path.{_≡_}
 use lib.ListN.{length}
 use Rattle.state.specs.Layout.{missionWords}
 use Rattle.judge.proofs.Took.{was-sound}
-use Rattle.relay.proofs.Asking.{was-judged, judged-good, judged-read, finished-kept}
+use Rattle.relay.proofs.Asking.{was-judged, judged-good, judged-read}
 use Rattle.relay.proofs.Received.{after-refused, after-done}
 use borrow.Author.Needs.{needs}
 use Rattle.relay.proofs.after.Statement.{statement}
@@ -25,7 +25,7 @@ finish-requires : tie.Need-finish-requires
 finish-requires c κs = let j = judged-good _ _ _ _ _ (c .before .before .before .before .before .before .before .before .before .pre) (c .before .before .before .before .if1 .left) in let w = judged-read _ _ _ _ _ (c .before .before .before .before .before .before .before .before .before .pre) (c .before .before .before .before .if1 .left) in (j .0, (j .1 .0, (c .before .before .before .before .if1 .left, was-sound _ _ (λ i. c .before .before .before .before .before .before .shared-slice-known2 .given i .fits) (w .1))))
 
 carry-out-requires : tie.Need-carry-out-requires
-carry-out-requires c κs = let j = judged-good _ _ _ _ _ (c .before .before .before .before .before .before .before .before .before .before .before .before .pre) (c .before .before .before .before .before .before .before .if1 .left) in let w = judged-read _ _ _ _ _ (c .before .before .before .before .before .before .before .before .before .before .before .before .pre) (c .before .before .before .before .before .before .before .if1 .left) in ((j .1 .0, (w .0, (was-sound _ _ (λ i. c .before .before .before .before .before .before .before .before .before .shared-slice-known2 .given i .fits) (w .1), (w .1 .is, (w .1 .inside, w .1 .renewal))))), finished-kept _ _ _ _ (c .before .before .before .before .before .before .before .if1 .left) (w .1 .is) (c .before .before .finish .ensures))
+carry-out-requires c κs = let j = judged-good _ _ _ _ _ (c .before .before .before .before .before .before .before .before .before .before .before .before .pre) (c .before .before .before .before .before .before .before .if1 .left) in let w = judged-read _ _ _ _ _ (c .before .before .before .before .before .before .before .before .before .before .before .before .pre) (c .before .before .before .before .before .before .before .if1 .left) in (j .1 .0, (w .0, (was-sound _ _ (λ i. c .before .before .before .before .before .before .before .before .before .shared-slice-known2 .given i .fits) (w .1), (w .1 .is, (w .1 .inside, w .1 .renewal)))))
 
 same-length-2 : tie.Need-same-length-2
 same-length-2 c = search needs

@@ -7,13 +7,13 @@ use Rattle.relay.proofs.carry_out.Statement.{statement}
 use Rattle.relay.proofs.carry_out.Tie as tie
 
 count-requires : tie.Need-count-requires
-count-requires c κs = c .before .before .before .before .before .pre .0 .0
+count-requires c κs = c .before .before .before .before .before .pre .0
 
 enter-all-requires : tie.Need-enter-all-requires
 enter-all-requires c κs = search needs
 
 send-all-requires : tie.Need-send-all-requires
-send-all-requires c κs = (c .before .before .before .before .before .before .before .before .before .before .before .before .before .pre .1, c .before .before .before .before .before .before .before .before .before .before .before .before .before .pre .0 .1)
+send-all-requires c κs = c .before .before .before .before .before .before .before .before .before .before .before .before .before .pre .1
 
 receive-number-requires : tie.Need-receive-number-requires
 receive-number-requires c κs = search needs

@@ -1,15 +1,14 @@
--- One header written in its stretch of the output, or none, and one port after the other. Assumes nothing.
+-- Two headers made ready, each written in the stretches of its ports, one port after the other. Assumes nothing.
 use native.Mathlib.Omega.{arith}
 use native.Mathlib.Numerals.{add-one}
 use Prim.Native.Nat.{ℕ, zero, suc, _+_, _-_, _/_, _%_, _^_, _≤_}
 use mathlib.Core.Path.{_≡_, refl, sym, ap, subst, _∙_}
-use mathlib.Core.Bool.{Bool, true, false, _&&_}
+use mathlib.Core.Bool.{Bool, true, false, not}
 use mathlib.Core.List.{List, _++_, append-assoc}
-use lib.ListN.{length, take, drop, take-append-drop, length-drop}
-use lib.Seq.{length-take-le, drop-append-le, drop-drop}
+use lib.ListN.{length, take, drop, take-append-drop, length-take, length-drop}
+use lib.Seq.{length-take-le, take-append-seam, take-length, drop-append-le, drop-drop}
 use borrow.Rule.Slice.PartMut.{putMid}
-use borrow.Author.Tests.{eq-eqb, ne-eqb, eqb-true}
-use lib.Dec.{eqb}
+use borrow.Author.Tests.{eq-eqb, ne-eqb}
 use Rattle.checks.specs.Order.{pick}
 use Rattle.checks.proofs.Bools.{true-false}
 use Rattle.octets.specs.Octets.{pasted, fronted}
@@ -18,116 +17,16 @@ use Rattle.sets.proofs.Members.{in-none}
 use Rattle.header.specs.Limits.{longestHeader}
 use Rattle.header.specs.Form.{placesOf}
 use Rattle.header.specs.Read.{headerOf}
-use Rattle.header.specs.Onward.{headerSentOn}
-use Rattle.header.specs.declared.Fields.{Fields}
 use Rattle.header.specs.declared.Header.{Header}
 use Rattle.header.proofs.Bounds.{header-size}
 use Rattle.header.proofs.BuiltLaws.{header-length}
 use Rattle.header.proofs.SentOn.{sent-length}
-use Rattle.next_leg.specs.Leg.{adds, isNarrow, rewrites, nextFields, dataOf, nextHeader, Sound, noLegs, rewrittenAmong, rewrittenOctets, legsOf, headerFor}
-use Rattle.next_leg.specs.declared.Leg.{Leg}
-use Rattle.next_leg.proofs.Made.{next-small, small-size}
+use Rattle.next_leg.specs.Leg.{rewrites, nextFields, dataOf, nextHeader, Sound, headerFor}
 use Rattle.next_leg.specs.declared.Legs.{Legs}
+use Rattle.next_leg.proofs.Made.{next-small, small-size}
 use Rattle.verdict.specs.Rule.{exceptBy}
-use Rattle.relay.specs.Outgoing.{stretchOf, sentIf, sentBelow, keptIf, keptBelow, KeptAll}
-
-module _ (took : ℕ) (l : Legs) (octets : List ℕ) (p : ℕ) (lent : List ℕ) where
-  pub not-sent : (took / 2 ^ p % 2 ≡ 1 → ⊥) → lent ≡ sentIf took l octets p lent
-  unfolding sentIf
-  not-sent h = simp (ne-eqb _ 1 h)
-
--- ---- the walk
-pub none-sent : (took : ℕ) (l : Legs) (octets lent : List ℕ) → lent ≡ sentBelow took l octets lent 0
-unfolding sentBelow
-none-sent took l octets lent = refl
-
-pub one-further : (took : ℕ) (l : Legs) (octets lent : List ℕ) (p : ℕ) {x y : List ℕ}
-    → x ≡ sentBelow took l octets lent p → y ≡ sentIf took l octets p x → y ≡ sentBelow took l octets lent (p + 1)
-unfolding sentBelow
-one-further took l octets lent p ex ey = ey ∙ ap (sentIf took l octets p) ex ∙ sym (ap (sentBelow took l octets lent) (add-one p))
-
-pub all-sent : (took : ℕ) (l : Legs) (octets lent : List ℕ) (p : ℕ) {x : List ℕ} → 8 ≤ p → p ≤ 8
-    → x ≡ sentBelow took l octets lent p → x ≡ sentBelow took l octets lent 8
-all-sent took l octets lent p h k ex = ex ∙ ap (sentBelow took l octets lent) (let z : p ≡ 8 = omega arith in z)
-
--- ---- where every header is kept
-module _ (took : ℕ) (octets : List ℕ) (p : ℕ) (lent : List ℕ) where
-  pub not-kept : (took / 2 ^ p % 2 ≡ 1 → ⊥) → lent ≡ keptIf took octets p lent
-  unfolding keptIf
-  not-kept h = simp (ne-eqb _ 1 h)
-
-pub none-kept : (took : ℕ) (octets lent : List ℕ) → lent ≡ keptBelow took octets lent 0
-unfolding keptBelow
-none-kept took octets lent = refl
-
-pub one-more-kept : (took : ℕ) (octets lent : List ℕ) (p : ℕ) {x y : List ℕ}
-    → x ≡ keptBelow took octets lent p → y ≡ keptIf took octets p x → y ≡ keptBelow took octets lent (p + 1)
-unfolding keptBelow
-one-more-kept took octets lent p ex ey = ey ∙ ap (keptIf took octets p) ex ∙ sym (ap (keptBelow took octets lent) (add-one p))
-
-pub all-kept : (took : ℕ) (octets lent : List ℕ) (p : ℕ) {x : List ℕ} → 8 ≤ p → p ≤ 8
-    → x ≡ keptBelow took octets lent p → x ≡ keptBelow took octets lent 8
-all-kept took octets lent p h k ex = ex ∙ ap (keptBelow took octets lent) (let z : p ≡ 8 = omega arith in z)
-
--- they are those that the ports get
-kept-one : (t : Bool) (lent a b : List ℕ) (at : ℕ) → (t ≡ true → a ≡ b) → pick t (pasted lent at b) lent ≡ pick t (pasted lent at a) lent
-kept-one true lent a b at h = ap (pasted lent at) (sym (h refl))
-kept-one false lent a b at h = refl
-
-pub kept-sent : (took : ℕ) (l : Legs) (octets lent : List ℕ) (n : ℕ) → KeptAll took l octets → l .rewritten ≡ 0
-    → keptBelow took octets lent n ≡ sentBelow took l octets lent n
-unfolding keptBelow keptIf sentBelow sentIf
-kept-sent took l octets lent zero all none = refl
-kept-sent took l octets lent (suc p) all none =
-    kept-one (inSet p took) (keptBelow took octets lent p) (headerFor l octets p) (headerSentOn octets) (stretchOf p) (all none p)
-    ∙ ap (λ (x : List ℕ). pick (inSet p took) (pasted x (stretchOf p) (headerFor l octets p)) x) (kept-sent took l octets lent p all none)
-
--- where no header is told to be rewritten, none is
-not-rewritten : (far : Bool) (arrival code : ℕ) (octets : List ℕ) → rewrites far code (headerOf octets .fields) ≡ false
-    → nextHeader far arrival code octets ≡ headerSentOn octets
-unfolding nextHeader
-not-rewritten far arrival code octets h = rw h
-
-module _ (took domain : ℕ) (l : Leg) (octets : List ℕ) (is : l .header ≡ headerOf octets) (p : ℕ) (some : inSet p took ≡ true) where
-  abbrev fields : Fields
-  fields = l .header .fields
-
-  same-fields : (t : Bool) → rewrites t (l .code) fields ≡ false → rewrites t (l .code) (headerOf octets .fields) ≡ false
-  same-fields t h = ap (λ (x : Header). rewrites t (l .code) (x .fields)) (sym is) ∙ h
-
-  never-both : (t : Bool) → (t && false) ≡ false
-  never-both true = refl
-  never-both false = refl
-
-  by-adding : (t narrow : Bool) (far : ℕ) → adds (l .code) fields ≡ t → isNarrow (fields .addresses) ≡ narrow → pick t took (pick narrow far 0) ≡ 0
-      → rewrites (inSet p far) (l .code) fields ≡ false
-  unfolding rewrites
-  by-adding true narrow far ea en none = true-false (sym some ∙ ap (inSet p) none ∙ in-none p)
-  by-adding false true far ea en none = rw (ea, none, in-none p)
-  by-adding false false far ea en none = rw (ea, en, never-both (inSet p far))
-
-  abbrev made : Legs
-  made =
-      let far = exceptBy took domain in
-      let rewritten = rewrittenAmong took far (l .code) fields in
-      record { arrival = l .arrival; code = l .code; far = far; rewritten = rewritten; octets = rewrittenOctets rewritten far l }
-
-  by-took : (t : Bool) → eqb took 0 ≡ t → pick t noLegs made .rewritten ≡ 0 → headerFor (pick t noLegs made) octets p ≡ headerSentOn octets
-  by-took true z none = true-false (sym some ∙ ap (inSet p) (eqb-true took 0 z) ∙ in-none p)
-  by-took false z none =
-      not-rewritten (inSet p (exceptBy took domain)) (l .arrival .0) (l .code) octets
-      (same-fields (inSet p (exceptBy took domain))
-      (by-adding (adds (l .code) fields) (isNarrow (fields .addresses)) (exceptBy took domain) refl refl none))
-
-  pub legs-kept : legsOf took domain l .rewritten ≡ 0 → headerFor (legsOf took domain l) octets p ≡ headerSentOn octets
-  unfolding legsOf
-  legs-kept = by-took (eqb took 0) refl
-
--- no port took
-pub nothing-sent : (l : Legs) (octets lent : List ℕ) (n : ℕ) → lent ≡ sentBelow 0 l octets lent n
-unfolding sentBelow sentIf
-nothing-sent l octets lent zero = refl
-nothing-sent l octets lent (suc p) = rw (in-none p) (nothing-sent l octets lent p)
+use Rattle.survey.proofs.Bits.{in-except}
+use Rattle.relay.specs.Outgoing.{stretchOf, sentIf, sentBelow, chosenIf, chosenBelow, Ready}
 
 -- ---- one stretch
 -- what stands behind a header in its stretch, and behind the stretch, is what stood behind it
@@ -165,26 +64,93 @@ header-fits far arrival code h octets s is inside =
     (omega (arith, header-length f (dataOf (headerOf octets)) (small .1 .0), small-size f (small .1 .0)))
     (omega (arith, sent-length octets inside, header-size octets))
 
-module _ (took : ℕ) (l : Legs) (octets : List ℕ) (p : ℕ) (lent : List ℕ) where
-  pub one-sent : (h : Header) {mid : List ℕ} → took / 2 ^ p % 2 ≡ 1 → Sound h → h ≡ headerOf octets → placesOf octets .size ≤ length octets
-      → stretchOf p + longestHeader ≤ length lent
-      → mid ≡ fronted (headerFor l octets p) (take (stretchOf p + longestHeader - stretchOf p) (drop (stretchOf p) lent))
-      → putMid (stretchOf p) (stretchOf p + longestHeader - stretchOf p) lent mid ≡ sentIf took l octets p lent
-  unfolding sentIf
-  one-sent h is s same inside room e =
-      let fits = header-fits (inSet p (l .far)) (l .arrival .0) (l .code) h octets s same inside in
-      let wide : length (take (stretchOf p + longestHeader - stretchOf p) (drop (stretchOf p) lent)) ≡ longestHeader =
-      length-take-le (stretchOf p + longestHeader - stretchOf p) (drop (stretchOf p) lent) (omega (arith, length-drop (stretchOf p) lent)) ∙ omega arith in
-      simp (eq-eqb _ 1 is)
-      (stretch-written lent (headerFor l octets p) (stretchOf p) (stretchOf p + longestHeader - stretchOf p) (omega (arith, fits, wide)) e)
+-- ---- one port
+module _ (took far : ℕ) (near other : List ℕ) (p : ℕ) (lent : List ℕ) where
+  pub not-sent : (took / 2 ^ p % 2 ≡ 1 → ⊥) → lent ≡ chosenIf took far near other p lent
+  unfolding chosenIf
+  not-sent h = simp (ne-eqb _ 1 h)
 
-module _ (took : ℕ) (octets : List ℕ) (p : ℕ) (lent : List ℕ) where
-  pub one-kept : {mid : List ℕ} → took / 2 ^ p % 2 ≡ 1 → placesOf octets .size ≤ length octets → stretchOf p + longestHeader ≤ length lent
-      → mid ≡ fronted (headerSentOn octets) (take (stretchOf p + longestHeader - stretchOf p) (drop (stretchOf p) lent))
-      → putMid (stretchOf p) (stretchOf p + longestHeader - stretchOf p) lent mid ≡ keptIf took octets p lent
-  unfolding keptIf
-  one-kept is inside room e =
-      let wide = wide-enough p lent room in
-      simp (eq-eqb _ 1 is)
-      (stretch-written lent (headerSentOn octets) (stretchOf p) (stretchOf p + longestHeader - stretchOf p)
-      (omega (arith, sent-length octets inside, header-size octets, wide)) e)
+  module _ (is : took / 2 ^ p % 2 ≡ 1) (room : stretchOf p + longestHeader ≤ length lent) where
+    abbrev wide : ℕ
+    wide = stretchOf p + longestHeader - stretchOf p
+
+    -- all octets of a header, copied to the front of its stretch
+    copied : (vs : List ℕ) {mid : List ℕ} → length vs ≤ longestHeader
+        → mid ≡ take (length vs) vs ++ drop (length vs) (take wide (drop (stretchOf p) lent))
+        → putMid (stretchOf p) wide lent mid ≡ pasted lent (stretchOf p) vs
+    copied vs few e =
+        stretch-written lent vs (stretchOf p) wide (omega (arith, few, wide-enough p lent room))
+        (e ∙ ap (λ (x : List ℕ). x ++ drop (length vs) (take wide (drop (stretchOf p) lent))) (take-length vs))
+
+    pub far-sent : {mid : List ℕ} → far / 2 ^ p % 2 ≡ 1 → length other ≤ longestHeader
+        → mid ≡ take (length other) other ++ drop (length other) (take wide (drop (stretchOf p) lent))
+        → putMid (stretchOf p) wide lent mid ≡ chosenIf took far near other p lent
+    unfolding chosenIf
+    far-sent so few e = simp (eq-eqb _ 1 is, eq-eqb _ 1 so) (copied other few e)
+
+    pub near-sent : {mid : List ℕ} → (far / 2 ^ p % 2 ≡ 1 → ⊥) → length near ≤ longestHeader
+        → mid ≡ take (length near) near ++ drop (length near) (take wide (drop (stretchOf p) lent))
+        → putMid (stretchOf p) wide lent mid ≡ chosenIf took far near other p lent
+    unfolding chosenIf
+    near-sent so few e = simp (eq-eqb _ 1 is, ne-eqb _ 1 so) (copied near few e)
+
+-- ---- the walk
+module _ (took far : ℕ) (near other lent : List ℕ) where
+  pub none-sent : lent ≡ chosenBelow took far near other lent 0
+  unfolding chosenBelow
+  none-sent = refl
+
+  pub one-further : (p : ℕ) {x y : List ℕ} → x ≡ chosenBelow took far near other lent p → y ≡ chosenIf took far near other p x
+      → y ≡ chosenBelow took far near other lent (p + 1)
+  unfolding chosenBelow
+  one-further p ex ey = ey ∙ ap (chosenIf took far near other p) ex ∙ sym (ap (chosenBelow took far near other lent) (add-one p))
+
+  pub all-sent : (p : ℕ) {x : List ℕ} → 8 ≤ p → p ≤ 8 → x ≡ chosenBelow took far near other lent p → x ≡ chosenBelow took far near other lent 8
+  all-sent p h k ex = ex ∙ ap (chosenBelow took far near other lent) (let z : p ≡ 8 = omega arith in z)
+
+-- ---- the headers made ready are those of the ports
+pub made-ready : {header made : List ℕ} (lent : List ℕ) (ports : ℕ) {n : ℕ} → length header ≤ longestHeader → n ≡ length header → made ≡ fronted header lent
+    → Ready ports header n made
+made-ready {header} {made} lent ports few en e =
+    (omega (arith, few, en), λ some. rw (en, e) (take-append-seam header (drop (length header) lent)))
+
+pub none-ready : (header made : List ℕ) (ports : ℕ) → ports ≡ 0 → Ready ports header 0 made
+none-ready header made ports none = (omega arith, λ some. absurd (some none))
+
+module _ (took : ℕ) (l : Legs) (octets near other lent : List ℕ)
+    (near-is : (exceptBy took (l .far) ≡ 0 → ⊥) → near ≡ nextHeader false (l .arrival .0) (l .code) octets)
+    (other-is : (l .far ≡ 0 → ⊥) → other ≡ nextHeader true (l .arrival .0) (l .code) octets) where
+  -- a port that is in a set makes it no empty one
+  some-port : (p set : ℕ) → inSet p set ≡ true → set ≡ 0 → ⊥
+  some-port p set h z = true-false (sym h ∙ ap (inSet p) z ∙ in-none p)
+
+  by-far : (p : ℕ) → inSet p took ≡ true → (t : Bool) → inSet p (l .far) ≡ t
+      → pick t other near ≡ nextHeader t (l .arrival .0) (l .code) octets
+  by-far p took-it true e = other-is (some-port p (l .far) e)
+  by-far p took-it false e =
+      near-is (some-port p (exceptBy took (l .far)) (in-except p took (l .far) ∙ rw (took-it, e) refl))
+
+  by-took : (p : ℕ) (x : List ℕ) (t : Bool) → inSet p took ≡ t
+      → pick t (pasted x (stretchOf p) (pick (inSet p (l .far)) other near)) x ≡ pick t (pasted x (stretchOf p) (headerFor l octets p)) x
+  by-took p x true e = ap (pasted x (stretchOf p)) (by-far p e (inSet p (l .far)) refl)
+  by-took p x false e = refl
+
+  pub ready-sent : (n : ℕ) → chosenBelow took (l .far) near other lent n ≡ sentBelow took l octets lent n
+  unfolding chosenBelow chosenIf sentBelow sentIf
+  ready-sent zero = refl
+  ready-sent (suc p) =
+      by-took p (chosenBelow took (l .far) near other lent p) (inSet p took) refl
+      ∙ ap (λ (x : List ℕ). pick (inSet p took) (pasted x (stretchOf p) (headerFor l octets p)) x) (ready-sent p)
+
+-- no port took
+pub nothing-sent : (l : Legs) (octets lent : List ℕ) (n : ℕ) → lent ≡ sentBelow 0 l octets lent n
+unfolding sentBelow sentIf
+nothing-sent l octets lent zero = refl
+nothing-sent l octets lent (suc p) = rw (in-none p) (nothing-sent l octets lent p)
+
+pub took-none : (took : ℕ) (l : Legs) (octets lent : List ℕ) → took ≡ 0 → lent ≡ sentBelow took l octets lent 8
+took-none took l octets lent h = rw h (nothing-sent l octets lent 8)
+
+-- of what was made ready at most as many octets are taken
+pub few-taken : (n : ℕ) (l : List ℕ) → n ≤ longestHeader → length (take n l) ≤ longestHeader
+few-taken n l h = simp length-take (omega (arith, h))
