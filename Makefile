@@ -126,22 +126,22 @@ build/replay: $(REPLAY)
 build/rehearsal: $(REHEARSAL)
 build/calls: tests/calls.c
 build/relay_calls: tests/relay_calls.c
+build/leg_calls: tests/leg_calls.c
 build/bench: $(BENCH) $(PLAIN)
 build/flight_loop: examples/flight_loop.c
 build/settings_batch: examples/settings_batch.c
 build/soak: $(SOAK) $(PLAIN)
 build/readme: build/readme.c
 
-# The rehearsal on a wrong relay, which it has to find out: one that loses entries or, by
-# WRONG_TAKE, swaps two or hands one out twice. The soak with faults put between it and
-# the library, which it has to find.
-build/rehearsal_wrong: $(REHEARSAL) tests/wrong_take.c
+# The rehearsal on wrong relays, which it has to find out; WRONG_RELAY says which. The
+# soak with faults put between it and the library, which it has to find.
+build/rehearsal_wrong: $(REHEARSAL) tests/wrong_relay.c
 build/soak_faulty: $(SOAK) $(PLAIN) tests/soak_faults.c
-build/rehearsal_wrong: wrapped := take
+build/rehearsal_wrong: wrapped := take receive_at
 build/soak_faulty: wrapped := class take counter waiting search set_port receive_at
 
-LINKED := $(addprefix build/,replay rehearsal rehearsal_wrong calls relay_calls bench \
-	flight_loop settings_batch soak soak_faulty readme)
+LINKED := $(addprefix build/,replay rehearsal rehearsal_wrong calls relay_calls leg_calls \
+	bench flight_loop settings_batch soak soak_faulty readme)
 $(LINKED): $(LIBRARY) $(HEADERS) scripts/emulated build/from | tools
 	$(link) $(wrapped:%=-Wl,--wrap=hj_%) $(filter %.c,$^) $(LIBRARY)
 	$(emulate)
@@ -197,15 +197,18 @@ readme: build/readme
 	build/readme > build/readme.output
 	cmp build/readme.output build/readme.expected
 
-host-tests: build/calls build/relay_calls build/test_plain build/test_relay \
-	build/test_missions build/replay build/plain build/ledger build/generate build/coverage \
-	build/bench build/flight_loop build/settings_batch build/rehearsal \
-	build/rehearsal_wrong build/soak build/soak_faulty build/coverage-plain/plain
+host-tests: build/calls build/relay_calls build/leg_calls build/test_plain \
+	build/test_relay build/test_missions build/test_legs build/replay build/plain \
+	build/ledger build/generate build/coverage build/bench build/flight_loop \
+	build/settings_batch build/rehearsal build/rehearsal_wrong build/soak \
+	build/soak_faulty build/coverage-plain/plain
 	build/calls
 	build/relay_calls
+	build/leg_calls
 	build/test_plain
 	build/test_relay
 	build/test_missions
+	build/test_legs
 	build/flight_loop > build/flight_loop.output
 	diff examples/flight_loop.expected build/flight_loop.output
 	build/settings_batch > build/settings_batch.output

@@ -1,16 +1,18 @@
 /*
- * flight_loop: the smallest loop that relays, for one mission. It sets up two
- * ports and a route, hears datagrams, lets the relay judge each, and sends on
- * what the relay says: the header that the relay wrote, then the data that the
- * loop kept. A second mission would have a state and a store of its own, and be
- * lent the same board and routes.
+ * flight_loop: the smallest loop that relays, for one mission. It sets up three
+ * ports and two routes, hears datagrams, lets the relay judge each, and sends on
+ * what the relay says: the header that the relay wrote for the port, then the
+ * data that the loop kept. A second mission would have a state and a store of
+ * its own, and be lent the same board and routes.
  *
  * The links are stood in for: `heard` hands out datagrams built here, and
  * `send_on` prints. In flight both would be drivers, and the rest would stay.
  *
- * The relay keeps a slot number and no octets, so the loop has a store of slots.
- * The awkward case is a datagram that several ports take: its slot is free again
- * only once each of them has sent its copy, so the copies are counted.
+ * The relay keeps a slot number and no octets, so the loop has a store of slots:
+ * the datagram, the headers that the relay wrote, and the verdict, which says
+ * how long each of them is and where the data begin. The awkward case is a
+ * datagram that several ports take. Their headers may differ, and its slot is
+ * free again only once each port has sent its copy, so the copies are counted.
  */
 #include <stdio.h>
 #include <string.h>
@@ -31,9 +33,9 @@ static hj_record routes[8]; /* as many as are needed, at most HJ_ROUTES */
 
 static struct slot {
     uint32_t copies; /* still to be sent; 0 where the slot is free */
-    uint32_t header_octets;
+    hj_verdict verdict;
     uint32_t length;
-    uint8_t header[HJ_OUTPUT_ROOM];
+    uint8_t headers[HJ_OUTPUT_ROOM];
     uint8_t octets[HJ_MOST_LENGTH];
 } slots[SLOTS];
 
@@ -43,13 +45,17 @@ static struct slot {
 #define NEAR 0x0a0a0a04u  /* 10.10.10.4, whom port 0 hears */
 #define FAR 0x0a04090eu   /* 10.4.9.14, behind port 1 */
 #define OTHER 0xc0000201u /* 192.0.2.1, which no route leads to */
+#define UNIT 0x0e         /* 10.10.10.14 in one octet, behind port 1 too */
+#define ALL 0xff          /* the broadcast of 10.10.10 in one octet */
 
+/* Under 256 a destination has one octet. A hop count of 0 is none. */
 static const struct {
     uint32_t destination, precedence, hop_count;
     const char *data;
 } HEARD[] = {{FAR, 0, 64, "temperature"}, {FAR, 9, 64, "alarm"},
              {HERE, 0, 64, "command"},    {OTHER, 0, 64, "stray"},
-             {FAR, 0, 1, "tired"}};
+             {FAR, 0, 1, "tired"},        {UNIT, 3, 0, "dose"},
+             {ALL, 5, 0, "time"}};
 
 /* The next datagram that port 0 hears, or 0 octets where there is none. */
 static uint32_t heard(uint8_t *octets)
@@ -63,16 +69,16 @@ static uint32_t heard(uint8_t *octets)
         return 0;
     data = strlen(HEARD[next].data);
     fields.tp_id = 6;
-    fields.extended = 1;
+    fields.extended = HEARD[next].destination > 255;
     fields.destination_low = HEARD[next].destination;
     fields.has_source = 1;
-    fields.source_low = NEAR;
+    fields.source_low = fields.extended ? NEAR : NEAR % 256;
     fields.has_qos = 1;
     fields.precedence = HEARD[next].precedence;
-    fields.has_hop_count = 1;
+    fields.has_hop_count = HEARD[next].hop_count != 0;
     fields.hop_count = HEARD[next].hop_count;
     fields.has_checksum = 1;
-    built = hj_build(fields, data, octets, HJ_OUTPUT_ROOM);
+    built = hj_build(fields, data, octets, HJ_HEADER_ROOM);
     memcpy(octets + hj_value(built), HEARD[next].data, data);
     next++;
     return hj_value(built) + (uint32_t)data;
@@ -84,21 +90,23 @@ static void print_octets(const uint8_t *octets, uint32_t count)
         printf("%02x", (unsigned)octets[at]);
 }
 
-/* The header sent on is as long as the one that arrived, so the data begin where
- * they began. */
+/* The port's own header, which may be another than the one that arrived, and
+ * longer. The data are all that stood behind that one. */
 static void send_on(uint32_t port, const struct slot *slot)
 {
-    uint32_t data = slot->length - slot->header_octets;
+    uint32_t from = hj_data_from(slot->verdict);
 
     printf("port %u sends ", (unsigned)port);
-    print_octets(slot->header, slot->header_octets);
-    printf(" %.*s\n", (int)data,
-           (const char *)slot->octets + slot->header_octets);
+    print_octets(hj_header(slot->headers, port),
+                 hj_header_octets(slot->verdict, port));
+    printf(" %.*s\n", (int)(slot->length - from),
+           (const char *)slot->octets + from);
 }
 
 /* ---- The loop ------------------------------------------------------------ */
 
-/* 0, or the number of what refused a setting. */
+/* 0, or the number of what refused a setting. The routes lead to another relay,
+ * so they ask for a hop count, and a datagram cannot circle for ever. */
 static uint32_t set_up(void)
 {
     uint32_t refusal = hj_fresh_board(BOARD);
@@ -112,8 +120,13 @@ static uint32_t set_up(void)
     if (refusal == HJ_DONE)
         refusal = hj_set_port(BOARD, 1, 0x0a0a0b02, 0xffffff00, 1500, 0);
     if (refusal == HJ_DONE)
+        refusal = hj_set_port(BOARD, 2, 0x0a0a0a06, 0xffffff00, 1500, 0);
+    if (refusal == HJ_DONE)
         refusal = hj_set_route(BOARD, ROUTES, 0, 0x0a040900, 0xffffff00, 1,
-                               HJ_UP, HJ_CAPABLE_NONE, 0);
+                               HJ_UP, HJ_CAPABLE_HOP_COUNT, 0);
+    if (refusal == HJ_DONE)
+        refusal = hj_set_route(BOARD, ROUTES, 1, 0x0a0a0a0e, 0xffffffff, 1,
+                               HJ_UP, HJ_CAPABLE_HOP_COUNT, 0);
     return refusal;
 }
 
@@ -143,7 +156,7 @@ static void judge(uint32_t port, uint16_t number, uint32_t count)
     hj_arrival arrival = {port, number, 0};
     hj_verdict verdict =
         hj_receive(BOARD, MISSION, ROUTES, arrival, slot->octets, count,
-                   slot->header, sizeof slot->header);
+                   slot->headers, sizeof slot->headers);
 
     printf("port %u hears %u octets: ended by %u, local %u, onward %u\n",
            (unsigned)port, (unsigned)count, (unsigned)hj_ended_by(verdict),
@@ -151,7 +164,7 @@ static void judge(uint32_t port, uint16_t number, uint32_t count)
     if (hj_local(verdict) == HJ_DELIVERED)
         puts("  it is for this node");
     slot->copies = size_of_set(hj_took(verdict));
-    slot->header_octets = hj_header_octets(verdict);
+    slot->verdict = verdict;
     slot->length = hj_read(slot->octets, count).length;
 }
 
@@ -187,7 +200,7 @@ int main(void)
     }
     while (hear(0))
         continue; /* in flight, the ports would be served in turn */
-    for (uint32_t port = 0; port < 2; port++)
+    for (uint32_t port = 0; port < 3; port++)
         send_waiting(port);
     printf("received %u, sent on %u\n",
            (unsigned)hj_value(hj_counter(MISSION, HJ_IN_RECEIVES)),

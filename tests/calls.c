@@ -48,7 +48,7 @@ static hj_fields bare(void)
 static void expect_refused(hj_fields fields, uint32_t refusal, size_t data,
                            size_t room, const char *what)
 {
-    uint8_t output[HJ_OUTPUT_ROOM + 1];
+    uint8_t output[HJ_HEADER_ROOM + 1];
     uint8_t before[sizeof output];
     hj_answer built;
 
@@ -63,12 +63,12 @@ static void expect_refused(hj_fields fields, uint32_t refusal, size_t data,
 /* Built, and read again with nothing changed and nothing written behind it. */
 static void expect_built(hj_fields fields, const char *what)
 {
-    uint8_t output[HJ_OUTPUT_ROOM + 1];
+    uint8_t output[HJ_HEADER_ROOM + 1];
     hj_answer built;
     hj_reading reading;
 
     memset(output, UNTOUCHED, sizeof output);
-    built = hj_build(fields, 0, output, HJ_OUTPUT_ROOM);
+    built = hj_build(fields, 0, output, HJ_HEADER_ROOM);
     reading = hj_read(output, hj_value(built));
     expect(hj_refusal(built) == 0 && reading.refusal == 0 &&
                reading.header == hj_value(built) &&
@@ -83,7 +83,7 @@ static void expect_built(hj_fields fields, const char *what)
     do {                                                                    \
         hj_fields fields = start();                                         \
         fields.field = (number);                                            \
-        expect_refused(fields, HJ_FIELD_RANGE, 0, HJ_OUTPUT_ROOM,           \
+        expect_refused(fields, HJ_FIELD_RANGE, 0, HJ_HEADER_ROOM,           \
                        #start " header, " #field " = " #number);            \
     } while (0)
 
@@ -153,18 +153,18 @@ static void check_times(void)
         fields.time = ((uint64_t)1 << 8 * octets) - 1;
         expect_built(fields, "the largest time of a P-field");
         fields.time++;
-        expect_refused(fields, HJ_FIELD_RANGE, 0, HJ_OUTPUT_ROOM,
+        expect_refused(fields, HJ_FIELD_RANGE, 0, HJ_HEADER_ROOM,
                        "a time over its P-field");
     }
     fields.time = 0;
     fields.p_field = 256;
-    expect_refused(fields, HJ_FIELD_RANGE, 0, HJ_OUTPUT_ROOM, "P-field 256");
+    expect_refused(fields, HJ_FIELD_RANGE, 0, HJ_HEADER_ROOM, "P-field 256");
     fields.p_field = 0;
     fields.stamp_format = HJ_STAMP_BINARY;
     fields.time = 0xffffffff;
     expect_built(fields, "the largest binary time");
     fields.time++;
-    expect_refused(fields, HJ_FIELD_RANGE, 0, HJ_OUTPUT_ROOM,
+    expect_refused(fields, HJ_FIELD_RANGE, 0, HJ_HEADER_ROOM,
                    "a binary time over 32 bits");
 }
 
@@ -175,13 +175,13 @@ static void check_order(void)
     wrong.tp_id = 16;
     expect_built(full(), "every element");
     expect_built(bare(), "the shortest header");
-    expect_refused(wrong, HJ_SHORT_OUTPUT, SIZE_MAX, HJ_OUTPUT_ROOM - 1,
+    expect_refused(wrong, HJ_SHORT_OUTPUT, SIZE_MAX, HJ_HEADER_ROOM - 1,
                    "17 before 19 and 20");
-    expect_refused(wrong, HJ_FIELD_RANGE, SIZE_MAX, HJ_OUTPUT_ROOM,
+    expect_refused(wrong, HJ_FIELD_RANGE, SIZE_MAX, HJ_HEADER_ROOM,
                    "19 before 20");
-    expect_refused(full(), HJ_DATA_TOO_LONG, HJ_MOST_DATA + 1, HJ_OUTPUT_ROOM,
+    expect_refused(full(), HJ_DATA_TOO_LONG, HJ_MOST_DATA + 1, HJ_HEADER_ROOM,
                    "8,142 octets of data");
-    expect_refused(full(), HJ_DATA_TOO_LONG, SIZE_MAX, HJ_OUTPUT_ROOM,
+    expect_refused(full(), HJ_DATA_TOO_LONG, SIZE_MAX, HJ_HEADER_ROOM,
                    "the greatest count of data");
 }
 
@@ -266,7 +266,7 @@ static void check_alone(void)
 /* What hj_read unpacks is what hj_read_words gives, field by field. */
 static void check_read_words(void)
 {
-    uint8_t octets[HJ_OUTPUT_ROOM];
+    uint8_t octets[HJ_HEADER_ROOM];
     size_t count = hj_value(hj_build(full(), 0, octets, sizeof octets));
     uint32_t words[HJ_READING_WORDS], again[HJ_FIELD_WORDS];
     hj_reading reading = hj_read(octets, count);
@@ -286,7 +286,7 @@ static void check_read_words(void)
 static void check_word_counts(void)
 {
     enum { MOST = 64 };
-    uint8_t octets[HJ_OUTPUT_ROOM], output[HJ_OUTPUT_ROOM];
+    uint8_t octets[HJ_HEADER_ROOM], output[HJ_HEADER_ROOM];
     size_t count = hj_value(hj_build(full(), 0, octets, sizeof octets));
     uint32_t words[MOST], before[MOST];
 

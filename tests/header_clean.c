@@ -97,13 +97,16 @@ int accessors(void)
                                                 hj_precedence};
     uint16_t (*slot)(hj_answer) = hj_slot;
     uint32_t (*const of_verdict[])(hj_verdict) = {
-        hj_ended_by, hj_local, hj_onward, hj_took, hj_dropped,
-        hj_header_octets};
+        hj_ended_by,  hj_local,     hj_onward,           hj_took,
+        hj_dropped,   hj_data_from, hj_rewritten_octets, hj_rewritten};
+    uint32_t (*octets)(hj_verdict, uint32_t) = hj_header_octets;
+    const uint8_t *(*header)(const uint8_t *, uint32_t) = hj_header;
     uint32_t (*const of_found[])(hj_found) = {hj_found_refusal, hj_is_found,
                                               hj_found_place, hj_found_ones,
                                               hj_found_port};
 
-    return of_answer[0] && slot && of_verdict[0] && of_found[0];
+    return of_answer[0] && slot && of_verdict[0] && octets && header &&
+           of_found[0];
 }
 
 int constants(void)
@@ -113,13 +116,13 @@ int constants(void)
                             HJ_VERSION_PATCH};
     const int limits[] = {HJ_BOARD_WORDS,   HJ_MISSION_WORDS,
                           HJ_READING_WORDS, HJ_FIELD_WORDS,
-                          HJ_OUTPUT_ROOM,   HJ_MOST_DATA,
-                          HJ_MOST_LENGTH,   HJ_MISSIONS,
-                          HJ_PORTS,         HJ_ROUTES,
-                          HJ_GROUPS,        HJ_PATHS,
-                          HJ_QUEUE,         HJ_PORT_NUMBERS,
-                          HJ_ROUTE_NUMBERS, HJ_GROUP_NUMBERS,
-                          HJ_PATH_NUMBERS};
+                          HJ_HEADER_ROOM,   HJ_OUTPUT_ROOM,
+                          HJ_MOST_DATA,     HJ_MOST_LENGTH,
+                          HJ_MISSIONS,      HJ_PORTS,
+                          HJ_ROUTES,        HJ_GROUPS,
+                          HJ_PATHS,         HJ_QUEUE,
+                          HJ_PORT_NUMBERS,  HJ_ROUTE_NUMBERS,
+                          HJ_GROUP_NUMBERS, HJ_PATH_NUMBERS};
     const int classes[] = {HJ_INVALID,        HJ_UNICAST,
                            HJ_MULTICAST,      HJ_NET_BROADCAST,
                            HJ_DOMAIN_BROADCAST, HJ_SCPS_BROADCAST,

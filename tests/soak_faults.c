@@ -139,6 +139,48 @@ uint32_t __wrap_hj_set_port(hj_board *board, size_t board_words, uint32_t port,
     return refusal;
 }
 
+/* The hop count of a header that has no basic QOS before it and a control field
+ * of two octets, with addresses of four. */
+#define HOP_AT 12
+static int has_plain_hop_count(const uint8_t *header)
+{
+    return (header[3] & 0xa3) == 0x21;
+}
+
+/* What a wrong hj_receive may do to the headers. */
+static void touch_headers(hj_verdict verdict, uint8_t *output)
+{
+    for (uint32_t port = 0; port < HJ_PORTS && hj_took(verdict) != 0; port++) {
+        uint32_t octets = hj_header_octets(verdict, port);
+        uint8_t *header = output + HJ_HEADER_ROOM * port;
+
+        if (fault() == 11 && octets != 0)
+            header[octets] ^= 1;
+        if (fault() == 24 && octets == 0)
+            header[0] ^= 1;
+        if (fault() == 27 && (hj_rewritten(verdict) >> port & 1) &&
+            has_plain_hop_count(header) && header[HOP_AT] == 64)
+            header[HOP_AT]--; /* 63 for the first hop count */
+    }
+}
+
+/* The lengths and sets of a verdict, told wrong. */
+static hj_verdict mistold(hj_verdict verdict)
+{
+    const hj_verdict rewritten = (hj_verdict)0xffff << 48;
+
+    if (fault() == 25 && hj_local(verdict) == HJ_DELIVERED)
+        return verdict + ((hj_verdict)1 << 40);
+    if (fault() == 26 && hj_rewritten(verdict) != 0)
+        return verdict + ((hj_verdict)1 << 48);
+    if (fault() == 28)
+        return verdict & ~rewritten;
+    if (fault() == 29 && hj_rewritten(verdict) == 0 && hj_took(verdict) != 0)
+        return verdict | (hj_verdict)hj_took(verdict) << 56 |
+               (hj_verdict)hj_data_from(verdict) << 48;
+    return verdict;
+}
+
 /* What a wrong hj_receive may do to words, octets and output. */
 static void touch(hj_verdict verdict, hj_mission *mission,
                   const uint8_t *octets, size_t length, uint8_t *output)
@@ -150,8 +192,6 @@ static void touch(hj_verdict verdict, hj_mission *mission,
         beyond = octets[length];
     if (fault() == 10 && ended == HJ_BAD_ADDRESS)
         output[0] ^= 1;
-    if (fault() == 11 && hj_took(verdict) != 0)
-        output[hj_header_octets(verdict)] ^= 1;
     if (fault() == 12 && hj_took(verdict) != 0)
         ((uint8_t *)octets)[0] ^= 1;
     if (fault() == 13 && ended == HJ_DONE && hj_onward(verdict) == HJ_NO_ROUTE)
@@ -170,11 +210,12 @@ hj_verdict __wrap_hj_receive_at(BOARD, MISSION, ROUTES, uint32_t port,
                              octets, length, output, room);
 
     touch(verdict, mission, octets, length, output);
+    touch_headers(verdict, output);
     if (fault() == 15 && hj_onward(verdict) == HJ_NO_ROUTE)
         return verdict + (1u << 16); /* 12, which is no longer given */
     if (fault() == 16 && hj_dropped(verdict) != 0)
         return verdict & ~((hj_verdict)0xff << 32);
     if (fault() == 23 && hj_ended_by(verdict) == HJ_BAD_NUMBER)
         return HJ_NO_PORT; /* a list over 512 records: 16 for 21 */
-    return verdict;
+    return mistold(verdict);
 }

@@ -143,7 +143,7 @@ class Install(unittest.TestCase):
         source = os.path.join(self.work, "manual.c")
         with open(source, "w", encoding="ascii") as file:
             file.write(program_of(read(self.path("share/man/man3/harpjuniper.3"))))
-        self.assertEqual(self.output_of(source), "ports 8, slot 7\n")
+        self.assertEqual(self.output_of(source), "ports 8, slot 7, hop count 63\n")
 
     def test_the_program(self):
         if not NATIVE:
@@ -199,7 +199,7 @@ class Pages(unittest.TestCase):
             self.assertRegex(described, rf"\.BI? {name}\(", name)
 
     def test_every_accessor_is_named(self):
-        for name in re.findall(r"^static inline \w+ (hj_\w+)\(", read("include/harpjuniper.h"), re.M):
+        for name in re.findall(r"^static inline [\w ]+[ *](hj_\w+)\(", read("include/harpjuniper.h"), re.M):
             self.assertRegex(self.PAGE, rf"\b{name}(?: \(\)| \"\(\)|\()")
 
     def test_each_refusal_has_its_number(self):

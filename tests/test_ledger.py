@@ -51,6 +51,23 @@ class Ledger(unittest.TestCase):
         self.refused("relay-queues.trace", "take 1 0 = 0 2 5", "take 1 0 = 0 2 3", "precedence taken: due 5, found 3")
         self.refused("relay-queues.trace", "take 1 0 = 0 2 5", "take 1 0 = 18 0 0", "an entry exactly where one waits")
 
+    def test_a_header_is_lacking(self):
+        line = "receive 0 1 400 20061a402104 0 = 0 0 1 6 20061a402104,200c1a410a0a0a210a0a0a04"
+        self.refused("relay-rewrite.trace", line, line[:line.index(",")],
+                     "a header for each port that took: due 2, found 1")
+
+    def test_another_header(self):
+        line = "receive 0 1 400 20061a401604 0 = 0 0 1 4 200f1b610a0a0a160a0a0a04405c61"
+        for old, new, says in (("0a0a0a16", "0a0a0b16", "a header names another system"),  # the port's own domain
+                               ("0a0a0a04", "0a0a0b04", "a header names another system"),
+                               ("405c61", "3f5d61", "another hop count"),
+                               ("200f1b", "20061b", "a length field that is not header and data"),
+                               ("200f1b", "200f2b", "a header says something else")):
+            self.refused("relay-rewrite.trace", line, line[:20] + line[20:].replace(old, new), says)
+        line = "receive 0 1 400 20061a40ff04 0 = 0 1 1 6 20061a40ff04,200c1a410a0a0aff0a0a0a04"
+        self.refused("relay-rewrite.trace", line, line.replace("200c1a410a0a0aff0a0a0a04", "20061a40ff04"),
+                     "a header names another system")  # one octet in another domain
+
     def test_another_number_waits(self):
         self.refused("relay-queues.trace", "waiting 1 0 = 32", "waiting 1 0 = 31", "took = handed out + waiting")
 
@@ -62,13 +79,13 @@ class Ledger(unittest.TestCase):
             self.refused("relay-refusals.trace", counters, " ".join(words), "FAILED")
 
     def test_a_full_port_that_takes_an_entry(self):
-        line = "receive 0 33 50 200c1a41c00002010a0a0004 0 = 0 0 15 0 -"
-        other = "receive 0 33 50 200c1a41c00002010a0a0004 0 = 0 0 1 2 200c1a41c00002010a0a0004"
+        line = "receive 0 33 400 200c1a41c00002010a0a0004 0 = 0 0 15 0 -"
+        other = "receive 0 33 400 200c1a41c00002010a0a0004 0 = 0 0 1 2 200c1a41c00002010a0a0004"
         self.refused("relay-queues.trace", line, other, "a full port took an entry")
 
     def test_15_without_a_full_port(self):
-        line = "receive 0 1 50 200d1a43c00002010a0a000430 0 = 0 0 1 2 200d1a43c00002010a0a000430"
-        other = "receive 0 1 50 200d1a43c00002010a0a000430 0 = 0 0 15 0 -"
+        line = "receive 0 1 400 200d1a43c00002010a0a000430 0 = 0 0 1 2 200d1a43c00002010a0a000430"
+        other = "receive 0 1 400 200d1a43c00002010a0a000430 0 = 0 0 15 0 -"
         self.refused("relay-queues.trace", line, other, "15 without a full port")
 
     def test_discards_beyond_their_bounds(self):
@@ -89,7 +106,7 @@ class Whole(unittest.TestCase):
              "build 0 49 5 0a04090e 0a0a0a04 1 0 - - - 64 0 - - 1 0 = 17 -",
              "set_router 1 = 0", "set_port 0 0a0a0a02 ffffff00 8191 0 = 0", "set_route 0 0a040900 ffffff00 0 1 0 0 = 0",
              "set_group 0 e0000105 1 1 0 = 0", "set_path 0 0a000007 1 1 0 = 0",
-             "receive 0 7 50 - 0 = 1 0 0 0 -", "take 0 0 = 18 0 0", "waiting 0 0 = 0",
+             "receive 0 7 400 - 0 = 1 0 0 0 -", "take 0 0 = 18 0 0", "waiting 0 0 = 0",
              "search 0a04090e 0 = 0 24 0", "search 0a04080e 0 = -",
              "counters 0 = 1 1 0 0 0 0 0 0 0 0 0 0 0 0 0", "clear_route 0 = 0", "clear_group 0 0 = 0", "clear_path 0 0 = 0"]
     COVERAGE = ("build/coverage", "headers=0", "builds=0", "addresses=0", "checksums=0", "histories=0")

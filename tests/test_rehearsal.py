@@ -1,6 +1,7 @@
 #!/usr/bin/env python3
 """build/rehearsal: the customer's story goes as it should; a bad line, a failed
-expectation, and relays that lose, swap or repeat entries are each found out.
+expectation, relays that lose, swap or repeat entries, and relays whose headers name
+another unit are each found out.
 """
 import os
 import re
@@ -44,6 +45,20 @@ expect Right delivered "dose"
 """
 
 
+# Middle and End, by the wire between them: a ring for 10.7.7 where End's route leads back.
+RING = SMALL + """\
+node End router
+port End 0 10.1.1.6 255.255.255.0 1500
+port Middle 2 10.1.1.8 255.255.255.0 1500
+link End 0 Middle 2 9600
+route End 0 0.0.0.0 0.0.0.0 0 up%s
+route Middle 1 10.7.7.0 255.255.255.0 2 up
+quiet
+send Left 0 to 10.7.7.14 from 10.1.1.4 %sdata "x"
+run
+"""
+
+
 def fly(*arguments, program="rehearsal", **environment):
     """Its status, output and complaints."""
     words = [os.path.join(ROOT, "build", program), *arguments]
@@ -79,23 +94,30 @@ class Story(unittest.TestCase):
     def test_it_ends_well(self):
         self.assertEqual((self.status, self.complaints), (0, ""))
         self.assertNotIn("NOT AS", self.output)
+        self.assertRegex(self.output, r"\n(\d+) of \1 copies name what the datagram named that came\.\n")
         self.assertRegex(self.output, r"\n(\d+) of \1 entries went out at the take foretold\.\n")
         self.assertRegex(self.output, r"\n(\d+) of \1 expectations held; the ledger closes on every port\.\n$")
 
-    def test_one_octet_order_stays_in_its_domain(self):
-        self.has("1", "header 6 + data 22 = 28 octets", "28 octets at 2400 bit/s: 93.3 ms", "Buoy receives",
-                 "onward: REFUSED (13), a one-octet address would leave its domain; no port took it",
-                 "left-domain 1 (+1)")
-        self.lacks("1", "South receives")
-        self.lacks("1", "DELIVERED")
+    def test_one_octet_order_reaches_the_unit_that_it_named(self):
+        order = "\"dose biocide 20 litres\""
+        self.has("1", "header 6 + data 22 = 28 octets", f"North port 2 to Buoy port 0: {order} from 4 to 14\n",
+                 "28 octets at 2400 bit/s: 93.3 ms", "Buoy receives", "onward: sent on (1); taken by port 1\n",
+                 "port 1: header rewritten, 13 octets, 7 more than came: 23.3 ms more at 2400 bit/s\n",
+                 f"Buoy port 1 to South port 1: {order} from 10.1.1.4 to 10.1.1.14\n",
+                 "35 octets at 2400 bit/s: 116.7 ms on the wire; hop count 64;",
+                 f"South port 4 to NorthUnit port 1: {order} from 10.1.1.4 to 10.1.1.14\n", "hop count 63;",
+                 f"NorthUnit receives {order} by port 1\n", "here: DELIVERED (1)")
+        self.assertEqual(self.scenes["1"].count("DELIVERED"), 1)
+        self.lacks("1", "SouthUnit receives")
 
     def test_four_octet_order_arrives(self):
         self.has("2", "header 12 + data 22 = 34 octets", "34 octets at 2400 bit/s: 113.3 ms",
+                 "port 1: header rewritten, 13 octets, 1 more than came: 3.3 ms more at 2400 bit/s\n",
                  "SouthUnit receives \"dose biocide 20 litres\"", "here: DELIVERED (1)")
         self.lacks("2", "NorthUnit receives")
 
     def test_within_a_domain_one_octet_does(self):
-        self.has("3", "NorthUnit receives", "here: DELIVERED (1)")
+        self.has("3", "port 1: header kept, 6 octets\n", "NorthUnit receives", "here: DELIVERED (1)")
         self.lacks("3", "Buoy receives")
 
     def test_an_urgent_order_overtakes(self):
@@ -115,6 +137,12 @@ class Story(unittest.TestCase):
     def test_a_path(self):
         self.has("8", "by path 10.1.1.40", "header 8 + data 21", "SouthUnit receives", "here: DELIVERED (1)")
 
+    def test_one_octet_path_stays_in_its_domain(self):
+        self.has("8", "by path 40 by port 0\n", "header 4 + data 21 = 25 octets", "port 2: header kept, 4 octets\n",
+                 "Buoy receives", "onward: REFUSED (13), a one-octet path would leave its domain; no port took it\n",
+                 "left-domain 1 (+1)")
+        self.assertEqual(self.output.count("REFUSED (13)"), 1)
+
     def test_hops(self):
         self.has("9", "hop count 4", "hop count 3", "hop count 2", "hop count 1", "REFUSED (10), hop count used up")
 
@@ -127,9 +155,9 @@ class Story(unittest.TestCase):
                  "SouthUnit receives", "here: REFUSED (26)", "onward: not asked (0)")
 
     def test_a_route_that_is_down_hides_none(self):
-        self.has("12", "North receives \"East: dose", "onward: sent on (1), header 12 octets; taken by port 2",
+        self.has("12", "North receives \"East: dose", "onward: sent on (1); taken by port 2",
                  "East receives \"East: dose biocide 5 litres\" by port 0", "here: DELIVERED (1)",
-                 "North receives \"West: dose", "onward: sent on (1), header 12 octets; taken by port 2",
+                 "North receives \"West: dose", "onward: sent on (1); taken by port 2",
                  "West receives \"West: dose biocide 6 litres\" by port 0", "here: DELIVERED (1)")
         self.lacks("12", "REFUSED")
 
@@ -177,13 +205,48 @@ class Story(unittest.TestCase):
         for one, other in rows:
             self.assertEqual(one, other)
 
+    def test_two_headers_of_one_datagram(self):
+        self.has("17", "South receives", "taken by port 1,2\n", "port 1: header kept, 6 octets\n",
+                 "port 2: header rewritten, 12 octets, 6 more than came",
+                 "South port 1 to Buoy port 1: \"tank 2 is full\" from 14 to 31\n",
+                 "South port 2 to East port 0: \"tank 2 is full\" from 10.2.2.14 to 10.2.2.31\n",
+                 "East receives", "here: DELIVERED (1)", "Buoy receives", "port 0: header rewritten, 12 octets",
+                 "ControlRoom receives", "here: DELIVERED (1)")
+        self.lacks("17", "; hop count")
+
+    def test_what_a_header_costs(self):
+        """Each millisecond by the octets, and not as the program has it."""
+        rows = re.findall(r"port 1: header (\w+), (\d+) octets"
+                          r"(?:, (\d+) more than came: ([\d.]+) ms more at 2400 bit/s)?\n", self.scenes["18"])
+        self.assertEqual([(form, int(octets)) for form, octets, _, _ in rows],
+                         [("rewritten", 12), ("rewritten", 14), ("rewritten", 13), ("rewritten", 15), ("kept", 15)])
+        for _, octets, more, milliseconds in rows[:4]:
+            self.assertEqual(int(more), int(octets) - 6)
+            self.assertEqual(milliseconds, f"{int(more) * 8 / 2.4:.1f}")
+        self.assertEqual(rows[4][2:], ("", ""))
+
+    def test_a_ring_without_a_hop_count(self):
+        self.has("19", "Buoy receives", "port 1: header rewritten, 12 octets", "South receives", "taken by port 1\n",
+                 "Buoy receives", "taken by port 1\n", "South receives", "0 sent, 200 arrivals", "Buoy receives",
+                 "onward: REFUSED (11), no route; no port took it\n")
+        self.lacks("19", "; hop count")
+        self.lacks("19", "DELIVERED")
+
+    def test_a_route_that_asks_for_a_hop_count(self):
+        self.has("20", "port 1: header rewritten, 13 octets, 7 more than came", "hop count 64", "hop count 63",
+                 "hop count 62", "0 sent, 61 arrivals", "onward: REFUSED (10), hop count used up; no port took it\n")
+        self.lacks("20", "DELIVERED")
+        first = re.search(r"\n +([\d.]+) s  Buoy port 1 to South", self.scenes["20"])[1]
+        last = re.findall(r"\n +([\d.]+) s  Buoy receives", self.scenes["20"])[-1]
+        self.assertAlmostEqual(float(last) - float(first), 64 * 35 * 8 / 2400, places=3)
+
     def test_counters_and_ledger(self):
         self.assertIn(
-            "\nNorth\n   counters: npInReceives 54, npInUnknownProtos 1, npInDelivers 1, npForwDatagrams 52, "
+            "\nNorth\n   counters: npInReceives 63, npInUnknownProtos 1, npInDelivers 1, npForwDatagrams 61, "
             "npOutNoRoutes 1, npOutDiscards 2; all others 0\n"
-            "   port 0: granted 1 = handed out 1 + waiting 0 + dropped 0\n"
+            "   port 0: granted 2 = handed out 2 + waiting 0 + dropped 0\n"
             "   port 1: granted 3 = handed out 3 + waiting 0 + dropped 0\n"
-            "   port 2: granted 50 = handed out 48 + waiting 0 + dropped 2\n"
+            "   port 2: granted 58 = handed out 56 + waiting 0 + dropped 2\n"
             "   port 3: granted 1 = handed out 1 + waiting 0 + dropped 0\n"
             "   port 4: granted 0 = handed out 0 + waiting 0 + dropped 0\n", self.output)
         self.assertIn(
@@ -207,10 +270,17 @@ class Small(unittest.TestCase):
         self.assertIn("granted 3 = handed out 0 + waiting 3 + dropped 0", output)
 
     def test_the_mtu_is_the_library_s(self):
-        order = SMALL + "send Left 0 to 10.2.2.14 from 10.1.1.4 data \"%s\"\nrun\nexpect Middle %s\n"
-        for text, due in (("x" * 18, "took 1"), ("x" * 19, "refused 14")):
-            status, output, _ = fly_text(order % (text, due))
-            self.assertEqual(status, 0, output)
+        """Its 30 octets hold the header as it goes out, and the data."""
+        for addresses, asks, header in (("to 10.2.2.14 from 10.1.1.4", "", 12),
+                                        ("to 10.2.2.14 from 10.1.1.4", " asks hops", 13),
+                                        ("to 20 from 4", "", 12), ("to 20 from 4", " asks checksum", 14),
+                                        ("to 20 from 4", " asks both", 15)):
+            order = (SMALL + f"route Middle 1 10.1.1.20 255.255.255.255 1 up{asks}\n"
+                     f"route Middle 0 10.2.2.0 255.255.255.0 1 up{asks}\n"
+                     f"send Left 0 {addresses} data \"%s\"\nrun\nexpect Middle %s\n")
+            for octets, due in ((30 - header, "took 1"), (31 - header, "refused 14")):
+                status, output, _ = fly_text(order % ("x" * octets, due))
+                self.assertEqual(status, 0, output)
 
     def test_a_link_that_comes_late(self):
         late = SMALL.replace("link Middle 1 Right 0 2400\n", "")
@@ -223,7 +293,9 @@ class Small(unittest.TestCase):
         order = SMALL + "send Left 0 to 10.2.2.14 from 10.1.1.4 data \"dose\"\nrun\n"
         for wrong in ("Right nothing", "Middle refused 13", "Right delivered \"dos\"", "Middle took 0",
                       "Middle dropped 1", "Middle counter left-domain 1", "Middle waiting 1 1",
-                      "Right order \"dose\" \"other\"", "Left took -"):
+                      "Right order \"dose\" \"other\"", "Left took -", "Right arrivals 2",
+                      "Right named 10.1.1.14", "Right named 10.2.2.14 from 10.2.2.4", "Left named 10.1.1.4",
+                      "Middle header 1 rewritten 12", "Middle header 1 kept 13", "Middle header 0 kept 12"):
             status, output, complaints = fly_text(order + f"expect {wrong}\nexpect Right delivered \"dose\"\n")
             self.assertEqual((status, complaints), (1, ""), wrong)
             self.assertIn("NOT AS EXPECTED: " + wrong + "\n", output)
@@ -232,10 +304,12 @@ class Small(unittest.TestCase):
     def test_what_is_told_otherwise_is_found(self):
         twin = SMALL.replace("Left", "Left2").replace("Middle", "Middle2").replace("Right", "Right2")
         order = "send Left%s 0 to 10.2.2.14 from 10.1.1.4 %sdata \"dose\"\n"
-        for first, second, status in ("", "", 0), ("", "hops 1 ", 1), ("", "precedence 1 ", 1):
-            text = SMALL + twin + order % ("", first) + order % ("2", second) + "run\nbeside Middle Middle2\n"
+        asks = twin.replace("1 up\n", "1 up asks hops\n")
+        for other, second, status in (twin, "", 0), (twin, "hops 1 ", 1), (twin, "precedence 1 ", 1), (asks, "", 1):
+            text = SMALL + other + order % ("", "") + order % ("2", second) + "run\nbeside Middle Middle2\n"
             ended, output, _ = fly_text(text)
             self.assertEqual(ended, status, output)
+            self.assertEqual("  NOT EQUAL\n" in output, status == 1)
             self.assertEqual("NOT AS EXPECTED: mission 0 is told the same by both" in output, status == 1)
 
     def test_a_take_foretold(self):
@@ -257,14 +331,14 @@ class Small(unittest.TestCase):
         self.assertIn("as foretold (take 32): Middle port 1 hands out \"dose\" at take 32\n", output)
 
     def test_a_relay_that_swaps_entries(self):
-        status, output, complaints = fly_text(WAITS, program="rehearsal_wrong", WRONG_TAKE="swap")
+        status, output, complaints = fly_text(WAITS, program="rehearsal_wrong", WRONG_RELAY="swap")
         self.assertEqual((status, complaints), (1, ""))
         self.assertIn("NOT AS FORETOLD (take 4): Middle port 1 hands out \"dose\" at take 3\n", output)
         self.assertIn("NOT AS FORETOLD (take 1): Middle port 1 keeps \"stop\" at take 1\n", output)
         self.assertIn("1 of 1 expectations held; the ledger closes on every port.\n", output)
 
     def test_a_relay_that_repeats_entries(self):
-        status, output, complaints = fly_text(WAITS, program="rehearsal_wrong", WRONG_TAKE="repeat")
+        status, output, complaints = fly_text(WAITS, program="rehearsal_wrong", WRONG_RELAY="repeat")
         self.assertEqual((status, complaints), (1, ""))
         self.assertIn("NOT AS FORETOLD: Middle port 1 hands out slot 4, which does not wait there\n", output)
         self.assertIn("the ledger DOES NOT CLOSE.", output)
@@ -288,6 +362,11 @@ class Small(unittest.TestCase):
                            ("route Middle 512 0.0.0.0 0.0.0.0 1 up", "found '21: no such place"),
                            ("route Middle 1 0.0.0.0 0.0.0.0 1 up mission 1", "or the other mission's port'"),
                            ("route Middle 1 0.0.0.0 0.0.0.0 1 up mission 2", "a mission, 0 or 1, found '2'"),
+                           ("route Middle 1 0.0.0.0 0.0.0.0 1 up asks", "or 'both', found the end of the line"),
+                           ("route Middle 1 0.0.0.0 0.0.0.0 1 up asks hop", "'checksum', 'hops' or 'both', found "),
+                           ("route Middle 1 0.0.0.0 0.0.0.0 1 up asks hops checksum", "of the line, found 'checksum'"),
+                           ("route Middle 1 0.0.0.0 0.0.0.0 1 up asks hops mission 0 asks both", "found 'asks both'"),
+                           ("route Middle 1 0.0.0.0 0.0.0.0 1 asks hops", "'testing' or 'out', found 'asks'"),
                            ("group Middle 0 10.9.9.31 0 - mission 1", "found '21: no such place"),
                            ("port Left 0 10.1.1.4 255.255.255.0 1500", "found '35: the port is set up already'"),
                            ("beside Left Other", "the name of a node, found 'Other'"),
@@ -310,6 +389,11 @@ class Small(unittest.TestCase):
                            ("foretell Middle 1 dose", "the data as \"text\", found 'dose'"),
                            ("step", "something on a wire, found 'nothing'"),
                            ("expect Left happy", "found 'happy'"),
+                           ("expect Left arrivals", "how many arrivals, found the end of the line"),
+                           ("expect Left named 14", "an address of four octets, found '14'"),
+                           ("expect Left named 10.1.1.4 from 4", "an address of four octets, found '4'"),
+                           ("expect Left header 0 new 12", "'kept' or 'rewritten', found 'new'"),
+                           ("expect Left header 0 kept 51", "the header's octets, 4 to 50, found '51'"),
                            ("expect Left counter npOut 1", "the name of a counter, found 'npOut'"),
                            ("say " + "x" * 1100, "at most 1000 characters")):
             status, _, complaints = fly_text(SMALL + line + "\nsay not reached\n")
@@ -317,18 +401,48 @@ class Small(unittest.TestCase):
             self.assertIn(f", line {at}: expected ", complaints, line)
             self.assertIn(says, complaints, line)
 
-    def test_a_ring_without_a_hop_count(self):
-        ring = SMALL + ("node End router\nport End 0 10.1.1.6 255.255.255.0 1500\nport Middle 2 10.1.1.8 "
-                        "255.255.255.0 1500\nlink End 0 Middle 2 9600\nroute End 0 0.0.0.0 0.0.0.0 0 up\n"
-                        "route Middle 1 10.7.7.0 255.255.255.0 2 up\nquiet\n"
-                        "send Left 0 to 10.7.7.14 from 10.1.1.4 %s data \"x\"\nrun\n")
-        self.assertEqual(fly_text(ring % "hops 255")[0], 0)
-        status, _, complaints = fly_text(ring % "")
+    def endless(self, text):
+        status, _, complaints = fly_text(text)
         self.assertEqual(status, 2)
-        self.assertIn("routes in a ring need a hop count", complaints)
+        self.assertIn("expected an end (a ring needs a hop count), found '20000 arrivals'", complaints)
+
+    def test_a_ring_ends_by_a_hop_count(self):
+        self.assertEqual(fly_text(RING % ("", "hops 255 "))[0], 0)
+        self.endless(RING % ("", ""))
+
+    def test_a_ring_ends_where_a_route_asks_for_a_hop_count(self):
+        """End adds 64, and the 64th hop from there comes back to End."""
+        for asks in " asks hops", " asks both", " asks hops mission 0", " mission 0 asks both":
+            status, output, _ = fly_text(RING % (asks, "") + "expect End refused 10\nexpect Middle arrivals 33\n"
+                                         "expect End arrivals 33\n")
+            self.assertEqual(status, 0, output)
+        self.endless(RING % (" asks checksum", ""))
+
+    def test_a_ring_of_groups_needs_the_sender_s_hop_count(self):
+        """A group takes no route, and so no route adds a hop count."""
+        ring = RING.replace("quiet\n", "port End 1 10.1.1.10 255.255.255.0 1500\n"
+                            "port Middle 3 10.1.1.12 255.255.255.0 1500\nlink End 1 Middle 3 9600\n"
+                            "group Middle 0 10.9.9.31 2,3 -\ngroup End 0 10.9.9.31 0,1 -\nquiet\n")
+        ring = ring.replace("to 10.7.7.14", "to 10.9.9.31")
+        self.assertEqual(fly_text(ring % (" asks hops", "hops 9 "))[0], 0)
+        self.endless(ring % (" asks hops", ""))
+
+    def test_relays_that_name_another_unit(self):
+        """The first scene, with the accident of the earlier rehearsal and with one like it."""
+        with open(STORY, encoding="ascii") as file:
+            scene = file.read().split("\nscene 2.")[0]
+        for wrong, wire in ("keep", "from 4 to 14"), ("fill", "from 10.2.2.4 to 10.2.2.14"):
+            status, output, complaints = fly_text(scene, program="rehearsal_wrong", WRONG_RELAY=wrong)
+            self.assertEqual((status, complaints), (1, ""))
+            self.assertIn("   NOT AS NAMED: Buoy port 1 took \"dose biocide 20 litres\" from 10.2.2.4 to 10.2.2.14; "
+                          "it came from 10.1.1.4 to 10.1.1.14\n", output)
+            self.assertIn("South port 0 to SouthUnit port 0: \"dose biocide 20 litres\" " + wire, output)
+            self.assertIn("NOT AS EXPECTED: NorthUnit delivered \"dose biocide 20 litres\"\n", output)
+            self.assertIn("NOT AS EXPECTED: SouthUnit nothing\n", output)
+            self.assertIn("\n2 of 3 copies name what the datagram named that came.\n", output)
 
     def test_a_relay_that_loses_entries(self):
-        status, output, _ = fly(STORY, program="rehearsal_wrong")
+        status, output, _ = fly(STORY, program="rehearsal_wrong", WRONG_RELAY="lose")
         self.assertEqual(status, 1)
         self.assertRegex(output, r"   port 2: granted .*  DOES NOT CLOSE\n")
         self.assertIn("the ledger DOES NOT CLOSE.", output)

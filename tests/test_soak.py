@@ -30,6 +30,13 @@ FAULTS = [
     "not what the list says",              # a record that does not count
     "the records of the list",             # a search that writes the list
     "not the refusal that is due",         # 16 for 21
+    "the output's octets",                 # a header for a port that took none
+    "the data begin elsewhere",            # one too far
+    "a header longer than is due",         # a rewritten header's octets, one too many
+    "the output's octets",                 # 63 for the first hop count
+    # rewritten, and not told as such
+    "plain answers otherwise|a one-octet address that left its domain|the output's octets",
+    "a header rewritten for nothing",      # kept, and told as rewritten
 ]
 
 

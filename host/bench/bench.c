@@ -52,15 +52,26 @@ static size_t run(enum mode mode, void make(void))
     return 0;
 }
 
+/* By how many ports took it, as the mix has them, and by its headers. */
+static const char *kind_of_sent(const struct bench_answer *answer)
+{
+    if ((answer->took & (answer->took - 1)) == 0)
+        return answer->rewritten != 0 ? "receive, sent by route, rewritten"
+                                      : "receive, sent by route";
+    if (answer->rewritten == 0)
+        return "receive, sent to three ports";
+    return answer->rewritten == answer->took
+               ? "receive, sent to three ports, rewritten"
+               : "receive, broadcast, two forms";
+}
+
 static const char *kind_of_receive(const struct bench_answer *answer)
 {
     if (answer->refusal != 0)
         return "receive, refused";
-    if (answer->onward != 1)
-        return answer->local == 1 ? "receive, delivered" : "receive, other";
-    return (answer->ports & (answer->ports - 1)) == 0
-               ? "receive, sent by route"
-               : "receive, sent to three ports";
+    if (answer->onward == 1)
+        return kind_of_sent(answer);
+    return answer->local == 1 ? "receive, delivered" : "receive, other";
 }
 
 static const char *kind_of(const struct bench_answer *answer)

@@ -16,10 +16,12 @@
 
 /* What both sides must answer alike, the numbers of each other call 0. */
 struct bench_answer {
-    uint32_t refusal, local, onward, ports, header;
+    uint32_t refusal, local, onward, took, dropped;
+    uint32_t header; /* octets of the header that came, so of the one read */
+    uint32_t rewritten, rewritten_octets;
     uint32_t slot, precedence;
     uint32_t length;
-    uint8_t output[50];
+    uint8_t output[400];
 };
 
 struct bench_call {

@@ -41,8 +41,11 @@ static void receive(void)
     answer->refusal = hj_ended_by(verdict);
     answer->local = hj_local(verdict);
     answer->onward = hj_onward(verdict);
-    answer->ports = hj_took(verdict);
-    answer->header = hj_header_octets(verdict);
+    answer->took = hj_took(verdict);
+    answer->dropped = hj_dropped(verdict);
+    answer->header = hj_data_from(verdict);
+    answer->rewritten = hj_rewritten(verdict);
+    answer->rewritten_octets = hj_rewritten_octets(verdict);
 }
 
 static void take(void)

@@ -48,8 +48,11 @@ static void receive(void)
     answer->refusal = verdict.refusal;
     answer->local = verdict.local;
     answer->onward = verdict.onward;
-    answer->ports = verdict.ports.bits;
-    answer->header = verdict.header_length;
+    answer->took = verdict.took.bits;
+    answer->dropped = verdict.dropped.bits;
+    answer->header = verdict.arriving_octets;
+    answer->rewritten = verdict.rewritten.bits;
+    answer->rewritten_octets = verdict.rewritten_octets;
 }
 
 static void take(void)

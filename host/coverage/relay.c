@@ -85,6 +85,7 @@ static const char *const REFUSED_NAMES[] = {REFUSED_RECEIPT_LIST(NAME)};
 static const char *const LOCAL_NAMES[] = {LOCAL_LIST(NAME)};
 static const char *const WANTED_NAMES[] = {WANTED_LIST(NAME)};
 static const char *const COPIES_NAMES[] = {COPIES_LIST(NAME)};
+static const char *const REWRITTEN_NAMES[] = {REWRITTEN_LIST(NAME)};
 static const char *const PORT_NAMES[] = {PORT_LIST(NAME)};
 static const char *const ROUTE_NAMES[] = {ROUTE_LIST(NAME)};
 static const char *const ENTRY_NAMES[] = {ENTRY_LIST(NAME)};
@@ -102,6 +103,7 @@ static struct {
     uint64_t of_local[LENGTH(LOCAL_NAMES)];
     uint64_t of_wanted[LENGTH(WANTED_NAMES)];
     uint64_t of_copies[LENGTH(COPIES_NAMES)];
+    uint64_t of_rewritten[LENGTH(REWRITTEN_NAMES)];
     uint64_t of_port[LENGTH(PORT_NAMES)];
     uint64_t of_route[LENGTH(ROUTE_NAMES)];
     uint64_t of_entry[LENGTH(ENTRY_NAMES)];
@@ -140,6 +142,30 @@ static uint32_t wanted_ports(const struct receipt *r)
     return 0;
 }
 
+static void look_at_elements(struct receipt *r)
+{
+    static const uint32_t ASKED[] = {
+        [1] = CHECKSUM, [2] = HOP_COUNT, [4] = CHECKSUM | HOP_COUNT};
+    uint32_t capabilities = route_of(r)->capabilities;
+
+    r->there = (r->datagram.has_hop_count ? HOP_COUNT : 0u) |
+               (r->datagram.has_checksum ? CHECKSUM : 0u);
+    if (strcmp(r->line, "route") == 0 && capabilities < LENGTH(ASKED))
+        r->added = ASKED[capabilities] & ~r->there;
+}
+
+/* As long as it came, or as it is rewritten. */
+static uint32_t header_for(const struct receipt *r, uint32_t port)
+{
+    const struct arriving *came = &r->datagram;
+    bool widened = (r->foreign >> port & 1) != 0;
+
+    if (!widened && r->added == 0)
+        return came->header;
+    return came->header - came->control + came->shortest + r->added +
+           (widened ? 6 : 0);
+}
+
 static void look_at_ports(struct receipt *r)
 {
     uint32_t domain = view.ports[r->arrival % VIEW_PORTS].address >> 8;
@@ -149,7 +175,9 @@ static void look_at_ports(struct receipt *r)
 
         if (!r->datagram.extended && port->address >> 8 != domain)
             r->foreign |= 1u << i;
-        if (port->mtu < r->datagram.length)
+        r->headers[i] = header_for(r, i);
+        r->sizes[i] = r->headers[i] + r->datagram.length - r->datagram.header;
+        if (r->sizes[i] > port->mtu || r->sizes[i] > 8191)
             r->small |= 1u << i;
         if (view_now(&view)->waits[i] == VIEW_QUEUE)
             r->full |= 1u << i;
@@ -166,6 +194,8 @@ static void count_halves(const struct receipt *r)
     WANTED_LIST(COUNT)
     reached = tally.of_copies;
     COPIES_LIST(COUNT)
+    reached = tally.of_rewritten;
+    REWRITTEN_LIST(COUNT)
     tally.local[r->local % CALL_NUMBERS]++;
     tally.onward[r->onward % CALL_NUMBERS]++;
 }
@@ -198,6 +228,7 @@ static bool read_receipt(const struct trace_call *call,
     r.named = view_name(&view, r.arrival, &r.datagram);
     r.line = deciding_line(&r.named);
     r.wanted = wanted_ports(&r);
+    look_at_elements(&r);
     look_at_ports(&r);
     count_receipt(&r);
     return r.refusal != 0 || r.arrival < VIEW_PORTS;
@@ -419,6 +450,8 @@ static void say_halves(void)
     say_list(WANTED_NAMES, tally.of_wanted, LENGTH(WANTED_NAMES));
     puts("Copies:");
     say_list(COPIES_NAMES, tally.of_copies, LENGTH(COPIES_NAMES));
+    puts("Headers kept and rewritten:");
+    say_list(REWRITTEN_NAMES, tally.of_rewritten, LENGTH(REWRITTEN_NAMES));
 }
 
 static void say_settings(void)

@@ -9,16 +9,24 @@
 
 #include "view.h"
 
+/* The elements that a route may ask for, a set. Each has as many octets as its
+ * number says. */
+enum { HOP_COUNT = 1, CHECKSUM = 2 };
+
 struct receipt {
     uint32_t arrival, room, refusal, local, onward, took;
     size_t lent;
     struct arriving datagram;
     struct naming named;
-    uint32_t wanted; /* the ports that the rules want, before any is struck */
-    uint32_t foreign; /* ports of another domain than the arrival port's */
-    uint32_t small;   /* ports whose MTU is under the length */
-    uint32_t full;    /* ports on which 32 entries wait */
     const char *line; /* of the onward half: what decided the wanted ports */
+    uint32_t wanted;  /* the ports that the rules want, before any is struck */
+    uint32_t there;   /* of the elements, those that came */
+    uint32_t added;   /* and those that a route adds */
+    uint32_t foreign; /* ports of another domain than one-octet addresses' */
+    uint32_t small;   /* ports for which the copy is too big */
+    uint32_t full;    /* ports on which 32 entries wait */
+    uint32_t headers[VIEW_PORTS]; /* octets of the header for each port */
+    uint32_t sizes[VIEW_PORTS];   /* and of the whole copy */
 };
 
 /* A setting: its number, and its arguments as numbers, in their order. */
@@ -60,9 +68,41 @@ static inline bool refused_of(const struct list_found *found)
            found->by_port;
 }
 
+static inline uint32_t route_port(const struct receipt *r)
+{
+    return route_of(r)->port % VIEW_PORTS;
+}
+
 static inline uint32_t route_mtu(const struct view *v, const struct receipt *r)
 {
-    return v->ports[route_of(r)->port % VIEW_PORTS].mtu;
+    return v->ports[route_port(r)].mtu;
+}
+
+static inline uint32_t route_size(const struct receipt *r)
+{
+    return r->sizes[route_port(r)];
+}
+
+/* The ports that took a copy with a rewritten header, and with one that was
+ * kept. */
+static inline uint32_t rewritten(const struct receipt *r)
+{
+    return r->added != 0 ? r->took : r->took & r->foreign;
+}
+
+static inline uint32_t kept(const struct receipt *r)
+{
+    return r->took & ~rewritten(r);
+}
+
+/* Octets of the rewritten header; 0 where there is none. */
+static inline uint32_t rewritten_octets(const struct receipt *r)
+{
+    uint32_t port = 0;
+
+    while (port < VIEW_PORTS && (rewritten(r) >> port & 1) == 0)
+        port++;
+    return port < VIEW_PORTS ? r->headers[port] : 0;
 }
 
 static inline const struct view_group *group_of(const struct receipt *r)
@@ -99,14 +139,15 @@ static inline bool set_up_port(const struct view *v, uint32_t port)
                                    !set_up_port(v, r->arrival))               \
     ROW("16, the other mission's port",                                       \
         r->refusal == 16 && set_up_port(v, r->arrival))                       \
-    ROW("16 before 17", r->refusal == 16 && r->room < 50)                     \
+    ROW("16 before 17", r->refusal == 16 && r->room < 400)                    \
     ROW("17, room 0", r->refusal == 17 && r->room == 0)                       \
-    ROW("17, room 49", r->refusal == 17 && r->room == 49)                     \
+    ROW("17, room 50", r->refusal == 17 && r->room == 50)                     \
+    ROW("17, room 399", r->refusal == 17 && r->room == 399)                   \
     ROW("21, 513 records", r->refusal == 21 && v->places == 513)              \
     ROW("21 before 16",                                                       \
         r->refusal == 21 && (r->arrival >= VIEW_PORTS ||                      \
                              (view_own(v) >> r->arrival & 1) == 0))           \
-    ROW("21 before 17", r->refusal == 21 && r->room < 50)
+    ROW("21 before 17", r->refusal == 21 && r->room < 400)
 
 /* The reasons to deliver, and that the datagram is delivered. */
 #define DELIVERED (r->local == 1)
@@ -227,41 +268,123 @@ static inline bool set_up_port(const struct view *v, uint32_t port)
     ROW("sent on, no hop count",                                              \
         r->onward == 1 && !r->datagram.has_hop_count)                         \
     ROW("sent on, one octet", r->onward == 1 && !r->datagram.extended)        \
-    ROW("13, broadcast of ours", r->onward == 13 && BY("broadcast"))          \
-    ROW("13, multicast", r->onward == 13 && BY("multicast"))                  \
     ROW("13, path", r->onward == 13 && BY("path"))                            \
-    ROW("13, route", r->onward == 13 && BY("route"))                          \
-    ROW("sent on, a port struck out by its domain",                           \
-        r->onward == 1 && (r->wanted & r->foreign) != 0)                      \
+    ROW("path, a port struck out by its domain, another took it",             \
+        BY("path") && r->onward == 1 && (r->wanted & r->foreign) != 0)        \
     ROW("14, broadcast of ours", r->onward == 14 && BY("broadcast"))          \
     ROW("14, multicast", r->onward == 14 && BY("multicast"))                  \
     ROW("14, path", r->onward == 14 && BY("path"))                            \
     ROW("14, route", r->onward == 14 && BY("route"))                          \
     ROW("14, one octet over the MTU",                                         \
         r->onward == 14 && BY("route") &&                                     \
-            route_mtu(v, r) + 1 == r->datagram.length)                        \
+            route_mtu(v, r) + 1 == route_size(r))                             \
     ROW("14, length 8,191",                                                   \
         r->onward == 14 && r->datagram.length == 8191)                        \
     ROW("sent on, of the MTU's length",                                       \
-        r->onward == 1 && BY("route") &&                                      \
-            route_mtu(v, r) == r->datagram.length)                            \
+        r->onward == 1 && BY("route") && route_mtu(v, r) == route_size(r))    \
     ROW("sent on, length 8,191",                                              \
         r->onward == 1 && r->datagram.length == 8191)                         \
     ROW("sent on, a port struck out by its MTU",                              \
         r->onward == 1 &&                                                     \
-            (r->wanted & r->small & ~r->foreign & ~r->took) != 0)             \
+            (r->wanted & r->small & ~r->took) != 0)                           \
     ROW("15, one copy",                                                       \
         r->onward == 15 && (r->wanted & (r->wanted - 1)) == 0)                \
     ROW("15, two copies or more",                                             \
         r->onward == 15 && (r->wanted & (r->wanted - 1)) != 0)                \
     ROW("sent on, another port full",                                         \
         r->onward == 1 &&                                                     \
-            (r->wanted & r->full & ~r->foreign & ~r->small) != 0)             \
+            (r->wanted & r->full & ~r->small) != 0)                           \
     ROW("the 32nd entry taken", fills(v, r->took))                            \
     ROW("delivered, and sent on", r->local == 1 && r->onward == 1)            \
     ROW("delivered, and 15", r->local == 1 && r->onward == 15)                \
     ROW("26, and sent on", r->local == 26 && r->onward == 1)                  \
     ROW("no, and sent on", r->local == 0 && r->onward == 1)
+
+/* Sent on by a route of these capabilities, with these elements there. */
+#define ROUTED(code, set)                                                     \
+    (BY("route") && r->onward == 1 && route_of(r)->capabilities == (code) &&  \
+     r->there == (set))
+#define CAPABLE_ROWS(ROW, code)                                               \
+    ROW("capabilities " #code ", neither element there", ROUTED(code, 0))     \
+    ROW("capabilities " #code ", hop count there", ROUTED(code, HOP_COUNT))   \
+    ROW("capabilities " #code ", checksum there", ROUTED(code, CHECKSUM))     \
+    ROW("capabilities " #code ", both there",                                 \
+        ROUTED(code, HOP_COUNT | CHECKSUM))                                   \
+    ROW("capabilities " #code ", addresses widened",                          \
+        BY("route") && (r->took & r->foreign) != 0 &&                         \
+            route_of(r)->capabilities == (code))
+
+/* At the edge of what a port or the length field takes, once rewritten. */
+#define GROWN_TO(size)                                                        \
+    (BY("route") && route_size(r) == (size) && r->datagram.length < (size))
+
+#define REWRITTEN_LIST(ROW)                                                   \
+    CAPABLE_ROWS(ROW, 0)                                                      \
+    CAPABLE_ROWS(ROW, 1)                                                      \
+    CAPABLE_ROWS(ROW, 2)                                                      \
+    CAPABLE_ROWS(ROW, 4)                                                      \
+    ROW("an element added by a route to the arrival port",                    \
+        r->added != 0 && (r->took >> r->arrival & 1) != 0)                    \
+    ROW("an element added, addresses of one octet",                           \
+        r->added != 0 && r->took != 0 && !r->datagram.extended &&             \
+            (r->took & r->foreign) == 0)                                      \
+    ROW("none added to a broadcast of ours that a route asks it for",         \
+        BY("broadcast") && r->onward == 1 && r->there == 0 &&                 \
+            route_of(r)->capabilities == 4)                                   \
+    ROW("none added to a multicast that a route asks it for",                 \
+        BY("multicast") && r->onward == 1 && r->there == 0 &&                 \
+            route_of(r)->capabilities == 4)                                   \
+    ROW("widened, broadcast of ours", BY("broadcast") && rewritten(r) != 0)   \
+    ROW("widened, multicast", BY("multicast") && rewritten(r) != 0)           \
+    ROW("kept and widened at once, broadcast of ours",                        \
+        BY("broadcast") && rewritten(r) != 0 && kept(r) != 0)                 \
+    ROW("kept and widened at once, multicast",                                \
+        BY("multicast") && rewritten(r) != 0 && kept(r) != 0)                 \
+    ROW("kept, another struck out by its size once widened",                  \
+        kept(r) != 0 && (r->wanted & r->foreign & r->small) != 0)             \
+    ROW("kept, control field longer than it need be",                         \
+        kept(r) != 0 && r->datagram.control > r->datagram.shortest)           \
+    ROW("rewritten, control field longer than it need be",                    \
+        rewritten(r) != 0 && r->datagram.control > r->datagram.shortest)      \
+    ROW("rewritten, control field of 2 octets",                               \
+        rewritten(r) != 0 && r->datagram.shortest == 2)                       \
+    ROW("rewritten, control field of 3 octets",                               \
+        rewritten(r) != 0 && r->datagram.shortest == 3)                       \
+    ROW("rewritten, hop count 2 there",                                       \
+        rewritten(r) != 0 && r->datagram.hop_count == 2)                      \
+    ROW("rewritten, checksum there",                                          \
+        rewritten(r) != 0 && r->datagram.has_checksum)                        \
+    ROW("rewritten, checksum in a header of odd length",                      \
+        rewritten(r) != 0 && rewritten_octets(r) % 2 == 1 &&                  \
+            ((r->there | r->added) & CHECKSUM) != 0)                          \
+    ROW("rewritten, basic QOS", rewritten(r) != 0 && r->datagram.has_qos)     \
+    ROW("rewritten, timestamp, implicit P-field",                             \
+        rewritten(r) != 0 && r->datagram.stamp_format == 1)                   \
+    ROW("rewritten, timestamp, explicit P-field",                             \
+        rewritten(r) != 0 && r->datagram.stamp_format == 2)                   \
+    ROW("rewritten, timestamp, binary",                                       \
+        rewritten(r) != 0 && r->datagram.stamp_format == 3)                   \
+    ROW("rewritten, expanded QOS",                                            \
+        rewritten(r) != 0 && r->datagram.has_expanded)                        \
+    ROW("rewritten, intermediate delivery",                                   \
+        rewritten(r) != 0 && r->datagram.intermediate)                        \
+    ROW("rewritten, octets beyond the length",                                \
+        rewritten(r) != 0 && r->lent > r->datagram.length)                    \
+    ROW("rewritten, data over 8,141 octets",                                  \
+        rewritten(r) != 0 && r->datagram.length - r->datagram.header > 8141)  \
+    ROW("sent on, one under the MTU once rewritten",                          \
+        r->onward == 1 && GROWN_TO(route_mtu(v, r) - 1))                      \
+    ROW("sent on, of the MTU's length once rewritten",                        \
+        r->onward == 1 && GROWN_TO(route_mtu(v, r)))                          \
+    ROW("14, one over the MTU once rewritten",                                \
+        r->onward == 14 && GROWN_TO(route_mtu(v, r) + 1))                     \
+    ROW("sent on, 8,191 once rewritten", r->onward == 1 && GROWN_TO(8191))    \
+    ROW("14, 8,192 once rewritten",                                           \
+        r->onward == 14 && GROWN_TO(8192) && route_mtu(v, r) == 8191)         \
+    ROW("10 before 14, once rewritten",                                       \
+        r->onward == 10 && BY("route") && (r->wanted & r->small) != 0)        \
+    ROW("15, the copy would be rewritten",                                    \
+        r->onward == 15 && (r->wanted & r->foreign) != 0)
 
 #define PORT_LIST(ROW)                                                        \
     ROW("set_port: 0, for mission 0", s->number == 0 && s->n[4] == 0)         \

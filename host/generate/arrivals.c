@@ -8,7 +8,9 @@
  *
  * The awkward case is the length: a datagram of an MTU's length is 8,191 octets
  * long where the MTU is, so such long ones are rare, and yet each line of the
- * rules about lengths has to be reached.
+ * rules about lengths has to be reached. So the length is aimed too: at what
+ * the MTU of the port that the datagram probably goes to leaves room for, once
+ * the header was rewritten.
  */
 #include "arrivals.h"
 
@@ -169,21 +171,72 @@ static void choose_form(const struct world *world, struct form *form,
         form->control_octets = 3;
 }
 
-/* Data that makes the length that of a port's MTU, or one off it; little
- * elsewhere. */
-static size_t choose_data(const struct world *world, const struct form *form,
-                          struct random *random)
+/* ---- Its length ---------------------------------------------------------- */
+
+static uint32_t domain_of(const struct world *world, uint32_t port)
+{
+    return world->ports[port % WORLD_PORTS].address & 0xffffff00;
+}
+
+/* The destination as four octets. */
+static uint32_t named(const struct world *world, const struct form *form,
+                      uint32_t arrival)
+{
+    uint32_t address = 0;
+
+    for (unsigned i = 0; i < form->address_octets && i < 4; i++)
+        address = address << 8 | form->destination[i];
+    return form->address_octets == 1 ? domain_of(world, arrival) | address
+                                     : address;
+}
+
+/* The form of the header that a port sends, by a route or by none. */
+static struct form sent_form(const struct world *world,
+                             const struct form *form, uint32_t arrival,
+                             uint32_t port, const struct world_route *route)
+{
+    struct form sent = *form;
+    uint32_t asked = route != NULL ? route->capabilities : 0;
+
+    sent.has_checksum |= asked == 1 || asked == 4;
+    sent.has_hop_count |= asked == 2 || asked == 4;
+    if (form->address_octets == 1 && form->has_source &&
+        domain_of(world, port) != domain_of(world, arrival))
+        sent.address_octets = 4;
+    if (sent.has_checksum != form->has_checksum ||
+        sent.has_hop_count != form->has_hop_count ||
+        sent.address_octets != form->address_octets)
+        sent.control_octets = form_shortest_control(&sent);
+    return sent;
+}
+
+static size_t header_octets(const struct form *form)
 {
     uint8_t header[FORM_MOST_HEADER];
-    size_t octets = form_write(form, 0, header);
-    size_t length = world->ports[world_port(world, random)].mtu;
 
-    length += random_below(random, 3);
-    if (length > DATAGRAM_MOST_LENGTH + 1)
-        length = DATAGRAM_MOST_LENGTH + 1;
-    if (!random_one_in(random, length > 1000 ? 160 : 2) || length <= octets)
+    return form_write(form, 0, header);
+}
+
+/* Data that makes the length, as it is sent, that of the port's MTU, or one off
+ * it; little elsewhere. A long one that a route lengthens is less rare. */
+static size_t choose_data(const struct world *world, const struct form *form,
+                          uint32_t arrival, struct random *random)
+{
+    const struct world_route *route =
+        form->has_source ? world_route(world, named(world, form, arrival))
+                         : NULL;
+    uint32_t port = route != NULL ? route->port : world_port(world, random);
+    struct form sent = sent_form(world, form, arrival, port, route);
+    size_t came = header_octets(form);
+    size_t sends = header_octets(&sent);
+    size_t length = world->ports[port].mtu + random_below(random, 3);
+    uint32_t rare = route != NULL && came != sends ? 24 : 200;
+
+    if (!random_one_in(random, length > 1000 ? rare : 2) || length <= sends)
         return random_below(random, 6);
-    return length - 1 - octets;
+    length -= sends + 1; /* what is left for data, one under the MTU at first */
+    return length + came <= DATAGRAM_MOST_LENGTH ? length
+                                                 : DATAGRAM_MOST_LENGTH - came;
 }
 
 /* ---- The line ------------------------------------------------------------ */
@@ -201,9 +254,9 @@ static uint32_t choose_arrival(const struct world *world,
 
 static uint32_t choose_room(struct random *random)
 {
-    static const uint32_t OTHER[] = {0, 1, 49, 49, 49, 51, 60, 400};
+    static const uint32_t OTHER[] = {0, 49, 50, 399, 399, 399, 401, 450};
 
-    return random_one_in(random, 24) ? PICK(OTHER) : 50;
+    return random_one_in(random, 24) ? PICK(OTHER) : 400;
 }
 
 void history_receive(const struct world *world, struct random *random)
@@ -218,8 +271,9 @@ void history_receive(const struct world *world, struct random *random)
     numbers[2] = choose_room(random);
     numbers[3] = world->mission;
     choose_form(world, &datagram.form, random);
-    datagram_write(&datagram, choose_data(world, &datagram.form, random),
-                   random);
+    datagram_write(
+        &datagram, choose_data(world, &datagram.form, numbers[0], random),
+        random);
     if (random_one_in(random, 8))
         spoil_somehow(&datagram, random);
     line_octets(CALL_RECEIVE, numbers, datagram.octets, datagram.count);

@@ -12,17 +12,13 @@
 #include "line.h"
 #include "ways.h"
 
-struct route {
-    uint32_t place, prefix, mask, port, availability, capabilities, mission;
-};
-
-static struct route choose_route(const struct world *world, uint32_t place,
-                                 struct random *random)
+static struct world_route choose_route(const struct world *world,
+                                       uint32_t place, struct random *random)
 {
     static const uint32_t ONES[] = {0, 8, 16, 22, 24, 24, 28, 31, 32, 32};
     static const uint32_t AVAILABILITY[] = {1, 1, 1, 1, 1, 1, 1, 2, 3, 4};
     static const uint32_t CAPABILITIES[] = {0, 0, 1, 2, 4};
-    struct route route = {.place = place, .mission = world->mission};
+    struct world_route route = {.place = place, .mission = world->mission};
 
     route.mask = world_mask(PICK(ONES));
     route.prefix = world_unicast(world, random) & route.mask;
@@ -33,7 +29,7 @@ static struct route choose_route(const struct world *world, uint32_t place,
 }
 
 /* The entry of another place, where one has any, with a port of its mission. */
-static void same_route(struct world *world, struct route *route,
+static void same_route(struct world *world, struct world_route *route,
                        struct random *random)
 {
     uint32_t other = random_below(random, WORLD_ROUTES);
@@ -65,7 +61,7 @@ static uint32_t free_port(const struct world *world, struct random *random)
     return port;
 }
 
-static void spoil_codes(struct route *route, uint32_t chosen,
+static void spoil_codes(struct world_route *route, uint32_t chosen,
                         struct random *random)
 {
     if (chosen & 1)
@@ -78,7 +74,7 @@ static void spoil_codes(struct route *route, uint32_t chosen,
         route->mission = 1 - route->mission;
 }
 
-static void spoil_route(struct world *world, struct route *route,
+static void spoil_route(struct world *world, struct world_route *route,
                         struct random *random)
 {
     uint32_t chosen = ways(8, random);
@@ -101,16 +97,18 @@ static void spoil_route(struct world *world, struct route *route,
     spoil_codes(route, chosen >> 5, random);
 }
 
+/* At the place where the history writes it, whatever the line says. */
 static void note_route(struct world *world, uint32_t which,
-                       const struct route *route)
+                       const struct world_route *route)
 {
+    uint32_t place = world->routes[which].place;
+
+    world->routes[which] = *route;
     world->routes[which].filled = true;
-    world->routes[which].prefix = route->prefix;
-    world->routes[which].mask = route->mask;
-    world->routes[which].mission = route->mission;
+    world->routes[which].place = place;
 }
 
-static void write_route(const struct route *route)
+static void write_route(const struct world_route *route)
 {
     const uint32_t numbers[] = {
         route->place,        route->prefix,       route->mask,   route->port,
@@ -122,7 +120,7 @@ static void write_route(const struct route *route)
 void history_set_route(struct world *world, uint32_t which,
                        struct random *random)
 {
-    struct route route =
+    struct world_route route =
         choose_route(world, world->routes[which].place, random);
 
     note_route(world, which, &route);
@@ -132,7 +130,7 @@ void history_set_route(struct world *world, uint32_t which,
 void history_refused_route(struct world *world, struct random *random)
 {
     uint32_t which = random_below(random, WORLD_ROUTES);
-    struct route route =
+    struct world_route route =
         choose_route(world, world->routes[which].place, random);
 
     spoil_route(world, &route, random);
@@ -147,7 +145,8 @@ static uint32_t code(uint32_t number)
     return number < 255 ? number : 255;
 }
 
-static void write_record(const struct route *route, struct random *random)
+static void write_record(const struct world_route *route,
+                         struct random *random)
 {
     static const uint32_t FILLED[] = {1, 1, 1, 1, 1, 1, 0, 2, 255, 0xffffffff};
     const uint32_t numbers[] = {0,
@@ -166,7 +165,7 @@ static void write_record(const struct route *route, struct random *random)
 void history_record(struct world *world, struct random *random)
 {
     uint32_t which = random_below(random, WORLD_ROUTES);
-    struct route route =
+    struct world_route route =
         choose_route(world, world->routes[which].place, random);
 
     switch (random_below(random, 4)) {

@@ -5,10 +5,11 @@
  *     ledger < ANSWERED
  *
  * Each mission has its own books. For each port: what took an entry, one copy
- * per port and receipt, is what was handed out by takes and what waits
- * (`waiting` lines). Each entry handed out is the oldest of the highest
- * precedence that waits, by a plain list. Each counter of a `counters` line is
- * what the answers since `new` add up to.
+ * per port and receipt and each with a header, is what was handed out by takes
+ * and what waits (`waiting` lines). Each entry handed out is the oldest of the
+ * highest precedence that waits, by a plain list. Each header says what the
+ * octets that came said (headers.c). Each counter of a `counters` line is what
+ * the answers since `new` add up to.
  *
  * The awkward counter is npOutDiscards: an answer gives the ports that took an
  * entry, not those that dropped theirs. Only a port with 32 waiting drops one,
@@ -20,6 +21,7 @@
 #include <stdlib.h>
 #include <string.h>
 
+#include "headers.h"
 #include "shared/answered.h"
 #include "shared/arriving.h"
 #include "shared/options.h"
@@ -139,11 +141,44 @@ static void bound_discards(uint32_t refusal, uint32_t onward)
         expect(full > 0, "15 without a full port", 1, full);
 }
 
+static uint32_t ports_in(uint32_t set)
+{
+    uint32_t ports = 0;
+
+    for (; set != 0; set &= set - 1)
+        ports++;
+    return ports;
+}
+
+/* Joined by commas, `-` for none. */
+static uint32_t headers_in(struct trace_word out)
+{
+    uint32_t headers = !trace_is(out, "-");
+
+    for (size_t i = 0; i < out.length; i++)
+        headers += out.text[i] == ',';
+    return headers;
+}
+
+static void check_headers(uint32_t arrival, const struct arriving *came,
+                          uint32_t ports, struct trace_word out)
+{
+    const char *wrong = NULL;
+
+    expect(headers_in(out) == ports_in(ports),
+           "a header for each port that took", ports_in(ports),
+           headers_in(out));
+    if (headers_in(out) == ports_in(ports))
+        wrong = headers_wrong(arrival, came, ports, out);
+    expect(wrong == NULL, wrong, 0, 1);
+}
+
 static bool book_receive(const struct trace_call *call,
                          const struct trace_call *answer)
 {
     static uint8_t octets[TRACE_MOST_OCTETS];
     size_t length;
+    struct arriving came;
     struct entry newcomer = {number(call->words[2]), 0};
     uint32_t refusal = number(answer->words[0]);
     uint32_t onward = number(answer->words[2]);
@@ -156,7 +191,9 @@ static bool book_receive(const struct trace_call *call,
            "ports exactly where sent on", onward, ports);
     if (!trace_octets(call->words[4], octets, &length))
         return false;
-    newcomer.precedence = arriving_read(octets, length).precedence;
+    came = arriving_read(octets, length);
+    check_headers(number(call->words[1]), &came, ports, answer->words[4]);
+    newcomer.precedence = came.precedence;
     for (uint32_t port = 0; port < PORTS; port++) {
         if (ports >> port & 1)
             enter(port, newcomer);
@@ -254,6 +291,19 @@ static void open_book(enum call of, const struct trace_call *call)
     book = &books[number(call->words[call->count - 1]) % TRACE_MISSIONS];
 }
 
+/* The port as it was set up. */
+static bool note_port(const struct trace_call *call,
+                      const struct trace_call *answer)
+{
+    uint32_t address;
+
+    if (!trace_address(call->words[2], &address))
+        return false;
+    if (number(answer->words[0]) == 0)
+        headers_note_port(number(call->words[1]), address);
+    return true;
+}
+
 /* Other words move nothing that is booked. */
 static bool book_line(enum call of, const struct trace_call *call,
                       const struct trace_call *answer)
@@ -268,8 +318,11 @@ static bool book_line(enum call of, const struct trace_call *call,
         return book_waiting(call, answer);
     case CALL_COUNTER:
         return book_counters(answer);
+    case CALL_SET_PORT:
+        return note_port(call, answer);
     case LINE_NEW:
         memset(books, 0, sizeof books);
+        headers_begin();
         return true;
     default:
         return true;
@@ -281,7 +334,8 @@ static const char HELP[] =
     "\n"
     "Recounts an answered trace (docs/TRACE.md) from its calls and answers\n"
     "alone: for each mission and port the copies taken, handed out and\n"
-    "waiting, the order of what is handed out, and each counter.\n"
+    "waiting, the order of what is handed out, what each header sent on\n"
+    "says, and each counter.\n"
     "\n"
     "Status: 0 the books balance; 1 they do not, or a line has no good\n"
     "answer; 2 bad usage, or the output failed.\n";

@@ -392,8 +392,8 @@ static uint8_t *put_stamp(uint8_t *at, const plain_fields *fields)
 }
 
 /* All elements from the control field to the one before the checksum. */
-static uint8_t *put_elements(uint8_t *at, uint32_t control,
-                             const plain_fields *fields)
+static void put_elements(uint8_t *at, uint32_t control,
+                         const plain_fields *fields)
 {
     uint32_t count = plain_address_octets(fields);
 
@@ -408,8 +408,7 @@ static uint8_t *put_elements(uint8_t *at, uint32_t control,
         at = put_number(at, fields->hop, 1);
     at = put_stamp(at, fields);
     if (fields->expanded_present)
-        at = put_number(at, fields->expanded, 1);
-    return at;
+        put_number(at, fields->expanded, 1);
 }
 
 static void put_checksum(uint8_t *header, uint32_t header_length)
@@ -418,30 +417,41 @@ static void put_checksum(uint8_t *header, uint32_t header_length)
                checksum_due(header, header_length), CHECKSUM_OCTETS);
 }
 
+uint32_t plain_header_measure(const plain_fields *fields)
+{
+    uint32_t control = shortest_control(fields);
+    uint32_t addresses = fields->source_present ? 2 : 1;
+
+    return 3 + has(control, CONTINUES_IN_OCTET_4) +
+           has(control, CONTINUES_IN_OCTET_5) +
+           addresses * plain_address_octets(fields) +
+           fields->basic_qos_present + fields->hop_present +
+           plain_stamp_octets(fields->stamp_format, fields->p_field) +
+           fields->expanded_present +
+           (fields->checksum_present ? CHECKSUM_OCTETS : 0);
+}
+
+void plain_header_write(const plain_fields *fields, uint32_t header_length,
+                        uint32_t data, uint8_t *output)
+{
+    put_number(output, (uint32_t)VERSION << 13 | (header_length + data), 2);
+    put_elements(output + 2, shortest_control(fields), fields);
+    if (fields->checksum_present)
+        put_checksum(output, header_length);
+}
+
 plain_refusal plain_header_build(const plain_fields *fields, uint32_t data,
                                  uint8_t *output, size_t room,
                                  uint32_t *header_length)
 {
-    uint32_t control, count;
-    const uint8_t *end;
-
     if (room < PLAIN_HEADER_MOST)
         return PLAIN_NO_ROOM;
-    if (!fields_fit(fields))
-        return PLAIN_FIELD_OUT_OF_RANGE;
-    control = shortest_control(fields);
-    if (!control_allowed(control))
+    if (!fields_fit(fields) || !control_allowed(shortest_control(fields)))
         return PLAIN_FIELD_OUT_OF_RANGE;
     if (data > PLAIN_DATA_MOST)
         return PLAIN_TOO_MUCH_DATA;
-
-    end = put_elements(output + 2, control, fields);
-    count = (uint32_t)(end - output);
-    count += fields->checksum_present ? CHECKSUM_OCTETS : 0;
-    put_number(output, (uint32_t)VERSION << 13 | (count + data), 2);
-    if (fields->checksum_present)
-        put_checksum(output, count);
-    *header_length = count;
+    *header_length = plain_header_measure(fields);
+    plain_header_write(fields, *header_length, data, output);
     return PLAIN_GOOD;
 }
 

@@ -75,6 +75,14 @@ plain_refusal plain_header_build(const plain_fields *fields, uint32_t data,
                                  uint8_t *output, size_t room,
                                  uint32_t *header_length);
 
+/* How many octets the header of these fields, which fit, has when built. */
+uint32_t plain_header_measure(const plain_fields *fields);
+
+/* Writes that header, as long as measured, for so much data that the two are
+ * at most 8,191 octets; the builder's own limit on data does not hold here. */
+void plain_header_write(const plain_fields *fields, uint32_t header_length,
+                        uint32_t data, uint8_t *output);
+
 /* Writes to output the header that was read from octets, hop count less one
  * and checksum redone, where present; nothing beyond header_length. */
 void plain_header_send_on(const plain_header *header, const uint8_t *octets,

@@ -15,8 +15,8 @@
 
 static bool codes_good(const plain_record *record)
 {
-    bool capabilities_good =
-        record->capabilities <= 2 || record->capabilities == 4;
+    bool capabilities_good = record->capabilities <= PLAIN_ASKS_HOP_COUNT ||
+                             record->capabilities == PLAIN_ASKS_BOTH;
 
     return record->availability >= PLAIN_UP &&
            record->availability <= PLAIN_OUT && capabilities_good;

@@ -19,6 +19,7 @@ enum {
     PLAIN_QUEUE_ENTRIES = 32,
     PLAIN_LENGTH_MOST = 8191, /* 13 bits; the largest MTU too */
     PLAIN_HEADER_MOST = 50,
+    PLAIN_OUTPUT_ROOM = 400, /* of a received datagram: 50 for each port */
     PLAIN_DATA_MOST = 8141
 };
 

@@ -31,6 +31,14 @@ typedef enum {
     PLAIN_OUT = 4
 } plain_availability;
 
+/* The capabilities of a route: what a copy that takes it is to have. */
+typedef enum {
+    PLAIN_ASKS_NOTHING = 0,
+    PLAIN_ASKS_CHECKSUM = 1,
+    PLAIN_ASKS_HOP_COUNT = 2,
+    PLAIN_ASKS_BOTH = 4
+} plain_capabilities;
+
 typedef struct {
     plain_address address;
     plain_mask mask;
@@ -45,7 +53,7 @@ typedef struct {
     plain_mask mask;
     uint32_t port;
     uint32_t availability;
-    uint32_t capabilities; /* stored only */
+    uint32_t capabilities;
     uint32_t mission;
 } plain_record;
 
@@ -107,8 +115,11 @@ typedef struct {
     plain_refusal refusal; /* what ended the call; all else is then 0 */
     uint32_t local;
     uint32_t onward;
-    plain_set ports;        /* those that took an entry */
-    uint32_t header_length; /* of the header in the output, 0 for none */
+    plain_set took;            /* the ports that took an entry */
+    plain_set dropped;         /* the granted ports that were full */
+    plain_set rewritten;       /* those that took, with the header rewritten */
+    uint32_t arriving_octets;  /* of the header that came: data begin there */
+    uint32_t rewritten_octets; /* of the rewritten header, 0 for none */
 } plain_verdict;
 
 /* A host without ports. */
@@ -121,6 +132,23 @@ plain_refusal plain_mission_fresh(plain_mission *mission, uint32_t number);
 static inline bool plain_set_has(plain_set set, uint32_t port)
 {
     return port < PLAIN_PORTS && (set.bits >> port & 1) != 0;
+}
+
+/* Where the header of a port stands in the output. */
+static inline uint32_t plain_header_at(uint32_t port)
+{
+    return PLAIN_HEADER_MOST * port;
+}
+
+/* How many octets it has there; 0 where the port took no entry. A header that
+ * is not rewritten is as long as the one that came. */
+static inline uint32_t plain_header_octets(const plain_verdict *verdict,
+                                           uint32_t port)
+{
+    if (!plain_set_has(verdict->took, port))
+        return 0;
+    return plain_set_has(verdict->rewritten, port) ? verdict->rewritten_octets
+                                                   : verdict->arriving_octets;
 }
 
 /* The ports that the mission of a view has. */
@@ -141,8 +169,10 @@ plain_refusal plain_set_path(const plain_view *view, uint32_t place,
 plain_refusal plain_clear_group(plain_mission *mission, uint32_t place);
 plain_refusal plain_clear_path(plain_mission *mission, uint32_t place);
 
-/* One received datagram. Of the output, which must not overlap the octets,
- * only the first header_length octets of the verdict are written. */
+/* One received datagram. The output, which must not overlap the octets, has a
+ * stretch of 50 octets for each port. Of it only the headers of the ports that
+ * took an entry are written, each from the front of its port's stretch on and
+ * no longer than it is. */
 plain_verdict plain_receive(const plain_view *view, uint32_t arrival,
                             plain_slot slot, const uint8_t *octets,
                             size_t count, uint8_t *output, size_t room);

@@ -1,7 +1,7 @@
 /*
  * The verdict on one received datagram, in the steps of page 01: the checks
- * that end the call, the local half, the ports wanted, those struck out, the
- * copies.
+ * that end the call, the local half, the ports wanted. What comes of the
+ * copies for these ports is in plain_copies.c.
  *
  * The steps of the onward half hand on a set of ports that only grows smaller
  * and end the half by a refusal. A set that is empty from the start, without a
@@ -12,34 +12,13 @@
  * findings of the other kind stay "no"; and a one-octet address is filled in
  * from the arrival port, never from the port it leaves by.
  */
-#include "plain_header.h"
+#include "plain_copies.h"
 #include "plain_list.h"
-#include "plain_relay.h"
 #include "plain_search.h"
 
 /* The assigned numbers of table 3-2, as 2^n; 0 is reserved, not assigned. */
 #define ASSIGNED_TP_IDS \
     (1u << 1 | 1u << 4 | 1u << 5 | 1u << 6 | 1u << 8 | 1u << 10 | 1u << 11)
-
-/* What is known of the datagram once no check refuses it. */
-typedef struct {
-    plain_header header;
-    uint32_t arrival;
-    bool by_path;
-    plain_address destination;     /* where not by path */
-    plain_path path;               /* where by path */
-    plain_class class;             /* of the destination, else invalid */
-    bool for_this_node;            /* a port's address, limited broadcast */
-    bool our_broadcast;
-    bool subscribed;               /* multicast, on the arrival port */
-    const plain_group *group;      /* where multicast */
-    const plain_path_place *place; /* where by path */
-} datagram;
-
-static uint32_t domain_of(plain_address address)
-{
-    return address.bits & 0xffffff00;
-}
 
 static plain_set without(plain_set set, uint32_t port)
 {
@@ -48,13 +27,12 @@ static plain_set without(plain_set set, uint32_t port)
 }
 
 /* Steps 5 and 6: fills in what is one octet, then judges the classes. */
-static plain_refusal judge_addresses(const plain_view *view, datagram *d)
+static plain_refusal judge_addresses(const plain_view *view, plain_datagram *d)
 {
     const plain_fields *fields = &d->header.fields;
     plain_address own = view->board->ports[d->arrival].address;
-    uint32_t domain = fields->extended ? 0 : domain_of(own);
+    uint32_t domain = fields->extended ? 0 : plain_domain(own);
     uint32_t destination = domain | (uint32_t)fields->destination.low;
-    plain_address source = {domain | (uint32_t)fields->source.low};
 
     if (!fields->extended && own.bits >> 24 != 10)
         return PLAIN_NO_DOMAIN;
@@ -65,16 +43,17 @@ static plain_refusal judge_addresses(const plain_view *view, datagram *d)
         return plain_path_valid(d->path) ? PLAIN_GOOD : PLAIN_BAD_ADDRESS;
     }
     d->destination.bits = destination;
+    d->source.bits = domain | (uint32_t)fields->source.low;
     d->class = plain_address_class(d->destination);
     if (d->class == PLAIN_INVALID ||
-        plain_address_class(source) != PLAIN_UNICAST)
+        plain_address_class(d->source) != PLAIN_UNICAST)
         return PLAIN_BAD_ADDRESS;
     return PLAIN_GOOD;
 }
 
 /* Steps 2 to 6. */
 static plain_refusal judge(const plain_view *view, const uint8_t *octets,
-                           size_t count, datagram *d)
+                           size_t count, plain_datagram *d)
 {
     plain_refusal refusal = plain_header_read(octets, count, &d->header);
 
@@ -86,7 +65,7 @@ static plain_refusal judge(const plain_view *view, const uint8_t *octets,
 }
 
 /* Looks up all that either half will ask. */
-static void recognise(const plain_view *view, datagram *d)
+static void recognise(const plain_view *view, plain_datagram *d)
 {
     d->for_this_node = false;
     d->our_broadcast = false;
@@ -106,7 +85,7 @@ static void recognise(const plain_view *view, datagram *d)
         d->subscribed = plain_set_has(d->group->subscribed, d->arrival);
 }
 
-static uint32_t local_half(const datagram *d)
+static uint32_t local_half(const plain_datagram *d)
 {
     bool here = d->place != NULL && d->place->here;
 
@@ -119,7 +98,8 @@ static uint32_t local_half(const datagram *d)
 }
 
 static plain_refusal wanted_for_group(const plain_view *view,
-                                      const datagram *d, plain_set *wanted)
+                                      const plain_datagram *d,
+                                      plain_set *wanted)
 {
     if (d->subscribed && without(plain_own_ports(view), d->arrival).bits == 0)
         return PLAIN_GOOD;
@@ -128,7 +108,8 @@ static plain_refusal wanted_for_group(const plain_view *view,
     return wanted->bits != 0 ? PLAIN_GOOD : PLAIN_NO_ROUTE;
 }
 
-static plain_refusal wanted_for_path(const datagram *d, plain_set *wanted)
+static plain_refusal wanted_for_path(const plain_datagram *d,
+                                     plain_set *wanted)
 {
     if (d->place == NULL)
         return PLAIN_NO_ROUTE;
@@ -136,8 +117,10 @@ static plain_refusal wanted_for_path(const datagram *d, plain_set *wanted)
     return wanted->bits != 0 || d->place->here ? PLAIN_GOOD : PLAIN_NO_ROUTE;
 }
 
+/* Only here the copies have a route, which may ask for elements. */
 static plain_refusal wanted_by_route(const plain_view *view,
-                                     const datagram *d, plain_set *wanted)
+                                     const plain_datagram *d,
+                                     plain_copies *copies)
 {
     const plain_record *route =
         plain_list_longest(view->board, view->mission->number, view->routes,
@@ -145,15 +128,21 @@ static plain_refusal wanted_by_route(const plain_view *view,
 
     if (route == NULL)
         return PLAIN_NO_ROUTE;
-    wanted->bits = (uint32_t)1 << route->port;
+    copies->ports.bits = (uint32_t)1 << route->port;
+    copies->capabilities = route->capabilities;
     return PLAIN_GOOD;
 }
 
-/* The first line that fits decides. The set wanted comes in empty; where it
- * stays so without a refusal, the onward half is not asked. */
-static plain_refusal wanted_ports(const plain_view *view, const datagram *d,
-                                  uint32_t local, plain_set *wanted)
+/* The first line that fits decides. Where it wants no port without a refusal,
+ * the onward half is not asked. */
+static plain_refusal wanted_ports(const plain_view *view,
+                                  const plain_datagram *d, uint32_t local,
+                                  plain_copies *copies)
 {
+    plain_set *wanted = &copies->ports;
+
+    wanted->bits = 0;
+    copies->capabilities = PLAIN_ASKS_NOTHING;
     if (d->for_this_node)
         return PLAIN_GOOD;
     if (!view->board->router)
@@ -166,87 +155,25 @@ static plain_refusal wanted_ports(const plain_view *view, const datagram *d,
         return wanted_for_group(view, d, wanted);
     if (d->by_path)
         return wanted_for_path(d, wanted);
-    return wanted_by_route(view, d, wanted);
+    return wanted_by_route(view, d, copies);
 }
 
-/* A port that is not the mission's has no address and no MTU for it. A group or
- * a path names such a port only where the board was made fresh alone. */
-static plain_set inside_domain(const plain_view *view, plain_set set,
-                               uint32_t arrival)
-{
-    uint32_t domain = domain_of(view->board->ports[arrival].address);
-    plain_set own = plain_own_ports(view);
-
-    for (uint32_t port = 0; port < PLAIN_PORTS; port++)
-        if (!plain_set_has(own, port) ||
-            domain_of(view->board->ports[port].address) != domain)
-            set = without(set, port);
-    return set;
-}
-
-static plain_set large_enough(const plain_view *view, plain_set set,
-                              uint32_t length)
-{
-    plain_set own = plain_own_ports(view);
-
-    for (uint32_t port = 0; port < PLAIN_PORTS; port++)
-        if (!plain_set_has(own, port) ||
-            view->board->ports[port].mtu < length)
-            set = without(set, port);
-    return set;
-}
-
-/* Leaves of the wanted ports the granted ones. */
-static plain_refusal strike_out(const plain_view *view, const datagram *d,
-                                plain_set *wanted)
-{
-    const plain_fields *fields = &d->header.fields;
-
-    if (fields->hop_present && fields->hop <= 1)
-        return PLAIN_HOPS_USED_UP;
-    if (!fields->extended)
-        *wanted = inside_domain(view, *wanted, d->arrival);
-    if (wanted->bits == 0)
-        return PLAIN_LEAVES_DOMAIN;
-    *wanted = large_enough(view, *wanted, d->header.length);
-    return wanted->bits != 0 ? PLAIN_GOOD : PLAIN_TOO_BIG;
-}
-
-/* The ports of the set that took an entry; the others drop theirs. */
-static plain_set put_copies(const plain_view *view, plain_set granted,
-                            plain_entry entry)
-{
-    plain_set took = {0};
-
-    for (uint32_t port = 0; port < PLAIN_PORTS; port++) {
-        if (!plain_set_has(granted, port))
-            continue;
-        if (plain_queue_put(&view->mission->queues[port], entry))
-            took.bits |= (uint32_t)1 << port;
-        else
-            plain_count(&view->mission->counters, PLAIN_OUT_DISCARDS);
-    }
-    return took;
-}
-
-static uint32_t onward_half(const plain_view *view, const datagram *d,
-                            uint32_t local, plain_slot slot, plain_set *took)
+static uint32_t onward_half(const plain_view *view, const plain_datagram *d,
+                            plain_slot slot, plain_copies *copies,
+                            plain_verdict *verdict)
 {
     plain_entry entry = {slot, (uint16_t)d->header.fields.precedence};
-    plain_set wanted = {0};
-    plain_refusal refusal = wanted_ports(view, d, local, &wanted);
+    plain_refusal refusal = wanted_ports(view, d, verdict->local, copies);
 
     if (refusal != PLAIN_GOOD)
         return refusal;
-    if (wanted.bits == 0)
+    if (copies->ports.bits == 0)
         return PLAIN_ONWARD_NOT_ASKED;
-    refusal = strike_out(view, d, &wanted);
+    refusal = plain_copies_grant(view, d, copies);
     if (refusal != PLAIN_GOOD)
         return refusal;
-    *took = put_copies(view, wanted, entry);
-    if (took->bits == 0)
-        return PLAIN_ALL_FULL;
-    return PLAIN_ONWARD_SENT;
+    refusal = plain_copies_put(view, copies, entry, verdict);
+    return refusal != PLAIN_GOOD ? (uint32_t)refusal : PLAIN_ONWARD_SENT;
 }
 
 static void count_halves(plain_counters *counters,
@@ -270,15 +197,16 @@ static plain_refusal judge_call(const plain_view *view, uint32_t arrival,
         return PLAIN_SET_NUMBER;
     if (!plain_set_has(plain_own_ports(view), arrival))
         return PLAIN_NO_PORT;
-    return room < PLAIN_HEADER_MOST ? PLAIN_NO_ROOM : PLAIN_GOOD;
+    return room < PLAIN_OUTPUT_ROOM ? PLAIN_NO_ROOM : PLAIN_GOOD;
 }
 
 plain_verdict plain_receive(const plain_view *view, uint32_t arrival,
                             plain_slot slot, const uint8_t *octets,
                             size_t count, uint8_t *output, size_t room)
 {
-    plain_verdict verdict = {PLAIN_GOOD, 0, 0, {0}, 0};
-    datagram d;
+    plain_verdict verdict = {PLAIN_GOOD, 0, 0, {0}, {0}, {0}, 0, 0};
+    plain_datagram d;
+    plain_copies copies;
 
     verdict.refusal = judge_call(view, arrival, room);
     if (verdict.refusal != PLAIN_GOOD)
@@ -292,12 +220,9 @@ plain_verdict plain_receive(const plain_view *view, uint32_t arrival,
     }
     recognise(view, &d);
     verdict.local = local_half(&d);
-    verdict.onward =
-        onward_half(view, &d, verdict.local, slot, &verdict.ports);
+    verdict.arriving_octets = d.header.header_length;
+    verdict.onward = onward_half(view, &d, slot, &copies, &verdict);
     count_halves(&view->mission->counters, &verdict);
-    if (verdict.ports.bits != 0) {
-        plain_header_send_on(&d.header, octets, output);
-        verdict.header_length = d.header.header_length;
-    }
+    plain_copies_write(&d, &copies, &verdict, octets, output);
     return verdict;
 }

@@ -51,8 +51,16 @@ extern const plain_meaning plain_header_words[];
 /* Sets the output to a5, as far as it is watched. */
 void plain_output_lend(plain_session *session, uint32_t room);
 
-/* Puts the octets that were to be written, or "-" for none, and " !" where
- * any other octet changed. */
+/* Puts a stretch of the output without the a5 octets at its end, and sets it
+ * to a5 again, so that what is not a5 in the end lies outside. */
+void plain_output_stretch(plain_session *session, uint32_t from,
+                          uint32_t count);
+
+/* Puts " !" where an octet of the output is not a5. */
+void plain_output_rest(plain_session *session, uint32_t room);
+
+/* Puts the octets that were to be written at the front, or "-" for none, and
+ * " !" where any other octet changed. */
 void plain_output_answer(plain_session *session, uint32_t room,
                          uint32_t written);
 

@@ -20,20 +20,38 @@ void plain_output_lend(plain_session *session, uint32_t room)
     memset(session->output, UNTOUCHED, (size_t)room + PLAIN_GUARD);
 }
 
-void plain_output_answer(plain_session *session, uint32_t room,
-                         uint32_t written)
+void plain_output_stretch(plain_session *session, uint32_t from,
+                          uint32_t count)
+{
+    uint8_t *stretch = session->output + from;
+    uint32_t end = count;
+
+    while (end > 0 && stretch[end - 1] == UNTOUCHED)
+        end--;
+    plain_text_octets(&session->text, stretch, end);
+    memset(stretch, UNTOUCHED, end);
+}
+
+void plain_output_rest(plain_session *session, uint32_t room)
 {
     size_t end = (size_t)room + PLAIN_GUARD;
-    size_t at = written;
+    size_t at = 0;
 
-    if (written > 0)
-        plain_text_octets(&session->text, session->output, written);
-    else
-        plain_text_string(&session->text, "-");
     while (at < end && session->output[at] == UNTOUCHED)
         at++;
     if (at < end)
         plain_text_string(&session->text, " !");
+}
+
+void plain_output_answer(plain_session *session, uint32_t room,
+                         uint32_t written)
+{
+    if (written > 0)
+        plain_text_octets(&session->text, session->output, written);
+    else
+        plain_text_string(&session->text, "-");
+    memset(session->output, UNTOUCHED, written);
+    plain_output_rest(session, room);
 }
 
 static bool answer_class(plain_session *session, const plain_word *arguments)

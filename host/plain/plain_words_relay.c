@@ -230,6 +230,26 @@ static bool answer_clear_path(plain_session *session,
     return put_refusal(session, plain_clear_path(view.mission, place));
 }
 
+/* The stretches of these ports, or "-" for none, and " !" where an octet
+ * outside them changed. */
+static void put_outputs(plain_session *session, uint32_t room, plain_set ports)
+{
+    bool first = true;
+
+    if (ports.bits == 0)
+        plain_text_string(&session->text, "-");
+    for (uint32_t port = 0; port < PLAIN_PORTS; port++) {
+        if (!plain_set_has(ports, port))
+            continue;
+        if (!first)
+            plain_text_string(&session->text, ",");
+        first = false;
+        plain_output_stretch(session, plain_header_at(port),
+                             PLAIN_HEADER_MOST);
+    }
+    plain_output_rest(session, room);
+}
+
 static bool answer_receive(plain_session *session,
                            const plain_word *arguments)
 {
@@ -252,9 +272,9 @@ static bool answer_receive(plain_session *session,
     put_refusal(session, verdict.refusal);
     put_number(session, verdict.local);
     put_number(session, verdict.onward);
-    put_number(session, verdict.ports.bits);
+    put_number(session, verdict.took.bits);
     plain_text_string(&session->text, " ");
-    plain_output_answer(session, room, verdict.header_length);
+    put_outputs(session, room, verdict.took);
     return true;
 }
 

@@ -90,21 +90,28 @@ static uint32_t found(uint32_t address, uint32_t mission)
     return answer.found ? answer.place : (uint32_t)MOST;
 }
 
+static plain_verdict send_fields(uint32_t mission, uint32_t arrival,
+                                 plain_fields fields)
+{
+    plain_view view = seen_by(mission);
+    plain_slot slot = {7};
+    uint8_t octets[PLAIN_HEADER_MOST], output[PLAIN_OUTPUT_ROOM];
+    uint32_t length = 0;
+
+    CHECK_EQUAL(plain_header_build(&fields, 0, octets, sizeof octets, &length),
+                0);
+    return plain_receive(&view, arrival, slot, octets, length, output,
+                         sizeof output);
+}
+
 static plain_verdict send(uint32_t mission, uint32_t arrival,
                           uint32_t destination)
 {
     plain_fields fields = {.tp_id = 6, .source_present = 1, .extended = 1,
                            .source = {0, 0x0a0a0a04}};
-    plain_view view = seen_by(mission);
-    plain_slot slot = {7};
-    uint8_t octets[PLAIN_HEADER_MOST], output[PLAIN_HEADER_MOST];
-    uint32_t length = 0;
 
     fields.destination.low = destination;
-    CHECK_EQUAL(plain_header_build(&fields, 0, octets, sizeof octets, &length),
-                0);
-    return plain_receive(&view, arrival, slot, octets, length, output,
-                         sizeof output);
+    return send_fields(mission, arrival, fields);
 }
 
 static uint32_t waits(uint32_t mission, uint32_t port)
@@ -171,9 +178,38 @@ static void test_the_other_addresses_are_not_ours(void)
     CHECK_EQUAL(send(1, 4, 0xc00002ff).local, PLAIN_LOCAL_DELIVERED);
     CHECK_EQUAL(send(1, 4, 0xc00002ff).onward, PLAIN_ONWARD_NOT_ASKED);
     CHECK_EQUAL(send(1, 4, 0x0affffff).local, PLAIN_LOCAL_NO);
-    CHECK_EQUAL(send(0, 0, 0x0affffff).ports.bits, 2);
+    CHECK_EQUAL(send(0, 0, 0x0affffff).took.bits, 2);
     CHECK_EQUAL(missions[0].counters.counts[PLAIN_IN_RECEIVES], 4);
     CHECK_EQUAL(missions[1].counters.counts[PLAIN_IN_RECEIVES], 4);
+}
+
+/* A board made fresh alone, whose port 1 is now the other's. A group and a
+ * path still want it, but for the mission it has no address and no MTU. */
+static void test_sets_of_an_older_board(void)
+{
+    plain_group group = {{0x0a0a0a0f}, {2}, {0}};
+    plain_path_place place = {{0x0a0a0a10}, {2}, 0};
+    plain_fields octet = {.tp_id = 6, .source_present = 1,
+                          .destination = {0, 0x0f}, .source = {0, 0x04}};
+    plain_fields path = {.tp_id = 6, .destination = {0, 0x10}};
+    plain_fields wide_path = {.tp_id = 6, .extended = 1,
+                              .destination = {0, 0x0a0a0a10}};
+    plain_view ours;
+
+    fresh();
+    ours = seen_by(0);
+    CHECK_EQUAL(plain_set_group(&ours, 0, &group), 0);
+    CHECK_EQUAL(plain_set_path(&ours, 0, &place), 0);
+    plain_board_fresh(&board);
+    CHECK_EQUAL(plain_set_router(&board, 1), 0);
+    CHECK_EQUAL(set_port(0, OURS, 0), 0);
+    CHECK_EQUAL(set_port(1, 0x0a0a0a06, 1), 0);
+    CHECK_EQUAL(send(0, 0, 0x0a0a0a0f).onward, PLAIN_TOO_BIG);
+    CHECK_EQUAL(send_fields(0, 0, octet).onward, PLAIN_TOO_BIG);
+    CHECK_EQUAL(send_fields(0, 0, wide_path).onward, PLAIN_TOO_BIG);
+    CHECK_EQUAL(send_fields(0, 0, path).onward, PLAIN_LEAVES_DOMAIN);
+    CHECK_EQUAL(waits(0, 1), 0);
+    CHECK_EQUAL(waits(1, 1), 0);
 }
 
 static void test_routes_of_each(void)
@@ -192,8 +228,8 @@ static void test_routes_of_each(void)
     CHECK_EQUAL(found(0xc0000901, 1), MOST);
     CHECK_EQUAL(set_route(9, route(4, 1)), 0);
     CHECK_EQUAL(found(0xc0000901, 1), 9);
-    CHECK_EQUAL(send(0, 0, 0xc0000901).ports.bits, 2);
-    CHECK_EQUAL(send(1, 4, 0xc0000901).ports.bits, 0x10);
+    CHECK_EQUAL(send(0, 0, 0xc0000901).took.bits, 2);
+    CHECK_EQUAL(send(1, 4, 0xc0000901).took.bits, 0x10);
     CHECK_EQUAL(waits(0, 1), 1);
     CHECK_EQUAL(waits(1, 1), 0);
     CHECK_EQUAL(waits(1, 4), 1);
@@ -250,10 +286,10 @@ static void test_same_entries(void)
     records[4] = route(1, 0);
     records[7] = route(0, 0);
     CHECK_EQUAL(found(0xc0000901, 0), 4);
-    CHECK_EQUAL(send(0, 0, 0xc0000901).ports.bits, 2);
+    CHECK_EQUAL(send(0, 0, 0xc0000901).took.bits, 2);
     records[4].availability = PLAIN_TESTING;
     CHECK_EQUAL(found(0xc0000901, 0), 2);
-    CHECK_EQUAL(send(0, 0, 0xc0000901).ports.bits, 1);
+    CHECK_EQUAL(send(0, 0, 0xc0000901).took.bits, 1);
     records[4].mission = 1; /* refused: the port is not its own */
     CHECK_EQUAL(found(0xc0000901, 0), 7);
     records[4] = down(route(1, 0));
@@ -316,7 +352,7 @@ static void test_long_lists(void)
     CHECK_EQUAL(records[0].filled, 1);
     CHECK_EQUAL(missions[0].counters.counts[PLAIN_IN_RECEIVES], 0);
     lent = PLAIN_ROUTES;
-    CHECK_EQUAL(send(0, 0, 0xc0000901).ports.bits, 2);
+    CHECK_EQUAL(send(0, 0, 0xc0000901).took.bits, 2);
 }
 
 /* One mission's full queue is nothing to the other. */
@@ -329,7 +365,7 @@ static void test_queues_of_each(void)
         send(0, 0, 0xc0000901);
     CHECK_EQUAL(waits(0, 1), 32);
     CHECK_EQUAL(missions[0].counters.counts[PLAIN_OUT_DISCARDS], 8);
-    CHECK_EQUAL(send(1, 4, 0xc0000901).ports.bits, 0x10);
+    CHECK_EQUAL(send(1, 4, 0xc0000901).took.bits, 0x10);
     CHECK_EQUAL(waits(1, 4), 1);
     CHECK_EQUAL(missions[1].counters.counts[PLAIN_OUT_DISCARDS], 0);
     CHECK_EQUAL(missions[1].counters.counts[PLAIN_IN_RECEIVES], 1);
@@ -341,6 +377,7 @@ int main(void)
     test_ports_of_each();
     test_the_other_ports_are_not_there();
     test_the_other_addresses_are_not_ours();
+    test_sets_of_an_older_board();
     test_routes_of_each();
     test_refused_records();
     test_filled_numbers();

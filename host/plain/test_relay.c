@@ -4,86 +4,37 @@
  * half, and where one check comes before another. Each test starts from a
  * fresh relay and looks at the answer, at what was written to the output and
  * at the counters. All ports and routes are mission 0's; what two missions see
- * of each other, and what a list may hold, is tried in test_missions.c.
+ * of each other, and what a list may hold, is tried in test_missions.c, and
+ * what becomes of the header on its way out in test_legs.c.
  *
  * The awkward case is what does not happen: a refusal that writes, counts
- * twice or sends on. So every call goes through `receive` below, which looks
- * at the octets that should have stayed as lent.
+ * twice or sends on. So every call goes through `receive` of plain_bed.h.
  */
 #include <string.h>
 
-#include "plain_check.h"
+#include "plain_bed.h"
 #include "plain_header.h"
-#include "plain_relay.h"
 
 enum {
-    UNTOUCHED = 0xa5,
     HERE = 0x0a0a0a02,   /* port 0 */
     BESIDE = 0x0a0a0a04, /* another node on its net */
     FAR = 0x0a0a0b02     /* port 1 */
 };
 
-static const uint32_t net24 = 0xffffff00;
-
-/* All that lasts. */
-static struct {
-    plain_board board;
-    plain_mission mission;
-    plain_record records[PLAIN_ROUTES];
-} relay;
-
-static const plain_view view = {
-    &relay.board, &relay.mission, {relay.records, PLAIN_ROUTES}};
-static const plain_list list = {relay.records, PLAIN_ROUTES};
-
-static uint8_t output[PLAIN_HEADER_MOST + 8];
-static uint8_t octets[PLAIN_LENGTH_MOST + 8];
-
-#define CHECK_VERDICT(verdict, refusal_due, local_due, onward_due, ports_due) \
+#define CHECK_VERDICT(verdict, refusal_due, local_due, onward_due, took_due) \
     do { \
         plain_verdict got = (verdict); \
         CHECK_EQUAL(got.refusal, refusal_due); \
         CHECK_EQUAL(got.local, local_due); \
         CHECK_EQUAL(got.onward, onward_due); \
-        CHECK_EQUAL(got.ports.bits, ports_due); \
+        CHECK_EQUAL(got.took.bits, took_due); \
     } while (0)
-
-#define CHECK_COUNT(counter, due) \
-    CHECK_EQUAL(relay.mission.counters.counts[counter], due)
-
-static plain_refusal set_port(uint32_t number, uint32_t address,
-                              uint32_t mask, uint32_t mtu)
-{
-    plain_port port = {{address}, {mask}, mtu, 0};
-    return plain_set_port(&relay.board, number, &port);
-}
 
 static plain_refusal set_route(uint32_t place, uint32_t prefix, uint32_t mask,
                                uint32_t port, uint32_t availability)
 {
     plain_record route = {1, {prefix}, {mask}, port, availability, 0, 0};
     return plain_set_route(&relay.board, list, place, &route);
-}
-
-static plain_refusal set_group(uint32_t place, uint32_t address,
-                               uint32_t send, uint32_t subscribed)
-{
-    plain_group group = {{address}, {send}, {subscribed}};
-    return plain_set_group(&view, place, &group);
-}
-
-static plain_refusal set_path(uint32_t place, uint32_t path, uint32_t send,
-                              uint32_t here)
-{
-    plain_path_place setting = {{path}, {send}, here};
-    return plain_set_path(&view, place, &setting);
-}
-
-static void fresh(void)
-{
-    plain_board_fresh(&relay.board);
-    CHECK_EQUAL(plain_mission_fresh(&relay.mission, 0), PLAIN_GOOD);
-    memset(relay.records, 0, sizeof relay.records);
 }
 
 /* A router with as many ports, 10.10.10.2, 10.10.11.2 and so on. */
@@ -94,21 +45,6 @@ static void fresh_router(uint32_t ports)
     for (uint32_t port = 0; port < ports; port++)
         CHECK_EQUAL(set_port(port, HERE + (port << 8), net24, 8191),
                     PLAIN_GOOD);
-}
-
-static plain_verdict receive(uint32_t arrival, uint16_t slot, size_t count)
-{
-    plain_slot number = {slot};
-    plain_verdict verdict;
-
-    memset(output, UNTOUCHED, sizeof output);
-    verdict = plain_receive(&view, arrival, number, octets, count, output,
-                            PLAIN_HEADER_MOST);
-    CHECK_EQUAL(verdict.header_length > 0, verdict.ports.bits != 0);
-    CHECK_EQUAL(verdict.onward == PLAIN_ONWARD_SENT, verdict.ports.bits != 0);
-    for (size_t at = verdict.header_length; at < sizeof output; at++)
-        CHECK_EQUAL(output[at], UNTOUCHED);
-    return verdict;
 }
 
 static plain_verdict receive_octets(uint32_t arrival, const uint8_t *lent,
@@ -291,8 +227,9 @@ static void test_hop_count(void)
     CHECK_EQUAL(set_route(0, 0x0a0a0b00, net24, 1, PLAIN_UP), 0);
     verdict = receive_octets(0, arriving, sizeof arriving);
     CHECK_VERDICT(verdict, 0, 0, 1, 2);
-    CHECK_EQUAL(verdict.header_length, sizeof sent_on);
-    CHECK_EQUAL(memcmp(output, sent_on, sizeof sent_on), 0);
+    CHECK_EQUAL(plain_header_octets(&verdict, 1), sizeof sent_on);
+    CHECK_EQUAL(memcmp(output + plain_header_at(1), sent_on, sizeof sent_on),
+                0);
     CHECK_VERDICT(receive_octets(0, sent_on, sizeof sent_on), 0, 0,
                   PLAIN_HOPS_USED_UP, 0);
     fields.hop_present = 1;
@@ -359,7 +296,7 @@ static void test_port_and_room(void)
     CHECK_VERDICT(send(1, to(HERE)), PLAIN_NO_PORT, 0, 0, 0);
     CHECK_VERDICT(send(8, to(HERE)), PLAIN_NO_PORT, 0, 0, 0);
     CHECK_VERDICT(send(4294967295, to(HERE)), PLAIN_NO_PORT, 0, 0, 0);
-    verdict = plain_receive(&view, 0, slot, octets, 12, output, 49);
+    verdict = plain_receive(&view, 0, slot, octets, 12, output, 399);
     CHECK_VERDICT(verdict, PLAIN_NO_ROOM, 0, 0, 0);
     verdict = plain_receive(&view, 1, slot, octets, 12, output, 0);
     CHECK_VERDICT(verdict, PLAIN_NO_PORT, 0, 0, 0);
@@ -699,6 +636,7 @@ static void test_search_of_routes_not_up(void)
     check_found(0xc0000301, 1, 24, 0);
 }
 
+/* A one-octet path stays in its domain; one-octet addresses need not. */
 static void test_leaving_the_domain(void)
 {
     plain_fields path = {.tp_id = 6, .destination = {0, 0x06}};
@@ -707,38 +645,43 @@ static void test_leaving_the_domain(void)
     CHECK_EQUAL(set_port(2, 0x0a0a0a08, net24, 8191), 0);
     CHECK_EQUAL(set_port(3, 0xc0000201, net24, 8191), 0);
     CHECK_EQUAL(set_route(0, 0x0a0a0a20, 0xffffffff, 1, PLAIN_UP), 0);
-    CHECK_EQUAL(set_route(1, 0x0a0a0a22, 0xffffffff, 2, PLAIN_UP), 0);
     CHECK_EQUAL(set_path(0, 0x0a0a0a06, 0xe, 0), 0);
-    CHECK_VERDICT(send(0, to_octet(0x20)), 0, 0, PLAIN_LEAVES_DOMAIN, 0);
-    CHECK_VERDICT(send(0, to(0x0a0a0a20)), 0, 0, 1, 2);
-    CHECK_VERDICT(send(0, to_octet(0x22)), 0, 0, 1, 4);
     CHECK_VERDICT(send(0, path), 0, 0, 1, 4);
-    CHECK_VERDICT(send(0, to_octet(0xff)), 0, 1, 1, 4);
-    CHECK_VERDICT(send(1, to_octet(0xff)), 0, 1, PLAIN_LEAVES_DOMAIN, 0);
-    check_counters((const uint32_t[]){6, 0, 0, 0, 0, 0, 0, 0, 2, 0, 4, 0, 0,
+    CHECK_VERDICT(send(0, by_path(0x0a0a0a06)), 0, 0, 1, 0xe);
+    CHECK_EQUAL(set_path(0, 0x0a0a0a06, 0xa, 0), 0);
+    CHECK_VERDICT(send(0, path), 0, 0, PLAIN_LEAVES_DOMAIN, 0);
+    CHECK_EQUAL(set_path(0, 0x0a0a0a06, 0xa, 1), 0);
+    CHECK_VERDICT(send(0, path), 0, 1, PLAIN_LEAVES_DOMAIN, 0);
+    CHECK_VERDICT(send(0, to_octet(0x20)), 0, 0, 1, 2);
+    CHECK_VERDICT(send(0, to_octet(0xff)), 0, 1, 1, 0xe);
+    CHECK_VERDICT(send(1, to_octet(0xff)), 0, 1, 1, 0xd);
+    check_counters((const uint32_t[]){7, 0, 0, 0, 0, 0, 0, 0, 3, 0, 5, 0, 0,
                                       2, 0});
 }
 
 /* 10 before 13 before 14 before 15. */
 static void test_order_of_striking_out(void)
 {
-    plain_fields fields = to_octet(0xff); /* a header of 6 octets, hop 7 */
+    /* A header of 4 octets, with a hop count 6. */
+    plain_fields path = {.tp_id = 6, .destination = {0, 0x06}};
 
     fresh_router(1);
-    CHECK_EQUAL(set_port(1, FAR, net24, 6), 0);
-    fields.hop_present = 1;
-    fields.hop = 1;
-    CHECK_VERDICT(send(0, fields), 0, 1, PLAIN_HOPS_USED_UP, 0);
-    fields.hop = 2;
-    CHECK_VERDICT(send(0, fields), 0, 1, PLAIN_LEAVES_DOMAIN, 0);
-    CHECK_EQUAL(set_port(2, 0x0a0a0a06, net24, 6), 0);
-    CHECK_VERDICT(send(0, fields), 0, 1, PLAIN_TOO_BIG, 0);
-    fields.hop_present = 0;
-    fields.hop = 0;
+    CHECK_EQUAL(set_port(1, FAR, net24, 5), 0);
+    CHECK_EQUAL(set_port(2, 0x0a0a0a08, net24, 5), 0);
+    CHECK_EQUAL(set_path(0, 0x0a0a0a06, 2, 1), 0);
+    path.hop_present = 1;
+    path.hop = 1;
+    CHECK_VERDICT(send(0, path), 0, 1, PLAIN_HOPS_USED_UP, 0);
+    path.hop = 2;
+    CHECK_VERDICT(send(0, path), 0, 1, PLAIN_LEAVES_DOMAIN, 0);
+    CHECK_EQUAL(set_path(0, 0x0a0a0a06, 6, 1), 0);
+    CHECK_VERDICT(send(0, path), 0, 1, PLAIN_TOO_BIG, 0);
+    path.hop_present = 0;
+    path.hop = 0;
     for (unsigned round = 0; round < 32; round++)
-        CHECK_VERDICT(send(0, fields), 0, 1, 1, 4);
-    CHECK_VERDICT(send_slot(0, 1, fields, 1), 0, 1, PLAIN_TOO_BIG, 0);
-    CHECK_VERDICT(send(0, fields), 0, 1, PLAIN_ALL_FULL, 0);
+        CHECK_VERDICT(send_slot(0, 1, path, 1), 0, 1, 1, 4);
+    CHECK_VERDICT(send_slot(0, 1, path, 2), 0, 1, PLAIN_TOO_BIG, 0);
+    CHECK_VERDICT(send_slot(0, 1, path, 1), 0, 1, PLAIN_ALL_FULL, 0);
     CHECK_COUNT(PLAIN_OUT_DISCARDS, 1);
     CHECK_COUNT(PLAIN_IN_DELIVERS, 37);
 }

@@ -18,10 +18,11 @@
 #define MOST_ANSWERS 200
 #define WIDTH 62
 
-/* One answer as it is shown. */
+/* One answer as it is shown, and the headers written; all else is zeros. */
 struct answer {
     char text[120];
-    uint8_t header[HJ_OUTPUT_ROOM]; /* zeros where none was written */
+    hj_verdict verdict;
+    uint8_t output[HJ_OUTPUT_ROOM];
 };
 
 static struct {
@@ -40,16 +41,20 @@ static struct answer *next_answer(const struct node *node, uint32_t port)
 {
     uint32_t mission = node_mission(node, port);
     uint32_t *count = &books[node - nodes][mission].count;
+    struct answer *answer;
 
     if (*count < MOST_ANSWERS)
         ++*count;
-    return &books[node - nodes][mission].answers[*count - 1];
+    answer = &books[node - nodes][mission].answers[*count - 1];
+    memset(answer, 0, sizeof *answer);
+    return answer;
 }
 
 void beside_receive(const struct node *node, hj_arrival arrival,
-                    hj_verdict verdict, const uint8_t *header)
+                    const struct kept *kept)
 {
     struct answer *answer = next_answer(node, arrival.port);
+    hj_verdict verdict = kept->verdict;
 
     snprintf(answer->text, sizeof answer->text,
              "port %u, slot %u: ended %u, here %u, onward %u, took %u, dropped "
@@ -58,7 +63,10 @@ void beside_receive(const struct node *node, hj_arrival arrival,
              (unsigned)hj_ended_by(verdict), (unsigned)hj_local(verdict),
              (unsigned)hj_onward(verdict), (unsigned)hj_took(verdict),
              (unsigned)hj_dropped(verdict));
-    memcpy(answer->header, header, hj_header_octets(verdict));
+    answer->verdict = verdict;
+    for (uint32_t port = 0; port < HJ_PORTS; port++)
+        memcpy(answer->output + HJ_HEADER_ROOM * port,
+               hj_header(kept->output, port), hj_header_octets(verdict, port));
 }
 
 void beside_take(const struct node *node, uint32_t port, hj_answer entry)
@@ -76,13 +84,16 @@ void beside_take(const struct node *node, uint32_t port, hj_answer entry)
 /* ---- The table --------------------------------------------------------- */
 
 /* A row; whether its two sides are equal. */
-static bool row(const char *one, const char *other)
+static bool row(const char *one, const char *other, bool equal)
 {
-    bool equal = strcmp(one, other) == 0;
-
     printf("   %-*s | %s%s\n", WIDTH, one, other,
            equal ? "" : "  NOT EQUAL");
     return equal;
+}
+
+static bool answer_row(const struct answer *one, const struct answer *other)
+{
+    return row(one->text, other->text, memcmp(one, other, sizeof *one) == 0);
 }
 
 static bool answer_rows(uint32_t one, uint32_t other, uint32_t mission)
@@ -95,10 +106,7 @@ static bool answer_rows(uint32_t one, uint32_t other, uint32_t mission)
     if (count < books[other][mission].count)
         count = books[other][mission].count;
     for (uint32_t i = 0; i < count; i++)
-        equal = row(ones[i].text, others[i].text) &&
-                memcmp(ones[i].header, others[i].header,
-                       sizeof ones[i].header) == 0 &&
-                equal;
+        equal = answer_row(&ones[i], &others[i]) && equal;
     return equal;
 }
 
@@ -108,7 +116,7 @@ static bool number_row(const char *name, uint32_t one, uint32_t other)
 
     snprintf(left, sizeof left, "%s %" PRIu32, name, one);
     snprintf(right, sizeof right, "%s %" PRIu32, name, other);
-    return row(left, right);
+    return row(left, right, one == other);
 }
 
 /* The counters that either has, and what waits on the mission's ports. */

@@ -13,7 +13,7 @@ void beside(void);
 /* A scene begins: what was answered before is not looked at any more. */
 void beside_scene(void);
 void beside_receive(const struct node *node, hj_arrival arrival,
-                    hj_verdict verdict, const uint8_t *header);
+                    const struct kept *kept);
 /* A take of a free wire that has nothing to send is not noted. */
 void beside_take(const struct node *node, uint32_t port, hj_answer entry);
 

@@ -5,9 +5,9 @@
  * wire. Time passes in `step` and `run` alone, so that what is sent between two
  * of them is sent at one moment.
  *
- * The awkward case is a datagram without a hop count on routes that go round in
- * a ring: `run` would never end. It stops after MOST_STEPS arrivals and refuses
- * the line.
+ * The awkward case is a datagram without a hop count where routes or groups go
+ * round in a ring: `run` would never end. It stops after MOST_STEPS arrivals
+ * and refuses the line.
  */
 #include "events.h"
 
@@ -117,7 +117,7 @@ static void build(const hj_fields *fields, const char *text,
 {
     uint32_t data = (uint32_t)strlen(text);
     hj_answer built =
-        hj_build(*fields, data, datagram->octets, HJ_OUTPUT_ROOM);
+        hj_build(*fields, data, datagram->octets, HJ_HEADER_ROOM);
 
     if (hj_refusal(built) != HJ_DONE)
         line_refuse("fields that hj_build takes",
@@ -209,8 +209,7 @@ void event_run(void)
         if (!net_step())
             return;
     }
-    line_refuse("an end (routes in a ring need a hop count)",
-                "20000 arrivals");
+    line_refuse("an end (a ring needs a hop count)", "20000 arrivals");
 }
 
 /* ---- What is told ------------------------------------------------------ */

@@ -3,9 +3,9 @@
  * since its scene began; but counters and what waits are as they stand. One
  * that fails is told, the rehearsal goes on, and ends with status 1.
  *
- * `refused`, `took` and `dropped` look at the node's latest answer. `nothing`
- * says that no datagram reached the node at all, which is stronger than that
- * none was delivered.
+ * `refused`, `took`, `dropped` and `header` look at the node's latest answer,
+ * `named` at what it was an answer to. `nothing` says that no datagram reached
+ * the node at all, which is stronger than that none was delivered.
  */
 #include "expect.h"
 
@@ -13,6 +13,7 @@
 #include <string.h>
 
 #include "line.h"
+#include "meaning.h"
 #include "names.h"
 
 #define MOST_DELIVERIES 1024
@@ -49,21 +50,21 @@ void expect_scene(void)
     }
 }
 
-void expect_note(uint32_t node, const struct datagram *datagram,
-                 hj_verdict verdict)
+void expect_note(uint32_t node, uint32_t port, const struct kept *kept)
 {
-    uint32_t data = datagram->length - datagram->header;
+    uint32_t from = hj_data_from(kept->verdict);
+    uint32_t data = kept->came.length - from;
 
     nodes[node].answered = true;
-    nodes[node].verdict = verdict;
+    nodes[node].verdict = kept->verdict;
+    nodes[node].named = meaning_at(&nodes[node], port, &kept->came);
     nodes[node].arrivals++;
-    if (hj_local(verdict) != HJ_DELIVERED)
+    if (hj_local(kept->verdict) != HJ_DELIVERED)
         return;
     if (delivered == MOST_DELIVERIES)
         line_refuse("at most 1024 deliveries in a scene", "more");
     deliveries[delivered].node = node;
-    memcpy(deliveries[delivered].text, datagram->octets + datagram->header,
-           data);
+    memcpy(deliveries[delivered].text, kept->came.octets + from, data);
     deliveries[delivered].text[data] = '\0';
     delivered++;
 }
@@ -102,6 +103,39 @@ static bool expect_delivered(uint32_t node)
 static bool expect_nothing(uint32_t node)
 {
     return nodes[node].arrivals == 0;
+}
+
+static bool expect_arrivals(uint32_t node)
+{
+    return nodes[node].arrivals ==
+           line_number("how many arrivals", 0, 999999999);
+}
+
+/* The destination or the path, and the source where it is said. */
+static bool expect_named(uint32_t node)
+{
+    static const char EXPECTED[] = "an address of four octets";
+    const hj_fields *named = &nodes[node].named;
+    uint32_t destination = line_address(EXPECTED, NULL);
+    bool from = line_is("from");
+    uint32_t source = from ? line_address(EXPECTED, NULL) : 0;
+
+    return nodes[node].answered && named->destination_low == destination &&
+           (!from || (named->has_source && named->source_low == source));
+}
+
+static bool expect_header(uint32_t node)
+{
+    static const char *const FORMS[] = {"kept", "rewritten", NULL};
+    hj_verdict verdict = nodes[node].verdict;
+    uint32_t port = line_port();
+    uint32_t rewritten = line_choice("'kept' or 'rewritten'", FORMS);
+    uint32_t octets =
+        line_number("the header's octets, 4 to 50", 4, HJ_HEADER_ROOM);
+
+    return nodes[node].answered &&
+           (hj_rewritten(verdict) >> port & 1) == rewritten &&
+           hj_header_octets(verdict, port) == octets;
 }
 
 static bool expect_took(uint32_t node)
@@ -150,20 +184,21 @@ static bool expect_order(uint32_t node)
 
 void expect(void)
 {
-    static const char *const KINDS[] = {"refused", "delivered", "nothing",
-                                        "took",    "dropped",   "counter",
-                                        "waiting", "order",     NULL};
+    static const char *const KINDS[] = {
+        "refused", "delivered", "nothing", "arrivals", "named", "header",
+        "took",    "dropped",   "counter", "waiting",  "order", NULL};
     static bool (*const HOLDS[])(uint32_t) = {
-        expect_refused, expect_delivered, expect_nothing, expect_took,
-        expect_dropped, expect_counter,   expect_waiting, expect_order};
+        expect_refused, expect_delivered, expect_nothing, expect_arrivals,
+        expect_named,   expect_header,    expect_took,    expect_dropped,
+        expect_counter, expect_waiting,   expect_order};
     char line[1000];
     uint32_t node, kind;
     bool holds;
 
     line_copy(line, sizeof line);
     node = line_node();
-    kind = line_choice("refused, delivered, nothing, took, dropped, counter, "
-                       "waiting or order",
+    kind = line_choice("refused, delivered, nothing, arrivals, named, header, "
+                       "took, dropped, counter, waiting or order",
                        KINDS);
     holds = HOLDS[kind](node);
     line_end();

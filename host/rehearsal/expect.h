@@ -9,8 +9,7 @@ void expect(void);
 
 /* A scene begins: what happened before is not looked at any more. */
 void expect_scene(void);
-void expect_note(uint32_t node, const struct datagram *datagram,
-                 hj_verdict verdict);
+void expect_note(uint32_t node, uint32_t port, const struct kept *kept);
 /* An expectation that another word told of. */
 void expect_said(bool holds);
 uint32_t expect_failures(void);

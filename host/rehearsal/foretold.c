@@ -61,7 +61,7 @@ static void tell_due(uint32_t node, uint32_t port, uint32_t slot)
     uint64_t tenths = (wire_microseconds(entry->ahead, bits) + 50) / 100;
 
     printf("%14sforetold: ", "");
-    told_data(node_kept(&nodes[node], port, slot));
+    told_data(&node_kept(&nodes[node], port, slot)->came);
     printf(" goes out at take %" PRIu32 " + %" PRIu32 " + 1 = %" PRIu32
            " of port %" PRIu32 "; made since its placing: %" PRIu32 "\n",
            entry->before, entry->higher, due(entry), port, entry->takes);
@@ -74,7 +74,7 @@ static void tell_take(uint32_t node, uint32_t port, uint32_t slot)
 {
     printf("%14stake %" PRIu32 " of port %" PRIu32 " since the placing of ", "",
            entries[node][port][slot].takes, port);
-    told_data(node_kept(&nodes[node], port, slot));
+    told_data(&node_kept(&nodes[node], port, slot)->came);
     puts("");
 }
 
@@ -86,7 +86,7 @@ static void tell_end(uint32_t node, uint32_t port, uint32_t slot, bool out)
     printf("   %s (take %" PRIu32 "): %s port %" PRIu32 " %s ",
            right ? "as foretold" : "NOT AS FORETOLD", due(entry),
            nodes[node].name, port, out ? "hands out" : "keeps");
-    told_data(node_kept(&nodes[node], port, slot));
+    told_data(&node_kept(&nodes[node], port, slot)->came);
     printf(" at take %" PRIu32 "\n", entry->takes);
 }
 
@@ -105,10 +105,12 @@ static void overtake(uint32_t node, uint32_t port, uint32_t slot,
 }
 
 static void enter(uint32_t node, uint32_t port, uint32_t slot,
-                  const struct datagram *came)
+                  const struct kept *kept)
 {
+    const struct datagram *came = &kept->came;
     struct entry *queue = entries[node][port];
-    struct entry newcomer = {.waits = true, .octets = came->length};
+    struct entry newcomer = {.waits = true,
+                             .octets = kept_copy_octets(kept, port)};
 
     newcomer.precedence = hj_read(came->octets, came->length).fields.precedence;
     for (uint32_t other = 0; other < SLOTS; other++) {
@@ -124,12 +126,11 @@ static void enter(uint32_t node, uint32_t port, uint32_t slot,
     queue[slot] = newcomer;
 }
 
-void foretold_enter(uint32_t node, uint32_t ports, uint32_t slot,
-                    const struct datagram *came)
+void foretold_enter(uint32_t node, uint32_t slot, const struct kept *kept)
 {
     for (uint32_t port = 0; port < HJ_PORTS; port++) {
-        if (ports >> port & 1)
-            enter(node, port, slot, came);
+        if (hj_took(kept->verdict) >> port & 1)
+            enter(node, port, slot, kept);
     }
 }
 
@@ -168,11 +169,11 @@ void foretold_take(uint32_t node, uint32_t port, uint32_t slot)
 static bool has_data(uint32_t node, uint32_t port, uint32_t slot,
                      const char *text)
 {
-    const struct datagram *datagram = node_kept(&nodes[node], port, slot);
-    uint32_t data = datagram->length - datagram->header;
+    const struct datagram *came = &node_kept(&nodes[node], port, slot)->came;
+    uint32_t data = came->length - came->header;
 
     return strlen(text) == data &&
-           memcmp(text, datagram->octets + datagram->header, data) == 0;
+           memcmp(text, came->octets + came->header, data) == 0;
 }
 
 void foretell(void)

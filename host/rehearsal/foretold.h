@@ -7,9 +7,8 @@
 /* The word `foretell`: reads the rest of its line. */
 void foretell(void);
 
-/* Each of these ports took what came, and it is kept under the slot. */
-void foretold_enter(uint32_t node, uint32_t ports, uint32_t slot,
-                    const struct datagram *came);
+/* What came is kept under the slot, and waits on each port that took it. */
+void foretold_enter(uint32_t node, uint32_t slot, const struct kept *kept);
 /* The port handed out the slot. */
 void foretold_take(uint32_t node, uint32_t port, uint32_t slot);
 /* Entries that went out at the take foretold; those, and all that did not. */

@@ -4,9 +4,10 @@
  *
  * It does what flight software does around the library. A datagram arrives: a
  * free slot is found, the relay judges (hj_receive), and if ports took it, the
- * header that the relay wrote and the data that came stay under the slot. A
- * wire is free: the relay hands out a slot (hj_take), and what stands under it
- * goes out. A slot is free again when each port that took it has handed it out.
+ * headers that the relay wrote, one for each of them, and the data that came
+ * stay under the slot. A wire is free: the relay hands out a slot (hj_take),
+ * and that port's header and the data go out. A slot is free again when each
+ * port that took it has handed it out.
  *
  * Time is counted, not waited for: a datagram is on the wire for 8 bits an
  * octet, and arrives whole. Nothing else takes time. A wire sends one datagram
@@ -20,11 +21,11 @@
 
 #include <stdio.h>
 #include <stdlib.h>
-#include <string.h>
 
 #include "beside.h"
 #include "expect.h"
 #include "foretold.h"
+#include "meaning.h"
 #include "told.h"
 
 /* ---- A wire begins ----------------------------------------------------- */
@@ -58,7 +59,7 @@ static bool take_entry(struct node *node, uint32_t port, hj_answer *entry)
     if (hj_refusal(*entry) != HJ_DONE)
         return false;
     wire->handed_out++;
-    wire->flying = node->slots[mission][hj_slot(*entry)].datagram;
+    kept_copy(&node->slots[mission][hj_slot(*entry)], port, &wire->flying);
     node->slots[mission][hj_slot(*entry)].copies--;
     return true;
 }
@@ -137,37 +138,27 @@ static uint32_t count_copies(struct node *node, hj_verdict verdict)
     return copies;
 }
 
-/* The header that goes on, as long as the one that came, and the data. */
-static void keep(struct datagram *kept, const struct datagram *came,
-                 const uint8_t *header, uint32_t header_octets)
-{
-    *kept = *came;
-    memcpy(kept->octets, header, header_octets);
-}
-
 static void arrive(uint32_t at, uint32_t port, const struct datagram *came)
 {
     struct node *node = &nodes[at];
     uint32_t mission = node_mission(node, port);
     uint16_t slot = free_slot(node, mission);
-    uint8_t header[HJ_OUTPUT_ROOM];
+    struct kept *kept = &node->slots[mission][slot];
     uint32_t before[HJ_COUNTERS];
     hj_arrival arrival = {port, slot, (uint32_t)(now / 1000000)};
-    hj_verdict verdict;
 
     for (uint32_t counter = 0; counter < HJ_COUNTERS; counter++)
         before[counter] = node_counter(node, mission, counter);
-    verdict = hj_receive(LENT_BOARD(node), LENT_MISSION(node, mission),
-                         LENT_ROUTES(node), arrival, came->octets,
-                         came->length, header, sizeof header);
-    beside_receive(node, arrival, verdict, header);
-    node->slots[mission][slot].copies = count_copies(node, verdict);
-    if (hj_took(verdict) != 0)
-        keep(&node->slots[mission][slot].datagram, came, header,
-             hj_header_octets(verdict));
-    expect_note(at, came, verdict);
-    told_arrival(at, port, came, verdict, before);
-    foretold_enter(at, hj_took(verdict), slot, came);
+    kept->came = *came;
+    kept->verdict = hj_receive(LENT_BOARD(node), LENT_MISSION(node, mission),
+                               LENT_ROUTES(node), arrival, came->octets,
+                               came->length, kept->output, sizeof kept->output);
+    kept->copies = count_copies(node, kept->verdict);
+    beside_receive(node, arrival, kept);
+    expect_note(at, port, kept);
+    told_arrival(at, port, kept, before);
+    meaning_hold(at, port, kept);
+    foretold_enter(at, slot, kept);
 }
 
 static void note_sooner(struct wire *wire, struct wire **soonest)

@@ -7,6 +7,8 @@
  */
 #include "nodes.h"
 
+#include <string.h>
+
 struct node nodes[MOST_NODES];
 uint32_t node_count;
 uint64_t now;
@@ -33,10 +35,27 @@ uint32_t node_counter(const struct node *node, uint32_t mission,
     return hj_value(hj_counter(LENT_MISSION(node, mission), counter));
 }
 
-const struct datagram *node_kept(const struct node *node, uint32_t port,
-                                 uint32_t slot)
+const struct kept *node_kept(const struct node *node, uint32_t port,
+                             uint32_t slot)
 {
-    return &node->slots[node_mission(node, port)][slot].datagram;
+    return &node->slots[node_mission(node, port)][slot];
+}
+
+uint32_t kept_copy_octets(const struct kept *kept, uint32_t port)
+{
+    uint32_t data = kept->came.length - hj_data_from(kept->verdict);
+
+    return hj_header_octets(kept->verdict, port) + data;
+}
+
+void kept_copy(const struct kept *kept, uint32_t port, struct datagram *copy)
+{
+    copy->header = hj_header_octets(kept->verdict, port);
+    copy->length = kept_copy_octets(kept, port);
+    memcpy(copy->octets, hj_header(kept->output, port), copy->header);
+    memcpy(copy->octets + copy->header,
+           kept->came.octets + hj_data_from(kept->verdict),
+           copy->length - copy->header);
 }
 
 uint32_t node_waiting(const struct node *node, uint32_t port)

@@ -24,7 +24,15 @@
 struct datagram {
     uint32_t header; /* octets of the header, at the front */
     uint32_t length; /* octets of header and data */
-    uint8_t octets[HJ_OUTPUT_ROOM + MOST_DATA];
+    uint8_t octets[HJ_HEADER_ROOM + MOST_DATA];
+};
+
+/* What a node keeps under a slot: the datagram, and a header for each port. */
+struct kept {
+    struct datagram came;
+    hj_verdict verdict;
+    uint8_t output[HJ_OUTPUT_ROOM];
+    uint32_t copies; /* entries that wait with this slot; 0: free */
 };
 
 /* The wire that a port sends on, and what is known of the port's copies. */
@@ -44,12 +52,10 @@ struct node {
     hj_mission missions[HJ_MISSIONS];
     hj_record routes[HJ_ROUTES];
     struct wire wires[HJ_PORTS];
-    struct {
-        struct datagram datagram;
-        uint32_t copies; /* entries that wait with this slot; 0: free */
-    } slots[HJ_MISSIONS][SLOTS];
-    bool answered; /* whether the two below are of this scene */
+    struct kept slots[HJ_MISSIONS][SLOTS];
+    bool answered; /* whether the three below are of this scene */
     hj_verdict verdict;
+    hj_fields named; /* what came last, its addresses as four octets */
     uint32_t arrivals;
 };
 
@@ -71,8 +77,11 @@ bool node_carries(const struct node *node, uint32_t mission);
 uint32_t node_counter(const struct node *node, uint32_t mission,
                       uint32_t counter);
 /* What is kept under a slot that a port handed out, or may. */
-const struct datagram *node_kept(const struct node *node, uint32_t port,
-                                 uint32_t slot);
+const struct kept *node_kept(const struct node *node, uint32_t port,
+                             uint32_t slot);
+/* The copy of it for a port that took one: the port's header, and the data. */
+void kept_copy(const struct kept *kept, uint32_t port, struct datagram *copy);
+uint32_t kept_copy_octets(const struct kept *kept, uint32_t port);
 /* Of the mission that has the port. */
 uint32_t node_waiting(const struct node *node, uint32_t port);
 

@@ -13,6 +13,7 @@
  *
  *   nodes.c, names.c        the nodes; what numbers and counters are called
  *   line.c, told.c          one line as words; the timeline as it is printed
+ *   meaning.c               what each copy names
  *   expect.c, books.c       what a scenario expects; counters and ledger
  *   foretold.c, beside.c    at which take each entry goes out; what a mission
  *                           is told by two nodes
@@ -29,6 +30,7 @@
 #include "expect.h"
 #include "foretold.h"
 #include "line.h"
+#include "meaning.h"
 #include "settings.h"
 #include "shared/options.h"
 
@@ -79,19 +81,23 @@ static void perform_file(FILE *file, const char *name)
     }
 }
 
-/* The end: counters, ledger, takes, expectations. Answers the status. */
+/* The end: counters, ledger, meaning, takes, expectations. Answers the status.
+ */
 static int conclude(void)
 {
     bool closes = books_close();
+    bool as_named = meaning_same() == meaning_count();
     bool as_foretold = foretold_kept() == foretold_count();
 
-    printf("\n%u of %u entries went out at the take foretold.\n",
+    printf("\n%u of %u copies name what the datagram named that came.\n",
+           (unsigned)meaning_same(), (unsigned)meaning_count());
+    printf("%u of %u entries went out at the take foretold.\n",
            (unsigned)foretold_kept(), (unsigned)foretold_count());
     printf("%u of %u expectations held; the ledger %s.\n",
            (unsigned)(expect_count() - expect_failures()),
            (unsigned)expect_count(),
            closes ? "closes on every port" : "DOES NOT CLOSE");
-    return closes && as_foretold && expect_failures() == 0 ? 0 : 1;
+    return closes && as_named && as_foretold && expect_failures() == 0 ? 0 : 1;
 }
 
 static int rehearse(const char *name)

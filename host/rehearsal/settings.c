@@ -18,6 +18,18 @@ static uint32_t mission_said(void)
     return line_is("mission") ? line_number("a mission, 0 or 1", 0, 1) : 0;
 }
 
+/* `asks` and what a route asks for, where it is said; else nothing. */
+static uint32_t capabilities_said(void)
+{
+    static const char *const ASKED[] = {"checksum", "hops", "both", NULL};
+    static const uint32_t CODES[] = {HJ_CAPABLE_CHECKSUM, HJ_CAPABLE_HOP_COUNT,
+                                     HJ_CAPABLE_BOTH};
+
+    if (!line_is("asks"))
+        return HJ_CAPABLE_NONE;
+    return CODES[line_choice("'checksum', 'hops' or 'both'", ASKED)];
+}
+
 /* The library's answer to a setting. */
 static void taken(uint32_t refusal)
 {
@@ -110,10 +122,13 @@ void set_route(void)
     uint32_t port = line_port();
     uint32_t available =
         HJ_UP + line_choice("'up', 'down', 'testing' or 'out'", AVAILABLE);
+    uint32_t capabilities = capabilities_said();
     uint32_t mission = mission_said();
 
+    if (capabilities == HJ_CAPABLE_NONE)
+        capabilities = capabilities_said();
     taken(hj_set_route(LENT_BOARD(node), LENT_ROUTES(node), place, prefix,
-                       mask, port, available, HJ_CAPABLE_NONE, mission));
+                       mask, port, available, capabilities, mission));
 }
 
 void set_group(void)

@@ -70,7 +70,7 @@ static void address(uint64_t number, uint32_t extended)
     printf("%u", (unsigned)(number & 0xff));
 }
 
-static void addresses(const hj_fields *fields)
+void told_addresses(const hj_fields *fields)
 {
     if (fields->has_source) {
         printf(" from ");
@@ -89,7 +89,7 @@ void told_send(uint32_t node, uint32_t port, const hj_fields *fields,
     at_now();
     printf("%s sends ", nodes[node].name);
     told_data(datagram);
-    addresses(fields);
+    told_addresses(fields);
     printf(" by port %" PRIu32 "\n%14s%s-octet addresses, transport %" PRIu32,
            port, "", fields->extended ? "four" : "one", fields->tp_id);
     if (fields->has_qos)
@@ -103,17 +103,13 @@ void told_send(uint32_t node, uint32_t port, const hj_fields *fields,
            datagram->length);
 }
 
-/* Milliseconds, rounded to a tenth. */
-static void wire_time(const struct wire *wire)
+/* How long octets are on the wire, rounded to a tenth of a millisecond. */
+static void milliseconds(uint32_t octets, const struct wire *wire)
 {
     uint64_t tenths =
-        (wire_microseconds(wire->flying.length, wire->bits_per_second) + 50) /
-        100;
+        (wire_microseconds(octets, wire->bits_per_second) + 50) / 100;
 
-    printf("%14s%" PRIu32 " octets at %" PRIu32 " bit/s: %" PRIu64 ".%" PRIu64
-           " ms on the wire",
-           "", wire->flying.length, wire->bits_per_second, tenths / 10,
-           tenths % 10);
+    printf("%" PRIu64 ".%" PRIu64 " ms", tenths / 10, tenths % 10);
 }
 
 void told_start(uint32_t node, uint32_t port, bool own, hj_answer entry)
@@ -127,8 +123,11 @@ void told_start(uint32_t node, uint32_t port, bool own, hj_answer entry)
     printf("%s port %" PRIu32 " to %s port %" PRIu32 ": ", nodes[node].name,
            port, nodes[wire->peer].name, wire->peer_port);
     told_data(&wire->flying);
-    puts("");
-    wire_time(wire);
+    told_addresses(&reading.fields);
+    printf("\n%14s%" PRIu32 " octets at %" PRIu32 " bit/s: ", "",
+           wire->flying.length, wire->bits_per_second);
+    milliseconds(wire->flying.length, wire);
+    printf(" on the wire");
     if (reading.fields.has_hop_count)
         printf("; hop count %" PRIu32, reading.fields.hop_count);
     if (!own)
@@ -165,8 +164,7 @@ static void onward_half(hj_verdict verdict)
     if (onward == HJ_NOT_ASKED)
         printf("not asked (0)");
     else if (onward == HJ_SENT_ON)
-        printf("sent on (1), header %" PRIu32 " octets",
-               hj_header_octets(verdict));
+        printf("sent on (1)");
     else
         printf("REFUSED (%" PRIu32 "), %s", onward, number_name(onward));
 }
@@ -182,6 +180,40 @@ static void ports_of(hj_verdict verdict)
     if (hj_dropped(verdict) != 0) {
         printf("; DROPPED, queue full, by port ");
         told_set(hj_dropped(verdict));
+    }
+    puts("");
+}
+
+/* What a header costs that is longer than the one that came. */
+static void cost_of(uint32_t octets, const struct wire *wire)
+{
+    printf(", %" PRIu32 " more than came", octets);
+    if (!wire->linked)
+        return;
+    printf(": ");
+    milliseconds(octets, wire);
+    printf(" more at %" PRIu32 " bit/s", wire->bits_per_second);
+}
+
+static void header_of(const struct wire *wire, uint32_t port,
+                      hj_verdict verdict)
+{
+    bool rewritten = hj_rewritten(verdict) >> port & 1;
+    uint32_t octets = hj_header_octets(verdict, port);
+    uint32_t came = hj_data_from(verdict);
+
+    printf("%14sport %" PRIu32 ": header %s, %" PRIu32 " octets", "", port,
+           rewritten ? "rewritten" : "kept", octets);
+    if (octets > came)
+        cost_of(octets - came, wire);
+    puts("");
+}
+
+static void headers_of(const struct node *node, hj_verdict verdict)
+{
+    for (uint32_t port = 0; port < HJ_PORTS; port++) {
+        if (hj_took(verdict) >> port & 1)
+            header_of(&node->wires[port], port, verdict);
     }
 }
 
@@ -203,17 +235,18 @@ static void counters_moved(const struct node *node, uint32_t mission,
     puts("");
 }
 
-void told_arrival(uint32_t node, uint32_t port,
-                  const struct datagram *datagram, hj_verdict verdict,
+void told_arrival(uint32_t node, uint32_t port, const struct kept *kept,
                   const uint32_t *before)
 {
+    hj_verdict verdict = kept->verdict;
+
     arrived_unseen += is_quiet;
     dropped_unseen += is_quiet && hj_dropped(verdict) != 0;
     if (is_quiet)
         return;
     at_now();
     printf("%s receives ", nodes[node].name);
-    told_data(datagram);
+    told_data(&kept->came);
     printf(" by port %" PRIu32 "\n%14s", port, "");
     if (hj_ended_by(verdict) != HJ_DONE) {
         printf("REFUSED (%" PRIu32 "), %s", hj_ended_by(verdict),
@@ -223,6 +256,6 @@ void told_arrival(uint32_t node, uint32_t port,
         onward_half(verdict);
     }
     ports_of(verdict);
-    puts("");
+    headers_of(&nodes[node], verdict);
     counters_moved(&nodes[node], node_mission(&nodes[node], port), before);
 }

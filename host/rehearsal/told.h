@@ -9,12 +9,14 @@ void told_scene(const char *title);
 void told_say(const char *text);
 /* The user data, in quotes. */
 void told_data(const struct datagram *datagram);
+/* The addresses, as they stand in the fields. */
+void told_addresses(const hj_fields *fields);
 void told_send(uint32_t node, uint32_t port, const hj_fields *fields,
                const struct datagram *datagram);
 void told_start(uint32_t node, uint32_t port, bool own, hj_answer entry);
 void told_refused_take(uint32_t node, uint32_t port, uint32_t number);
-void told_arrival(uint32_t node, uint32_t port,
-                  const struct datagram *datagram, hj_verdict verdict,
+/* What came by the port, and the mission's counters before it did. */
+void told_arrival(uint32_t node, uint32_t port, const struct kept *kept,
                   const uint32_t *before);
 
 #endif

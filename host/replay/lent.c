@@ -1,12 +1,15 @@
 /*
  * lent.c: one output for all calls, since they come one after the other. The
- * awkward case is an answer that claims more octets than were lent: what was
- * lent is shown, and marked.
+ * awkward case is an answer that claims more octets than were lent: of a header
+ * that was built what was lent is shown, of headers sent on none, and both are
+ * marked.
  */
 #include "lent.h"
 
 #include <stdbool.h>
 #include <string.h>
+
+#include "harpjuniper.h"
 
 #define UNTOUCHED 0xa5
 #define GUARD 64
@@ -33,5 +36,39 @@ void lent_answer(struct text *answer, size_t room, size_t written)
     text_octets(answer, space + GUARD, shown);
     if (shown < written || !untouched(0, GUARD) ||
         !untouched(GUARD + shown, GUARD + room + GUARD))
+        text_string(answer, " !");
+}
+
+/* Adds the octets from one place to another, but not those at the end that did
+ * not change. */
+static void add_stretch(struct text *answer, size_t from, size_t to)
+{
+    while (to > from && space[to - 1] == UNTOUCHED)
+        to--;
+    text_octets(answer, space + from, to - from);
+}
+
+void lent_headers(struct text *answer, size_t room, uint32_t ports,
+                  const uint32_t *header_octets)
+{
+    bool good = ports == 0 || room >= HJ_OUTPUT_ROOM;
+    size_t from = 0; /* where the last header ended */
+    const char *before = "";
+
+    for (uint32_t port = 0; port < HJ_PORTS; port++) {
+        size_t at = GUARD + HJ_HEADER_ROOM * port;
+
+        if (room < HJ_OUTPUT_ROOM || (ports >> port & 1) == 0)
+            continue;
+        text_string(answer, before);
+        add_stretch(answer, at, at + HJ_HEADER_ROOM);
+        good = good && header_octets[port] <= HJ_HEADER_ROOM &&
+               untouched(from, at);
+        from = at + header_octets[port];
+        before = ",";
+    }
+    if (*before == '\0')
+        text_string(answer, "-");
+    if (!good || !untouched(from, GUARD + room + GUARD))
         text_string(answer, " !");
 }

@@ -22,4 +22,13 @@ uint8_t *lent_output(size_t room);
  */
 void lent_answer(struct text *answer, size_t room, size_t written);
 
+/*
+ * Adds the stretch of each port of the set, from what was lent to hj_receive,
+ * the octets at its end that did not change cut off; `-` for no port. Then ` !`
+ * where the call changed an octet that is in no port's header, each of them as
+ * long as it is said to be.
+ */
+void lent_headers(struct text *answer, size_t room, uint32_t ports,
+                  const uint32_t *header_octets);
+
 #endif

@@ -11,8 +11,9 @@
  * ` !` stands at the end of an answer where the call changed what it should
  * not: a word around what was lent; a word of it, where the call refused or
  * only reads; a word of the other mission's state; an octet of the output
- * beyond the header sent on, or any octet that was lent to be read. So it does
- * where the parts of a verdict, or of what a search found, do not go together.
+ * outside the headers sent on, or any octet that was lent to be read. So it
+ * does where the parts of a verdict, or of what a search found, do not go
+ * together, or where a verdict tells other lengths than the headers have.
  * The answer of `new`, `records` and `record` is nothing, so their lines have
  * no ` = `.
  */
@@ -153,14 +154,42 @@ static bool parts_agree(hj_verdict verdict)
     uint32_t took = hj_took(verdict);
     uint32_t dropped = hj_dropped(verdict);
     uint32_t onward = hj_onward(verdict);
+    uint32_t rewritten = hj_rewritten(verdict);
 
     if (hj_ended_by(verdict) != HJ_DONE)
         return verdict >> 8 == 0;
-    return verdict >> 48 == 0 && (took & dropped) == 0 &&
-           (took != 0) == (onward == HJ_SENT_ON) &&
-           (took != 0) == (hj_header_octets(verdict) != 0) &&
+    return (took & dropped) == 0 && (took != 0) == (onward == HJ_SENT_ON) &&
+           (rewritten & ~took) == 0 &&
+           (rewritten != 0) == (hj_rewritten_octets(verdict) != 0) &&
            (dropped == 0 || took != 0 || onward == HJ_QUEUES_FULL) &&
            (dropped != 0 || onward != HJ_QUEUES_FULL);
+}
+
+static uint32_t length_field(const uint8_t *header)
+{
+    return (uint32_t)(header[0] & 31) << 8 | header[1];
+}
+
+/* Whether the data begin behind the header that came, and each header sent on
+ * says a length of its own octets and the data. */
+static bool lengths_agree(hj_verdict verdict, const uint8_t *octets,
+                          size_t count, const uint8_t *output)
+{
+    hj_reading came;
+    bool agree;
+
+    if (hj_ended_by(verdict) != HJ_DONE)
+        return true;
+    came = hj_read(octets, count);
+    agree = hj_data_from(verdict) == came.header;
+    for (uint32_t port = 0; port < HJ_PORTS; port++) {
+        uint32_t header = hj_header_octets(verdict, port);
+
+        agree = agree && (header == 0 ||
+                          length_field(hj_header(output, port)) ==
+                              header + came.length - came.header);
+    }
+    return agree;
 }
 
 static bool counts(uint32_t refusal)
@@ -169,31 +198,42 @@ static bool counts(uint32_t refusal)
            refusal != HJ_SHORT_OUTPUT;
 }
 
+static void add_verdict(struct text *answer, hj_verdict verdict, size_t room)
+{
+    uint32_t octets[HJ_PORTS];
+
+    text_number(answer, hj_ended_by(verdict));
+    add_number(answer, hj_local(verdict));
+    add_number(answer, hj_onward(verdict));
+    add_number(answer, hj_took(verdict));
+    text_string(answer, " ");
+    for (uint32_t port = 0; port < HJ_PORTS; port++)
+        octets[port] = hj_header_octets(verdict, port);
+    lent_headers(answer, room, hj_took(verdict), octets);
+}
+
 bool answer_receive(const struct trace_word *arguments, struct text *answer)
 {
     static struct arrival arrival;
     static uint8_t octets[TRACE_MOST_OCTETS];
     const struct library_lent *lent;
     hj_verdict verdict;
-    uint32_t refusal;
+    uint8_t *output;
 
     if (!take_arrival(arguments, &arrival))
         return false;
     memcpy(octets, arrival.octets, arrival.count);
+    output = lent_output(arrival.room);
     lent = lent_relay(arrival.mission);
     verdict = hj_receive(lent->board, lent->board_words, lent->mission,
                          lent->mission_words, lent->routes, lent->route_count,
-                         arrival.how, octets, arrival.count,
-                         lent_output(arrival.room), arrival.room);
-    refusal = hj_ended_by(verdict);
-    text_number(answer, refusal);
-    add_number(answer, hj_local(verdict));
-    add_number(answer, hj_onward(verdict));
-    add_number(answer, hj_took(verdict));
-    text_string(answer, " ");
-    lent_answer(answer, arrival.room, hj_header_octets(verdict));
-    lent_relay_answer(answer, counts(refusal) ? LENT_M : LENT_NONE);
+                         arrival.how, octets, arrival.count, output,
+                         arrival.room);
+    add_verdict(answer, verdict, arrival.room);
+    lent_relay_answer(answer, counts(hj_ended_by(verdict)) ? LENT_M
+                                                           : LENT_NONE);
     if (!parts_agree(verdict) ||
+        !lengths_agree(verdict, octets, arrival.count, output) ||
         memcmp(octets, arrival.octets, arrival.count) != 0)
         text_string(answer, " !");
     return true;

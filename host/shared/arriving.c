@@ -1,6 +1,7 @@
 /*
  * arriving.c: reading the elements of a good header (003, 3.2.2 and 3.2.3) in
- * their order: destination, source, basic QOS, hop count.
+ * their order: destination, source, basic QOS, hop count, timestamp, expanded
+ * QOS, checksum.
  */
 #include "arriving.h"
 
@@ -21,8 +22,20 @@ static uint32_t take(struct place *place, unsigned count)
     return number;
 }
 
-static void take_elements(struct arriving *arriving, struct place *place,
-                          bool has_qos)
+/* Passes over the timestamp, whatever it says. */
+static void pass_stamp(unsigned format, struct place *place)
+{
+    uint32_t p_field;
+
+    if (format == 2) {
+        p_field = take(place, 1);
+        place->at += 1 + p_field / 4 % 4 + p_field % 4;
+    } else if (format != 0) {
+        place->at += format == 1 ? 3 : 4;
+    }
+}
+
+static void take_elements(struct arriving *arriving, struct place *place)
 {
     unsigned octets = arriving->extended ? 4 : 1;
     uint32_t qos;
@@ -32,13 +45,26 @@ static void take_elements(struct arriving *arriving, struct place *place,
     arriving->destination = take(place, octets);
     if (arriving->has_source)
         arriving->source = take(place, octets);
-    if (has_qos) {
+    if (arriving->has_qos) {
         qos = take(place, 1);
         arriving->precedence = qos >> 4;
         arriving->routing = qos >> 2 & 3;
     }
     if (arriving->has_hop_count)
         arriving->hop_count = take(place, 1);
+    pass_stamp(arriving->stamp_format, place);
+    arriving->header = (uint32_t)place->at + arriving->has_expanded +
+                       2 * arriving->has_checksum;
+}
+
+static unsigned shortest(const struct arriving *arriving)
+{
+    if (arriving->ipv6 || arriving->has_expanded || arriving->intermediate)
+        return 3;
+    return arriving->extended || arriving->has_source || arriving->has_qos ||
+                   arriving->has_hop_count || arriving->stamp_format != 0
+               ? 2
+               : 1;
 }
 
 struct arriving arriving_read(const uint8_t *octets, size_t count)
@@ -53,12 +79,18 @@ struct arriving arriving_read(const uint8_t *octets, size_t count)
         control[1] = take(&place, 1);
     if (control[1] & 0x80)
         control[2] = take(&place, 1);
+    arriving.control = (unsigned)place.at - 2;
     arriving.tp_id = control[0] >> 4;
+    arriving.has_checksum = (control[0] & 0x01) != 0;
     arriving.has_source = (control[1] & 0x40) != 0;
     arriving.has_hop_count = (control[1] & 0x20) != 0;
+    arriving.stamp_format = control[1] >> 3 & 3;
+    arriving.has_qos = (control[1] & 0x02) != 0;
     arriving.extended = (control[1] & 0x01) != 0;
     arriving.ipv6 = (control[2] & 0x40) != 0;
+    arriving.has_expanded = (control[2] & 0x20) != 0;
     arriving.intermediate = (control[2] & 0x10) != 0;
-    take_elements(&arriving, &place, (control[1] & 0x02) != 0);
+    arriving.shortest = shortest(&arriving);
+    take_elements(&arriving, &place);
     return arriving;
 }

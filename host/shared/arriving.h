@@ -11,12 +11,19 @@
 
 struct arriving {
     uint32_t length;
+    uint32_t header;   /* its own octets */
+    unsigned control;  /* octets of the control field, the half one counted */
+    unsigned shortest; /* that these elements can be said in */
     unsigned tp_id;
     bool extended; /* addresses of four octets */
     bool ipv6;     /* of sixteen, their last four kept; else of one */
     bool has_source;
     bool intermediate;
+    bool has_qos;
     bool has_hop_count;
+    bool has_expanded;
+    bool has_checksum;
+    unsigned stamp_format;
     uint32_t destination; /* a path where there is no source */
     uint32_t source;
     uint32_t precedence; /* 0 where absent, so for routing */

@@ -5,6 +5,7 @@
  */
 #include "world.h"
 
+#include <stddef.h>
 #include <string.h>
 
 static const uint32_t DOMAIN[] = {0x0a040900, 0x0a040800, 0x0a070100};
@@ -102,6 +103,23 @@ uint32_t world_routed(const struct world *world, struct random *random)
         return world_unicast(world, random);
     return world->routes[place].prefix |
            (world_unicast(world, random) & ~world->routes[place].mask);
+}
+
+const struct world_route *world_route(const struct world *world,
+                                      uint32_t address)
+{
+    const struct world_route *best = NULL;
+
+    for (uint32_t i = 0; i < WORLD_ROUTES; i++) {
+        const struct world_route *route = &world->routes[i];
+
+        if (route->filled && (address & route->mask) == route->prefix &&
+            route->mission == world->mission && route->availability == 1 &&
+            route->port < WORLD_PORTS &&
+            (best == NULL || route->mask > best->mask))
+            best = route;
+    }
+    return best;
 }
 
 uint32_t world_port(const struct world *world, struct random *random)

@@ -43,9 +43,10 @@ struct world {
         uint32_t address, mask, mtu;
     } ports[WORLD_PORTS];
     uint32_t places; /* of the list */
-    struct {
+    struct world_route {
         bool filled;
-        uint32_t place, prefix, mask, mission;
+        uint32_t place, prefix, mask, port, availability, capabilities,
+            mission;
     } routes[WORLD_ROUTES];
     uint32_t groups[WORLD_MISSIONS][WORLD_GROUPS]; /* 0 where empty */
     uint32_t paths[WORLD_MISSIONS][WORLD_PATHS];   /* 0 where empty */
@@ -70,6 +71,11 @@ uint32_t world_invalid(struct random *random);
 uint32_t world_routed(const struct world *world, struct random *random);
 /* A port of the mission; 0 where it has none. */
 uint32_t world_port(const struct world *world, struct random *random);
+
+/* The mission's route that an address would take, were each taken that was
+ * asked for; null for none. */
+const struct world_route *world_route(const struct world *world,
+                                      uint32_t address);
 
 /* The mask of so many ones. */
 uint32_t world_mask(uint32_t ones);

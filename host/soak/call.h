@@ -17,7 +17,7 @@
 #include "shared/datagram.h"
 
 #define SOAK_PARTS 24
-#define SOAK_MOST_ROOM 400
+#define SOAK_MOST_ROOM 500
 #define SOAK_MOST_WORDS 2000
 #define SOAK_MOST_RECORDS 1024
 
@@ -50,11 +50,19 @@ static inline bool soak_list_too_long(const struct soak_call *call)
            call->records > HJ_ROUTES;
 }
 
-/* The parts of a verdict: refusal, local, onward, took, header, how many
- * dropped. Which ports those were is told by our side alone. */
 struct soak_answer {
     uint64_t parts[SOAK_PARTS];
-    uint32_t dropped;
+};
+
+/* The parts of a verdict, behind the refusal. */
+enum {
+    TOLD_LOCAL = 1,
+    TOLD_ONWARD,
+    TOLD_TOOK,
+    TOLD_DROPPED,
+    TOLD_DATA_FROM,
+    TOLD_REWRITTEN_OCTETS,
+    TOLD_REWRITTEN
 };
 
 /* Where the words have what: a port's on the board, the others in a mission's

@@ -105,9 +105,14 @@ static void draw_receive(struct soak_call *call, const struct world *world,
                            ? soak_odd_number(world, random)
                            : world_port(world, random);
     call->numbers[1] = random_below(random, 65536);
-    call->room = random_one_in(random, 6)
-                     ? random_below(random, SOAK_MOST_ROOM + 1)
-                     : HJ_OUTPUT_ROOM;
+    call->room = HJ_OUTPUT_ROOM;
+    if (random_one_in(random, 8))
+        call->room +=
+            random_below(random, SOAK_MOST_ROOM - HJ_OUTPUT_ROOM + 1);
+    else if (random_one_in(random, 24))
+        call->room = random_one_in(random, 3)
+                         ? HJ_OUTPUT_ROOM - 1
+                         : random_below(random, HJ_OUTPUT_ROOM);
     soak_draw_octets(call, world, random);
 }
 
@@ -165,14 +170,12 @@ static void note_route(const struct soak_call *call, struct world *world,
                        bool filled)
 {
     const uint32_t *n = call->numbers;
+    struct world_route route = {filled, n[0], n[1], n[2],
+                                n[3],   n[4], n[5], n[6]};
 
     for (uint32_t i = 0; i < WORLD_ROUTES; i++) {
-        if (world->routes[i].place != n[0])
-            continue;
-        world->routes[i].filled = filled;
-        world->routes[i].prefix = n[1];
-        world->routes[i].mask = n[2];
-        world->routes[i].mission = n[6];
+        if (world->routes[i].place == n[0])
+            world->routes[i] = route;
     }
 }
 

@@ -5,7 +5,7 @@
  *
  * The awkward case is length: most datagrams have at most 300 octets, since the
  * octets of user data matter to nobody, but one in 300 has the most that a
- * length field can say.
+ * length field can say, or so few less that it has them once it is rewritten.
  */
 #include "octets.h"
 
@@ -114,15 +114,15 @@ static void draw_random(struct soak_call *call, struct random *random)
     }
 }
 
-/* Data for a datagram of 1 to MOST_OCTETS octets, or of the most there can
- * be. */
+/* Data for a datagram of 1 to MOST_OCTETS octets, or of the most there can be
+ * or just under it. */
 static size_t draw_data(const struct form *form, struct random *random)
 {
     uint8_t header[FORM_MOST_HEADER];
     size_t octets = form_write(form, 0, header);
 
     if (random_one_in(random, 300))
-        return DATAGRAM_MOST_LENGTH - octets;
+        return DATAGRAM_MOST_LENGTH - octets - random_below(random, 11);
     return random_below(random, random_one_in(random, 4)
                                     ? MOST_OCTETS - FORM_MOST_HEADER
                                     : 8);

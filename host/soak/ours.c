@@ -87,13 +87,13 @@ static void receive(const struct soak_call *call,
                    arrival, octets, call->count, output, call->room);
 
     answer->parts[0] = hj_ended_by(verdict);
-    answer->parts[1] = hj_local(verdict);
-    answer->parts[2] = hj_onward(verdict);
-    answer->parts[3] = hj_took(verdict);
-    answer->parts[4] = hj_header_octets(verdict);
-    answer->dropped = hj_dropped(verdict);
-    answer->parts[5] = (uint64_t)__builtin_popcount(answer->dropped);
-    answer->parts[6] = verdict >> 48;
+    answer->parts[TOLD_LOCAL] = hj_local(verdict);
+    answer->parts[TOLD_ONWARD] = hj_onward(verdict);
+    answer->parts[TOLD_TOOK] = hj_took(verdict);
+    answer->parts[TOLD_DROPPED] = hj_dropped(verdict);
+    answer->parts[TOLD_DATA_FROM] = hj_data_from(verdict);
+    answer->parts[TOLD_REWRITTEN_OCTETS] = hj_rewritten_octets(verdict);
+    answer->parts[TOLD_REWRITTEN] = hj_rewritten(verdict);
 }
 
 static void put_taken(uint64_t *parts, hj_answer taken)

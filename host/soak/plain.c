@@ -1,10 +1,9 @@
 /*
  * plain.c: the calls of the soak on host/plain, whose relay has lived through
- * the same history. Its answers are put into the form of the library's. The
- * list is copied to plain's records and back, since they are another type.
+ * the same history. Its answers are put into the form of the library's.
  *
- * The awkward case is the copies that were dropped: plain's verdict does not
- * name them, but its counter grows by one for each.
+ * The awkward case is the list, whose records are of another type in plain: it
+ * is copied to plain's records and back.
  */
 #include "plain.h"
 
@@ -115,19 +114,19 @@ static void receive(const struct soak_call *call, uint8_t *output,
                     uint64_t *parts)
 {
     plain_view view = plainly_view(&relay, call->mission, list_of(call));
-    const uint32_t *counts = view.mission->counters.counts;
-    uint32_t discards = counts[PLAIN_OUT_DISCARDS];
     plain_slot slot = {(uint16_t)call->numbers[1]};
     plain_verdict verdict =
         plain_receive(&view, call->numbers[0], slot, call->octets,
                       call->count, output, call->room);
 
     parts[0] = verdict.refusal;
-    parts[1] = verdict.local;
-    parts[2] = verdict.onward;
-    parts[3] = verdict.ports.bits;
-    parts[4] = verdict.header_length;
-    parts[5] = counts[PLAIN_OUT_DISCARDS] - discards;
+    parts[TOLD_LOCAL] = verdict.local;
+    parts[TOLD_ONWARD] = verdict.onward;
+    parts[TOLD_TOOK] = verdict.took.bits;
+    parts[TOLD_DROPPED] = verdict.dropped.bits;
+    parts[TOLD_DATA_FROM] = verdict.arriving_octets;
+    parts[TOLD_REWRITTEN_OCTETS] = verdict.rewritten_octets;
+    parts[TOLD_REWRITTEN] = verdict.rewritten.bits;
 }
 
 static void take(const struct soak_call *call, uint64_t *parts)

@@ -6,8 +6,8 @@
  * took. Every other word is then due as it was.
  *
  * The reader's part comes from host/plain: a header that is refused there is
- * refused here by the same number, and the header sent on is plain's. What the
- * list gives is list.c's.
+ * refused here by the same number. What the list gives is list.c's, and what is
+ * due of the headers sent on is that of headers.c.
  *
  * The awkward case is a queue in a state that no history leaves. Entries behind
  * those that wait, and counts over 32, are words like any other: a newcomer
@@ -19,6 +19,7 @@
 #include <stdbool.h>
 #include <string.h>
 
+#include "headers.h"
 #include "list.h"
 #include "plain/plain_header.h"
 
@@ -29,7 +30,7 @@
 /* The refusal, and all other parts 0. */
 static bool is_only(const struct soak_answer *answer, uint64_t refusal)
 {
-    struct soak_answer due = {{0}, 0};
+    struct soak_answer due = {{0}};
 
     due.parts[0] = refusal;
     return memcmp(&due, answer, sizeof due) == 0;
@@ -157,7 +158,7 @@ static const char *looked(const struct soak_call *call,
     enum call_object object = call_facts[call->which].object;
     bool of_word = call_facts[call->which].numbers == 2;
     uint32_t word = of_word ? call->numbers[1] : 0;
-    struct soak_answer told = {{0}, 0};
+    struct soak_answer told = {{0}};
 
     if (object == ON_QUEUE)
         word = HJ_QUEUE;
@@ -177,7 +178,7 @@ static const char *searched(const struct soak_call *call,
                             const struct library_lent *due)
 {
     const hj_record *route;
-    struct soak_answer told = {{0}, 0};
+    struct soak_answer told = {{0}};
 
     if (soak_list_too_long(call))
         return only(answer, HJ_BAD_NUMBER);
@@ -224,7 +225,7 @@ static const char *taken(const struct soak_call *call,
                          const struct soak_answer *answer,
                          const struct library_lent *due)
 {
-    struct soak_answer told = {{0}, 0};
+    struct soak_answer told = {{0}};
     uint32_t *entries;
 
     if (!is_set_up(due, call->numbers[0]))
@@ -259,22 +260,21 @@ static void count_one(const struct library_lent *due, uint64_t number)
 }
 
 /* Whether the parts of the onward half go together. */
-static const char *onward_fits(const struct soak_answer *answer,
-                               uint32_t header)
+static const char *onward_fits(const struct soak_answer *answer)
 {
-    uint64_t onward = answer->parts[2];
-    uint64_t took = answer->parts[3];
+    uint64_t onward = answer->parts[TOLD_ONWARD];
+    uint64_t took = answer->parts[TOLD_TOOK];
+    uint64_t dropped = answer->parts[TOLD_DROPPED];
 
     if (onward > HJ_QUEUES_FULL || onward == HJ_NOT_UP ||
         (onward > HJ_SENT_ON && onward < HJ_NOT_FOR_US))
         return "odd onward half";
-    if ((took != 0) != (onward == HJ_SENT_ON) || (took & answer->dropped) != 0)
+    if ((took != 0) != (onward == HJ_SENT_ON) || (took & dropped) != 0)
         return "ports that took, and did not";
-    if (answer->dropped != 0 ? onward != HJ_SENT_ON && onward != HJ_QUEUES_FULL
-                             : onward == HJ_QUEUES_FULL)
+    if (dropped != 0 ? onward != HJ_SENT_ON && onward != HJ_QUEUES_FULL
+                     : onward == HJ_QUEUES_FULL)
         return "copies dropped, and not";
-    return answer->parts[4] == (took != 0 ? header : 0) ? NULL
-                                                        : "header octets";
+    return NULL;
 }
 
 static const char *copies(const struct soak_call *call,
@@ -284,8 +284,8 @@ static const char *copies(const struct soak_call *call,
     const char *wrong = NULL;
 
     for (uint32_t port = 0; port < HJ_PORTS && wrong == NULL; port++) {
-        bool took = (answer->parts[3] >> port & 1) != 0;
-        bool dropped = (answer->dropped >> port & 1) != 0;
+        bool took = (answer->parts[TOLD_TOOK] >> port & 1) != 0;
+        bool dropped = (answer->parts[TOLD_DROPPED] >> port & 1) != 0;
 
         if ((took || dropped) && !is_set_up(due, port))
             wrong = "a copy for a port that is not set up";
@@ -303,8 +303,9 @@ static const char *halves(const struct soak_call *call,
                           const plain_header *header,
                           const struct library_lent *due, uint8_t *output)
 {
-    uint64_t local = answer->parts[1];
-    const char *wrong = onward_fits(answer, header->header_length);
+    uint64_t local = answer->parts[TOLD_LOCAL];
+    uint64_t onward = answer->parts[TOLD_ONWARD];
+    const char *wrong = onward_fits(answer);
 
     if (wrong != NULL)
         return wrong;
@@ -312,16 +313,18 @@ static const char *halves(const struct soak_call *call,
         ++*record(due, ON_COUNTER, HJ_IN_DELIVERS);
     else if (local == HJ_UNKNOWN_TP_ID)
         ++*record(due, ON_COUNTER, HJ_IN_UNKNOWN_PROTOS);
-    else if (local != HJ_LOCAL_NO || answer->parts[2] == HJ_NOT_ASKED)
+    else if (local != HJ_LOCAL_NO || onward == HJ_NOT_ASKED)
         return "odd local half";
-    if (answer->parts[2] == HJ_SENT_ON)
+    if (onward == HJ_SENT_ON)
         ++*record(due, ON_COUNTER, HJ_FORW_DATAGRAMS);
     else
-        count_one(due, answer->parts[2]);
-    *record(due, ON_COUNTER, HJ_OUT_DISCARDS) += (uint32_t)answer->parts[5];
-    if (answer->parts[3] != 0)
-        plain_header_send_on(header, call->octets, output);
-    return copies(call, answer, header->fields.precedence, due);
+        count_one(due, onward);
+    *record(due, ON_COUNTER, HJ_OUT_DISCARDS) +=
+        (uint32_t)__builtin_popcountll(answer->parts[TOLD_DROPPED]);
+    wrong = soak_headers(call, answer, header, due, output);
+    return wrong != NULL
+               ? wrong
+               : copies(call, answer, header->fields.precedence, due);
 }
 
 static const char *received(const struct soak_call *call,

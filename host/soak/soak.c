@@ -102,7 +102,9 @@ static void count_end(void)
     if (answer.parts[0] < CALL_NUMBERS)
         tally.ends[call.which][answer.parts[0]]++;
     if (call.which == CALL_RECEIVE && answer.parts[0] == HJ_DONE)
-        tally.onward[answer.parts[2]]++;
+        tally.onward[answer.parts[TOLD_ONWARD]]++;
+    if (call.which == CALL_RECEIVE && answer.parts[TOLD_TOOK] != 0)
+        tally.sent[soak_sent_as(&answer)]++;
 }
 
 static bool plain_agrees(const struct soak_pieces *due)
@@ -110,7 +112,7 @@ static bool plain_agrees(const struct soak_pieces *due)
     struct soak_answer plain;
 
     soak_plain(&call, due->lent.routes, due->output, &plain);
-    return memcmp(plain.parts, answer.parts, sizeof plain.parts) == 0;
+    return memcmp(&plain, &answer, sizeof plain) == 0;
 }
 
 /* The call, on what is lent. */
@@ -144,8 +146,9 @@ static void note_in_books(void)
 {
     for (uint32_t port = 0; port < HJ_PORTS && call.which == CALL_RECEIVE;
          port++) {
-        books[call.mission][port].took += answer.parts[3] >> port & 1;
-        books[call.mission][port].dropped += answer.dropped >> port & 1;
+        books[call.mission][port].took += answer.parts[TOLD_TOOK] >> port & 1;
+        books[call.mission][port].dropped +=
+            answer.parts[TOLD_DROPPED] >> port & 1;
     }
     if (call.which == CALL_TAKE && answer.parts[0] == HJ_DONE)
         books[call.mission][call.numbers[0]].handed_out++;

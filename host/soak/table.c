@@ -188,6 +188,10 @@ void soak_say_tally(const struct soak_tally *tally)
     say("  calls on them", tally->calls_on[SOAK_CHANGED]);
     say("garbage relays", tally->states[SOAK_GARBAGE]);
     say("  calls on them", tally->calls_on[SOAK_GARBAGE]);
+    say("datagrams sent on, headers kept", tally->sent[SENT_KEPT]);
+    say("  rewritten", tally->sent[SENT_REWRITTEN]);
+    say("  kept for some ports, rewritten for others",
+        tally->sent[SENT_IN_TWO_FORMS]);
     puts("numbers that calls on the right words ended in, each with how "
          "often:");
     all_ends(tally, true);
@@ -207,6 +211,8 @@ bool soak_is_whole(const struct soak_tally *tally)
 
     for (int sort = 0; sort < SOAK_STATES; sort++)
         whole = whole && tally->calls_on[sort] > 0;
+    for (int sort = 0; sort < SOAK_SENT; sort++)
+        whole = whole && tally->sent[sort] > 0;
     for (int which = 0; which < CALLS; which++)
         whole = whole && tally->made[which] > 0 &&
                 ((call_facts[which].lent & LENT_BM) == 0 ||

@@ -11,6 +11,19 @@
 
 enum soak_state { SOAK_HISTORY, SOAK_CHANGED, SOAK_GARBAGE, SOAK_STATES };
 
+/* The headers of a datagram that was sent on. */
+enum soak_sent { SENT_KEPT, SENT_REWRITTEN, SENT_IN_TWO_FORMS, SOAK_SENT };
+
+static inline enum soak_sent soak_sent_as(const struct soak_answer *answer)
+{
+    uint64_t rewritten = answer->parts[TOLD_REWRITTEN];
+
+    if (rewritten == 0)
+        return SENT_KEPT;
+    return rewritten == answer->parts[TOLD_TOOK] ? SENT_REWRITTEN
+                                                 : SENT_IN_TWO_FORMS;
+}
+
 /* Every length up to these is to be met. */
 #define MOST_BOARDS 100
 #define MOST_MISSIONS 420
@@ -32,6 +45,7 @@ struct soak_tally {
      * onward halves of the verdicts beside them. */
     uint64_t ends[CALLS][CALL_NUMBERS];
     uint64_t onward[CALL_NUMBERS];
+    uint64_t sent[SOAK_SENT]; /* datagrams, by their headers */
     uint64_t found[2]; /* searches in histories, without a route and with one */
     uint64_t over[2];  /* of them, where a longer one that is not up matches */
 };

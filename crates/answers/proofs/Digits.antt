@@ -6,33 +6,38 @@ use Prim.Native.Nat.{ℕ, _+_, _*_, _/_, _%_, _^_, _<_}
 use mathlib.Core.Path.{_≡_, ap, _∙_}
 use lib.Arith.{digits-div, digits-mod}
 use Rattle.checks.specs.Answer.{refusalNumber}
-use Rattle.answers.specs.Answers.{partsOf, partAt, refusalIn, slotIn, precedenceIn, valueIn}
+use Rattle.answers.specs.Answers.{rulingParts, headerParts, partAt, refusalIn, slotIn, precedenceIn, valueIn}
 
 pub digit : (n q x r : ℕ) {m k : ℕ} → n ≡ (q * k + x) * m + r → r < m → x < k → n / m % k ≡ x
 digit n q x r {m} {k} e h l = ap (λ y. y / m % k) e ∙ ap (λ y. y % k) (digits-div (q * k + x) h) ∙ digits-mod q l
 
 -- ---- receiving
--- six parts, each of eight bits
-pub record Six (n a b c d f g : ℕ) : Type 0 where
+-- eight parts, each of eight bits
+pub record Eight (n a b c d f g h k : ℕ) : Type 0 where
   pub at-0 : partAt 0 n ≡ a
   pub at-8 : partAt 8 n ≡ b
   pub at-16 : partAt 16 n ≡ c
   pub at-24 : partAt 24 n ≡ d
   pub at-32 : partAt 32 n ≡ f
   pub at-40 : partAt 40 n ≡ g
-  pub above : n / 2 ^ 48 ≡ 0
+  pub at-48 : partAt 48 n ≡ h
+  pub at-56 : partAt 56 n ≡ k
+  pub above : n / 2 ^ 64 ≡ 0
 
-pub six : (a b c d f g : ℕ) → a < 256 → b < 256 → c < 256 → d < 256 → f < 256 → g < 256 → Six (partsOf a b c d f g) a b c d f g
-unfolding partsOf
-six a b c d f g a-low b-low c-low d-low f-low g-low =
-    let n = partsOf a b c d f g in
+pub eight : (a b c d f g h k : ℕ) → a < 256 → b < 256 → c < 256 → d < 256 → f < 256 → g < 256 → h < 256 → k < 256
+    → Eight (headerParts (rulingParts a b c d f) g h k) a b c d f g h k
+unfolding rulingParts headerParts
+eight a b c d f g h k a-low b-low c-low d-low f-low g-low h-low k-low =
+    let n = headerParts (rulingParts a b c d f) g h k in
     record {
-      at-0 = digit n (b + c * 2 ^ 8 + d * 2 ^ 16 + f * 2 ^ 24 + g * 2 ^ 32) a 0 (omega arith) (omega arith) a-low;
-      at-8 = digit n (c + d * 2 ^ 8 + f * 2 ^ 16 + g * 2 ^ 24) b a (omega arith) (omega arith) b-low;
-      at-16 = digit n (d + f * 2 ^ 8 + g * 2 ^ 16) c (a + b * 2 ^ 8) (omega arith) (omega arith) c-low;
-      at-24 = digit n (f + g * 2 ^ 8) d (a + b * 2 ^ 8 + c * 2 ^ 16) (omega arith) (omega arith) d-low;
-      at-32 = digit n g f (a + b * 2 ^ 8 + c * 2 ^ 16 + d * 2 ^ 24) (omega arith) (omega arith) f-low;
-      at-40 = digit n 0 g (a + b * 2 ^ 8 + c * 2 ^ 16 + d * 2 ^ 24 + f * 2 ^ 32) (omega arith) (omega arith) g-low;
+      at-0 = digit n (b + c * 2 ^ 8 + d * 2 ^ 16 + f * 2 ^ 24 + g * 2 ^ 32 + h * 2 ^ 40 + k * 2 ^ 48) a 0 (omega arith) (omega arith) a-low;
+      at-8 = digit n (c + d * 2 ^ 8 + f * 2 ^ 16 + g * 2 ^ 24 + h * 2 ^ 32 + k * 2 ^ 40) b a (omega arith) (omega arith) b-low;
+      at-16 = digit n (d + f * 2 ^ 8 + g * 2 ^ 16 + h * 2 ^ 24 + k * 2 ^ 32) c (a + b * 2 ^ 8) (omega arith) (omega arith) c-low;
+      at-24 = digit n (f + g * 2 ^ 8 + h * 2 ^ 16 + k * 2 ^ 24) d (a + b * 2 ^ 8 + c * 2 ^ 16) (omega arith) (omega arith) d-low;
+      at-32 = digit n (g + h * 2 ^ 8 + k * 2 ^ 16) f (a + b * 2 ^ 8 + c * 2 ^ 16 + d * 2 ^ 24) (omega arith) (omega arith) f-low;
+      at-40 = digit n (h + k * 2 ^ 8) g (rulingParts a b c d f) (omega arith) (omega arith) g-low;
+      at-48 = digit n k h (rulingParts a b c d f + g * 2 ^ 40) (omega arith) (omega arith) h-low;
+      at-56 = digit n 0 k (rulingParts a b c d f + g * 2 ^ 40 + h * 2 ^ 48) (omega arith) (omega arith) k-low;
       above = div-eq-of-lt (omega arith);
     }
 

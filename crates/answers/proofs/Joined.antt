@@ -1,13 +1,12 @@
--- The six parts of what receiving answers. Assumes nothing.
+-- The eight parts of what receiving answers. Assumes nothing.
 use Prim.Native.Nat.{ℕ, _%_}
 use mathlib.Core.Path.{_≡_}
 use Rattle.verdict.specs.Numbers.{localNumber, onwardNumber}
 use Rattle.judge.specs.declared.Ending.{Ending}
-use Rattle.answers.specs.Answers.{sentSize, partsOf, receiveNumber}
+use Rattle.answers.specs.Answers.{rulingParts, headerParts, receiveNumber}
 
 pub received :
-    (e : Ending) {size n a b c d f g local onward : ℕ}
-    → size ≡ sentSize (e .ruling .took) (e .size)
+    (e : Ending) {below n a b c d f g h k local onward : ℕ}
     → a ≡ e .refusal % 256
     → local ≡ localNumber (e .ruling .local)
     → b ≡ local % 256
@@ -15,8 +14,11 @@ pub received :
     → c ≡ onward % 256
     → d ≡ e .ruling .took % 256
     → f ≡ e .ruling .dropped % 256
-    → g ≡ size % 256
-    → n ≡ partsOf a b c d f g
+    → below ≡ rulingParts a b c d f
+    → g ≡ e .size % 256
+    → h ≡ e .legs .octets % 256
+    → k ≡ e .legs .rewritten % 256
+    → n ≡ headerParts below g h k
     → n ≡ receiveNumber e
 unfolding receiveNumber
-received e e0 e1 e2 e3 e4 e5 e6 e7 e8 e9 = cc
+received e e1 e2 e3 e4 e5 e6 e7 e8 e9 e10 e11 e12 = cc

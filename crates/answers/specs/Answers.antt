@@ -1,8 +1,6 @@
 -- The numbers that C is told (include/harpjuniper.h): page 01, "the answer gives the local half .. and the onward half"; each case of an answer
 -- has its number here. Assumes nothing.
 use Prim.Native.Nat.{ℕ, _+_, _*_, _/_, _%_, _^_}
-use lib.Dec.{eqb}
-use Rattle.checks.specs.Order.{pick}
 use Rattle.checks.specs.Answer.{refusalNumber}
 use Rattle.queue.specs.declared.Entry.{Entry}
 use Rattle.verdict.specs.Numbers.{localNumber, onwardNumber}
@@ -11,27 +9,31 @@ use Rattle.taking.specs.declared.Taking.{Taking}
 use Rattle.taking.specs.declared.Taking.the-variants.{Handed, Refused}
 
 -- ---- receiving: eight bits a part, the refusal lowest
-unfoldable pub partsOf : ℕ → ℕ → ℕ → ℕ → ℕ → ℕ → ℕ
-partsOf refusal local onward took dropped size =
-    refusal + local * 2 ^ 8 + onward * 2 ^ 16 + (took * 2 ^ 24 + dropped * 2 ^ 32) + size * 2 ^ 40
+unfoldable pub rulingParts : ℕ → ℕ → ℕ → ℕ → ℕ → ℕ
+rulingParts refusal local onward took dropped = refusal + local * 2 ^ 8 + onward * 2 ^ 16 + took * 2 ^ 24 + dropped * 2 ^ 32
 
--- eight bits, from this one up: hj_ended_by, hj_local, hj_onward, hj_took, hj_dropped and hj_header_octets read at 0, 8, 16, 24, 32 and 40
+unfoldable pub headerParts : ℕ → ℕ → ℕ → ℕ → ℕ
+headerParts below size octets rewritten = below + size * 2 ^ 40 + octets * 2 ^ 48 + rewritten * 2 ^ 56
+
+-- eight bits, from this one up: hj_ended_by, hj_local, hj_onward, hj_took, hj_dropped, hj_data_from, hj_rewritten_octets and hj_rewritten read at 0, 8, 16,
+-- 24, 32, 40, 48 and 56
 abbrev pub partAt : ℕ → ℕ → ℕ
 partAt low n = n / 2 ^ low % 256
 
--- the octets of the header sent on, 0 where no port took an entry
-abbrev pub sentSize : ℕ → ℕ → ℕ
-sentSize took size = pick (eqb took 0) 0 (size % 256)
-
+-- with the octets of the header that came, where the data begin; those of the rewritten header; and the ports that got it (page 02, W-214: "Headers may now
+-- differ per port")
 unfoldable pub receiveNumber : Ending → ℕ
 receiveNumber e =
-    partsOf
+    headerParts
+    (rulingParts
     (e .refusal % 256)
     (localNumber (e .ruling .local) % 256)
     (onwardNumber (e .ruling .onward) % 256)
     (e .ruling .took % 256)
-    (e .ruling .dropped % 256)
-    (sentSize (e .ruling .took) (e .size) % 256)
+    (e .ruling .dropped % 256))
+    (e .size % 256)
+    (e .legs .octets % 256)
+    (e .legs .rewritten % 256)
 
 -- ---- taking: the precedence above the slot
 abbrev pub entryNumber : Entry → ℕ

@@ -1,14 +1,14 @@
 // What C is told of a call on datagrams, as one number.
 //
 // Receiving answers eight bits for each part, from the lowest on: the refusal, the local half, the onward half, the ports that took an entry,
-// those that dropped it, and the octets of the header sent on. Taking answers the refusal above 32 bits of entry: the precedence above the
+// those that dropped it, the octets of the header that came, those of the header that was rewritten, and the ports that got it. Taking answers the refusal above 32 bits of entry: the precedence above the
 // slot. The awkward case is a part over 255, which no ending has: each is taken modulo 256 all the same, so that no part can reach into the
 // next.
 use judge::Ending;
 use taking::Taking;
 ghost use mathlib.Core.Path.{_≡_};
-ghost use Prim.Native.Nat.{_%_, _<_};
-ghost use Rattle.answers.specs.Answers.{sentSize, partsOf, receiveNumber, takingNumber};
+ghost use Prim.Native.Nat.{_%_, _^_, _<_};
+ghost use Rattle.answers.specs.Answers.{rulingParts, headerParts, receiveNumber, takingNumber};
 
 // One part of an answer.
 fn part(x: u32) -> u64
@@ -17,24 +17,28 @@ fn part(x: u32) -> u64
     (x % 256) as u64
 }
 
-// The octets of the header sent on, 0 where it was not.
-fn sent_size(took: u32, size: usize) -> u32
-    ensures { λ r. ⌜ r ≡ sentSize took size ⌝ }
+// One part of octets.
+fn octets_part(n: usize) -> u64
+    ensures { λ r. ⌜ r ≡ n % 256 ⌝ }
 {
-    if took == 0 {
-        return 0;
-    }
-    (size % 256) as u32
+    (n % 256) as u64
 }
 
-// Six parts in one number.
-fn parts(refusal: u64, local: u64, onward: u64, took: u64, dropped: u64, size: u64) -> u64
-    requires { ⌜ (refusal < 256) × ((local < 256) × ((onward < 256) × ((took < 256) × ((dropped < 256) × (size < 256))))) ⌝ }
-    ensures { λ r. ⌜ r ≡ partsOf refusal local onward took dropped size ⌝ }
+// The five parts of the ruling in one number.
+fn ruling_parts(refusal: u64, local: u64, onward: u64, took: u64, dropped: u64) -> u64
+    requires { ⌜ (refusal < 256) × ((local < 256) × ((onward < 256) × ((took < 256) × (dropped < 256)))) ⌝ }
+    ensures { λ r. ⌜ (r ≡ rulingParts refusal local onward took dropped) × (r < 2 ^ 40) ⌝ }
 {
     let halves = refusal + local * 0x100 + onward * 0x1_0000;
-    let ports = took * 0x100_0000 + dropped * 0x1_0000_0000;
-    halves + ports + size * 0x100_0000_0000
+    halves + took * 0x100_0000 + dropped * 0x1_0000_0000
+}
+
+// The three parts of the headers above them.
+fn header_parts(below: u64, size: u64, octets: u64, rewritten: u64) -> u64
+    requires { ⌜ (below < 2 ^ 40) × ((size < 256) × ((octets < 256) × (rewritten < 256))) ⌝ }
+    ensures { λ r. ⌜ r ≡ headerParts below size octets rewritten ⌝ }
+{
+    below + size * 0x100_0000_0000 + octets * 0x1_0000_0000_0000 + rewritten * 0x100_0000_0000_0000
 }
 
 // What receiving answers.
@@ -44,14 +48,19 @@ pub fn receive_number(e: Ending) -> u64
     let x = e.ruling;
     let local = x.local;
     let onward = x.onward;
-    let size = sent_size(x.took, e.size);
-    parts(
+    let legs = e.legs;
+    let below = ruling_parts(
         part(e.refusal),
         part(verdict::local_number(local)),
         part(verdict::onward_number(onward)),
         part(x.took),
         part(x.dropped),
-        part(size),
+    );
+    header_parts(
+        below,
+        octets_part(e.size),
+        octets_part(legs.octets),
+        part(legs.rewritten),
     )
 }
 

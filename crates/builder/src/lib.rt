@@ -3,7 +3,8 @@
 // A header is its front, its addresses and its other elements (crate writer), end to end. The elements are written before the front, since
 // the length field counts them, and the checksum last, since it sums all. The checks stand in page 01's order 17, 19, 20 (`header::limits`,
 // module `range`), each a function that answers a `Check`. The awkward case is a refusal: everything is tested before the first octet is
-// written.
+// written. The next leg of a datagram writes headers of the same form without these checks (crate next_leg); module `measure` says how long one is.
+pub mod measure;
 pub mod range;
 
 use checks::Check;
@@ -14,7 +15,7 @@ ghost use mathlib.Core.Path.{_≡_};
 ghost use Prim.Native.Nat.{_+_, _≤_, _<_};
 ghost use lib.ListN.{length};
 ghost use Rattle.octets.specs.Octets.{pasted, fronted};
-ghost use Rattle.header.specs.Limits.{longestHeader, mostData};
+ghost use Rattle.header.specs.Limits.{longestHeader, lengthLimit};
 ghost use Rattle.header.specs.Build.{restOctets, sizeOf, headerOctets, builtOf, builtOutput};
 
 // The elements between control field and checksum.
@@ -36,8 +37,8 @@ fn put_rest(out: &mut [u8], place: usize, f: Fields) -> usize
 }
 
 // Writes the header of a datagram with n octets of user data.
-fn write_header(f: Fields, n: usize, out: &mut [u8]) -> usize
-    requires { ⌜ (longestHeader ≤ length (now out)) × (n ≤ mostData) ⌝ }
+pub fn write_header(f: Fields, n: usize, out: &mut [u8]) -> usize
+    requires { ⌜ (longestHeader ≤ length (now out)) × (n < lengthLimit) ⌝ }
     requires { ⌜ (f .tpid < 16) × ((f .checksum < 2) × (f .intermediate < 2)) ⌝ }
     ensures { λ r. ⌜ r ≡ sizeOf f ⌝ }
     ensures { λ _. ⌜ now (out .exit) ≡ fronted (headerOctets f n) (now (out .entry)) ⌝ }

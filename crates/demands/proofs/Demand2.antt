@@ -3,15 +3,13 @@ use native.Mathlib.Omega.{arith}
 use Prim.Native.Nat.{ℕ, _+_, _^_, _<_, _≤_}
 use mathlib.Core.Path.{_≡_, refl, sym, ap, subst, _∙_}
 use mathlib.Core.Logic.{_↔_, _≢_, ⊎-elim}
-use mathlib.Core.Bool.{Bool, true, false, _||_, not}
+use mathlib.Core.Bool.{Bool, true, false, _&&_, _||_, not}
 use mathlib.Core.List.{List, [], _∷_, _++_}
 use lib.ListN.{length, take, drop, replicate}
 use lib.Dec.{eqb}
-use borrow.Author.Tests.{eqb-true, ltb-false, ne-eqb, eqb-false}
-use lib.Seq.{take-append-seam}
+use borrow.Author.Tests.{eqb-true, ltb-false, eqb-false}
 use Rattle.header.specs.declared.Read.{Read}
-use Rattle.header.proofs.Refusals.{read-good}
-use Rattle.header.proofs.SentOn.{sent-size}
+use Rattle.header.proofs.Answers.{read-bounds}
 use Rattle.history.specs.SearchBack.{LongestOrNo}
 use Rattle.history.proofs.SearchBack.{search-names-the-longest}
 use Rattle.address.specs.Class.{classOf}
@@ -25,13 +23,11 @@ use Rattle.sets.specs.Sets.{inSet}
 use Rattle.address.specs.declared.Slot.{Slot}
 use Rattle.header.specs.Build.{sizeOf}
 use Rattle.header.specs.Limits.{longestHeader, mostData, noRoom, tooMuchData}
-use Rattle.header.specs.Onward.{headerSentOn, oneLess, withHops}
 use Rattle.header.specs.Read.{readChecks, headerOf, readOf}
 use Rattle.header.specs.declared.Header.{Header}
 use Rattle.header.specs.declared.Read.the-variants.{Good, Refused}
 use Rattle.header.proofs.Beyond.{agree-up-to-the-length}
 use Rattle.header.proofs.BuiltLaws.{built-size}
-use Rattle.header.proofs.Promises.{read-what-was-sent-on}
 use Rattle.header.specs.Shortest.{noneShorter}
 use Rattle.header.proofs.Shortest.{shortest-exactly}
 use Rattle.numbers.specs.Fields.{fieldsFrom}
@@ -39,20 +35,22 @@ use Rattle.numbers.specs.InWords.{numbersWords, numbersFrom}
 use Rattle.numbers.specs.Words.{Words}
 use Rattle.numbers.specs.declared.Numbers.{Numbers}
 use Rattle.numbers.proofs.in_words.Halves.{numbers-again}
+use Rattle.next_leg.specs.Leg.{rewrites, nextFields, nextSize, nextLength, nextHeader, headerFor}
+use Rattle.next_leg.proofs.ReadBack.{next-length-parts, read-next}
 use Rattle.queue.specs.Order.{Each}
 use Rattle.queue.specs.Waits.{Chosen, nobody, one, chosen, rankBy}
 use Rattle.queue.specs.declared.Entry.{Entry}
 use Rattle.queue.proofs.Each.{each-so}
 use Rattle.queue.proofs.Waits.{EachOf, chosen-each, chosen-nobody}
 use Rattle.routes.specs.declared.Record.{Record}
+use Rattle.routes.proofs.Longest.{Contiguous}
 use Rattle.state.specs.Relay.{Relay, portIn, portSetUp}
 use Rattle.state.specs.Seen.{Board, State}
 use Rattle.taking.specs.Taking.{takeOutcome}
 use Rattle.taking.specs.declared.Taking.{Taking}
 use Rattle.taking.specs.declared.Taking.the-variants as taking
-use Rattle.judge.specs.Ending.{orElse, callChecks, octetsEnding, arrivalAt, endingOf}
+use Rattle.judge.specs.Ending.{refusedBy, orElse, callChecks, octetsEnding, ruledEnding, arrivalAt, endingOf}
 use Rattle.judge.specs.declared.Ending.{Ending}
-use Rattle.relay.specs.Outgoing.{sentOutput}
 use Rattle.relay.specs.Received.{heardEnding, receivedState}
 use Rattle.lent_state.specs.View.{Lent, Held, lent, tooLong}
 use Rattle.lent_state.proofs.Same.{lent-injective}
@@ -60,11 +58,13 @@ use Rattle.answers.specs.Answers.{receiveNumber, takingNumber}
 use Rattle.harpjuniper.specs.Face.{Reading, readingOf, readingWords, readingCount, dataRead, fieldsOut, numbersChecks, buildAnswer, buildOutput}
 use Rattle.harpjuniper.proofs.Promises.{fields-in, hj-build-then-hj-read}
 use Rattle.harpjuniper.proofs.RoundTrip as trip
-use Rattle.page.specs.Table.{hasRoom, verdictOf, moreOnes, GivenBy, stepRows, localRows, aimAt}
+use Rattle.page.specs.Table.{hasRoom, liesFar, verdictOf, moreOnes, GivenBy, stepRows, localRows, aimAt}
+use Rattle.page.specs.Ends.{HeadersAs}
 use Rattle.page.proofs.Exactly.{took-exactly, dropped-exactly}
 use Rattle.page.proofs.Exactly as exactly
+use Rattle.page.proofs.Headers.{headers-are-the-page}
 use Rattle.page.proofs.Sought.{sought-taken, sought-no-route}
-use Rattle.page.proofs.Verdict.{verdict-is-the-page, ones-choose}
+use Rattle.page.proofs.Verdict.{ending-by-steps, verdict-is-the-page, ones-choose}
 use Rattle.contracts.specs.Promised.{Result, hj-read-words, hj-build-words}
 use Rattle.contracts.specs.Contracts.{Passable}
 use Rattle.contracts.proofs.Answers.{each-call-answers}
@@ -106,25 +106,27 @@ use Rattle.history.specs.Parts.{Part, theRouter, thePort, theGroup, thePath, Ab
 use Rattle.history.specs.Line.{Copy, entryOf, takingOf, lineAt}
 use Rattle.history.specs.Marked.{Marked, markedCases}
 use Rattle.history.specs.Ranges.{Octets, EntryFits, CopyFits}
-use Rattle.history.proofs.Domain.{NamesTheSame, waiting-copies-name-the-same, took-read}
+use Rattle.history.proofs.Domain.{WasRead, set-up-small, NamesTheSame, goesOf, goes-out, waiting-copies-name-the-same}
 use Rattle.history.proofs.Heard.{heard-is}
 use Rattle.history.proofs.Holds.{holds-until-changed}
 use Rattle.history.proofs.Keys.{keys-unique}
 use Rattle.history.proofs.Marked.{marked-cases}
 use Rattle.history.proofs.Ranges.{in-range, waiting-fits, taken-fits}
-use Rattle.history.proofs.Reach.{reached}
-use Rattle.history.proofs.ReadBack.{ReadBack, read-back}
+use Rattle.history.proofs.Meaning.{has-passed, arrival-set-up, stays-near, names-the-same}
+use Rattle.history.proofs.Reach.{kept-after, reached}
+use Rattle.history.proofs.ReadBack.{ReadBack}
 use Rattle.listing.proofs.Counting.{seen-contiguous}
 use Rattle.history.proofs.Takes.{take-is, is-port}
 use Rattle.demands.specs.Trace.{Customer, first, second, numberOf, Step, flies, historyOf, boardOf, seatOf, relayOf, relayFor, Gives}
-use Rattle.demands.specs.ReadOut.{ownOut, tookIn, droppedIn, ownIn, asksFor, partTold, Reads, Builds, headerIn}
-use Rattle.demands.specs.Demand2.{ToldAs, Answered, DecidedBy, Demand2, ExactlyAs, GoesOut}
+use Rattle.demands.specs.ReadOut.{ownOut, tookIn, droppedIn, ownIn, asksFor, partTold, Reads, Builds, headerOut, wireBy}
+use Rattle.demands.specs.Demand2.{ToldAs, Answered, DecidedBy, Demand2, ExactlyAs, WrittenAs, OnTheWire, GoesOut}
 use Rattle.demands.proofs.Promised.{nextState}
 use Rattle.demands.proofs.Held.{reading-left, reading-answer, build-answer, build-output}
 use Rattle.demands.proofs.Traced.{history-more, board-is, held-words}
 use Rattle.demands.proofs.Told.{gives-row, gives-board, counters, setting-told, order-told}
 use Rattle.demands.proofs.Fitting.{history-passed}
 use Rattle.demands.proofs.ReadOut.{read-out}
+use Rattle.demands.proofs.Output.{told, was, takes-some, header-found, as-many, others-stay}
 
 -- ---- reading
 no-slot : (s n : List ℕ) → Passable (hj-read-words s n)
@@ -307,6 +309,18 @@ module _ (line : List Copy) where
     λ h. true-false (cc (is, chosen-nobody (rankBy entryOf) line .1 (h .1))),
   )
 
+-- ---- a datagram that is not refused was read
+size-read : (r : Relay) (at : ℕ) (octets : List ℕ) (room : ℕ) → endingOf r at octets room .refusal ≡ 0 → endingOf r at octets room .size ≡ headerOf octets .size
+size-read r at octets room z =
+    let n = firstOf (stepRows r at octets room) in
+    let is = ending-by-steps r at octets room in
+    ap (λ (e : Ending). e .size) is ∙ by (eqb n 0) n refl (sym (ap (λ (e : Ending). e .refusal) is) ∙ z)
+  where
+    by : (t : Bool) (n : ℕ) → eqb n 0 ≡ t → pick t (ruledEnding r (arrivalAt r at) (headerOf octets)) (refusedBy n) .refusal ≡ 0
+        → pick t (ruledEnding r (arrivalAt r at) (headerOf octets)) (refusedBy n) .size ≡ headerOf octets .size
+    by true n e z = refl
+    by false n e z = absurd (eqb-false n 0 e z)
+
 -- ---- after a trace
 module _ (who : Customer) (steps : List Step) where
   abbrev h : List Call
@@ -326,43 +340,8 @@ module _ (who : Customer) (steps : List Step) where
     abbrev e : Ending
     e = heardBy seat rs at octets (length output)
 
-    told : ReadBack (x .answer) e
-    told = rw (gives-row who steps (own (hears rs at slot octets output)) x g .answer) (read-back seat rs at octets (length output))
-
-    sent : x .left .output ≡ sentOutput (e .ruling .took) octets output
-    sent = gives-row who steps (own (hears rs at slot octets output)) x g .output
-
-    -- the header's size is told where a port took an entry
-    size-case : (t : Bool) → eqb (e .ruling .took) 0 ≡ t → pick t 0 (e .size) ≡ pick t 0 (headerOf octets .size)
-    size-case true z = refl
-    size-case false z =
-        let was = took-read seat rs at octets (length output) (eqb-false (e .ruling .took) 0 z) in
-        was .size ∙ ap (λ (y : Header). y .size) (read-good octets (was .header) .0 (was .read) .1)
-
-    -- the header sent on, as C finds it
-    sent-on : tookIn x ≢ 0
-        → (k : Header) × ((readOf octets ≡ Good k)
-        × (readOf (take (headerIn x) (x .left .output) ++ drop (headerIn x) octets) ≡ Good (withHops (oneLess (k .fields .hops)) k)))
-    unfolding sentOutput
-    sent-on some =
-        let took : e .ruling .took ≢ 0 = λ z. some (told .took ∙ z) in
-        let was = took-read seat rs at octets (length output) took in
-        let k = was .header in
-        let none = ne-eqb (e .ruling .took) 0 took in
-        let size : headerIn x ≡ k .size = told .header ∙ ap (λ (t : Bool). pick t 0 (e .size)) none ∙ was .size in
-        let out : x .left .output ≡ headerSentOn octets ++ drop (length (headerSentOn octets)) output =
-        sent ∙ ap (λ (t : Bool). pick t output (headerSentOn octets ++ drop (length (headerSentOn octets)) output)) none in
-        let long = sent-size octets k (g .passes .1) (was .read) in
-        let front : take (headerIn x) (x .left .output) ≡ headerSentOn octets =
-        ap (λ (n : ℕ). take n (x .left .output)) (size ∙ sym long) ∙ ap (take (length (headerSentOn octets))) out ∙ take-append-seam (headerSentOn octets) _ in (
-          k,
-          (
-            was .read,
-            ap (λ (l : List ℕ). readOf (l ++ drop (headerIn x) octets)) front
-                ∙ ap (λ (n : ℕ). readOf (headerSentOn octets ++ drop n octets)) size
-                ∙ read-what-was-sent-on octets k (g .passes .1) (was .read),
-          ),
-        )
+    answered : ReadBack (x .answer) e
+    answered = told who steps rs at slot octets output x g
 
     -- with a list that is not too long: page 01's relay, as the customer sees it
     module _ (short : tooLong rs ≡ false) where
@@ -376,22 +355,23 @@ module _ (who : Customer) (steps : List Step) where
       is = heard-is seat rs at octets (length output) false short
 
       seen : ReadBack (x .answer) p
-      seen = subst (ReadBack (x .answer)) is told
+      seen = subst (ReadBack (x .answer)) is answered
+
+      contiguous : Contiguous (q .routes)
+      contiguous = seen-contiguous (seat .board) rs (seat .number)
 
       told-as : ToldAs octets x (verdictOf q at octets (length output))
       told-as =
-          let page = verdict-is-the-page q (seen-contiguous (seat .board) rs (seat .number)) at octets (length output) in
+          let page = verdict-is-the-page q contiguous at octets (length output) in
           record {
             refusal = seen .refusal ∙ page .refusal;
             local = seen .local ∙ page .ruling .local;
             onward = seen .onward ∙ page .ruling .onward;
             took = λ i inside. ap (inSet i) (seen .took) ∙ page .ruling .took i inside;
             dropped = λ i inside. ap (inSet i) (seen .dropped) ∙ page .ruling .dropped i inside;
-            header = told .header
-                ∙ size-case (eqb (e .ruling .took) 0) refl
-                ∙ ap (λ (took : ℕ). pick (eqb took 0) 0 (headerOf octets .size)) (sym (told .took));
-            above = told .above;
-            alone = λ some. told .alone (λ z. some (told .refusal ∙ z)) ∙ sym (told .refusal);
+            data-from = λ z. seen .size ∙ size-read q at octets (length output) (sym (seen .refusal) ∙ z);
+            above = answered .above;
+            alone = λ some. answered .alone (λ z. some (answered .refusal ∙ z)) ∙ sym (answered .refusal);
           }
 
       exactly-as : ExactlyAs q at octets (length output) x
@@ -403,12 +383,8 @@ module _ (who : Customer) (steps : List Step) where
                 (exactly.local-exactly q at octets (length output) none);
             onward = λ none n.
                 by-answer (seen .onward) n
-                (exactly.onward-exactly q at octets (length output) moreOnes (ones-choose q (seen-contiguous (seat .board) rs (seat .number))) none n);
+                (exactly.onward-exactly q at octets (length output) moreOnes (ones-choose q contiguous) none n);
           }
-
-      verdict : ToldAs octets x (verdictOf q at octets (length output))
-          × (ExactlyAs q at octets (length output) x × (x .left .output ≡ sentOutput (tookIn x) octets output))
-      verdict = (told-as, (exactly-as, sent ∙ ap (λ (took : ℕ). sentOutput took octets output) (sym (told .took))))
 
       granted : (i : ℕ) → i < portCount → (inSet i (tookIn x) || inSet i (droppedIn x)) ≡ true → inSet i (p .ruling .granted) ≡ true
       granted i inside some =
@@ -420,6 +396,79 @@ module _ (who : Customer) (steps : List Step) where
           and-true (inSet i (p .ruling .granted)) (not (hasRoom q i))
           (sym (dropped-exactly q at octets (length output) i inside) ∙ ap (inSet i) (sym (seen .dropped)) ∙ dropped) .0)
           (or-true (inSet i (tookIn x)) (inSet i (droppedIn x)) some)
+
+      abbrev code : ℕ
+      code = verdictOf q at octets (length output) .code
+
+      headers : HeadersAs q at octets p (verdictOf q at octets (length output))
+      headers = headers-are-the-page q contiguous at octets (length output)
+
+      in-took : (i : ℕ) → inSet i (tookIn x) ≡ true → inSet i (p .ruling .took) ≡ true
+      in-took i took = ap (inSet i) (sym (seen .took)) ∙ took
+
+      header-is : (i : ℕ) → i < portCount → inSet i (tookIn x) ≡ true → headerOut x i ≡ nextHeader (liesFar q at i) (portIn q at .address .0) code octets
+      header-is i inside took =
+          header-found who steps rs at slot octets output x g i (ap (inSet i) (sym (answered .took)) ∙ took)
+          ∙ ap (λ (y : Ending). headerFor (y .legs) octets i) is
+          ∙ headers .header i inside (in-took i took)
+
+      written-as : WrittenAs q at octets output code x
+      written-as =
+          record {
+            header = header-is;
+            rewritten = λ i inside.
+                ap (inSet i) (seen .rewritten)
+                ∙ headers .rewritten i inside
+                ∙ ap (λ (took : ℕ). inSet i took && rewrites (liesFar q at i) code (headerOf octets .fields)) (sym (seen .took));
+            as-many = as-many who steps rs at slot octets output x g;
+            others = others-stay who steps rs at slot octets output x g;
+          }
+
+      verdict : ToldAs octets x (verdictOf q at octets (length output)) × (ExactlyAs q at octets (length output) x × WrittenAs q at octets output code x)
+      verdict = (told-as, (exactly-as, written-as))
+
+      -- what goes out by port i
+      module _ (i : ℕ) (inside : i < portCount) (took : inSet i (tookIn x) ≡ true) where
+        abbrev far : Bool
+        far = liesFar q at i
+
+        abbrev arrival : ℕ
+        arrival = portIn q at .address .0
+
+        was-read : WasRead octets e
+        was-read =
+            was who steps rs at slot octets output x g
+            (takes-some who steps rs at slot octets output x g i (ap (inSet i) (sym (answered .took)) ∙ took))
+
+        abbrev k : Header
+        k = was-read .header
+
+        grants : inSet i (p .ruling .granted) ≡ true
+        grants = granted i inside (ap (λ (t : Bool). t || inSet i (droppedIn x)) took)
+
+        -- the arrival port is set up, and so has an address of 32 bits
+        arrival-small : arrival < 2 ^ 32
+        arrival-small =
+            set-up-small seat (kept-after m h) at
+            (arrival-set-up moreOnes q (ones-choose q contiguous) i inside at octets (length output) k (was-read .read) grants)
+
+        on-the-wire : OnTheWire q at i octets code (wireBy x octets i)
+        on-the-wire =
+            let fits = has-passed moreOnes q (ones-choose q contiguous) i inside at octets (length output) k (was-read .read) grants in
+            let names = names-the-same moreOnes q (ones-choose q contiguous) i inside at octets (length output) k (was-read .read) grants in
+            record {
+              came = k;
+              read = was-read .read;
+              goes = record { fields = nextFields far arrival code (k .fields); length = nextLength far arrival code k; size = nextSize far arrival code k };
+              reads = rw (header-is i inside took, answered .size, was-read .size)
+                  (read-next far arrival code octets k (g .passes .1) arrival-small (was-read .read) (fits .short));
+              aim = names .0;
+              origin = names .1;
+              domain = stays-near moreOnes q (ones-choose q contiguous) i inside at octets (length output) k (was-read .read) grants;
+              fields = refl;
+              long = next-length-parts far arrival code k (read-bounds octets k (g .passes .1) (was-read .read) .1 .1 .0);
+              fits = fits .mtu;
+            }
 
   -- two datagrams that are read alike
   module _ (rs : List Record) (at : ℕ) (slot : Slot) (output : List ℕ) where
@@ -497,16 +546,17 @@ module _ (who : Customer) (steps : List Step) where
           others = others;
           first = out;
           entry = cc handed;
-          header = withHops (oneLess (names .header .fields .hops)) (names .header);
-          reads = ap (λ (n : ℕ). readOf (headerSentOn (c .octets) ++ drop n (c .octets))) (names .size)
-              ∙ read-what-was-sent-on (c .octets) (names .header) came (names .read);
+          came = names .came;
+          read = names .read;
+          goes = goesOf names;
+          reads = goes-out names came .0;
           domain = names .domain;
           aim = names .aim;
           origin = names .origin;
         }
 
-    goes-out : (e : Entry) → ownOut (takes p) (x .answer) ≡ entry e → GoesOut r p (lineAt p m h) e
-    goes-out e is =
+    out-goes : (e : Entry) → ownOut (takes p) (x .answer) ≡ entry e → GoesOut r p (lineAt p m h) e
+    out-goes e is =
         goes-case (portSetUp r p) refl (chosen (rankBy entryOf) (lineAt p m h)) refl e
         (sym (take-is m h p) ∙ taken-entry (takeOutcome r p) e (sym (read-out who steps (own (takes p)) x g) ∙ is))
 
@@ -545,7 +595,7 @@ demand-2 =
       verdict = verdict;
       hears-no-further = λ who steps rs at slot s t output n x y long control agree g k.
           hears-alike who steps rs at slot output s t x y (agree-up-to-the-length s t n long control agree) g k;
-      sent-on = sent-on;
+      on-the-wire = λ who steps rs at slot octets output x g short p inside took. on-the-wire who steps rs at slot octets output x g short p inside took;
       marked = marked;
       orders-follow = λ steps o x g.
           let told = order-told first steps x o g in (
@@ -576,5 +626,5 @@ demand-2 =
           (sym (gives-row who steps (own (looks (look.search rs a))) x g .answer ∙ short-search (tooLong rs) _ short))
           (search-names-the-longest (seatOf who steps) rs short a);
       class = λ who steps a x small g. (classOf (a .0), (gives-row who steps (own (looks (look.class a))) x g .answer, class-row (a .0) small));
-      domain = λ who steps p x e g. goes-out who steps p x g e;
+      domain = λ who steps p x e g. out-goes who steps p x g e;
     }

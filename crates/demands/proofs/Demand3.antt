@@ -8,12 +8,10 @@ use lib.ListN.{length}
 use lib.Dec.{ltb}
 use borrow.Author.Tests.{lt-ltb, ltb-false}
 use Rattle.checks.specs.Order.{pick}
-use Rattle.checks.proofs.Bools.{true-false}
 use Rattle.header.proofs.Refusals.{read-good}
 use Rattle.address.specs.declared.Slot.{Slot}
 use Rattle.judge.specs.declared.Ending.{Ending}
 use Rattle.page.proofs.Verdict.{verdict-is-the-page}
-use Rattle.page.proofs.Bits.{in-none}
 use Rattle.sets.specs.Limits.{portCount, counterCount}
 use Rattle.sets.specs.Sets.{inSet}
 use Rattle.queue.specs.Queue.{entryPlaces}
@@ -32,7 +30,6 @@ use Rattle.history.specs.Outcome.{Answer, ownOutcome, seatAfter, next}
 use Rattle.history.specs.Ledger.{dropped}
 use Rattle.history.specs.Line.{entryOf, lineAt, copyOf, takenOwn}
 use Rattle.history.specs.Foretold.{answeredOwn, answeredFrom}
-use Rattle.history.proofs.Domain.{took-read}
 use Rattle.listing.proofs.Counting.{seen-contiguous}
 use Rattle.history.proofs.Heard.{heard-is}
 use Rattle.history.proofs.Sums.{counted-as-written}
@@ -41,13 +38,13 @@ use Rattle.history.proofs.Line.{queue-waits, out-or-waiting, taken-in-turn, lin
 use Rattle.history.proofs.Foretold.{seat-then, foretold-over-histories, answers-are-handed, stands-behind, refused-idle, other-take-idle, idle-counts-nothing, not-taken-idle, setting-idle, look-idle, operator-idle}
 use Rattle.history.proofs.Takes.{take-is}
 use Rattle.history.proofs.Fair.{fair}
-use Rattle.history.proofs.ReadBack.{read-back, ReadBack}
 use Rattle.demands.specs.Trace.{Customer, first, second, numberOf, Step, operates, flies, stepOf, Words, made, wordsAfter, Trace, Passes, AllPass, Begun, historyOf, seatOf, relayFor, Gives}
 use Rattle.demands.specs.ReadOut.{entriesIn, tookIn}
 use Rattle.demands.specs.Demand3.{placedBy, Demand3}
 use Rattle.demands.proofs.Traced.{history-more}
 use Rattle.demands.proofs.Told.{gives-row, counters}
 use Rattle.demands.proofs.ReadOut.{read-out}
+use Rattle.demands.proofs.Output.{told, was, takes-some, header-found}
 
 -- ---- what hj_counter and hj_waiting answer
 counter-is : (l : List ℕ) (i : ℕ) → i < counterCount → counterAnswer l i ≡ counterIn l i
@@ -166,22 +163,19 @@ module _ (who : Customer) (steps : List Step) (rs : List Record) (p at : ℕ) (s
   abbrev e : Ending
   e = heardBy (seatOf who steps) rs at octets (length output)
 
-  parts : ReadBack (x .answer) e
-  parts = rw (gives-row who steps (own (hears rs at slot octets output)) x g .answer) (read-back (seatOf who steps) rs at octets (length output))
-
-  -- what a port took was read, and has the header's size and precedence
+  -- what a port took was read, and has the header's size and precedence, and the header that C finds for it
   placed-case : (t : Bool) → inSet p (e .ruling .took) ≡ t
-      → pick t (copyOf (length (historyOf who steps)) (seatOf who steps) at slot octets e ∷ []) []
-      ≡ pick t (placedBy who steps at slot octets ∷ []) []
+      → pick t (copyOf p (length (historyOf who steps)) (seatOf who steps) at slot octets e ∷ []) []
+      ≡ pick t (placedBy who steps p at slot octets x ∷ []) []
   placed-case true took =
-      let was = took-read (seatOf who steps) rs at octets (length output) (λ z. true-false (sym (sym (ap (inSet p) z) ∙ took) ∙ in-none p)) in
-      let is = read-good octets (was .header) .0 (was .read) .1 in
-      rw (was .size, was .precedence, is)
+      let came = was who steps rs at slot octets output x g (takes-some who steps rs at slot octets output x g p took) in
+      let is = read-good octets (came .header) .0 (came .read) .1 in
+      rw (came .size, came .precedence, is, header-found who steps rs at slot octets output x g p took)
   placed-case false took = refl
 
   placed : takenOwn p (length (historyOf who steps)) (seatOf who steps) (hears rs at slot octets output)
-      ≡ pick (inSet p (tookIn x)) (placedBy who steps at slot octets ∷ []) []
-  placed = placed-case (inSet p (e .ruling .took)) refl ∙ rw (parts .took)
+      ≡ pick (inSet p (tookIn x)) (placedBy who steps p at slot octets x ∷ []) []
+  placed = placed-case (inSet p (e .ruling .took)) refl ∙ rw (told who steps rs at slot octets output x g .took)
 
 pub demand-3 : Demand3
 demand-3 =
@@ -189,16 +183,16 @@ demand-3 =
       counters = λ who steps i x inside g. counter-reads who steps i x inside g ∙ counted-as-written i inside (numberOf who) (historyOf who steps);
       ledger = λ who steps p x inside g. rw (waiting-reads who steps p x inside g) (ledgers.ledger p inside (numberOf who) (historyOf who steps));
       dropped-by-32 = λ who steps rs p at slot octets output x y inside g dropped k.
-          let is = parts who steps rs p at slot octets output x g .dropped in
+          let is = told who steps rs at slot octets output x g .dropped in
           waiting-reads who steps p y inside k
           ∙ full-is who steps p inside
           (fair (seatOf who steps) p inside rs at octets (length output) .full (sym (ap (inSet p) is) ∙ dropped));
       copies-told = λ who steps rs p at slot octets output x inside g short.
           let seat = seatOf who steps in
           let page = verdict-is-the-page (relayFor who steps rs) (seen-contiguous (seat .board) rs (seat .number)) at octets (length output) in
-          let told = parts who steps rs p at slot octets output x g in (
+          let parts = told who steps rs at slot octets output x g in (
             ap (λ (z : Ending). inSet p (z .ruling .granted)) (heard-is seat rs at octets (length output) false short) ∙ page .ruling .granted p inside,
-            (ap (inSet p) (sym (told .took)), ap (inSet p) (sym (told .dropped))),
+            (ap (inSet p) (sym (parts .took)), ap (inSet p) (sym (parts .dropped))),
           );
       placed = placed;
       waiting-are = λ who steps p test. out-or-waiting p test (numberOf who) (historyOf who steps);

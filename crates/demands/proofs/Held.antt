@@ -29,7 +29,7 @@ use Rattle.judge.specs.declared.Ending.{Ending}
 use Rattle.relay.specs.Outgoing.{sentOutput}
 use Rattle.relay.specs.Received.{heardEnding, receivedState}
 use Rattle.lent_state.specs.View.{Lent, Held, lentBoard, lent, byLent, onLent, toldBoard, changedBoard, told, changed, toldBoth, changedBoth, changedRelay, tooLong}
-use Rattle.answers.specs.Answers.{partsOf, receiveNumber}
+use Rattle.answers.specs.Answers.{rulingParts, headerParts, receiveNumber}
 use Rattle.harpjuniper.specs.Face.{Reading, readingOf, readingWords, readingCount, readAnswer, readLeft}
 use Rattle.harpjuniper.specs.Face.{buildAnswer, buildOutput, buildWordsAnswer, buildWordsOutput}
 use Rattle.route_calls.specs.Search.{searchAnswer}
@@ -129,7 +129,7 @@ module _ (x : Seat) (l : List ℕ) (rs : List Record) (p : ℕ) (octets : List �
   heard-any = refl
 
   long-heard : tooLong rs ≡ true → 21 ≡ receiveNumber (heardBy x rs p octets room)
-  unfolding heardEnding receiveNumber partsOf
+  unfolding heardEnding receiveNumber rulingParts headerParts
   long-heard long = rw long
 
   answer-case : (t : Bool) → tooLong rs ≡ t
@@ -179,9 +179,9 @@ module _ (b m : List ℕ) (x : Seat) (l : List ℕ) (board : lentBoard b ≡ Hel
     unfolding receiveWords
     heard-words = both-changed _ ∙ ap (λ (z : Ending). Held (receivedState (x .board) s slot z)) (heard-any x l rs p octets (length output))
 
-    heard-output : receiveOutput b m rs p octets output ≡ sentOutput (e .ruling .took) octets output
+    heard-output : receiveOutput b m rs p octets output ≡ sentOutput e octets output
     unfolding receiveOutput
-    heard-output = both-told _ output ∙ ap (λ (z : Ending). sentOutput (z .ruling .took) octets output) (heard-any x l rs p octets (length output))
+    heard-output = both-told _ output ∙ ap (λ (z : Ending). sentOutput z octets output) (heard-any x l rs p octets (length output))
 
   search-answer : (rs : List Record) (a : Address) → searchTold b m rs (a .0) ≡ pick (tooLong rs) 21 (searchAnswer (relayWith x rs) a)
   unfolding searchTold

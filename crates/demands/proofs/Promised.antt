@@ -151,7 +151,7 @@ module _ (x : Seat) (l : List ℕ) where
   ownPromised (sets s) = settingPromised s
   ownPromised (hears rs p slot octets output) =
       let e = heardBy x rs p octets (length output) in
-      onBoth (receiveNumber e) (nextState (own (hears rs p slot octets output))) rs (sentOutput (e .ruling .took) octets output)
+      onBoth (receiveNumber e) (nextState (own (hears rs p slot octets output))) rs (sentOutput e octets output)
   ownPromised (takes p) = onBoth (takeAnswer (relayIn x) p) (nextState (own (takes p))) [] []
   ownPromised (looks l) = lookPromised l
 

@@ -385,7 +385,7 @@ module _ (b m : List ℕ) (rs : List Record) (long : tooLong rs ≡ true) where
     long-output =
         board-so _ output b (λ x.
         own-so _ output m (λ s.
-        ap (λ (e : Ending). sentOutput (e .ruling .took) octets output) (long-ending rs long x s p octets (length output))
+        ap (λ (e : Ending). sentOutput e octets output) (long-ending rs long x s p octets (length output))
         ∙ output-as-lent (refusedBy 21) octets output refl))
 
 pub long-left : (b m : List ℕ) (c : Call) → HasLong c → Leaves b m c (longAnswer c)

@@ -2,19 +2,30 @@
 -- each there are steps after which it would have to give back something else. That there are such steps at all, for any words to begin with, is
 -- demand 1. Assumes nothing.
 use native.Mathlib.Omega.{arith}
-use Prim.Native.Nat.{ℕ, _<_}
+use Prim.Native.Nat.{ℕ, _+_, _*_, _<_}
 use mathlib.Core.Path.{_≡_, refl, sym, ap, _∙_}
 use mathlib.Core.Bool.{Bool, true, _&&_}
 use mathlib.Core.Logic.{_≢_}
 use mathlib.Core.List.{List, [], _∷_, _++_, map, append-nil}
-use lib.ListN.{replicate}
+use lib.ListN.{replicate, take, drop, take-append-drop}
 use lib.Dec.{ltb}
 use borrow.Author.Tests.{ltb-true}
 use Rattle.checks.specs.Answer.{refusalNumber}
 use Rattle.checks.proofs.Bools.{true-false, and-true}
 use Rattle.queue.specs.Order.{Each}
+use Rattle.address.specs.Mask.{maskOf}
+use Rattle.address.specs.Octets.{dotted}
 use Rattle.address.specs.declared.Slot.{Slot}
-use Rattle.header.specs.Limits.{longestHeader}
+use Rattle.judge.specs.Ending.{outputRoom}
+use Rattle.octets.specs.Octets.{octets}
+use Rattle.header.specs.Build.{secondOctet, thirdOctet, addressesOctets, qosOctets, octetOctets, stampOctets, restOctets, sizeOf}
+use Rattle.header.specs.Form.{bitWeight}
+use Rattle.header.specs.Read.{headerOf, readOf}
+use Rattle.header.specs.declared.Header.{Header}
+use Rattle.header.proofs.Refusals.{read-good}
+use Rattle.next_leg.specs.Leg.{nextFields}
+use Rattle.page.specs.Table.{oneOctet, liesFar}
+use Rattle.sets.specs.Sets.{inSet}
 use Rattle.routes.specs.Records.{emptyRecord}
 use Rattle.routes.specs.declared.Record.{Record}
 use Rattle.records.specs.SetUp.{isSetUp}
@@ -28,16 +39,18 @@ use Rattle.contracts.specs.Contracts.{Says}
 use Rattle.contracts.proofs.Answers.{each-call-answers}
 use Rattle.contracts.proofs.Kept.{getD-each}
 use Rattle.answers.specs.Answers.{partAt}
-use Rattle.history.specs.Calls.{Order, setRoute, orders, MissionCall, hears, takes, looks, counter, waiting, Call, own}
-use Rattle.history.specs.Marked.{port, routerWithPorts, allRoutes, datagram}
-use Rattle.history.specs.Outcome.{ended}
+use Rattle.history.specs.Calls.{Order, setRouter, setPort, setRoute, orders, MissionCall, hears, takes, looks, counter, waiting, Call, own}
+use Rattle.history.specs.Marked.{port, routerWithPorts, route, allRoutes, datagram}
+use Rattle.history.specs.Ranges.{Octets}
 use Rattle.history.proofs.Marked.{opened}
 use Rattle.history.proofs.WrongRelays.{ended-by}
-use Rattle.demands.specs.Trace.{Customer, first, second, Step, operates, flies, stepOf, Words, made, historyOf, boardOf, Passes, AllPass, Gives}
+use Rattle.demands.specs.Trace.{Customer, first, second, Step, operates, flies, stepOf, Words, made, historyOf, boardOf, relayFor, Passes, AllPass, Gives}
+use Rattle.demands.specs.ReadOut.{tookIn, dataFrom, headerOut, wireBy}
 use Rattle.demands.specs.Demand1.{NoBoard}
 use Rattle.demands.proofs.Traced.{history-more}
 use Rattle.demands.proofs.Lasts.{passable, gives-lasts}
 use Rattle.demands.proofs.Told.{gives-row, order-told}
+use Rattle.demands.proofs.Output.{told}
 use Rattle.demands.proofs.Demand1.{demand-1}
 use Rattle.demands.proofs.Demand2.{demand-2}
 use Rattle.demands.proofs.Demand3.{pass-more}
@@ -67,10 +80,21 @@ abbrev ours : List Step
 ours = orders-of (routerWithPorts 0)
 
 abbrev hearing : MissionCall
-hearing = hears (allRoutes 0) 4 (record { 0 = 1 }) (datagram 10 4 9 14 0) (replicate longestHeader 0)
+hearing = hears (allRoutes 0) 4 (record { 0 = 1 }) (datagram 10 4 9 14 0) (replicate outputRoom 0)
 
 abbrev heard : List Step
 heard = ours ++ (flies first hearing ∷ [])
+
+-- port 0 is in the domain 10.4.9, and port 1, to which all is routed, is not; and a datagram by port 0 to system 14 of its domain from system 16, in one octet
+-- each, of six octets that are all header
+abbrev twoDomains : List Step
+twoDomains = orders-of (setRouter 1 ∷ setPort 0 (record { 0 = dotted 10 4 9 2 }) (record { 0 = maskOf 24 }) 1500 0 ∷ port 0 1 ∷ [])
+
+abbrev narrow : List ℕ
+narrow = 32 ∷ 6 ∷ (4 * 16 + bitWeight 20 + bitWeight 22) ∷ bitWeight 25 ∷ 14 ∷ 16 ∷ []
+
+abbrev narrowly : MissionCall
+narrowly = hears (route 0 1 0 0 ∷ []) 0 (record { 0 = 1 }) narrow (replicate outputRoom 0)
 
 -- ---- the other's ports
 -- It does not hand out, or find empty, whatever port is set up, whosever it is.
@@ -137,11 +161,11 @@ octets-so : (l : List ℕ) → allOctets l ≡ true → Each (λ (n : ℕ). n < 
 octets-so [] h = tt
 octets-so (n ∷ l) h = let both = and-true (ltb n 256) (allOctets l) h in (ltb-true n 256 (both .0), octets-so l (both .1))
 
+octets-pass : (l : List ℕ) → allOctets l ≡ true → Octets l
+octets-pass l h i = getD-each (λ (n : ℕ). n < 256) l i 0 (omega arith) (octets-so l h)
+
 hearing-passes : Passes (flies first hearing)
-hearing-passes = (
-  omega arith,
-  λ i. getD-each (λ (n : ℕ). n < 256) (datagram 10 4 9 14 0) i 0 (omega arith) (octets-so (datagram 10 4 9 14 0) refl),
-)
+hearing-passes = (omega arith, octets-pass (datagram 10 4 9 14 0) refl)
 
 heard-pass : AllPass heard
 heard-pass = pass-more ours (flies first hearing) ports-pass hearing-passes
@@ -171,6 +195,31 @@ sharing-counters wrong =
     let one : g .0 .answer ≡ 1 = gives-row first heard (own (looks (counter 0))) (g .0) (g .1) .answer in
     let none : k .0 .answer ≡ 0 = gives-row second heard (own (looks (counter 0))) (k .0) (k .1) .answer in
     let same : _≡_ {A = ℕ} 1 0 = sym one ∙ wrong heard 0 (g .0) (k .0) (g .1) (k .1) ∙ none in omega arith
+
+-- ---- what goes out (page 02, W-214)
+domains-pass : AllPass twoDomains
+domains-pass = (tt, ((omega arith, (omega arith, (omega arith, (omega arith, tt)))), (port-passes 1 (omega arith), tt)))
+
+-- It does not send one-octet addresses into another domain as they came.
+pub sending-one-octet-addresses-on :
+    ((steps : List Step) (rs : List Record) (at p : ℕ) (slot : Slot) (octets output : List ℕ) (x : Result)
+    → Gives steps (flies first (hears rs at slot octets output)) x → inSet p (tookIn x) ≡ true
+    → oneOctet (headerOf octets .fields .addresses) ≡ true → liesFar (relayFor first steps rs) at p ≡ true
+    → headerOut x p ≡ take (dataFrom x) octets)
+    → ⊥
+unfolding opened sizeOf secondOctet thirdOctet restOctets addressesOctets qosOctets octetOctets stampOctets octets nextFields
+sending-one-octet-addresses-on wrong =
+    let rs = route 0 1 0 0 ∷ [] in
+    let slot : Slot = record { 0 = 1 } in
+    let output : List ℕ = replicate outputRoom 0 in
+    let g = given twoDomains domains-pass (flies first narrowly) (omega arith, octets-pass narrow refl) in
+    let x = g .0 in
+    let took : inSet 1 (tookIn x) ≡ true = ap (inSet 1) (told first twoDomains rs 0 slot narrow output x (g .1) .took) in
+    let as-it-came = wrong twoDomains rs 0 1 slot narrow output x (g .1) took refl refl in
+    let wire = demand-2 .on-the-wire first twoDomains rs 0 slot narrow output x (g .1) refl 1 (omega arith) took in
+    let came : wireBy x narrow 1 ≡ narrow = ap (λ (l : List ℕ). l ++ drop (dataFrom x) narrow) as-it-came ∙ take-append-drop (dataFrom x) narrow in
+    let same = read-good narrow (wire .goes) .0 (sym (ap readOf came) ∙ wire .reads) .1 in
+    true-false (wire .domain (ap (λ (h : Header). oneOctet (h .fields .addresses)) same))
 
 -- ---- the order of tests
 -- It does not look at the words before the list: of one that is too long it says 21, not 16.

@@ -1,26 +1,25 @@
 -- Demand 2: "Headers are read and built as CCSDS 713.0-B-1 lays them out; every verdict, setting and taking follows the written rules: where a route is
 -- sought, the one taken matches the destination under its mask, no matching entry has more mask bits, and 'no route' is said exactly when none matches.
 -- A one-octet address never goes out into another domain." Each sentence is a field, said of what C calls, for each of two customers by itself, by page
--- 01's relay as that customer sees it (page 02, W-208). Proved in proofs/Demand2.antt. Assumes nothing.
+-- 01's relay as that customer sees it (page 02, W-208). W-214: "Demand 2's last sentence now speaks of octets on the wire". Proved in
+-- proofs/Demand2.antt. Assumes nothing.
 use Prim.Native.Nat.{ℕ, _+_, _^_, _<_, _≤_}
 use mathlib.Core.Path.{_≡_}
-use mathlib.Core.Logic.{_↔_, _≢_}
-use mathlib.Core.Bool.{true, false, _||_}
+use mathlib.Core.Logic.{_⊎_, _↔_, _≢_}
+use mathlib.Core.Bool.{true, false, _&&_, _||_}
 use mathlib.Core.List.{List, [], _++_}
-use lib.ListN.{length, take, drop}
-use lib.Dec.{eqb}
+use lib.ListN.{getD, length, take, drop}
 use Rattle.history.specs.SearchBack.{LongestOrNo}
 use Rattle.address.specs.Row.{Row}
 use Rattle.address.specs.Class.{classNumber}
 use Rattle.address.specs.declared.Class.{Class}
-use Rattle.checks.specs.Order.{Checks, noneHolds, firstHolds, pick}
+use Rattle.checks.specs.Order.{Checks, noneHolds, firstHolds}
 use Rattle.checks.specs.Answer.{refusalNumber}
 use Rattle.sets.specs.Sets.{inSet}
 use Rattle.address.specs.declared.Address.{Address}
 use Rattle.address.specs.declared.Slot.{Slot}
 use Rattle.header.specs.Form.{controlOf}
 use Rattle.header.specs.Limits.{longestHeader, mostData}
-use Rattle.header.specs.Onward.{oneLess, withHops}
 use Rattle.header.specs.Read.{readChecks, lengthOf, readOf, headerOf}
 use Rattle.header.specs.Shortest.{unusedZero, noneShorter}
 use Rattle.header.specs.declared.Header.{Header}
@@ -40,8 +39,9 @@ use Rattle.lent_state.specs.View.{tooLong}
 use Rattle.sets.specs.Limits.{portCount}
 use Rattle.harpjuniper.specs.Face.{Reading, readingOf, dataRead, numbersChecks, buildAnswer, buildOutput}
 use Rattle.harpjuniper_routes.specs.Face.{routeWordTold}
-use Rattle.relay.specs.Outgoing.{sentOutput}
-use Rattle.page.specs.Table.{oneOctet, Verdict, verdictOf, GivenBy, Decides, GivesNumber, stepRows, localRows, onwardRows, wanted, bestPort, moreOnes, aimAt}
+use Rattle.next_leg.specs.Leg.{rewrites, nextFields, dataOf, nextHeader}
+use Rattle.relay.specs.Outgoing.{stretchOf}
+use Rattle.page.specs.Table.{oneOctet, liesFar, Verdict, verdictOf, GivenBy, Decides, GivesNumber, stepRows, localRows, onwardRows, wanted, bestPort, bestCode, moreOnes, aimAt}
 use Rattle.page.specs.Sought.{RouteSought, RouteTaken}
 use Rattle.contracts.specs.Promised.{Result}
 use Rattle.history.specs.Calls.{
@@ -70,7 +70,7 @@ use Rattle.history.specs.Ranges.{Octets, InRange, EntryFits}
 use Rattle.history.specs.Line.{Copy, entryOf, sentOf, lineAt}
 use Rattle.history.specs.Marked.{Marked, markedCases}
 use Rattle.demands.specs.Trace.{Customer, numberOf, Step, operates, flies, stepOf, wordsAfter, historyOf, boardOf, seatOf, relayOf, relayFor, Gives}
-use Rattle.demands.specs.ReadOut.{readOut, ownOut, endedBy, localIn, onwardIn, tookIn, droppedIn, ownIn, asksFor, partTold, Reads, Builds, headerIn, aboveIn}
+use Rattle.demands.specs.ReadOut.{readOut, ownOut, endedBy, localIn, onwardIn, tookIn, droppedIn, ownIn, asksFor, partTold, Reads, Builds, dataFrom, rewrittenIn, aboveIn, headerOctets, headerOut, wireBy}
 
 -- C is told this verdict of page 01, of these octets
 pub record ToldAs (octets : List ℕ) (x : Result) (v : Verdict) : Type 0 where
@@ -79,8 +79,8 @@ pub record ToldAs (octets : List ℕ) (x : Result) (v : Verdict) : Type 0 where
   pub onward : onwardIn x ≡ v .onward
   pub took : (p : ℕ) → p < portCount → inSet p (tookIn x) ≡ v .took p
   pub dropped : (p : ℕ) → p < portCount → inSet p (droppedIn x) ≡ v .dropped p
-  -- the octets of the header sent on, 0 where no port took an entry; nothing above; and with a refusal nothing else
-  pub header : headerIn x ≡ pick (eqb (tookIn x) 0) 0 (headerOf octets .size)
+  -- where the data begin, of every datagram that is not refused; nothing above; and with a refusal nothing else
+  pub data-from : endedBy x ≡ 0 → dataFrom x ≡ headerOf octets .size
   pub above : aboveIn x ≡ 0
   pub alone : endedBy x ≢ 0 → x .answer ≡ endedBy x
 
@@ -90,7 +90,38 @@ pub record ExactlyAs (r : Relay) (at : ℕ) (octets : List ℕ) (room : ℕ) (x 
   pub local : noneHolds (stepRows r at octets room) → GivenBy (localRows r at (aimAt r at octets) (headerOf octets .fields)) (localIn x)
   pub onward : noneHolds (stepRows r at octets room) → (n : ℕ)
       → (onwardIn x ≡ n)
-      ↔ Decides (GivesNumber r at (headerOf octets) n) (onwardRows r at (aimAt r at octets) (headerOf octets .fields)) (wanted (bestPort moreOnes r (aimAt r at octets)))
+      ↔ Decides (GivesNumber r at (headerOf octets) n) (onwardRows r at (aimAt r at octets) (headerOf octets .fields))
+      (wanted (bestPort moreOnes r (aimAt r at octets)) (bestCode moreOnes r (aimAt r at octets)))
+
+-- the output as W-214 says it, code being what the route taken asks for: "port p's from 50 × p on, written only where p took an entry", and only as long as
+-- its header is
+pub record WrittenAs (r : Relay) (at : ℕ) (octets output : List ℕ) (code : ℕ) (x : Result) : Type 0 where
+  pub header : (p : ℕ) → p < portCount → inSet p (tookIn x) ≡ true
+      → headerOut x p ≡ nextHeader (liesFar r at p) (portIn r at .address .0) code octets
+  -- rewritten exactly where addresses are widened or an element is added
+  pub rewritten : (p : ℕ) → p < portCount
+      → inSet p (rewrittenIn x) ≡ (inSet p (tookIn x) && rewrites (liesFar r at p) code (headerOf octets .fields))
+  -- every octet outside the headers of the ports that took an entry stays as lent
+  pub as-many : length (x .left .output) ≡ length output
+  pub others : (i : ℕ)
+      → ((p : ℕ) → p < portCount → inSet p (tookIn x) ≡ true → (i < stretchOf p) ⊎ (stretchOf p + headerOctets x p ≤ i))
+      → getD (x .left .output) i 0 ≡ getD output i 0
+
+-- what C sends by port p, read as the system behind that port reads it: one-octet addresses are filled in from that port's domain
+pub record OnTheWire (r : Relay) (at p : ℕ) (octets : List ℕ) (code : ℕ) (wire : List ℕ) : Type 0 where
+  pub came : Header
+  pub read : readOf octets ≡ Good came
+  pub goes : Header
+  pub reads : readOf wire ≡ Good goes
+  -- "The address in the rewritten header always names the same system that the arriving octet named": destination, path and source
+  pub aim : aimOf (portIn r p .address .0) (goes .fields .addresses) ≡ aimOf (portIn r at .address .0) (came .fields .addresses)
+  pub origin : originOf (portIn r p .address .0) (goes .fields .addresses) ≡ originOf (portIn r at .address .0) (came .fields .addresses)
+  -- so an address of one octet goes out into no other domain
+  pub domain : oneOctet (goes .fields .addresses) ≡ true → liesFar r at p ≡ false
+  -- the fields that came, with the changes that W-214 states and no others; the length field is the header and the data, and fits the port
+  pub fields : goes .fields ≡ nextFields (liesFar r at p) (portIn r at .address .0) code (came .fields)
+  pub long : goes .length ≡ goes .size + dataOf came
+  pub fits : goes .length ≤ portIn r p .mtu
 
 -- what goes out where hj_take hands out e: the copy that is asked for, and the octets that C sends for it, which read as a header
 pub record GoesOut (r : Relay) (p : ℕ) (line : List Copy) (e : Entry) : Type 0 where
@@ -98,13 +129,15 @@ pub record GoesOut (r : Relay) (p : ℕ) (line : List Copy) (e : Entry) : Type 0
   pub others : List Copy
   pub first : chosen (rankBy entryOf) line ≡ one copy others
   pub entry : copy .entry ≡ e
-  pub header : Header
-  pub reads : readOf (sentOf copy) ≡ Good header
+  pub came : Header
+  pub read : readOf (copy .octets) ≡ Good came
+  pub goes : Header
+  pub reads : readOf (sentOf copy) ≡ Good goes
   -- with one-octet addresses the port's domain is that of the port by which it came in
-  pub domain : oneOctet (header .fields .addresses) ≡ true → domainOf (portIn r p .address) ≡ domainOf (copy .arrival)
-  -- and what it names, it named there
-  pub aim : aimOf (portIn r p .address .0) (header .fields .addresses) ≡ aimOf (copy .arrival .0) (header .fields .addresses)
-  pub origin : originOf (portIn r p .address .0) (header .fields .addresses) ≡ originOf (copy .arrival .0) (header .fields .addresses)
+  pub domain : oneOctet (goes .fields .addresses) ≡ true → domainOf (portIn r p .address) ≡ domainOf (copy .arrival)
+  -- and what it names, the octets that came named there
+  pub aim : aimOf (portIn r p .address .0) (goes .fields .addresses) ≡ aimOf (copy .arrival .0) (came .fields .addresses)
+  pub origin : originOf (portIn r p .address .0) (goes .fields .addresses) ≡ originOf (copy .arrival .0) (came .fields .addresses)
 
 -- C is told the answer of a marked case, however its calls were made, and whatever the other customer called between them
 abbrev pub Answered : Customer → Marked → Type 0
@@ -140,18 +173,18 @@ pub record Demand2 : Type 0 where
   pub verdict : (who : Customer) (steps : List Step) (rs : List Record) (at : ℕ) (slot : Slot) (octets output : List ℕ) (x : Result)
       → Gives steps (flies who (hears rs at slot octets output)) x → tooLong rs ≡ false
       → ToldAs octets x (verdictOf (relayFor who steps rs) at octets (length output))
-      × (ExactlyAs (relayFor who steps rs) at octets (length output) x × (x .left .output ≡ sentOutput (tookIn x) octets output))
+      × (ExactlyAs (relayFor who steps rs) at octets (length output) x
+      × WrittenAs (relayFor who steps rs) at octets output (verdictOf (relayFor who steps rs) at octets (length output) .code) x)
   -- "Octets beyond the length field are ignored.": what comes after them changes neither the answer nor the words
   pub hears-no-further : (who : Customer) (steps : List Step) (rs : List Record) (at : ℕ) (slot : Slot) (s t output : List ℕ) (n : ℕ) (x y : Result)
       → lengthOf s ≤ n → controlOf s .end ≤ n → take n t ≡ take n s
       → Gives steps (flies who (hears rs at slot s output)) x → Gives steps (flies who (hears rs at slot t output)) y
       → (y .answer ≡ x .answer) × (y .left .mission ≡ x .left .mission)
-  -- "the header with hop count less one and checksum redone": where a port took an entry, the octets that C finds in the output, with the data behind them,
-  -- read as the header that came, its hop count, if it has one, one less
-  pub sent-on : (who : Customer) (steps : List Step) (rs : List Record) (at : ℕ) (slot : Slot) (octets output : List ℕ) (x : Result)
-      → Gives steps (flies who (hears rs at slot octets output)) x → tookIn x ≢ 0
-      → (h : Header) × ((readOf octets ≡ Good h)
-      × (readOf (take (headerIn x) (x .left .output) ++ drop (headerIn x) octets) ≡ Good (withHops (oneLess (h .fields .hops)) h)))
+  -- for every port that took an entry, the octets that C finds for it in the output, with the data behind them, read as the header that came with the changes
+  -- of W-214 and no others (the hop count, if it has one, one less), and name the same destination, source and path
+  pub on-the-wire : (who : Customer) (steps : List Step) (rs : List Record) (at : ℕ) (slot : Slot) (octets output : List ℕ) (x : Result)
+      → Gives steps (flies who (hears rs at slot octets output)) x → tooLong rs ≡ false → (p : ℕ) → p < portCount → inSet p (tookIn x) ≡ true
+      → OnTheWire (relayFor who steps rs) at p octets (verdictOf (relayFor who steps rs) at octets (length output) .code) (wireBy x octets p)
   -- page 01's marked cases a to l, for each customer
   pub marked : (who : Customer) → Each (Answered who) (markedCases (numberOf who))
   -- "every .. setting .. follows the written rules": the operator's orders, which leave a board and a list,

@@ -32,16 +32,17 @@ use Rattle.history.specs.Ledger.{granted, dropped, handedOut}
 use Rattle.history.specs.Line.{Copy, entryOf, takenBy, takenOwn, takingOf, lineAt, takenAt, handedAt, InTurn}
 use Rattle.history.specs.Foretold.{andThen, handedSince, takesSince, before, higherEnter, Idle, CountsNothing}
 use Rattle.demands.specs.Trace.{Customer, numberOf, Step, flies, Words, Trace, AllPass, Begun, historyOf, seatOf, relayOf, relayFor, Gives}
-use Rattle.demands.specs.ReadOut.{droppedIn, entriesIn, tookIn}
+use Rattle.demands.specs.ReadOut.{droppedIn, entriesIn, tookIn, headerOut}
 
--- what a port has of a datagram that it took: the entry is "(slot, precedence)"
-abbrev pub placedBy : Customer → List Step → ℕ → Slot → List ℕ → Copy
-placedBy who steps at slot octets =
+-- what port p has of a datagram that it took: the entry is "(slot, precedence)", and the header the one that C finds for the port in the output
+abbrev pub placedBy : Customer → List Step → ℕ → ℕ → Slot → List ℕ → Result → Copy
+placedBy who steps p at slot octets x =
     record {
       turn = length (historyOf who steps);
       arrival = portIn (relayOf who steps) at .address;
       octets = octets;
       size = headerOf octets .size;
+      header = headerOut x p;
       entry = record { slot = slot; precedence = precedenceAsked (headerOf octets .fields .qos) };
     }
 
@@ -69,7 +70,7 @@ pub record Demand3 : Type 0 where
   pub placed : (who : Customer) (steps : List Step) (rs : List Record) (p at : ℕ) (slot : Slot) (octets output : List ℕ) (x : Result)
       → Gives steps (flies who (hears rs at slot octets output)) x
       → takenOwn p (length (historyOf who steps)) (seatOf who steps) (hears rs at slot octets output)
-      ≡ pick (inSet p (tookIn x)) (placedBy who steps at slot octets ∷ []) []
+      ≡ pick (inSet p (tookIn x)) (placedBy who steps p at slot octets x ∷ []) []
   -- "Of the copies waiting on a port, ..": those taken and not yet handed out, whatever is asked of them; each was taken by one call, and they stand in the
   -- order of these; hj_waiting answers how many,
   pub waiting-are : (who : Customer) (steps : List Step) (p : ℕ) (test : Copy → Bool)

@@ -3,15 +3,17 @@ use Prim.Native.Nat.{ℕ, _/_, _%_, _^_}
 use mathlib.Core.Path.{_≡_}
 use mathlib.Core.Bool.{Bool, true, false}
 use mathlib.Core.List.{List, [], _∷_, _++_}
-use lib.ListN.{replicate}
+use lib.ListN.{replicate, take, drop}
 use lib.Dec.{eqb}
 use Rattle.checks.specs.Order.{pick}
+use Rattle.sets.specs.Sets.{inSet}
 use Rattle.answers.specs.Answers.{partAt, refusalIn, slotIn, precedenceIn}
 use Rattle.numbers.specs.InWords.{numbersWords}
 use Rattle.numbers.specs.declared.Numbers.{Numbers}
 use Rattle.queue.specs.declared.Entry.{Entry}
 use Rattle.state.specs.Relay.{Mission, counterIn}
 use Rattle.state.specs.Layout.{decode}
+use Rattle.relay.specs.Outgoing.{stretchOf}
 use Rattle.harpjuniper.specs.Face.{Reading, readingCount, readingWords}
 use Rattle.harpjuniper_reads.specs.Back.{portAnswer, groupAnswer, pathAnswer}
 use Rattle.contracts.specs.Promised.{Result, hj-read-words, hj-build-words}
@@ -99,12 +101,30 @@ tookIn x = partAt 24 (x .answer)
 abbrev pub droppedIn : Result → ℕ
 droppedIn x = partAt 32 (x .answer)
 
--- how many octets the header sent on has, and what stands above all parts
-abbrev pub headerIn : Result → ℕ
-headerIn x = partAt 40 (x .answer)
+-- how many octets the header that came has, which is where the data begin (hj_data_from); how many a rewritten one has, and the ports that got it
+-- (hj_rewritten_octets, hj_rewritten); and what stands above all parts
+abbrev pub dataFrom : Result → ℕ
+dataFrom x = partAt 40 (x .answer)
+
+abbrev pub rewrittenOctetsIn : Result → ℕ
+rewrittenOctetsIn x = partAt 48 (x .answer)
+
+abbrev pub rewrittenIn : Result → ℕ
+rewrittenIn x = partAt 56 (x .answer)
 
 abbrev pub aboveIn : Result → ℕ
-aboveIn x = x .answer / 2 ^ 48
+aboveIn x = x .answer / 2 ^ 64
+
+-- the header that C finds for port p in the output: from where (hj_header), and how many octets (hj_header_octets)
+abbrev pub headerOctets : Result → ℕ → ℕ
+headerOctets x p = pick (inSet p (tookIn x)) (pick (inSet p (rewrittenIn x)) (rewrittenOctetsIn x) (dataFrom x)) 0
+
+abbrev pub headerOut : Result → ℕ → List ℕ
+headerOut x p = take (headerOctets x p) (drop (stretchOf p) (x .left .output))
+
+-- what C sends by port p: that header, and the data of the datagram that came
+abbrev pub wireBy : Result → List ℕ → ℕ → List ℕ
+wireBy x octets p = headerOut x p ++ drop (dataFrom x) octets
 
 -- whether a call hears no datagram
 abbrev pub hearsNothing : MissionCall → Bool

@@ -19,6 +19,7 @@ use Rattle.lookup.specs.ForTarget.{wayOf}
 use Rattle.listing.specs.declared.Scan.{Scan}
 use Rattle.listing.specs.Scan.{scanOf}
 use Rattle.listing.specs.Listed.{routesSeen, seen}
+use Rattle.listing.proofs.Loop.{scan-nothing}
 use Rattle.listing.proofs.Searched.{search-by}
 use Rattle.judge.specs.declared.Asked.{Asked}
 use Rattle.judge.specs.Asked.{searchedIn, refusedAsked, datagramAsked, finishedOf}
@@ -40,11 +41,15 @@ module _ (x : Board) (s : State) (rs : List Record) (port : ℕ) (octets : List 
   way-is e =
       let asks = search-asks (seated x s) (s .number) port octets room e in
       let own : asked .ready ≡ readyOf (portsSeen (asked .number) x) = asks .1 ∙ ap (λ (n : ℕ). readyOf (portsSeen n x)) (sym (asks .0)) in
-      sym (search-by x (queryOf asked) own e rs wayOf Lost (λ (place ones to codes : ℕ). By (onlyPort to)) refl (λ place ones r. refl))
+      sym (search-by x (queryOf asked) own e rs wayOf Lost (λ (place ones to code : ℕ). By (onlyPort to) code) refl (λ place ones r. refl))
       ∙ ap (λ (n : ℕ). wayOf (searchOf (record { 0 = queryOf asked .address }) (routesSeen x n rs))) (asks .0)
 
+  -- nothing is found where nothing is sought
+  no-way : searchedIn asked ≡ 0 → wayIn scanned ≡ Lost
+  no-way e = ap wayIn (scan-nothing rs (queryOf asked) e)
+
   finished : finishedOf (seated x s) asked (wayIn scanned) ≡ endingOf (seen x s rs) port octets room
-  finished = finished-is (seated x s) (routesSeen x (s .number) rs) (s .number) (wayIn scanned) port octets room way-is
+  finished = finished-is (seated x s) (routesSeen x (s .number) rs) (s .number) (wayIn scanned) port octets room (way-is, no-way)
 
   -- unless the list is too long
   unless-long : (t : Bool)

@@ -21,8 +21,10 @@ use Rattle.judge.specs.declared.Asked.{Asked}
 use Rattle.judge.specs.declared.Ending.{Ending}
 use Rattle.judge.specs.Asked.{refusedAsked, datagramAsked, finishedOf}
 use Rattle.judge.specs.Ending.{refusedBy}
-use Rattle.answers.specs.Answers.{partsOf, receiveNumber}
+use Rattle.answers.specs.Answers.{rulingParts, headerParts, receiveNumber}
+use Rattle.next_leg.specs.Leg.{noLegs}
 use Rattle.relay.specs.Outgoing.{sentOutput}
+use Rattle.relay.proofs.outgoing.Headers.{nothing-sent}
 use Rattle.relay.specs.Received.{receivedState, heardEnding}
 use Rattle.relay.specs.Split.{askedOf, queryOf, wayIn, endingAfter, answerAfter, wordsAfter, outputAfter, Following}
 use Rattle.harpjuniper_receive.proofs.Joined.{joined}
@@ -56,7 +58,7 @@ module _ (b w : List ℕ) (rs : List Record) (port slot : ℕ) (octets output : 
   Promised e =
       (receiveNumber e ≡ receiveAnswer b w rs port octets (length output))
       × ((changedBoth (λ (x : Board) (s : State). receivedState x s (record { 0 = slot }) e) b w ≡ receiveWords b w rs port slot octets (length output))
-      × (sentOutput (e .ruling .took) octets output ≡ receiveOutput b w rs port octets output))
+      × (sentOutput e octets output ≡ receiveOutput b w rs port octets output))
 
   -- ---- the words hold a board and a mission's state
   module _ (right-board : length b ≡ boardWords) (right : length w ≡ missionWords) where
@@ -64,7 +66,7 @@ module _ (b w : List ℕ) (rs : List Record) (port slot : ℕ) (octets output : 
     here = heard (decodeBoard b) (decode w)
 
     long-here : tooLong rs ≡ true → receiveNumber here ≡ 21
-    unfolding heardEnding receiveNumber partsOf
+    unfolding heardEnding receiveNumber rulingParts headerParts
     long-here h = rw h
 
     made : (h : Board → State → State) → Held (h (decodeBoard b) (decode w)) ≡ changedBoth h b w
@@ -83,9 +85,14 @@ module _ (b w : List ℕ) (rs : List Record) (port slot : ℕ) (octets output : 
       (
         same-change (λ (x : Board) (s : State). receivedState x s (record { 0 = slot }) here)
             (λ (x : Board) (s : State). receivedState x s (record { 0 = slot }) (heard x s)) refl,
-        both-held-told b w right-board right (λ (x : Board) (s : State). sentOutput (heard x s .ruling .took) octets output) output refl,
+        both-held-told b w right-board right (λ (x : Board) (s : State). sentOutput (heard x s) octets output) output refl,
       ),
     )
+
+  -- a refusal sends nothing
+  quiet : (n : ℕ) → sentOutput (refusedBy n) octets output ≡ output
+  unfolding sentOutput
+  quiet n = sym (nothing-sent noLegs octets output 8)
 
   -- ---- they do not: nothing is asked, and nothing is written
   module _ (no-answer : (A : Type 0) (f : Board → State → A) (d : A) → d ≡ toldBoth f d b w)
@@ -103,18 +110,18 @@ module _ (b w : List ℕ) (rs : List Record) (port slot : ℕ) (octets output : 
         ∙ nobody (seated (decodeBoard b) (decode w)) (tooLong rs) (wayIn (scanOf (queryOf asked) rs))
 
     number-is : (t : Bool) → receiveNumber (refusedBy (pick t 21 16)) ≡ pick t 21 16
-    unfolding receiveNumber partsOf
+    unfolding receiveNumber rulingParts headerParts
     number-is true = refl
     number-is false = refl
 
     other-promised : Promised (refusedBy (pick (tooLong rs) 21 16))
-    unfolding receiveAnswer receiveWords receiveOutput sentOutput
+    unfolding receiveAnswer receiveWords receiveOutput
     other-promised = (
       number-is (tooLong rs) ∙ ap (λ (n : ℕ). pick (tooLong rs) 21 n) (no-answer ℕ (λ (x : Board) (s : State). receiveNumber (heard x s)) 16),
       (
         sym (no-change (λ (x : Board) (s : State). receivedState x s (record { 0 = slot }) (refusedBy (pick (tooLong rs) 21 16))))
             ∙ no-change (λ (x : Board) (s : State). receivedState x s (record { 0 = slot }) (heard x s)),
-        no-answer (List ℕ) (λ (x : Board) (s : State). sentOutput (heard x s .ruling .took) octets output) output,
+        quiet (pick (tooLong rs) 21 16) ∙ no-answer (List ℕ) (λ (x : Board) (s : State). sentOutput (heard x s) octets output) output,
       ),
     )
 

@@ -23,7 +23,7 @@ receiveWords b w rs port slot octets room =
 
 unfoldable pub receiveOutput : List ℕ → List ℕ → List Record → ℕ → List ℕ → List ℕ → List ℕ
 receiveOutput b w rs port octets output =
-    toldBoth (λ (x : Board) (s : State). sentOutput (heardEnding x s rs port octets (length output) .ruling .took) octets output) output b w
+    toldBoth (λ (x : Board) (s : State). sentOutput (heardEnding x s rs port octets (length output)) octets output) output b w
 
 -- the contract: what is answered, and the words and the output that are left
 abbrev pub Receives : List ℕ → List ℕ → List Record → ℕ → ℕ → List ℕ → List ℕ → ℕ → List ℕ → List ℕ → Type 0

@@ -2,7 +2,7 @@
 -- word means, no more and no less; and the reader takes no unused bit that is set. Assumes nothing.
 use native.Mathlib.Omega.{arith}
 use native.Mathlib.Nat.{zero-mul, one-mul}
-use Prim.Native.Nat.{ℕ, zero, suc, _-_, _≤_, _<_}
+use Prim.Native.Nat.{ℕ, zero, suc, _+_, _-_, _≤_, _<_}
 use mathlib.Core.Path.{_≡_, refl, ap, sym, _∙_}
 use mathlib.Core.List.{List, [], _∷_, _++_}
 use mathlib.Core.Logic.{_⊎_, inl, inr, _↔_}
@@ -10,7 +10,7 @@ use lib.ListN.{getD, length, take}
 use lib.Seq.{length-take-le}
 use borrow.Author.Tests.{ne-eqb}
 use Rattle.octets.specs.Octets.{octet}
-use Rattle.header.specs.Limits.{mostData}
+use Rattle.header.specs.Limits.{mostData, lengthLimit}
 use Rattle.header.specs.Form.{controlOf, firstControl, secondControl, thirdControl, secondFollows, thirdFollows}
 use Rattle.header.specs.Read.{readOf}
 use Rattle.header.specs.Build.{present, headerOctets, sizeOf}
@@ -23,8 +23,8 @@ use Rattle.header.proofs.Bounds.{allowed}
 use Rattle.header.proofs.Passed.{passed}
 use Rattle.header.proofs.Answers.{read-in-range, read-bounds}
 use Rattle.header.proofs.Bits.{bits}
-use Rattle.header.proofs.BuiltLaws.{header-length}
-use Rattle.header.proofs.Trip.{built-control}
+use Rattle.header.proofs.BuiltLaws.{header-length, built-size}
+use Rattle.header.proofs.Trip.{formed-control}
 use Rattle.header.proofs.Back.{zero-or-one}
 use Rattle.header.proofs.Again.{shortest-least, as-long-shortest, built-again}
 
@@ -80,12 +80,18 @@ shortest-exactly s small = (
 
 -- ---- what is built, and what is read
 
+-- whatever stands behind a header of the built form, its control field is shortest and its unused bits are zero, wherever the datagram's length fits
+-- its field
+pub formed-shortest : (f : Fields) (n : ℕ) (rest : List ℕ) → InRange f → sizeOf f + n < lengthLimit
+    → shortest (controlOf (headerOctets f n ++ rest)) × unusedZero (controlOf (headerOctets f n ++ rest))
+formed-shortest f n rest r short =
+    let b = bits f r in
+    rw (formed-control f n rest r short) ((b .more, b .most), (b .allowed .zero21, b .allowed .zero29, b .allowed .zero32, b .allowed .zeros))
+
 -- whatever stands behind a built header, its control field is shortest and its unused bits are zero
 pub built-shortest : (f : Fields) (n : ℕ) (rest : List ℕ) → InRange f → n ≤ mostData
     → shortest (controlOf (headerOctets f n ++ rest)) × unusedZero (controlOf (headerOctets f n ++ rest))
-built-shortest f n rest r enough =
-    let b = bits f r in
-    rw (built-control f n rest r enough) ((b .more, b .most), (b .allowed .zero21, b .allowed .zero29, b .allowed .zero32, b .allowed .zeros))
+built-shortest f n rest r few = formed-shortest f n rest r (omega (arith, built-size f r .1))
 
 -- unused bits of a header that is read are zero: others are refused by 4
 pub read-unused-zero : (s : List ℕ) (h : Header) → readOf s ≡ Good h → unusedZero (controlOf s)

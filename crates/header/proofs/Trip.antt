@@ -125,13 +125,12 @@ begun f len last r short =
       size = rw (h .control, e .end, b .checksum);
     }
 
--- the control field of a built header, whatever stands behind it
-pub built-control : (f : Fields) (n : ℕ) (rest : List ℕ) → InRange f → n ≤ mostData → controlOf (headerOctets f n ++ rest) ≡ builtControl f
+-- the control field of a header of the built form, whatever stands behind it, wherever the datagram's length fits its field
+pub formed-control : (f : Fields) (n : ℕ) (rest : List ℕ) → InRange f → sizeOf f + n < lengthLimit → controlOf (headerOctets f n ++ rest) ≡ builtControl f
 unfolding headerOctets
-built-control f n rest r few =
+formed-control f n rest r short =
     let body = bodyOctets f (sizeOf f + n) in
-    let size = built-size f r in
-    rw (append-assoc body (checksumOctets (f .checksum) body) rest) (begun f (sizeOf f + n) (checksumOctets (f .checksum) body ++ rest) r (omega arith) .control)
+    rw (append-assoc body (checksumOctets (f .checksum) body) rest) (begun f (sizeOf f + n) (checksumOctets (f .checksum) body ++ rest) r short .control)
 
 -- a checksum element that is asked for is what it should be
 pub right : (on : ℕ) (body userData : List ℕ) → on ≡ 1
@@ -142,16 +141,16 @@ right on body userData e =
     let there : Stands s (length body) (octets 2 (checksumOf (body ++ 0 ∷ 0 ∷ []))) userData = record { is = rw e (drop-append-seam body _) } in
     number-there 2 _ there (omega arith) ∙ rw (take-append-seam body (checksumOctets on body ++ userData))
 
--- a built header, with at least n octets behind it, is read as what it was built from
-pub read-built : (f : Fields) (n : ℕ) (userData : List ℕ) → InRange f → n ≤ mostData → n ≤ length userData
+-- a header of the built form, with at least n octets behind it, is read as what it was built from, wherever the datagram's length fits its field
+pub read-formed : (f : Fields) (n : ℕ) (userData : List ℕ) → InRange f → sizeOf f + n < lengthLimit → n ≤ length userData
     → readOf (headerOctets f n ++ userData) ≡ Good (record { fields = f; length = sizeOf f + n; size = sizeOf f })
 unfolding headerOctets headerOf sizeOf builtControl
-read-built f n userData r short enough =
+read-formed f n userData r short enough =
     let len = sizeOf f + n in
     let body = bodyOctets f len in
     let s = body ++ (checksumOctets (f .checksum) body ++ userData) in
     let size = built-size f r in
-    let b = begun f len (checksumOctets (f .checksum) body ++ userData) r (omega arith) in
+    let b = begun f len (checksumOctets (f .checksum) body ++ userData) r short in
     let cut : headerOctets f n ++ userData ≡ s = append-assoc body _ userData in
     let long : length s ≡ sizeOf f + length userData =
     omega (arith, ap length cut, length-append (headerOctets f n) userData, header-length f n (r .checksum)) in
@@ -167,3 +166,8 @@ read-built f n userData r short enough =
       right = λ on. rw (b .checksum) (right (f .checksum) body userData (sym (bits f r .checksum) ∙ rw (b .control) at on));
       is = rw (b .fields, b .length-is, b .size);
     }))
+
+-- with the builder's limit of data it always does
+pub read-built : (f : Fields) (n : ℕ) (userData : List ℕ) → InRange f → n ≤ mostData → n ≤ length userData
+    → readOf (headerOctets f n ++ userData) ≡ Good (record { fields = f; length = sizeOf f + n; size = sizeOf f })
+read-built f n userData r few enough = read-formed f n userData r (omega (arith, built-size f r .1)) enough

@@ -1,41 +1,61 @@
--- Demand 2, the domain, when a copy goes out and of the octets that go out: each copy that waits on a port names there, at that moment, the systems
--- that it named where it came in. A port that is set up is never written anew: 35 prevents it. The theorem is `waiting-copies-name-the-same`. Assumes
--- nothing.
-use Prim.Native.Nat.{ℕ, suc, _<_}
+-- Demand 2, the domain, when a copy goes out and of the octets that go out (page 02, W-214): what each copy that waits on a port goes out as names there, at
+-- that moment, the systems that what came named where it came in. A port that is set up is never written anew: 35 prevents it. The theorem is
+-- `waiting-copies-name-the-same`, and `goes-out` is how the octets are read. Assumes nothing.
+use native.Mathlib.Omega.{arith}
+use Prim.Native.Nat.{ℕ, suc, _+_, _/_, _^_, _<_, _≤_}
 use mathlib.Core.Path.{_≡_, refl, sym, ap, _∙_}
-use mathlib.Core.Bool.{Bool, true, false}
+use mathlib.Core.Bool.{Bool, true, false, not, and-false}
 use mathlib.Core.List.{List, [], _∷_}
 use lib.ListN.{length}
-use lib.Dec.{eqb, ltb}
+use lib.Dec.{eqb, ltb, leb}
+use borrow.Author.Tests.{ltb-true, ltb-false, ne-eqb, lt-leb}
 use Rattle.checks.specs.Order.{pick, firstOf}
 use Rattle.checks.proofs.Bools.{true-false, and-true}
+use Rattle.checks.proofs.Laws.{either}
 use Rattle.sets.specs.Sets.{inSet}
+use Rattle.address.specs.Class.{classNumber, between, familyOf, classIn, classOf}
+use Rattle.address.specs.Octets.{dotted}
+use Rattle.address.specs.declared.Address.{Address}
+use Rattle.address.specs.declared.Class.the-variants.{Unicast}
+use Rattle.address.specs.declared.Family.the-variants.{Invalid}
 use Rattle.address.specs.declared.Slot.{Slot}
+use Rattle.header.specs.Limits.{lengthLimit}
 use Rattle.header.specs.Read.{readOf}
 use Rattle.header.specs.declared.Header.{Header}
 use Rattle.header.specs.declared.Read.{Read}
 use Rattle.header.specs.declared.Read.the-variants.{Good, Refused}
+use Rattle.header.proofs.Answers.{read-bounds}
 use Rattle.networks.specs.Networks.{domainOf}
 use Rattle.meaning.specs.Arrival.{arrivalChecks}
 use Rattle.meaning.specs.Asked.{precedenceAsked}
 use Rattle.meaning.specs.Names.{aimOf, originOf}
+use Rattle.next_leg.specs.Leg.{nextFields, dataOf, nextSize, nextLength, nextHeader}
+use Rattle.next_leg.proofs.ReadBack.{next-length-parts, read-next}
 use Rattle.queue.specs.Order.{Each}
 use Rattle.records.specs.SetUp.{isSetUp}
 use Rattle.records.specs.declared.Port.{Port}
+use Rattle.routes.specs.Search.{longerMask}
 use Rattle.routes.specs.declared.Record.{Record}
+use Rattle.settings.specs.Refusals.{otherClass, portClassRefused}
 use Rattle.state.specs.Relay.{Relay, portIn, amongPorts, portSetUp}
+use Rattle.state.specs.Seen.{ownedAt}
+use Rattle.state.proofs.Seen.{seen-set-up}
 use Rattle.judge.specs.Ending.{refusedBy, callChecks, headerEnding, octetsEnding, ruledEnding, arrivalAt, endingOf}
 use Rattle.judge.specs.declared.Ending.{Ending}
 use Rattle.history.specs.Seat.{Seat, freshSeat, relayIn, relayWith, heardBy}
 use Rattle.history.specs.Calls.{sets, hears, takes, looks, Call, operator, own}
 use Rattle.history.specs.Outcome.{next, runFrom, seatAfter}
-use Rattle.history.specs.Line.{Copy, copyOf, takenBy, lineBy, lineFrom, lineAt}
-use Rattle.page.specs.Table.{oneOctet, hasRoom}
-use Rattle.page.proofs.Bits.{in-none}
+use Rattle.history.specs.Ranges.{Octets}
+use Rattle.history.specs.Line.{Copy, copyOf, sentOf, takenBy, lineBy, lineFrom, lineAt}
+use Rattle.page.specs.Table.{oneOctet, liesFar, hasRoom, verdictBy}
+use Rattle.survey.proofs.Bits.{in-none}
 use Rattle.page.proofs.Exactly.{took-exactly}
+use Rattle.page.proofs.Headers.{headers-of-any-relay}
+use Rattle.page.proofs.Verdict.{masks-choose}
 use Rattle.history.proofs.Heard.{heard-so}
 use Rattle.history.proofs.Ports.{seen-stays}
-use Rattle.history.proofs.Meaning.{stays-in-its-domain, names-the-same}
+use Rattle.history.proofs.Meaning.{has-passed, arrival-set-up, stays-in-its-domain, names-the-same}
+use Rattle.history.proofs.Reach.{Kept, one-kept, fresh-kept}
 use Rattle.history.proofs.Line.{line-each}
 use Rattle.history.proofs.Ranges.{NoneWaits, none-comes, next-none}
 
@@ -74,14 +94,71 @@ took-read seat rs port octets room =
     heard-so seat rs port octets room (λ (e : Ending). (e .ruling .took ≡ 0 → ⊥) → WasRead octets e)
     (λ took. absurd (took refl)) (page-read (relayWith seat rs) port octets room)
 
--- ---- what a copy named at the port that it came in by, it names at the port where it waits, as that port stands
+-- ---- a port that is set up has a unicast address, and so one of 32 bits
+between-above : (low high n : ℕ) → high < n → between low high n ≡ false
+between-above low high n h = rw (lt-leb n high h) (and-false (leb low n))
+
+family-above : (first : ℕ) → 256 ≤ first → familyOf first ≡ Invalid
+unfolding familyOf
+family-above first h =
+    simp
+    (ne-eqb first 10 (λ z. omega arith), between-above 1 126 first (omega arith), between-above 128 191 first (omega arith), between-above 192 223 first (omega arith), between-above 224 239 first (omega arith))
+
+class-above : (v : ℕ) → 2 ^ 32 ≤ v → eqb (classNumber (classOf v)) (classNumber Unicast) ≡ false
+unfolding classOf classIn
+class-above v h =
+    rw (family-above (v / 2 ^ 24) (omega arith)) (either (λ c. eqb (classNumber c) (classNumber Unicast) ≡ false) (eqb v (dotted 255 255 255 255)) refl refl)
+
+unicast-small : (a : Address) → portClassRefused a ≡ false → a .0 < 2 ^ 32
+unfolding otherClass
+unicast-small a h = by (ltb (a .0) (2 ^ 32)) refl
+  where
+    by : (t : Bool) → ltb (a .0) (2 ^ 32) ≡ t → a .0 < 2 ^ 32
+    by true e = ltb-true (a .0) (2 ^ 32) e
+    by false e = true-false (sym (ap not (class-above (a .0) (ltb-false (a .0) (2 ^ 32) e))) ∙ h)
+
+pub set-up-small : (seat : Seat) → Kept seat → (p : ℕ) → portSetUp (relayIn seat) p ≡ true → portIn (relayIn seat) p .address .0 < 2 ^ 32
+unfolding amongPorts
+set-up-small seat k p up =
+    let both = and-true (ltb p 8) (isSetUp (portIn (relayIn seat) p)) up in
+    let seen = seen-set-up (seat .board) p (seat .number) (both .1) in
+    let good = k .board .good p (ltb-true p 8 (both .0)) (ap isSetUp (sym (seen .1)) ∙ both .1) in
+    rw (seen .1) (unicast-small (ownedAt (seat .board) p .port .address) (good .0))
+
+-- ---- what a copy named at the port that it came in by, what goes out names at the port where it waits, as that port stands
 pub record NamesTheSame (x : Port) (c : Copy) : Type 0 where
-  pub header : Header
-  pub read : readOf (c .octets) ≡ Good header
-  pub size : c .size ≡ header .size
-  pub aim : aimOf (x .address .0) (header .fields .addresses) ≡ aimOf (c .arrival .0) (header .fields .addresses)
-  pub origin : originOf (x .address .0) (header .fields .addresses) ≡ originOf (c .arrival .0) (header .fields .addresses)
-  pub domain : oneOctet (header .fields .addresses) ≡ true → domainOf (x .address) ≡ domainOf (c .arrival)
+  -- the header that came
+  pub came : Header
+  pub read : readOf (c .octets) ≡ Good came
+  pub size : c .size ≡ came .size
+  -- the address that one-octet ones are filled in from
+  pub arrival : c .arrival .0 < 2 ^ 32
+  -- the header that goes out is the one that W-214 gives it, by whether the port lies in another domain and by what the route taken asks for
+  pub far : Bool
+  pub lies : far ≡ not (eqb (domainOf (x .address)) (domainOf (c .arrival)))
+  pub code : ℕ
+  pub header : c .header ≡ nextHeader far (c .arrival .0) code (c .octets)
+  pub short : nextLength far (c .arrival .0) code came < lengthLimit
+  pub aim : aimOf (x .address .0) (nextFields far (c .arrival .0) code (came .fields) .addresses) ≡ aimOf (c .arrival .0) (came .fields .addresses)
+  pub origin : originOf (x .address .0) (nextFields far (c .arrival .0) code (came .fields) .addresses) ≡ originOf (c .arrival .0) (came .fields .addresses)
+  pub domain : oneOctet (nextFields far (c .arrival .0) code (came .fields) .addresses) ≡ true → domainOf (x .address) ≡ domainOf (c .arrival)
+
+-- the header of such a copy, as it goes out
+abbrev pub goesOf : {x : Port} {c : Copy} → NamesTheSame x c → Header
+goesOf {x} {c} n =
+    record {
+      fields = nextFields (n .far) (c .arrival .0) (n .code) (n .came .fields);
+      length = nextLength (n .far) (c .arrival .0) (n .code) (n .came);
+      size = nextSize (n .far) (c .arrival .0) (n .code) (n .came);
+    }
+
+-- Where what came are octets, what goes out is read as that header, and its length field is header plus the data that came.
+pub goes-out : {x : Port} {c : Copy} (n : NamesTheSame x c) → Octets (c .octets)
+    → (readOf (sentOf c) ≡ Good (goesOf n)) × (goesOf n .length ≡ goesOf n .size + dataOf (n .came))
+goes-out {x} {c} n octets = (
+  rw (n .header, n .size) (read-next (n .far) (c .arrival .0) (n .code) (c .octets) (n .came) octets (n .arrival) (n .read) (n .short)),
+  next-length-parts (n .far) (c .arrival .0) (n .code) (n .came) (read-bounds (c .octets) (n .came) octets (n .read) .1 .1 .0),
+)
 
 module _ (p : ℕ) (inside : p < 8) where
   abbrev AllNamed : Seat → List Copy → Type 0
@@ -89,46 +166,52 @@ module _ (p : ℕ) (inside : p < 8) where
 
   -- ---- a datagram: the copy that enters
   module _ (seat : Seat) (rs : List Record) (n port : ℕ) (slot : Slot) (octets : List ℕ) (room : ℕ) where
-    page-copy : inSet p (endingOf (relayWith seat rs) port octets room .ruling .took) ≡ true
-        → NamesTheSame (portIn (relayIn seat) p) (copyOf n seat port slot octets (endingOf (relayWith seat rs) port octets room))
-    page-copy took =
+    page-copy : Kept seat → inSet p (endingOf (relayWith seat rs) port octets room .ruling .took) ≡ true
+        → NamesTheSame (portIn (relayIn seat) p) (copyOf p n seat port slot octets (endingOf (relayWith seat rs) port octets room))
+    page-copy k took =
         let r = relayWith seat rs in
         let was = page-read r port octets room (λ z. true-false (sym (sym (ap (inSet p) z) ∙ took) ∙ in-none p)) in
         let granted =
         and-true (inSet p (endingOf r port octets room .ruling .granted)) (hasRoom r p) (sym (took-exactly r port octets room p inside) ∙ took) .0 in
-        let names = names-the-same p inside r port octets room (was .header) (was .read) granted in
+        let names = names-the-same longerMask r (masks-choose r) p inside port octets room (was .header) (was .read) granted in
         record {
-          header = was .header;
+          came = was .header;
           read = was .read;
           size = was .size;
+          arrival = set-up-small seat k port (arrival-set-up longerMask r (masks-choose r) p inside port octets room (was .header) (was .read) granted);
+          far = liesFar r port p;
+          lies = refl;
+          code = verdictBy longerMask r port octets room .code;
+          header = headers-of-any-relay r port octets room .header p inside took;
+          short = has-passed longerMask r (masks-choose r) p inside port octets room (was .header) (was .read) granted .short;
           aim = names .0;
           origin = names .1;
-          domain = stays-in-its-domain p inside r port octets room (was .header) (was .read) granted;
+          domain = stays-in-its-domain longerMask r (masks-choose r) p inside port octets room (was .header) (was .read) granted;
         }
 
-    new-copy : inSet p (heardBy seat rs port octets room .ruling .took) ≡ true
-        → NamesTheSame (portIn (relayIn seat) p) (copyOf n seat port slot octets (heardBy seat rs port octets room))
-    new-copy =
+    new-copy : Kept seat → inSet p (heardBy seat rs port octets room .ruling .took) ≡ true
+        → NamesTheSame (portIn (relayIn seat) p) (copyOf p n seat port slot octets (heardBy seat rs port octets room))
+    new-copy k =
         heard-so seat rs port octets room
-        (λ (e : Ending). inSet p (e .ruling .took) ≡ true → NamesTheSame (portIn (relayIn seat) p) (copyOf n seat port slot octets e))
-        (λ z. true-false (sym z ∙ in-none p)) page-copy
+        (λ (e : Ending). inSet p (e .ruling .took) ≡ true → NamesTheSame (portIn (relayIn seat) p) (copyOf p n seat port slot octets e))
+        (λ z. true-false (sym z ∙ in-none p)) (page-copy k)
 
   enters-case : (t : Bool) (seat : Seat) (c : Copy) → (t ≡ true → NamesTheSame (portIn (relayIn seat) p) c) → AllNamed seat (pick t (c ∷ []) [])
   enters-case true seat c f = (f refl, tt)
   enters-case false seat c f = tt
 
-  entered-named : (n : ℕ) (seat : Seat) (c : Call) → AllNamed seat (takenBy p n seat c)
-  entered-named n seat (operator c) = tt
-  entered-named n seat (own (sets s)) = tt
-  entered-named n seat (own (hears rs port slot octets output)) =
+  entered-named : (n : ℕ) (seat : Seat) → Kept seat → (c : Call) → AllNamed seat (takenBy p n seat c)
+  entered-named n seat k (operator c) = tt
+  entered-named n seat k (own (sets s)) = tt
+  entered-named n seat k (own (hears rs port slot octets output)) =
       let e = heardBy seat rs port octets (length output) in
-      enters-case (inSet p (e .ruling .took)) seat (copyOf n seat port slot octets e) (new-copy seat rs n port slot octets (length output))
-  entered-named n seat (own (takes port)) = tt
-  entered-named n seat (own (looks l)) = tt
+      enters-case (inSet p (e .ruling .took)) seat (copyOf p n seat port slot octets e) (new-copy seat rs n port slot octets (length output) k)
+  entered-named n seat k (own (takes port)) = tt
+  entered-named n seat k (own (looks l)) = tt
 
   -- ---- a call leaves some of them, and the port as it is where anything waits
-  line-named : (n : ℕ) (seat : Seat) (c : Call) (line : List Copy) → AllNamed seat line → AllNamed seat (lineBy p n seat c line)
-  line-named n seat c line all = line-each p (NamesTheSame (portIn (relayIn seat) p)) n seat c line all (entered-named n seat c)
+  line-named : (n : ℕ) (seat : Seat) → Kept seat → (c : Call) (line : List Copy) → AllNamed seat line → AllNamed seat (lineBy p n seat c line)
+  line-named n seat k c line all = line-each p (NamesTheSame (portIn (relayIn seat) p)) n seat c line all (entered-named n seat k c)
 
   port-case : (seat : Seat) (n : ℕ) (c : Call) (line : List Copy) → NoneWaits p seat line → (t : Bool) → portSetUp (relayIn seat) p ≡ t
       → AllNamed seat (lineBy p n seat c line) → AllNamed (next seat c) (lineBy p n seat c line)
@@ -136,16 +219,16 @@ module _ (p : ℕ) (inside : p < 8) where
   port-case seat n c line idle true up all = rw (seen-stays seat c p (and-true (ltb p 8) (isSetUp (portIn (relayIn seat) p)) up .1)) all
   port-case seat n c line idle false up all = rw (none-comes p seat n c line idle up) tt
 
-  next-named : (seat : Seat) (n : ℕ) (c : Call) (line : List Copy) → NoneWaits p seat line → AllNamed seat line
+  next-named : (seat : Seat) → Kept seat → (n : ℕ) (c : Call) (line : List Copy) → NoneWaits p seat line → AllNamed seat line
       → AllNamed (next seat c) (lineBy p n seat c line)
-  next-named seat n c line idle all = port-case seat n c line idle (portSetUp (relayIn seat) p) refl (line-named n seat c line all)
+  next-named seat k n c line idle all = port-case seat n c line idle (portSetUp (relayIn seat) p) refl (line-named n seat k c line all)
 
-  all-named : (cs : List Call) (n : ℕ) (seat : Seat) (line : List Copy) → NoneWaits p seat line → AllNamed seat line
+  all-named : (cs : List Call) (n : ℕ) (seat : Seat) → Kept seat → (line : List Copy) → NoneWaits p seat line → AllNamed seat line
       → AllNamed (runFrom seat cs) (lineFrom p n seat line cs)
-  all-named [] n seat line idle all = all
-  all-named (c ∷ cs) n seat line idle all =
-      all-named cs (suc n) (next seat c) (lineBy p n seat c line) (next-none p seat n c line idle) (next-named seat n c line idle all)
+  all-named [] n seat k line idle all = all
+  all-named (c ∷ cs) n seat k line idle all =
+      all-named cs (suc n) (next seat c) (one-kept seat c k) (lineBy p n seat c line) (next-none p seat n c line idle) (next-named seat k n c line idle all)
 
-  -- After any history each copy that waits on port p names there what it named where it came in.
+  -- After any history each copy that waits on port p goes out with a header that names there what the one that came named where it came in.
   pub waiting-copies-name-the-same : (m : ℕ) (cs : List Call) → Each (NamesTheSame (portIn (relayIn (seatAfter m cs)) p)) (lineAt p m cs)
-  waiting-copies-name-the-same m cs = all-named cs 0 (freshSeat m) [] (λ h. refl) tt
+  waiting-copies-name-the-same m cs = all-named cs 0 (freshSeat m) (fresh-kept m) [] (λ h. refl) tt

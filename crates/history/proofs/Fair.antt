@@ -12,7 +12,7 @@ use Rattle.state.specs.Relay.{queueAt}
 use Rattle.verdict.specs.declared.Ruling.{Ruling}
 use Rattle.judge.specs.Ending.{noRuling, endingOf}
 use Rattle.judge.specs.declared.Ending.{Ending}
-use Rattle.page.proofs.Bits.{in-none}
+use Rattle.survey.proofs.Bits.{in-none}
 use Rattle.page.proofs.Exactly.{took-exactly, dropped-exactly}
 use Rattle.history.specs.Seat.{Seat, relayWith, heardBy}
 use Rattle.history.specs.Ledger.{one}

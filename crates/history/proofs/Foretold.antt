@@ -21,6 +21,8 @@ use Rattle.address.specs.Octets.{dotted}
 use Rattle.address.specs.Class.{familyOf, scpsClass, classIn, classOf}
 use Rattle.address.specs.Mask.{onesBelow, onesOf, maskForm}
 use Rattle.address.specs.declared.Slot.{Slot}
+use Rattle.header.specs.Build.{checksumOctets}
+use Rattle.header.specs.Onward.{lessened, sentBody, headerSentOn}
 use Rattle.header.specs.Form.{controlOf, forbidden, addressSize, stampSize, layoutOf}
 use Rattle.header.specs.Read.{addressesOf, qosOf, octetOf, lengthOf, fieldsOf, headerOf, readChecks, readOf}
 use Rattle.queue.specs.Order.{Each, insertBy, Placed}
@@ -40,12 +42,13 @@ use Rattle.routes.specs.declared.Record.{Record}
 use Rattle.records.specs.Owned.{seenPort}
 use Rattle.state.specs.Relay.{queueAt, amongPorts, portSetUp}
 use Rattle.state.specs.Seen.{freshBoard, freshMission, portsSeen}
-use Rattle.survey.specs.Survey.{ownBroadcast, surveyBelow}
+use Rattle.survey.specs.Survey.{namedBelow, ownBroadcast, surveyBelow}
 use Rattle.taking.specs.Taking.{takeOutcome, takenRelay}
 use Rattle.taking.specs.declared.Taking.{Taking}
 use Rattle.taking.specs.declared.Taking.the-variants.{Handed, Refused}
-use Rattle.judge.specs.Ruling.{ruledBy, ruleTarget, ruleOf}
-use Rattle.judge.specs.Ending.{endingOf, callChecks, headerEnding}
+use Rattle.judge.specs.Ruling.{ruledBy, ruleTarget, ruleOf, legsFor}
+use Rattle.next_leg.specs.Leg.{rewrites, nextLength, nextHeader, legsOf}
+use Rattle.judge.specs.Ending.{endingOf, outputRoom, callChecks, headerEnding}
 use Rattle.relay.specs.Outgoing.{enteredIf, enteredAll}
 use Rattle.relay.specs.Received.{receivedRelay, heardEnding}
 use Rattle.history.specs.Seat.{Seat, freshSeat, relayIn}
@@ -70,7 +73,7 @@ use Rattle.history.specs.Ledger.{one as oneIf, outBy, handedOut}
 use Rattle.history.specs.Line.{Copy, entryOf, takenBy, handedBy, leftBy, lineBy, lineFrom, takenFrom, handedFrom, lineAt, takenAt, takingOf, times, InTurn}
 use Rattle.history.specs.Foretold.{andThen, handedSince, takesSince, answeredBy, answeredFrom, answeredSince, before, Idle, isHanded, waitsFrom, higherEnter, CountsNothing, takenSince, whileWaits}
 use Rattle.history.proofs.Line.{queue-waits, taken-turn, taken-later, taken-in-turn, line-turns}
-use Rattle.page.proofs.Bits.{in-none}
+use Rattle.survey.proofs.Bits.{in-none}
 use Rattle.history.proofs.Untaken.{took-none}
 use Rattle.history.proofs.Takes.{take-is}
 
@@ -498,7 +501,7 @@ abbrev datagram : ℕ → List ℕ
 datagram precedence = 32 ∷ 7 ∷ 26 ∷ 66 ∷ 255 ∷ 20 ∷ 16 * precedence ∷ []
 
 abbrev heard : ℕ → ℕ → Call
-heard port precedence = own (hears [] port (record { 0 = 7 }) (datagram precedence) (replicate 50 0))
+heard port precedence = own (hears [] port (record { 0 = 7 }) (datagram precedence) (replicate outputRoom 0))
 
 -- the copy on port 1 of what call n brought by port 0
 abbrev copy : ℕ → ℕ → Copy
@@ -508,6 +511,7 @@ copy n precedence =
       arrival = record { 0 = dotted 10 4 9 14 };
       octets = datagram precedence;
       size = 7;
+      header = datagram precedence;
       entry = record { slot = record { 0 = 7 }; precedence = precedence };
     }
 
@@ -595,7 +599,7 @@ mistakes =
     ∷ []
 
 breaks : Each Breaks mistakes
-unfolding firstOf heardEnding endingOf callChecks amongPorts portsSeen seenPort otherClass classOf classIn familyOf scpsClass portMaskRefused formRefused maskForm onesOf onesBelow onesRefused freshBoard freshMission freshQueue readOf readChecks controlOf forbidden lengthOf layoutOf addressSize stampSize headerEnding headerOf fieldsOf qosOf addressesOf aimOf originOf ruleOf ruleTarget ruledBy rulingOf grantedOf lineOf targetOf surveyBelow ownBroadcast subnetBroadcast octetOf copiesOf takeOutcome receivedRelay enteredAll enteredIf putOf takeOf insertBy chosen takenRelay
+unfolding firstOf heardEnding endingOf callChecks amongPorts portsSeen seenPort otherClass classOf classIn familyOf scpsClass portMaskRefused formRefused maskForm onesOf onesBelow onesRefused freshBoard freshMission freshQueue readOf readChecks controlOf forbidden lengthOf layoutOf addressSize stampSize headerEnding headerOf fieldsOf qosOf addressesOf aimOf originOf ruleOf ruleTarget ruledBy rulingOf grantedOf lineOf targetOf surveyBelow ownBroadcast namedBelow subnetBroadcast octetOf copiesOf takeOutcome receivedRelay enteredAll enteredIf putOf takeOf insertBy chosen takenRelay rewrites nextLength nextHeader legsFor legsOf lessened sentBody headerSentOn checksumOctets
 breaks = ((refl, refl, refl, refl), ((refl, refl, refl, refl), ((refl, refl, refl, refl), ((refl, refl, refl, refl), ((refl, refl, refl, refl), tt)))))
 
 pub all-mistaken : Each (λ (m : Mistake). Holds (m .rule) → ⊥) mistakes

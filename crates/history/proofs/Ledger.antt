@@ -29,7 +29,7 @@ use Rattle.history.specs.Seat.{Seat, freshSeat, relayIn, heardBy}
 use Rattle.history.specs.Calls.{orders, views, sets, hears, takes, looks, Call, operator, own, settle}
 use Rattle.history.specs.Outcome.{ofTaking, outcome, next, runFrom, seatAfter, sumFrom, sumOver}
 use Rattle.history.specs.Ledger.{one, granted, dropped, handedOut}
-use Rattle.page.proofs.Bits.{in-none}
+use Rattle.survey.proofs.Bits.{in-none}
 use Rattle.history.proofs.Fair.{Fair, fair}
 use Rattle.history.proofs.Queues.{Eight, eight-entered, entered-queue, put-count, take-count}
 use Rattle.history.proofs.Settled.{queues-of, settle-queues}

@@ -74,7 +74,7 @@ module _ (p : ℕ) (inside : p < 8) where
   heard-waits seat n rs port slot octets output line l w =
       let r = relayIn seat in
       let e = heardBy seat rs port octets (length output) in
-      let c = copyOf n seat port slot octets e in
+      let c = copyOf p n seat port slot octets e in
       rw (entered-queue p inside (e .ruling .took) (entryOf c) 8 r l inside)
       (put-case (inSet p (e .ruling .took)) r line c w (fair seat p inside rs port octets (length output) .room))
 

@@ -4,7 +4,6 @@ use Prim.Native.Nat.{ℕ}
 use mathlib.Core.Path.{_≡_, refl, sym, ap, _∙_}
 use mathlib.Core.Bool.{Bool, true, false, not, _&&_, _||_, or-true}
 use mathlib.Core.List.{List, [], _∷_}
-use lib.ListN.{length}
 use lib.Bits.{bitAnd}
 use lib.Dec.{eqb}
 use borrow.Author.Tests.{eqb-true, eqb-false}
@@ -40,7 +39,6 @@ use Rattle.verdict.specs.declared.Wish.the-variants.{NotAsked, Refused, Wanted}
 use Rattle.verdict.specs.declared.Survey.{Survey}
 use Rattle.verdict.specs.declared.Ruling.{Ruling}
 use Rattle.verdict.proofs.Promises.{no-is-asked}
-use Rattle.networks.specs.Networks.{domainOf}
 use Rattle.meaning.specs.Names.{aimOf}
 use Rattle.meaning.specs.declared.Aim.{Aim}
 use Rattle.meaning.specs.declared.Aim.the-variants.{Node, Path, Uncarried}
@@ -49,7 +47,7 @@ use Rattle.survey.specs.declared.Sought.{Sought}
 use Rattle.lookup.specs.Lookup.{pathPlace}
 use Rattle.header.proofs.Refusals.{never-zero}
 use Rattle.lookup.specs.ForTarget.{placeFor, wayFor}
-use Rattle.judge.specs.Ruling.{caseOf, soughtOf, ruledBy, ruleTarget, ruleAim, ruleOf}
+use Rattle.judge.specs.Ruling.{caseOf, destinationAsked, soughtOf, legFor, ruledBy, ruleTarget, ruleAim, ruleOf}
 use Rattle.judge.specs.declared.ruling.Arrival.{Arrival}
 use Rattle.meaning.specs.Arrival.{arrivalChecks}
 use Rattle.taking.specs.Taking.{handsOut, takeOutcome}
@@ -180,7 +178,7 @@ module _ (bare : Bool) where
   route-numbered : (w : Way) → Numbered (routeLine w)
   unfolding routeLine
   route-numbered Lost = other NoRoute refl
-  route-numbered (By port) = refl
+  route-numbered (By port code) = refl
 
   router-numbered : (t : Target) (p : Place) (w : Way) (arrival ready : ℕ) → Numbered (routerLine t p w arrival ready)
   router-numbered target.Here p w arrival ready = refl
@@ -229,11 +227,11 @@ module _ (bare : Bool) where
   hops-good (Refused n) spent h = h
   hops-good (Wanted set) spent h = either Good (eqb spent 0) refl (other bare HopsUsedUp refl)
 
-  domain-good : (l : Wish) (basic domain : ℕ) → Good l → Good (afterDomain l basic domain)
-  domain-good NotAsked basic domain h = h
-  domain-good (Refused n) basic domain h = h
-  domain-good (Wanted set) basic domain h =
-      either Good (eqb basic 0) refl (either Good (eqb (bitAnd set domain) 0) (other bare LeavesDomain refl) refl)
+  domain-good : (l : Wish) (bound domain : ℕ) → Good l → Good (afterDomain l bound domain)
+  domain-good NotAsked bound domain h = h
+  domain-good (Refused n) bound domain h = h
+  domain-good (Wanted set) bound domain h =
+      either Good (eqb bound 0) refl (either Good (eqb (bitAnd set domain) 0) (other bare LeavesDomain refl) refl)
 
   size-good : (l : Wish) (fitting : ℕ) → Good l → Good (afterSize l fitting)
   size-good NotAsked fitting h = h
@@ -244,8 +242,8 @@ module _ (bare : Bool) where
   unfolding grantedOf
   granted-good l c s h =
       let hops = afterHops l (c .spent) in
-      let domain = afterDomain hops (c .basic) (s .domain) in
-      size-good domain (s .fitting) (domain-good hops (c .basic) (s .domain) (hops-good l (c .spent) h))
+      let domain = afterDomain hops (c .bound) (s .domain) in
+      size-good domain (s .fitting) (domain-good hops (c .bound) (s .domain) (hops-good l (c .spent) h))
 
 -- ---- the rows of a datagram that was judged
 abbrev Judged : Ruling → Type 0
@@ -313,18 +311,19 @@ judged t p w c s =
 -- ---- what holds of every ruling holds of every ending
 
 -- a law of every ruling, and of none, is one of every ending
-module _ (P : Ruling → Type 0) (every : (r : Relay) (q : Sought) (t : Target) (p : Place) (w : Way) (c : Case) → P (ruledBy t p w c (surveyOf r q))) where
-  every-aim : (r : Relay) (q : Sought) (x : Aim) (c : Case) → P (ruleAim r x c (surveyOf r q))
+module _ (P : Ruling → Type 0)
+    (every : (r : Relay) (x : Aim) (q : Sought) (t : Target) (p : Place) (w : Way) (c : Case) → P (ruledBy t p w c (surveyOf r (destinationAsked x) q))) where
+  every-aim : (r : Relay) (q : Sought) (x : Aim) (c : Case) → P (ruleAim r x c (surveyOf r (destinationAsked x) q))
   unfolding ruleTarget
   every-aim r q (Node a) c =
-      let t = targetOf (classOf (a .0)) (surveyOf r q) in
-      every r q t (placeFor r t a (c .arrival)) (wayFor r t a) c
-  every-aim r q (Path x) c = every r q target.Path (pathPlace r x) Lost c
-  every-aim r q Uncarried c = every r q target.Route Missing Lost c
+      let t = targetOf (classOf (a .0)) (surveyOf r (destinationAsked (Node a)) q) in
+      every r (Node a) q t (placeFor r t a (c .arrival)) (wayFor r t a) c
+  every-aim r q (Path x) c = every r (Path x) q target.Path (pathPlace r x) Lost c
+  every-aim r q Uncarried c = every r Uncarried q target.Route Missing Lost c
 
   every-rule : (r : Relay) (at : Arrival) (x : Aim) (h : Header) → P (ruleOf r at x h)
   unfolding ruleOf
-  every-rule r at x h = every-aim r (soughtOf x (domainOf (at .address)) (h .length)) x (caseOf (r .router) (at .set) (h .fields))
+  every-rule r at x h = every-aim r (soughtOf (legFor r at x h)) x (caseOf (r .router) (at .set) (h .fields))
 
   ended-or : (t : Bool) (n : ℕ) (e : Ending) → eqb n 0 ≡ t → (e .refusal ≡ 0 → P (e .ruling)) → pick t e (refusedBy n) .refusal ≡ 0 → P (pick t e (refusedBy n) .ruling)
   ended-or true n e z f h = f h
@@ -357,7 +356,7 @@ module _ (P : Ruling → Type 0) (every : (r : Relay) (q : Sought) (t : Target) 
   of-any-ending none r port octets room = any-case none r port octets room _ refl
 
 judged-ending : (r : Relay) (port : ℕ) (octets : List ℕ) (room : ℕ) → endingOf r port octets room .refusal ≡ 0 → Judged (endingOf r port octets room .ruling)
-judged-ending = of-every-ending Judged (λ r q t p w c. judged t p w c (surveyOf r q))
+judged-ending = of-every-ending Judged (λ r x q t p w c. judged t p w c (surveyOf r (destinationAsked x) q))
 
 -- ---- receiving
 refused-row : (n : ℕ) → eqb n 0 ≡ false → listed endNumbers n ≡ true → stands endingRows (ended n 0 0 0) ≡ true

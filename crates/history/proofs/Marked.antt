@@ -10,8 +10,9 @@ use Rattle.header.specs.Form.{controlOf, forbidden, addressSize, stampSize, lay
 use Rattle.header.specs.Read.{addressesOf, qosOf, octetOf, stampOf, lengthOf, fieldsOf, headerOf, readChecks, readOf}
 use Rattle.meaning.specs.Names.{aimOf, originOf}
 use Rattle.networks.specs.Networks.{subnetBroadcast, broadcastIn, classBroadcast}
-use Rattle.survey.specs.Survey.{ownBroadcast, surveyBelow}
+use Rattle.survey.specs.Survey.{ownBroadcast, surveyBelow, namedBelow}
 use Rattle.verdict.specs.Rule.{targetOf, localOf, routeLine, lineOf, grantedOf, copiesOf, rulingOf}
+use Rattle.next_leg.specs.Leg.{rewrites, nextLength}
 use Rattle.judge.specs.Ruling.{ruledBy, ruleTarget, ruleOf}
 use Rattle.judge.specs.Ending.{callChecks, headerEnding, endingOf}
 use Rattle.settings.specs.Refusals.{otherClass, portMaskRefused, formRefused, onesRefused}
@@ -32,7 +33,7 @@ use Rattle.history.specs.Marked.{Marked, markedCases}
 
 -- the rules, opened all at once: where this is unfolded, the calls of a closed history compute
 unfoldable pub opened : Unit {0}
-unfolding firstOf classOf classIn familyOf scpsClass netClass otherClass portMaskRefused formRefused onesRefused maskForm onesOf onesBelow fresh freshBoard freshMission seenPort portsSeen allPorts readyOf amongPorts stands counts seenRoute routesSeen prefixRefused codesRefused number controlOf forbidden addressSize stampSize layoutOf addressesOf qosOf octetOf stampOf lengthOf fieldsOf headerOf readChecks readOf aimOf originOf subnetBroadcast broadcastIn classBroadcast ownBroadcast surveyBelow targetOf localOf routeLine lineOf grantedOf copiesOf rulingOf ruledBy ruleTarget ruleOf callChecks headerEnding endingOf heardEnding receivedRelay enteredAll enteredIf putOf takeOf insertBy takeOutcome takenRelay matched candidate beaten betterOf searchFrom searchOf
+unfolding firstOf classOf classIn familyOf scpsClass netClass otherClass portMaskRefused formRefused onesRefused maskForm onesOf onesBelow fresh freshBoard freshMission seenPort portsSeen allPorts readyOf amongPorts stands counts seenRoute routesSeen prefixRefused codesRefused number controlOf forbidden addressSize stampSize layoutOf addressesOf qosOf octetOf stampOf lengthOf fieldsOf headerOf readChecks readOf aimOf originOf subnetBroadcast broadcastIn classBroadcast ownBroadcast surveyBelow namedBelow targetOf localOf routeLine lineOf grantedOf copiesOf rulingOf ruledBy ruleTarget ruleOf callChecks headerEnding endingOf heardEnding receivedRelay enteredAll enteredIf putOf takeOf insertBy takeOutcome takenRelay matched candidate beaten betterOf searchFrom searchOf rewrites nextLength
 opened = tt
 
 -- Each call of the table has the answer beside it, after the history before it, whichever mission it is of.

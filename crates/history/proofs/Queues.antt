@@ -20,7 +20,7 @@ use Rattle.queue.specs.declared.Head.the-variants.{First, Nothing}
 use Rattle.queue.specs.declared.Queue.{Queue}
 use Rattle.state.specs.Relay.{Relay, queueIn}
 use Rattle.relay.specs.Outgoing.{entered, enteredIf, enteredAll}
-use Rattle.page.proofs.Bits.{only-in}
+use Rattle.survey.proofs.Bits.{only-in}
 
 -- the eight queues
 abbrev pub Eight : Relay → Type 0

@@ -85,7 +85,7 @@ use Rattle.history.proofs.Small.{sets-small}
 use Rattle.history.proofs.Line.{line-each, queue-waits}
 use Rattle.history.proofs.Takes.{take-is}
 use Rattle.page.specs.Table.{hasRoom}
-use Rattle.page.proofs.Bits.{in-none}
+use Rattle.survey.proofs.Bits.{in-none}
 use Rattle.page.proofs.Exactly.{took-exactly}
 use Rattle.page.proofs.Sought.{granted-set-up}
 
@@ -240,7 +240,7 @@ module _ (p : ℕ) where
   enters-none seat n (own (sets s)) h = refl
   enters-none seat n (own (hears rs port slot octets output)) h =
       let e = heardBy seat rs port octets (length output) in
-      ap (λ (t : Bool). pick t (copyOf n seat port slot octets e ∷ []) [])
+      ap (λ (t : Bool). pick t (copyOf p n seat port slot octets e ∷ []) [])
       (refuted (inSet p (e .ruling .took)) (λ t. true-false (sym (ending-up seat rs p port octets (length output) t) ∙ h)))
   enters-none seat n (own (takes port)) h = refl
   enters-none seat n (own (looks l)) h = refl

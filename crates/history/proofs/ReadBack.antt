@@ -2,35 +2,40 @@
 -- nothing.
 use native.Mathlib.Omega.{arith}
 use native.Mathlib.Nat.{mod-eq-of-lt}
-use Prim.Native.Nat.{ℕ, _/_, _%_, _^_, _<_, _≤_}
-use mathlib.Core.Path.{_≡_, refl, _∙_}
-use mathlib.Core.Bool.{Bool, true, false, _&&_}
+use Prim.Native.Nat.{ℕ, _/_, _^_, _<_}
+use mathlib.Core.Path.{_≡_, refl, ap, _∙_}
+use mathlib.Core.Bool.{Bool, true, not, _&&_}
 use mathlib.Core.List.{List, [], _∷_}
 use mathlib.Core.Logic.{⊎-elim}
 use lib.Dec.{eqb, ltb}
 use borrow.Author.Tests.{eqb-true, ltb-true}
-use Rattle.checks.specs.Order.{pick, firstOf}
+use Rattle.checks.specs.Order.{firstOf}
 use Rattle.checks.proofs.Bools.{true-false, and-true, or-true}
 use Rattle.checks.proofs.Laws.{either}
-use Rattle.header.specs.Read.{readChecks, headerOf, readOf}
+use Rattle.header.specs.Read.{fieldsOf, readChecks, headerOf, readOf}
 use Rattle.header.proofs.Bounds.{header-size}
 use Rattle.routes.specs.declared.Record.{Record}
 use Rattle.state.specs.Relay.{Relay}
 use Rattle.verdict.specs.Numbers.{localNumber, onwardNumber}
-use Rattle.verdict.specs.declared.Local.the-variants.{No}
-use Rattle.verdict.specs.declared.Onward.the-variants.{NotAsked}
-use Rattle.verdict.specs.declared.Ruling.{Ruling}
+use Rattle.verdict.specs.Rule.{exceptBy}
+use Rattle.next_leg.specs.Leg.{asksChecksum, adds, isNarrow, nextFields, rewrittenAmong, legsOf}
+use Rattle.next_leg.specs.declared.Leg.{Leg}
+use Rattle.next_leg.specs.declared.Legs.{Legs}
+use Rattle.next_leg.proofs.Made.{checksum-case, small-size}
+use Rattle.judge.specs.Ruling.{soughtOf, legFor, surveyFor, ruleOf, legsFor}
 use Rattle.judge.specs.declared.ruling.Arrival.{Arrival}
 use Rattle.meaning.specs.Arrival.{arrivalChecks}
-use Rattle.judge.specs.Ending.{callChecks, headerEnding, octetsEnding, arrivalAt, endingOf}
+use Rattle.meaning.specs.Names.{aimOf}
+use Rattle.judge.specs.Ending.{refusedBy, callChecks, headerEnding, octetsEnding, arrivalAt, endingOf}
 use Rattle.judge.specs.declared.Ending.{Ending}
-use Rattle.answers.specs.Answers.{partAt, partsOf, receiveNumber}
-use Rattle.answers.proofs.Digits.{six}
+use Rattle.answers.specs.Answers.{rulingParts, headerParts, partAt, receiveNumber}
+use Rattle.answers.proofs.Digits.{eight}
+use Rattle.page.proofs.Small.{aim-small}
 use Rattle.history.specs.Seat.{Seat, relayWith, heardBy}
 use Rattle.history.specs.Answers.{Row, numbers, below, endings, entries, endingRows, listed, suits, stands}
 use Rattle.history.specs.Outcome.{ended}
 use Rattle.history.proofs.Heard.{heard-so}
-use Rattle.history.proofs.Refusals.{heard-grants-nothing}
+use Rattle.history.proofs.Refusals.{heard-has-nothing}
 use Rattle.history.proofs.Listed.{every-ending-is-listed}
 use Rattle.history.proofs.Small.{sets-small}
 
@@ -40,10 +45,12 @@ pub record ReadBack (n : ℕ) (e : Ending) : Type 0 where
   pub onward : partAt 16 n ≡ onwardNumber (e .ruling .onward)
   pub took : partAt 24 n ≡ e .ruling .took
   pub dropped : partAt 32 n ≡ e .ruling .dropped
-  -- the octets of the header sent on, 0 where no port took an entry
-  pub header : partAt 40 n ≡ pick (eqb (e .ruling .took) 0) 0 (e .size)
-  -- the sixteen bits above are 0
-  pub above : n / 2 ^ 48 ≡ 0
+  -- the octets of the header that came, those of a rewritten header, and the ports that got one
+  pub size : partAt 40 n ≡ e .size
+  pub octets : partAt 48 n ≡ e .legs .octets
+  pub rewritten : partAt 56 n ≡ e .legs .rewritten
+  -- there is nothing above
+  pub above : n / 2 ^ 64 ≡ 0
   -- with a refusal, all other parts are 0
   pub alone : (e .refusal ≡ 0 → ⊥) → n ≡ e .refusal
 
@@ -93,37 +100,51 @@ module _ (refusal local onward took : ℕ) where
       let both = and-true (lowRow row) (lowRows rows) h in
       ⊎-elim (row-low row (both .0)) (rows-low rows (both .1)) (or-true (suits row (ended refusal local onward took)) _ k)
 
--- ---- and so do the octets of a header
-abbrev Short : Ending → Type 0
-Short e = e .size ≤ 50
+-- ---- and so do the octets of a header, as it came or rewritten, and the ports that get a rewritten one
+abbrev LegsFit : Legs → Type 0
+LegsFit l = (l .octets < 256) × (l .rewritten < 256)
 
-octets-short : (r : Relay) (at : Arrival) (s : List ℕ) → Short (octetsEnding r at (readOf s))
-unfolding readOf headerOf headerEnding
-octets-short r at s =
-    either (λ x. Short (octetsEnding r at x)) (eqb (firstOf (readChecks s)) 0)
-    (either Short (eqb (firstOf (arrivalChecks (at .address) (headerOf s .fields))) 0) (header-size s .1) (omega arith))
-    (omega arith)
+legs-fit : (took domain : ℕ) (l : Leg) → took < 256 → l .header .fields .checksum < 2 → LegsFit (legsOf took domain l)
+unfolding legsOf nextFields
+legs-fit took domain l few on =
+    let far = exceptBy took domain in
+    let f = l .header .fields in
+    let rewritten = rewrittenAmong took far (l .code) f in
+    let next = nextFields (not (eqb far 0)) (l .arrival .0) (l .code) f in
+    let short = small-size next (checksum-case (asksChecksum (l .code)) (f .checksum) on) in
+    either LegsFit (eqb took 0) (omega arith, omega arith) (
+      either (λ n. n < 256) (eqb rewritten 0) (omega arith) (omega (arith, short)),
+      either (λ n. n < 256) (adds (l .code) f) few (either (λ n. n < 256) (isNarrow (f .addresses)) (omega arith) (omega arith)),
+    )
 
-page-short : (r : Relay) (port : ℕ) (octets : List ℕ) (room : ℕ) → Short (endingOf r port octets room)
+abbrev Fits : Ending → Type 0
+Fits e = (e .size < 256) × LegsFit (e .legs)
+
+octets-fit : (r : Relay) (at : Arrival) (s : List ℕ) → Fits (octetsEnding r at (readOf s))
+unfolding readOf headerOf fieldsOf headerEnding legsFor ruleOf
+octets-fit r at s =
+    let h = headerOf s in
+    let x = aimOf (at .address .0) (h .fields .addresses) in
+    let most = header-size s .1 in
+    either (λ y. Fits (octetsEnding r at y)) (eqb (firstOf (readChecks s)) 0)
+    (either Fits (eqb (firstOf (arrivalChecks (at .address) (h .fields))) 0)
+    (omega (arith, most), legs-fit (ruleOf r at x h .took) (surveyFor r at x h .domain) (legFor r at x h) (aim-small r x (soughtOf (legFor r at x h)) _ .took) (omega arith))
+    (omega arith, (omega arith, omega arith)))
+    (omega arith, (omega arith, omega arith))
+
+page-fits : (r : Relay) (port : ℕ) (octets : List ℕ) (room : ℕ) → Fits (endingOf r port octets room)
 unfolding endingOf
-page-short r port octets room =
-    either Short (eqb (firstOf (callChecks r port room)) 0) (octets-short r (arrivalAt r port) octets) (omega arith)
+page-fits r port octets room =
+    either Fits (eqb (firstOf (callChecks r port room)) 0) (octets-fit r (arrivalAt r port) octets) (omega arith, (omega arith, omega arith))
 
-ending-short : (seat : Seat) (rs : List Record) (port : ℕ) (octets : List ℕ) (room : ℕ) → Short (heardBy seat rs port octets room)
-ending-short seat rs port octets room = heard-so seat rs port octets room Short (omega arith) (page-short (relayWith seat rs) port octets room)
+ending-fits : (seat : Seat) (rs : List Record) (port : ℕ) (octets : List ℕ) (room : ℕ) → Fits (heardBy seat rs port octets room)
+ending-fits seat rs port octets room =
+    heard-so seat rs port octets room Fits (omega arith, (omega arith, omega arith)) (page-fits (relayWith seat rs) port octets room)
 
 -- ---- so no part is changed by being taken modulo 256
-same-size : (t : Bool) (n : ℕ) → n ≤ 50 → pick t 0 (n % 256) % 256 ≡ pick t 0 n
-same-size true n h = refl
-same-size false n h = let e : n % 256 ≡ n = mod-eq-of-lt (omega arith) in rw e e
-
-size-low : (t : Bool) (n : ℕ) → n ≤ 50 → pick t 0 n < 256
-size-low t n h = either (λ x. x < 256) t (omega arith) (omega arith)
-
-alone-number : (n size : ℕ) (x : Ruling) → x ≡ record { local = No; onward = NotAsked; granted = 0; took = 0; dropped = 0 }
-    → partsOf n (localNumber (x .local)) (onwardNumber (x .onward)) (x .took) (x .dropped) (pick (eqb (x .took) 0) 0 size) ≡ n
-unfolding partsOf
-alone-number n size x h = rw h (omega arith)
+alone-number : (n : ℕ) → n < 256 → receiveNumber (refusedBy n) ≡ n
+unfolding receiveNumber rulingParts headerParts
+alone-number n low = omega (arith, mod-eq-of-lt low)
 
 pub read-back : (seat : Seat) (rs : List Record) (port : ℕ) (octets : List ℕ) (room : ℕ)
     → ReadBack (receiveNumber (heardBy seat rs port octets room)) (heardBy seat rs port octets room)
@@ -131,16 +152,16 @@ unfolding receiveNumber
 read-back seat rs port octets room =
     let e = heardBy seat rs port octets room in
     let x = e .ruling in
-    let t = eqb (x .took) 0 in
     let low = rows-low (e .refusal) (localNumber (x .local)) (onwardNumber (x .onward)) (x .took) endingRows refl (every-ending-is-listed seat rs port octets room) in
     let small = sets-small seat rs port octets room in
-    let short = ending-short seat rs port octets room in
-    let is : receiveNumber e ≡ partsOf (e .refusal) (localNumber (x .local)) (onwardNumber (x .onward)) (x .took) (x .dropped) (pick t 0 (e .size)) =
-    cc (mod-eq-of-lt (low .0), mod-eq-of-lt (low .1 .0), mod-eq-of-lt (low .1 .1), mod-eq-of-lt (small .took), mod-eq-of-lt (small .dropped), same-size t (e .size) short)
+    let fits = ending-fits seat rs port octets room in
+    let ruling = rulingParts (e .refusal) (localNumber (x .local)) (onwardNumber (x .onward)) (x .took) (x .dropped) in
+    let is : receiveNumber e ≡ headerParts ruling (e .size) (e .legs .octets) (e .legs .rewritten) =
+    cc (mod-eq-of-lt (low .0), mod-eq-of-lt (low .1 .0), mod-eq-of-lt (low .1 .1), mod-eq-of-lt (small .took), mod-eq-of-lt (small .dropped), mod-eq-of-lt (fits .0), mod-eq-of-lt (fits .1 .0), mod-eq-of-lt (fits .1 .1))
     in
     let parts =
-    six (e .refusal) (localNumber (x .local)) (onwardNumber (x .onward)) (x .took) (x .dropped) (pick t 0 (e .size)) (low .0) (low .1 .0) (low .1 .1) (small .took)
-    (small .dropped) (size-low t (e .size) short)
+    eight (e .refusal) (localNumber (x .local)) (onwardNumber (x .onward)) (x .took) (x .dropped) (e .size) (e .legs .octets) (e .legs .rewritten)
+    (low .0) (low .1 .0) (low .1 .1) (small .took) (small .dropped) (fits .0) (fits .1 .0) (fits .1 .1)
     in
     record {
       refusal = rw is (parts .at-0);
@@ -148,7 +169,9 @@ read-back seat rs port octets room =
       onward = rw is (parts .at-16);
       took = rw is (parts .at-24);
       dropped = rw is (parts .at-32);
-      header = rw is (parts .at-40);
+      size = rw is (parts .at-40);
+      octets = rw is (parts .at-48);
+      rewritten = rw is (parts .at-56);
       above = rw is (parts .above);
-      alone = λ z. is ∙ alone-number (e .refusal) (e .size) x (heard-grants-nothing seat rs port octets room z);
+      alone = λ z. ap receiveNumber (heard-has-nothing seat rs port octets room z) ∙ alone-number (e .refusal) (low .0);
     }

@@ -20,23 +20,25 @@ use Rattle.queue.specs.declared.Head.{Head}
 use Rattle.queue.specs.declared.Head.the-variants.{First, Nothing}
 use Rattle.queue.specs.declared.Queue.{Queue}
 use Rattle.state.specs.Relay.{Relay, queueIn, portSetUp}
+use Rattle.next_leg.specs.declared.Legs.{Legs}
 use Rattle.judge.specs.declared.ruling.Arrival.{Arrival}
 use Rattle.meaning.specs.Arrival.{arrivalChecks}
 use Rattle.taking.specs.Taking.{handsOut, without, takeOutcome, takenRelay}
 use Rattle.judge.specs.Ending.{noRuling, refusedBy, ruledEnding, callChecks, headerEnding, octetsEnding, arrivalAt, endingOf}
 use Rattle.judge.specs.declared.Ending.{Ending}
 use Rattle.tally.specs.Tally.{movesOf, counterFor}
-use Rattle.relay.specs.Outgoing.{entered, enteredIf, enteredAll, sentOutput}
+use Rattle.relay.specs.Outgoing.{entered, enteredIf, enteredAll, sentIf, sentBelow, sentOutput}
 use Rattle.relay.specs.Received.{newEntry, receivedRelay}
 use Rattle.taking.specs.declared.Taking.the-variants.{Refused}
 use Rattle.routes.specs.declared.Record.{Record}
+use Rattle.survey.proofs.Bits.{in-none}
 use Rattle.history.specs.Seat.{Seat, relayIn, relayWith, heardBy}
 use Rattle.history.specs.Tally.{sumAt}
 use Rattle.history.proofs.Heard.{heard-so}
 
--- ---- a refusal has no ruling
+-- ---- a refusal has its number and nothing else
 abbrev Bare : Ending → Type 0
-Bare e = (e .refusal ≡ 0 → ⊥) → e .ruling ≡ noRuling
+Bare e = (e .refusal ≡ 0 → ⊥) → e ≡ refusedBy (e .refusal)
 
 bare-or : (t : Bool) (n : ℕ) (e : Ending) → Bare e → Bare (pick t e (refusedBy n))
 bare-or true n e b = b
@@ -52,17 +54,22 @@ bare-octets r at (read.Good h) =
     bare-or (eqb n 0) n (ruledEnding r at h) (bare-ruled (ruledEnding r at h) refl)
 bare-octets r at (read.Refused n) = λ h. refl
 
-pub refused-grants-nothing : (r : Relay) (port : ℕ) (octets : List ℕ) (room : ℕ)
-    → (endingOf r port octets room .refusal ≡ 0 → ⊥) → endingOf r port octets room .ruling ≡ noRuling
+bare-ending : (r : Relay) (port : ℕ) (octets : List ℕ) (room : ℕ) → Bare (endingOf r port octets room)
 unfolding endingOf
-refused-grants-nothing r port octets room =
+bare-ending r port octets room =
     let n = firstOf (callChecks r port room) in
     bare-or (eqb n 0) n (octetsEnding r (arrivalAt r port) (readOf octets)) (bare-octets r (arrivalAt r port) (readOf octets))
 
-pub heard-grants-nothing : (seat : Seat) (rs : List Record) (port : ℕ) (octets : List ℕ) (room : ℕ)
-    → (heardBy seat rs port octets room .refusal ≡ 0 → ⊥) → heardBy seat rs port octets room .ruling ≡ noRuling
-heard-grants-nothing seat rs port octets room =
-    heard-so seat rs port octets room Bare (λ h. refl) (refused-grants-nothing (relayWith seat rs) port octets room)
+pub refused-grants-nothing : (r : Relay) (port : ℕ) (octets : List ℕ) (room : ℕ)
+    → (endingOf r port octets room .refusal ≡ 0 → ⊥) → endingOf r port octets room .ruling ≡ noRuling
+refused-grants-nothing r port octets room h = ap (λ (e : Ending). e .ruling) (bare-ending r port octets room h)
+
+module _ (seat : Seat) (rs : List Record) (port : ℕ) (octets : List ℕ) (room : ℕ) (refused : heardBy seat rs port octets room .refusal ≡ 0 → ⊥) where
+  pub heard-has-nothing : heardBy seat rs port octets room ≡ refusedBy (heardBy seat rs port octets room .refusal)
+  heard-has-nothing = heard-so seat rs port octets room Bare (λ h. refl) (bare-ending (relayWith seat rs) port octets room) refused
+
+  pub heard-grants-nothing : heardBy seat rs port octets room .ruling ≡ noRuling
+  heard-grants-nothing = ap (λ (e : Ending). e .ruling) heard-has-nothing
 
 -- ---- where no port takes, no queue and no octet of the output changes
 nobody-case : (t : Bool) (r s : Relay) → t ≡ true → pick t r s ≡ r
@@ -82,16 +89,21 @@ unfolding receivedRelay
 nobody-took r slot e h =
     ap (λ (took : ℕ). enteredAll r took (newEntry slot e) 8) h ∙ nobody-enters (newEntry slot e) 8 r
 
-pub output-as-lent : (e : Ending) (octets lent : List ℕ) → e .ruling .took ≡ 0 → sentOutput (e .ruling .took) octets lent ≡ lent
+nobody-sent : (l : Legs) (octets lent : List ℕ) (n : ℕ) → sentBelow 0 l octets lent n ≡ lent
+unfolding sentBelow sentIf
+nobody-sent l octets lent zero = refl
+nobody-sent l octets lent (suc p) = rw (in-none p) (nobody-sent l octets lent p)
+
+pub output-as-lent : (e : Ending) (octets lent : List ℕ) → e .ruling .took ≡ 0 → sentOutput e octets lent ≡ lent
 unfolding sentOutput
-output-as-lent e octets lent h = rw h refl
+output-as-lent e octets lent h = ap (λ (took : ℕ). sentBelow took (e .legs) octets lent 8) h ∙ nobody-sent (e .legs) octets lent 8
 
 -- A refused datagram leaves settings and queues, and every octet of the output.
 pub refused-leaves :
     (seat : Seat) (rs : List Record) (port : ℕ) (slot : Slot) (octets output : List ℕ)
     → (heardBy seat rs port octets (length output) .refusal ≡ 0 → ⊥)
     → (receivedRelay (relayIn seat) slot (heardBy seat rs port octets (length output)) ≡ relayIn seat)
-    × (sentOutput (heardBy seat rs port octets (length output) .ruling .took) octets output ≡ output)
+    × (sentOutput (heardBy seat rs port octets (length output)) octets output ≡ output)
 refused-leaves seat rs port slot octets output h =
     let e = heardBy seat rs port octets (length output) in
     let z : e .ruling .took ≡ 0 = ap (λ x. x .took) (heard-grants-nothing seat rs port octets (length output) h) in

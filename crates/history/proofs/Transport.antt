@@ -10,17 +10,16 @@ use Rattle.checks.specs.Order.{pick, firstOf}
 use Rattle.sets.specs.Limits.{portCount}
 use Rattle.address.specs.Class.{classOf}
 use Rattle.address.specs.declared.Slot.{Slot}
+use Rattle.header.specs.Build.{thirdOctet, secondOctet, restOctets, sizeOf}
 use Rattle.header.specs.Read.{readOf}
 use Rattle.header.specs.declared.Header.{Header}
 use Rattle.header.specs.declared.Read.the-variants.{Good}
-use Rattle.networks.specs.Networks.{domainOf}
 use Rattle.meaning.specs.Arrival.{arrivalChecks}
 use Rattle.meaning.specs.Asked.{isAssigned, assignedOf}
 use Rattle.meaning.specs.Names.{aimOf}
 use Rattle.meaning.specs.declared.Aim.{Aim}
 use Rattle.meaning.specs.declared.Aim.the-variants.{Node, Path, Uncarried}
 use Rattle.state.specs.Relay.{Relay}
-use Rattle.survey.specs.Survey.{surveyOf}
 use Rattle.lookup.specs.Lookup.{pathPlace}
 use Rattle.lookup.specs.ForTarget.{placeFor, wayFor}
 use Rattle.verdict.specs.Rule.{targetOf, hereBy, oursBy, wantedHere, localOf, copiesOf, rulingOf}
@@ -37,7 +36,8 @@ use Rattle.verdict.specs.declared.Ruling.{Ruling}
 use Rattle.verdict.specs.declared.Survey.{Survey}
 use Rattle.verdict.specs.declared.Wish.{Wish}
 use Rattle.verdict.specs.declared.Wish.the-variants.{NotAsked, Refused, Wanted}
-use Rattle.judge.specs.Ruling.{caseOf, soughtOf, ruledBy, ruleTarget, ruleAim, ruleOf}
+use Rattle.next_leg.specs.Leg.{rewrites, nextFields, nextLength, legsOf}
+use Rattle.judge.specs.Ruling.{caseOf, legFor, surveyFor, ruledBy, ruleTarget, ruleAim, ruleOf, legsFor}
 use Rattle.judge.specs.declared.ruling.Arrival.{Arrival}
 use Rattle.judge.specs.Ending.{refusedBy, callChecks, ruledEnding, headerEnding, arrivalAt, endingOf}
 use Rattle.judge.specs.declared.Ending.{Ending}
@@ -105,6 +105,7 @@ module _ (a b : ℕ) where
         dropped = refl;
         precedence = refl;
         size = refl;
+        legs = refl;
         local = inl (refl, refl);
       }
 
@@ -115,11 +116,10 @@ module _ (a b : ℕ) where
 -- of a header, and of the same with another TP-ID
 module _ (r : Relay) (at : Arrival) (h : Header) (b : ℕ) where
   ruled-ending-alike : SameButLocal (h .fields .tpid) b (ruledEnding r at h) (ruledEnding r at (withTpid b h))
-  unfolding ruleOf
+  unfolding ruleOf legsFor legsOf nextLength rewrites nextFields sizeOf secondOctet thirdOctet restOctets
   ruled-ending-alike =
       let x = aimOf (at .address .0) (h .fields .addresses) in
-      let alike =
-      aim-alike (h .fields .tpid) b r x (caseOf (r .router) (at .set) (h .fields)) (surveyOf r (soughtOf x (domainOf (at .address)) (h .length))) in
+      let alike = aim-alike (h .fields .tpid) b r x (caseOf (r .router) (at .set) (h .fields)) (surveyFor r at x h) in
       record {
         refusal = refl;
         onward = ap (λ x. x .0) (alike .0);
@@ -128,6 +128,7 @@ module _ (r : Relay) (at : Arrival) (h : Header) (b : ℕ) where
         dropped = ap (λ x. x .1 .1 .1) (alike .0);
         precedence = refl;
         size = refl;
+        legs = ap (λ (took : ℕ). legsOf took (surveyFor r at x h .domain) (legFor r at x h)) (ap (λ y. y .1 .1 .0) (alike .0));
         local = alike .1;
       }
 

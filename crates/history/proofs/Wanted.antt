@@ -30,6 +30,7 @@ use Rattle.refusals.specs.Ready.{readySet}
 use Rattle.lookup.specs.ForTarget.{wayOf, placeFor, wayFor}
 use Rattle.state.specs.Relay.{Relay, portIn, groupIn, pathIn}
 use Rattle.survey.specs.Survey.{surveyBelow, surveyOf}
+use Rattle.survey.specs.declared.Destination.{Destination}
 use Rattle.survey.specs.declared.Sought.{Sought}
 use Rattle.verdict.specs.Rule.{exceptBy, aloneBy, groupLine, pathLine, routeLine, routerLine, unheardBy, hostLine, lineOf}
 use Rattle.verdict.specs.declared.Target.{Target}
@@ -49,7 +50,7 @@ use Rattle.history.specs.Calls.{Call}
 use Rattle.history.specs.Outcome.{seatAfter}
 use Rattle.history.proofs.Ports.{ready-is}
 use Rattle.history.proofs.Reach.{Kept, kept-after}
-use Rattle.page.proofs.Bits.{in-except, in-gathered, only-that}
+use Rattle.survey.proofs.Bits.{in-except, in-gathered, only-that}
 
 -- ---- the first place that a test holds at
 first-case : (test : ℕ → Bool) (i : ℕ) (f : ℕ) (t u : Bool) → eqb f i ≡ t → test i ≡ u → f ≤ i → (f < i → test f ≡ true)
@@ -105,7 +106,7 @@ module _ (seat : Seat) (k : Kept seat) (rs : List Record) (p : ℕ) (inside : p 
 
   abbrev GoodWay : Way → Type 0
   GoodWay Lost = Unit
-  GoodWay (By port) = inSet p port ≡ true → isSetUp (portIn r p) ≡ true
+  GoodWay (By port code) = inSet p port ≡ true → isSetUp (portIn r p) ≡ true
 
   pick-good : (t : Bool) (a b : Place) → (t ≡ true → Good a) → Good b → Good (pick t a b)
   pick-good true a b f g = f refl
@@ -172,7 +173,7 @@ module _ (seat : Seat) (k : Kept seat) (rs : List Record) (p : ℕ) (inside : p 
   route-line : (w : Way) → GoodWay w → GoodLine (routeLine w)
   unfolding routeLine
   route-line Lost g = tt
-  route-line (By port) g = g
+  route-line (By port code) g = g
 
   unheard-line : (local : Local) → GoodLine (unheardBy local)
   unheard-line No = tt
@@ -186,23 +187,23 @@ module _ (seat : Seat) (k : Kept seat) (rs : List Record) (p : ℕ) (inside : p 
   host-line target.Path local = unheard-line local
   host-line target.Route local = unheard-line local
 
-  survey-ready : (q : Sought) → inSet p (surveyOf r q .ready) ≡ true → isSetUp (portIn r p) ≡ true
+  survey-ready : (d : Destination) (q : Sought) → inSet p (surveyOf r d q .ready) ≡ true → isSetUp (portIn r p) ≡ true
   unfolding surveyBelow
-  survey-ready q h =
+  survey-ready d q h =
       and-true (isSetUp (portIn r p)) true (sym (in-gathered (λ (i : ℕ). isSetUp (portIn r i) && true) p 8 inside) ∙ h) .0
 
-  router-line : (t : Target) (x : Place) (w : Way) (arrival : ℕ) (q : Sought) → Good x → GoodWay w → GoodLine (routerLine t x w arrival (surveyOf r q .ready))
-  router-line target.Here x w arrival q g h = tt
-  router-line target.Broadcast x w arrival q g h =
-      let ready = surveyOf r q .ready in
-      pick-line (eqb (exceptBy ready arrival) 0) NotAsked (Wanted (exceptBy ready arrival)) tt (λ m. survey-ready q (except-in ready arrival m))
-  router-line target.Group x w arrival q g h = group-line x arrival (exceptBy (surveyOf r q .ready) arrival) g
-  router-line target.Path x w arrival q g h = path-line x arrival g
-  router-line target.Route x w arrival q g h = route-line w h
+  router-line : (t : Target) (x : Place) (w : Way) (arrival : ℕ) (d : Destination) (q : Sought) → Good x → GoodWay w → GoodLine (routerLine t x w arrival (surveyOf r d q .ready))
+  router-line target.Here x w arrival d q g h = tt
+  router-line target.Broadcast x w arrival d q g h =
+      let ready = surveyOf r d q .ready in
+      pick-line (eqb (exceptBy ready arrival) 0) NotAsked (Wanted (exceptBy ready arrival)) tt (λ m. survey-ready d q (except-in ready arrival m))
+  router-line target.Group x w arrival d q g h = group-line x arrival (exceptBy (surveyOf r d q .ready) arrival) g
+  router-line target.Path x w arrival d q g h = path-line x arrival g
+  router-line target.Route x w arrival d q g h = route-line w h
 
-  line-good : (t : Target) (x : Place) (w : Way) (c : Case) (q : Sought) (local : Local) → Good x → GoodWay w → GoodLine (lineOf t x w c (surveyOf r q .ready) local)
+  line-good : (t : Target) (x : Place) (w : Way) (c : Case) (d : Destination) (q : Sought) (local : Local) → Good x → GoodWay w → GoodLine (lineOf t x w c (surveyOf r d q .ready) local)
   unfolding lineOf
-  line-good t x w c q local g h = pick-line (eqb (c .router) 0) _ _ (host-line t local) (router-line t x w (c .arrival) q g h)
+  line-good t x w c d q local g h = pick-line (eqb (c .router) 0) _ _ (host-line t local) (router-line t x w (c .arrival) d q g h)
 
   place-good : (t : Target) (a : Address) (arrival : ℕ) → Good (placeFor r t a arrival)
   place-good target.Here a arrival = tt
@@ -228,23 +229,23 @@ module _ (m : ℕ) (cs : List Call) (rs : List Record) where
   abbrev sees : Relay
   sees = relayWith (seatAfter m cs) rs
 
-  pub wanted-is-set-up : (p : ℕ) → p < 8 → (t : Target) (a : Address) (c : Case) (q : Sought) (local : Local) (g : ℕ)
-      → lineOf t (placeFor sees t a (c .arrival)) (wayFor sees t a) c (surveyOf sees q .ready) local ≡ Wanted g
+  pub wanted-is-set-up : (p : ℕ) → p < 8 → (t : Target) (a : Address) (c : Case) (d : Destination) (q : Sought) (local : Local) (g : ℕ)
+      → lineOf t (placeFor sees t a (c .arrival)) (wayFor sees t a) c (surveyOf sees d q .ready) local ≡ Wanted g
       → inSet p g ≡ true
       → isSetUp (portIn sees p) ≡ true
-  wanted-is-set-up p inside t a c q local g =
+  wanted-is-set-up p inside t a c d q local g =
       let seat = seatAfter m cs in
       let k = kept-after m cs in
       wanted-is seat k rs p inside _ g
-      (line-good seat k rs p inside t (placeFor sees t a (c .arrival)) (wayFor sees t a) c q local (place-good seat k rs p inside t a (c .arrival))
+      (line-good seat k rs p inside t (placeFor sees t a (c .arrival)) (wayFor sees t a) c d q local (place-good seat k rs p inside t a (c .arrival))
       (way-good seat k rs p inside t a))
 
   -- .. and each that is wanted for one on a path.
-  pub wanted-on-path-is-set-up : (p : ℕ) → p < 8 → (x : PathAddress) (c : Case) (q : Sought) (local : Local) (g : ℕ)
-      → lineOf target.Path (pathPlace sees x) Lost c (surveyOf sees q .ready) local ≡ Wanted g
+  pub wanted-on-path-is-set-up : (p : ℕ) → p < 8 → (x : PathAddress) (c : Case) (d : Destination) (q : Sought) (local : Local) (g : ℕ)
+      → lineOf target.Path (pathPlace sees x) Lost c (surveyOf sees d q .ready) local ≡ Wanted g
       → inSet p g ≡ true
       → isSetUp (portIn sees p) ≡ true
-  wanted-on-path-is-set-up p inside x c q local g =
+  wanted-on-path-is-set-up p inside x c d q local g =
       let seat = seatAfter m cs in
       let k = kept-after m cs in
-      wanted-is seat k rs p inside _ g (line-good seat k rs p inside target.Path (pathPlace sees x) Lost c q local (path-good seat k rs p inside x) tt)
+      wanted-is seat k rs p inside _ g (line-good seat k rs p inside target.Path (pathPlace sees x) Lost c d q local (path-good seat k rs p inside x) tt)

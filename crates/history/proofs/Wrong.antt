@@ -1,18 +1,19 @@
 -- Page 01's tempting slips and a few wrong rules more, each shown to be wrong at the definition that the code is proved against: what it would have to
 -- answer is not what the definition gives. (Where one changed expression can make the slip, a must-fail edit tries that such code is refused.) Assumes nothing.
 use native.Mathlib.Omega.{arith}
-use Prim.Native.Nat.{ℕ}
+use Prim.Native.Nat.{ℕ, _<_}
 use mathlib.Core.Path.{_≡_, refl, sym, ap}
 use mathlib.Core.Bool.{Bool, true, false, not}
 use mathlib.Core.List.{List, [], _∷_}
 use lib.Dec.{eqb, ltb}
-use borrow.Author.Tests.{le-ltb}
+use borrow.Author.Tests.{le-ltb, lt-ltb}
 use Rattle.checks.specs.Order.{pick, firstOf}
 use Rattle.checks.proofs.Bools.{true-false}
 use Rattle.address.specs.Octets.{dotted}
 use Rattle.address.specs.Class.{familyOf, scpsClass, netClass, classIn, classOf}
 use Rattle.address.specs.Mask.{onesBelow, onesOf}
 use Rattle.address.specs.declared.Class.the-variants as class
+use Rattle.header.specs.Limits.{lengthLimit}
 use Rattle.header.specs.declared.Octet.the-variants as octet
 use Rattle.meaning.specs.Asked.{spentOf}
 use Rattle.routes.specs.Refusals.{codesRefused}
@@ -22,7 +23,7 @@ use Rattle.routes.specs.declared.Found.the-variants.{At, No}
 use Rattle.routes.specs.declared.Route.{Route}
 use Rattle.routes.proofs.Marked as marked
 use Rattle.state.specs.Relay.{Relay, portSetUp}
-use Rattle.survey.specs.Survey.{isFitting, isFull}
+use Rattle.survey.specs.Survey.{inDomain, fitsPort, sizeAt, isFitting, isFull}
 use Rattle.survey.specs.declared.Sought.{Sought}
 use Rattle.records.specs.declared.Port.{Port}
 use Rattle.address.specs.declared.Address.{Address}
@@ -88,9 +89,19 @@ pub numbers-counted : (counterFor 9 ≡ counter.At 6) × ((counterFor 13 ≡ cou
 unfolding counterFor
 numbers-counted = (refl, (refl, refl))
 
--- an MTU that is equal refused: it holds the datagram
-pub mtu-equal-holds : (p : Port) (q : Sought) → p .mtu ≡ q .length → isFitting p q ≡ true
-mtu-equal-holds p q h = simp (le-ltb (p .mtu) (q .length) (omega arith))
+-- an MTU that is equal refused: it holds the datagram, as it is after the rewrite
+pub mtu-equal-holds : (p : Port) (q : Sought) → p .mtu ≡ sizeAt (inDomain p q) q → p .mtu < lengthLimit → isFitting p q ≡ true
+mtu-equal-holds p q h short = rw (← h) (simp (le-ltb (p .mtu) (p .mtu) (omega arith), lt-ltb (p .mtu) lengthLimit short))
+
+-- one size tested for all ports: in another domain the copy may be too big where the one of the arrival port's domain is not
+abbrev pub fittingAsNear : Port → Sought → Bool
+fittingAsNear p q = fitsPort (p .mtu) (q .near)
+
+abbrev smallPort : Port
+smallPort = record { ready = 1; address = record { 0 = 0 }; mask = record { 0 = 0 }; mtu = 10 }
+
+pub each-port-its-own-size : ((p : Port) (q : Sought) → isFitting p q ≡ fittingAsNear p q) → ⊥
+each-port-its-own-size same = true-false (sym (same smallPort (record { domain = 1; near = 10; far = 16 })))
 
 -- a queue full with 31 waiting: it takes one more
 abbrev pub fullFrom31 : ℕ → Bool
@@ -99,19 +110,19 @@ fullFrom31 waiting = not (ltb waiting 31)
 pub room-at-31 : ((waiting : ℕ) → isFull waiting ≡ fullFrom31 waiting) → ⊥
 room-at-31 same = true-false (sym (same 31))
 
--- the domain test struck out: where addresses have one octet and the port wanted is in another domain, no copy is granted
+-- the domain test struck out: where a path has one octet and the port wanted is in another domain, no copy is granted
 abbrev pub grantedAnywhere : Wish → Case → Survey → Wish
 grantedAnywhere w c s = afterSize (afterHops w (c .spent)) (s .fitting)
 
-abbrev oneOctet : Case
-oneOctet = record { arrival = 1; router = 1; intermediate = 0; assigned = 1; basic = 1; spent = 0 }
+abbrev oneOctetPath : Case
+oneOctetPath = record { arrival = 1; router = 1; intermediate = 0; assigned = 1; bound = 1; spent = 0 }
 
 abbrev port0InDomain : Survey
 port0InDomain = record { ready = 3; addressed = 0; broadcast = 0; domain = 1; fitting = 3; full = 0 }
 
 pub domain-is-tested : ((w : Wish) (c : Case) (s : Survey) → grantedOf w c s ≡ grantedAnywhere w c s) → ⊥
 unfolding grantedOf
-domain-is-tested same = true-false (let e : Refused LeavesDomain ≡ Wanted 2 = same (Wanted 2) oneOctet port0InDomain in cc)
+domain-is-tested same = true-false (let e : Refused LeavesDomain ≡ Wanted 2 = same (Wanted 2) oneOctetPath port0InDomain in cc)
 
 -- 17 counted as a receipt: it counts nothing
 abbrev pub receiptUnless16 : ℕ → Counter

@@ -12,6 +12,7 @@ use Rattle.checks.proofs.Bools.{true-false}
 use Rattle.sets.specs.Sets.{inSet}
 use Rattle.address.specs.Mask.{maskOf}
 use Rattle.address.specs.Octets.{dotted}
+use Rattle.address.specs.Path.{pathForm}
 use Rattle.address.specs.declared.Slot.{Slot}
 use Rattle.header.specs.Form.{bitWeight}
 use Rattle.routes.specs.Routes.{isUp}
@@ -21,23 +22,28 @@ use Rattle.routes.specs.declared.Record.{Record}
 use Rattle.routes.specs.declared.Route.{Route}
 use Rattle.routes.proofs.Longest.{CandidateAt}
 use Rattle.routes.proofs.Marked as marked
+use Rattle.settings.specs.Refusals.{pathClassRefused}
+use Rattle.settings.specs.Sets.{namesOther, setRefused}
+use Rattle.refusals.specs.Elsewhere.{pathElsewhere}
+use Rattle.lookup.specs.Lookup.{pathPlace}
+use Rattle.verdict.specs.Rule.{pathLine}
 use Rattle.state.specs.Relay.{routeIn, queueAt, counterIn}
 use Rattle.state.specs.Seen.{State, freshState}
 use Rattle.adjust.specs.Settled.{newRecord}
 use Rattle.verdict.specs.declared.Ruling.{Ruling}
-use Rattle.judge.specs.Ending.{noRuling}
+use Rattle.judge.specs.Ending.{noRuling, outputRoom}
 use Rattle.judge.specs.declared.Ending.{Ending}
 use Rattle.taking.specs.Taking.{takeOutcome}
 use Rattle.taking.specs.declared.Taking.{Taking}
 use Rattle.taking.specs.declared.Taking.the-variants.{Handed, Refused}
 use Rattle.tally.specs.Tally.{receiptCounter, rulingMoves, movesOf, counterFor, countedAt}
 use Rattle.history.specs.Seat.{Seat, relayIn, relayWith, heardBy}
-use Rattle.history.specs.Calls.{Order, setRouter, setPort, orders, views, sets, hears, takes, looks, Call, operator, own}
+use Rattle.history.specs.Calls.{Order, setRouter, setPort, orders, views, setPath, sets, hears, takes, looks, Call, operator, own}
 use Rattle.history.specs.Outcome.{Answer, number, ended, entry, Outcome, ofTaking, outcome, seatAfter}
 use Rattle.history.specs.Tally.{sumAt, tally, stateAfter}
 use Rattle.history.specs.Marked.{ordered, port, routerWithPorts, A, B, C, D, allRoutes, withoutA, datagram, heard, sentBy, notSent}
 use Rattle.history.proofs.Counters.{counters}
-use Rattle.page.proofs.Bits.{in-none}
+use Rattle.survey.proofs.Bits.{in-none}
 use Rattle.history.proofs.Fair.{fair}
 use Rattle.history.proofs.Refusals.{heard-grants-nothing, counts-nothing}
 use Rattle.history.proofs.Marked.{opened, marked-cases}
@@ -68,16 +74,15 @@ dGiven = A 0 ∷ B 0 ∷ C 0 ∷ D 1 ∷ []
 abbrev pub waitingForD : ℕ → List Call
 waitingForD n = begun ++ replicate n (forD (allRoutes 0))
 
--- port 0 is in the domain 10.4.9, port 1 is not, and 10.4.9.14 is to go out by port 1
-abbrev pub twoDomains : List Order
-twoDomains = setRouter 1 ∷ setPort 0 (record { 0 = dotted 10 4 9 2 }) (record { 0 = maskOf 24 }) 1500 0 ∷ port 0 1 ∷ []
+-- port 0 is in the domain 10.4.9, port 1 is not, and path 10.4.9.14 is to go out by port 1
+abbrev pub twoDomains : List Call
+twoDomains =
+    ordered (setRouter 1 ∷ setPort 0 (record { 0 = dotted 10 4 9 2 }) (record { 0 = maskOf 24 }) 1500 0 ∷ port 0 1 ∷ [])
+    ++ own (sets (setPath 0 (record { 0 = dotted 10 4 9 14 }) (2 ^ 1) 0)) ∷ []
 
--- from 16 to 14, in one octet each (as `datagram`, with neither QOS nor addresses of four octets)
+-- on path 14, in one octet (as `datagram`, with neither source nor QOS)
 abbrev pub basic : Call
-basic =
-    own
-    (hears (newRecord (dotted 10 4 9 14) (maskOf 32) 1 1 0 0 ∷ []) 0 (record { 0 = 1 })
-    (32 ∷ 6 ∷ (4 * 16 + bitWeight 20 + bitWeight 22) ∷ bitWeight 25 ∷ 14 ∷ 16 ∷ []) (replicate 50 0))
+basic = own (hears [] 0 (record { 0 = 1 }) (32 ∷ 4 ∷ (4 * 16 + bitWeight 22) ∷ 14 ∷ []) (replicate outputRoom 0))
 
 -- a route as if it were up, whatever its availability
 abbrev pub asIfUp : Route → Route
@@ -125,11 +130,11 @@ pub record Cases : Type 0 where
   pub thirtyOne : queueAt (seatAfter 0 (waitingForD 31) .mission) 3 .count ≡ 31
   pub granted : inSet 3 (outcome (seatAfter 0 (waitingForD 31)) (forD (allRoutes 0)) .granted) ≡ true
   pub kept : inSet 3 (outcome (seatAfter 0 (waitingForD 31)) (forD (allRoutes 0)) .dropped) ≡ false
-  -- one-octet addresses do not leave their domain
-  pub domain : outcome (seatAfter 0 (ordered twoDomains)) basic .answer ≡ notSent 13
+  -- a one-octet path does not leave its domain
+  pub domain : outcome (seatAfter 0 twoDomains) basic .answer ≡ notSent 13
 
 pub cases : Cases
-unfolding opened freshState countedAt counterFor
+unfolding opened freshState countedAt counterFor pathForm pathClassRefused setRefused namesOther pathElsewhere pathPlace pathLine
 cases =
     record {
       octets = refl;
@@ -230,7 +235,7 @@ module _ (does : List Call → Call → Outcome) (kept : (cs : List Call) (c : C
       ≡ does (ordered settings) (own (hears rs port slot first output)) .answer)
       → ⊥
   copying-answers wrong =
-      let same = wrong (routerWithPorts 0) (allRoutes 0) 4 (record { 0 = 1 }) (datagram 10 4 9 14 0) (datagram 10 4 9 16 0) (replicate 50 0) in
+      let same = wrong (routerWithPorts 0) (allRoutes 0) 4 (record { 0 = 1 }) (datagram 10 4 9 14 0) (datagram 10 4 9 16 0) (replicate outputRoom 0) in
       let later = answers (begun ++ forD (allRoutes 0) ∷ []) forC ∙ cases .octets in
       let ports : _≡_ {A = ℕ} 4 8 = ap portsOf (sym later ∙ same ∙ in-case-a) in omega arith
 
@@ -241,7 +246,7 @@ module _ (does : List Call → Call → Outcome) (kept : (cs : List Call) (c : C
       ≡ does (ordered settings) (own (hears rs port slot octets output)) .answer)
       → ⊥
   copying-over-lists wrong =
-      let same = wrong (routerWithPorts 0) (allRoutes 0) (withoutA 0) 4 (record { 0 = 1 }) (datagram 192 0 2 1 0) (replicate 50 0) in
+      let same = wrong (routerWithPorts 0) (allRoutes 0) (withoutA 0) 4 (record { 0 = 1 }) (datagram 192 0 2 1 0) (replicate outputRoom 0) in
       let later = answers (begun ++ forA (allRoutes 0) ∷ []) (forA (withoutA 0)) ∙ cases .cleared in
       let ports : _≡_ {A = ℕ} 0 1 = ap portsOf (sym later ∙ same ∙ in-case-d) in omega arith
 
@@ -252,7 +257,7 @@ module _ (does : List Call → Call → Outcome) (kept : (cs : List Call) (c : C
       ≡ does (ordered settings) (own (hears rs port slot octets output)) .answer)
       → ⊥
   copying-over-settings wrong =
-      let same = wrong (routerWithPorts 0) (setRouter 0) (allRoutes 0) 4 (record { 0 = 1 }) (datagram 192 0 2 1 0) (replicate 50 0) in
+      let same = wrong (routerWithPorts 0) (setRouter 0) (allRoutes 0) 4 (record { 0 = 1 }) (datagram 192 0 2 1 0) (replicate outputRoom 0) in
       let later = answers (begun ++ forA (allRoutes 0) ∷ operator (orders (setRouter 0)) ∷ []) (forA (allRoutes 0)) ∙ cases .host in
       let ports : _≡_ {A = ℕ} 0 1 = ap portsOf (sym later ∙ same ∙ in-case-d) in omega arith
 
@@ -295,7 +300,7 @@ module _ (does : List Call → Call → Outcome) (kept : (cs : List Call) (c : C
 
   -- It does not do without the domain test, and so never answer 13.
   pub leaving-the-domain : ((cs : List Call) (c : Call) (local : ℕ) → does cs c .answer ≡ ended 0 local 13 0 → ⊥) → ⊥
-  leaving-the-domain wrong = wrong (ordered twoDomains) basic 0 (answers (ordered twoDomains) basic ∙ cases .domain)
+  leaving-the-domain wrong = wrong twoDomains basic 0 (answers twoDomains basic ∙ cases .domain)
 
   -- No counter of it moves at 17,
   pub counting-at-17 : (cs : List Call) (c : Call) (i local onward took : ℕ)
@@ -322,7 +327,7 @@ module _ (leaves : List Call → State) (kept : (cs : List Call) → leaves cs �
       ≡ queueAt (leaves (ordered settings) .mission) p .count)
       → ⊥
   entering-nothing wrong =
-      let same = wrong (routerWithPorts 0) (allRoutes 0) 4 (record { 0 = 1 }) (datagram 10 4 9 14 0) (replicate 50 0) 3 in
+      let same = wrong (routerWithPorts 0) (allRoutes 0) 4 (record { 0 = 1 }) (datagram 10 4 9 14 0) (replicate outputRoom 0) 3 in
       let left : (cs : List Call) → queueAt (leaves cs .mission) 3 .count ≡ queueAt (seatAfter 0 cs .mission) 3 .count =
       λ cs. ap (λ s. queueAt (s .mission) 3 .count) (kept cs) in
       let none : _≡_ {A = ℕ} 1 0 = sym (cases .waits .1) ∙ sym (left (waitingForD 1)) ∙ same ∙ left (waitingForD 0) ∙ cases .waits .0 in omega arith
@@ -334,7 +339,7 @@ module _ (leaves : List Call → State) (kept : (cs : List Call) → leaves cs �
       ≡ counterIn (leaves (ordered settings) .counters) i)
       → ⊥
   counting-nothing wrong =
-      let same = wrong (routerWithPorts 0) (allRoutes 0) 4 (record { 0 = 1 }) (datagram 10 4 9 14 0) (replicate 50 0) 0 in
+      let same = wrong (routerWithPorts 0) (allRoutes 0) 4 (record { 0 = 1 }) (datagram 10 4 9 14 0) (replicate outputRoom 0) 0 in
       let left : (cs : List Call) → counterIn (leaves cs .counters) 0 ≡ counterIn (stateAfter 0 cs .counters) 0 =
       λ cs. ap (λ s. counterIn (s .counters) 0) (kept cs) in
       let none : _≡_ {A = ℕ} 1 0 = sym (cases .receipts .1) ∙ sym (left (waitingForD 1)) ∙ same ∙ left (waitingForD 0) ∙ cases .receipts .0 in omega arith

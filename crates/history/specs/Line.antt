@@ -1,6 +1,7 @@
 -- The copies that wait on a port, in the order in which they entered, from the calls alone: page 01, demand 3 ("Of the copies waiting on a port, the
 -- highest precedence is handed out first, the oldest within one"). Each copy bears the number of the call that placed it, since slots may repeat, and
--- what it was: the address of the port that it came in by, the octets, and how many of them were the header. Assumes nothing.
+-- what it was: the address of the port that it came in by, the octets, how many of them were the header, and the header that receiving wrote for the port
+-- (page 02, W-214). Assumes nothing.
 use Prim.Native.Nat.{ℕ, suc, _<_}
 use mathlib.Core.Bool.{Bool, true, false}
 use mathlib.Core.List.{List, [], _∷_, _++_}
@@ -10,7 +11,7 @@ use Rattle.checks.specs.Order.{pick}
 use Rattle.sets.specs.Sets.{inSet}
 use Rattle.address.specs.declared.Address.{Address}
 use Rattle.address.specs.declared.Slot.{Slot}
-use Rattle.header.specs.Onward.{headerSentOn}
+use Rattle.next_leg.specs.Leg.{headerFor}
 use Rattle.queue.specs.Order.{InOrder}
 use Rattle.queue.specs.Waits.{Chosen, nobody, one, chosen, rankBy}
 use Rattle.queue.specs.Foretold.{howMany}
@@ -30,19 +31,27 @@ pub record Copy : Type 0 where
   pub arrival : Address
   pub octets : List ℕ
   pub size : ℕ
+  pub header : List ℕ
   pub entry : Entry
 
 abbrev pub entryOf : Copy → Entry
 entryOf c = c .entry
 
--- the copy of a datagram, heard in turn n
-abbrev pub copyOf : ℕ → Seat → ℕ → Slot → List ℕ → Ending → Copy
-copyOf n x port slot octets e =
-    record { turn = n; arrival = portIn (relayIn x) port .address; octets = octets; size = e .size; entry = newEntry slot e }
+-- the copy of a datagram that port p takes, heard in turn n
+abbrev pub copyOf : ℕ → ℕ → Seat → ℕ → Slot → List ℕ → Ending → Copy
+copyOf p n x port slot octets e =
+    record {
+      turn = n;
+      arrival = portIn (relayIn x) port .address;
+      octets = octets;
+      size = e .size;
+      header = headerFor (e .legs) octets p;
+      entry = newEntry slot e;
+    }
 
 -- the octets that go out by the port: the header that receiving wrote, and the data behind it as they came
 abbrev pub sentOf : Copy → List ℕ
-sentOf c = headerSentOn (c .octets) ++ drop (c .size) (c .octets)
+sentOf c = c .header ++ drop (c .size) (c .octets)
 
 -- ---- one port
 module _ (p : ℕ) where
@@ -50,7 +59,7 @@ module _ (p : ℕ) where
   abbrev pub takenOwn : ℕ → Seat → MissionCall → List Copy
   takenOwn n x (sets s) = []
   takenOwn n x (hears rs port slot octets output) =
-      pick (inSet p (heardBy x rs port octets (length output) .ruling .took)) (copyOf n x port slot octets (heardBy x rs port octets (length output)) ∷ []) []
+      pick (inSet p (heardBy x rs port octets (length output) .ruling .took)) (copyOf p n x port slot octets (heardBy x rs port octets (length output)) ∷ []) []
   takenOwn n x (takes port) = []
   takenOwn n x (looks l) = []
 

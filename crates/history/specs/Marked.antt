@@ -10,7 +10,7 @@ use Rattle.address.specs.Octets.{dotted}
 use Rattle.address.specs.declared.Class.{Class}
 use Rattle.address.specs.declared.Class.the-variants.{Invalid, Unicast, Multicast, NetBroadcast, DomainBroadcast}
 use Rattle.header.specs.Form.{bitWeight}
-use Rattle.header.specs.Limits.{longestHeader}
+use Rattle.judge.specs.Ending.{outputRoom}
 use Rattle.routes.specs.declared.Record.{Record}
 use Rattle.adjust.specs.Settled.{newRecord}
 use Rattle.history.specs.Calls.{Order, setRouter, setPort, orders, class, hears, takes, looks, Call, operator, own}
@@ -69,7 +69,7 @@ datagram a b c d precedence =
 
 -- it comes in by port 4
 abbrev pub heard : List Record → ℕ → List ℕ → Call
-heard rs slot octets = own (hears rs 4 (record { 0 = slot }) octets (replicate longestHeader 0))
+heard rs slot octets = own (hears rs 4 (record { 0 = slot }) octets (replicate outputRoom 0))
 
 -- ---- the answers
 -- not delivered, and sent on by port p alone

@@ -46,4 +46,6 @@ pub record SameButLocal (a b : ℕ) (e f : Ending) : Type 0 where
   pub dropped : e .ruling .dropped ≡ f .ruling .dropped
   pub precedence : e .precedence ≡ f .precedence
   pub size : e .size ≡ f .size
+  -- whose headers are rewritten, and how
+  pub legs : e .legs ≡ f .legs
   pub local : ((e .ruling .local ≡ No) × (f .ruling .local ≡ No)) ⊎ ((e .ruling .local ≡ localBy a) × (f .ruling .local ≡ localBy b))

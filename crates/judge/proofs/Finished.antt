@@ -22,7 +22,6 @@ use Rattle.header.specs.declared.Found.the-variants as found
 use Rattle.header.proofs.FoundLaws.{found-good, found-refused}
 use Rattle.header.specs.declared.Read.the-variants as read
 use Rattle.header.proofs.Refusals.{never-zero}
-use Rattle.networks.specs.Networks.{domainOf}
 use Rattle.meaning.specs.Names.{aimOf, badAim}
 use Rattle.meaning.specs.Arrival.{arrivalChecks}
 use Rattle.meaning.specs.Asked.{precedenceAsked}
@@ -32,24 +31,30 @@ use Rattle.routes.specs.Search.{searchOf}
 use Rattle.routes.specs.declared.Route.{Route}
 use Rattle.state.specs.Relay.{Relay, allRoutes}
 use Rattle.survey.specs.Survey.{namedBelow, namedOf, surveyBelow, surveyOf}
+use Rattle.survey.specs.declared.Destination.{Destination}
+use Rattle.survey.specs.declared.Destination.the-variants as destination
 use Rattle.survey.specs.declared.Sought.{Sought}
+use Rattle.next_leg.specs.Leg.{legsOf}
+use Rattle.next_leg.specs.declared.Leg.{Leg}
 use Rattle.lookup.specs.Lookup.{groupPlace, pathPlace}
 use Rattle.lookup.specs.ForTarget.{placeFor, wayFor, wayOf}
-use Rattle.verdict.specs.Rule.{targetOf, localOf, routerLine, hostLine, lineOf}
+use Rattle.verdict.specs.Rule.{targetOf, localOf, routerLine, hostLine, lineOf, codeOf}
 use Rattle.verdict.specs.declared.Target.{Target}
 use Rattle.verdict.specs.declared.Target.the-variants as target
 use Rattle.verdict.specs.declared.Place.{Place}
 use Rattle.verdict.specs.declared.Way.{Way}
+use Rattle.verdict.specs.declared.Way.the-variants.{Lost}
 use Rattle.verdict.specs.declared.Wish.{Wish}
 use Rattle.verdict.specs.declared.Case.{Case}
 use Rattle.verdict.specs.declared.Local.{Local}
 use Rattle.verdict.specs.declared.Survey.{Survey}
 use Rattle.verdict.specs.declared.Ruling.{Ruling}
-use Rattle.judge.specs.Ruling.{caseOf, soughtOf, ruledBy, ruleTarget, ruleOf}
+use Rattle.judge.specs.Ruling.{caseOf, soughtOf, targetAsked, legFor, surveyFor, ruledBy, ruleTarget, ruleOf, legsFor}
 use Rattle.judge.specs.Ending.{orElse, refusedBy, callChecks, arrivalAt, ruledEnding, headerEnding, octetsEnding, endingOf}
-use Rattle.judge.specs.Asked.{routeSought, searchedIn, addressIn, refusedAsked, elseAsked, targetAsked, nodeAsked, pathAsked, aimAsked, carriedAsked, octetsAsked, datagramAsked, wishedOf, ruledAsked, finishedOf}
+use Rattle.judge.specs.Asked.{routeSought, searchedIn, addressIn, refusedAsked, elseAsked, nodeAsked, pathAsked, aimAsked, carriedAsked, octetsAsked, datagramAsked, legAsked, wishedOf, ruledAsked, finishedOf}
 use Rattle.judge.specs.declared.ruling.Arrival.{Arrival}
 use Rattle.judge.specs.declared.Asked.{Asked}
+use Rattle.judge.specs.declared.finishing.Ruled.{Ruled}
 use Rattle.judge.specs.declared.Ending.{Ending}
 
 -- ---- a line that does not ask for the route, or for the ports set up
@@ -72,37 +77,45 @@ line-way target.Group c p w v ready local same = refl
 line-way target.Path c p w v ready local same = refl
 line-way target.Route c p w v ready local same = route-line c p w v ready local same
 
-wished-ruled : (r : Relay) (q : Sought) (c : Case) (t : Target) (p : Place) (w v : Way) (ready : ℕ) (s : Survey)
-    → s ≡ surveyOf r q → ready ≡ s .ready → (routeSought t (c .router) ≡ 1 → w ≡ v)
-    → wishedOf r (localOf t p c) (lineOf t p w c ready (localOf t p c)) c q ≡ ruledBy t p v c s
+-- the ruling and the headers, by what was looked up and by what the definition of the whole looks up
+wished-ruled : (r : Relay) (d : Destination) (l : Leg) (c : Case) (t : Target) (p : Place) (w v : Way) (ready : ℕ) (s : Survey)
+    → s ≡ surveyOf r d (soughtOf l) → ready ≡ s .ready → (routeSought t (c .router) ≡ 1 → w ≡ v)
+    → wishedOf r d (localOf t p c) (lineOf t p w c ready (localOf t p c)) c l
+    ≡ record { ruling = ruledBy t p v c s; legs = legsOf (ruledBy t p v c s .took) (s .domain) l }
 unfolding wishedOf ruledBy
-wished-ruled r q c t p w v ready s es er h = let line = line-way t c p w v ready (localOf t p c) h in cc
+wished-ruled r d l c t p w v ready s es er h = let line = line-way t c p w v ready (localOf t p c) h in cc
+
+either-zero : (t : Bool) → _≡_ {A = ℕ} (pick t 0 0) 0
+either-zero true = refl
+either-zero false = refl
 
 -- a number that refuses is not 0
 refused-some : (s : List ℕ) (n : ℕ) → readOf s ≡ read.Refused n → eqb n 0 ≡ false
 refused-some s n e = ne-eqb n 0 (λ z. never-zero s (e ∙ ap read.Refused z))
 
 -- an ending that is no refusal
-abbrev ended : ℕ → ℕ → Ruling → Ending
-ended size precedence x = record { refusal = 0; ruling = x; precedence = precedence; size = size }
+abbrev ended : ℕ → ℕ → Ruled → Ending
+ended size precedence x = record { refusal = 0; ruling = x .ruling; precedence = precedence; size = size; legs = x .legs }
 
-pub finish-told : (r : Relay) (a : Asked) (w : Way) {local : Local} {wish : Wish} {x : Ruling}
+pub finish-told : (r : Relay) (a : Asked) (w : Way) {local : Local} {wish : Wish} {code : ℕ} {x : Ruled}
     → a .refusal ≡ 0
     → local ≡ localOf (a .target) (a .place) (a .case)
     → wish ≡ lineOf (a .target) (a .place) w (a .case) (a .ready) local
-    → x ≡ wishedOf r local wish (a .case) (a .sought)
-    → _≡_ {A = Ending} (record { refusal = 0; ruling = x; precedence = a .precedence; size = a .size }) (finishedOf r a w)
+    → code ≡ codeOf w
+    → ((d : Destination) → x ≡ wishedOf r d local wish (a .case) (record { arrival = a .arrival; code = code; header = a .header }))
+    → _≡_ {A = Ending} (ended (a .header .size) (a .precedence) x) (finishedOf r a w)
 unfolding finishedOf ruledAsked
-finish-told r a w zero e1 e2 e3 = simp (eq-eqb (a .refusal) 0 zero) cc
+finish-told r a w zero e1 e2 e3 e4 = let e = e4 (a .destination) in simp (eq-eqb (a .refusal) 0 zero) cc
 
 -- ---- one datagram
 module _ (r : Relay) (rs : List Route) (number : ℕ) (w : Way) where
   abbrev full : Relay
   full = allRoutes r rs
 
-  -- what the search has to have answered for what is asked
+  -- what the search has to have answered for what is asked, and that nothing was found where nothing was asked
   abbrev Searched : Asked → Type 0
-  Searched a = searchedIn a ≡ 1 → w ≡ wayOf (searchOf (record { 0 = addressIn (a .sought .destination) }) rs)
+  Searched a =
+      (searchedIn a ≡ 1 → w ≡ wayOf (searchOf (record { 0 = addressIn (a .destination) }) rs)) × (searchedIn a ≡ 0 → w ≡ Lost)
 
   -- the routes are no part of what else is looked up
   place-same : (t : Target) (a : Address) (arrival : ℕ) → placeFor full t a arrival ≡ placeFor r t a arrival
@@ -113,9 +126,9 @@ module _ (r : Relay) (rs : List Route) (number : ℕ) (w : Way) where
   place-same target.Path a arrival = refl
   place-same target.Route a arrival = refl
 
-  survey-same : (q : Sought) → surveyOf full q ≡ surveyOf r q
+  survey-same : (d : Destination) (q : Sought) → surveyOf full d q ≡ surveyOf r d q
   unfolding surveyBelow
-  survey-same q = refl
+  survey-same d q = refl
 
   way-sought : (t : Target) (a : Address) (router : ℕ) → (routeSought t router ≡ 1 → w ≡ wayOf (searchOf a rs)) → routeSought t router ≡ 1 → w ≡ wayFor full t a
   way-sought target.Here a router h is = absurd (omega arith)
@@ -123,6 +136,20 @@ module _ (r : Relay) (rs : List Route) (number : ℕ) (w : Way) where
   way-sought target.Group a router h is = absurd (omega arith)
   way-sought target.Path a router h is = absurd (omega arith)
   way-sought target.Route a router h is = h is
+
+  -- and what it asks for: on a host, and by a line that asks for no route, nothing
+  code-sought : (t : Target) (a : Address) (router : ℕ) → (routeSought t router ≡ 1 → w ≡ wayOf (searchOf a rs)) → (routeSought t router ≡ 0 → w ≡ Lost)
+      → codeOf w ≡ pick (eqb router 0) 0 (codeOf (wayFor full t a))
+  code-sought target.Here a router h none = ap codeOf (none refl) ∙ sym (either-zero (eqb router 0))
+  code-sought target.Broadcast a router h none = ap codeOf (none refl) ∙ sym (either-zero (eqb router 0))
+  code-sought target.Group a router h none = ap codeOf (none refl) ∙ sym (either-zero (eqb router 0))
+  code-sought target.Path a router h none = ap codeOf (none refl) ∙ sym (either-zero (eqb router 0))
+  code-sought target.Route a router h none = by-router (eqb router 0) h none
+    where
+      by-router : (host : Bool) → (_≡_ {A = ℕ} (pick host 0 1) 1 → w ≡ wayOf (searchOf a rs)) → (_≡_ {A = ℕ} (pick host 0 1) 0 → w ≡ Lost)
+          → codeOf w ≡ pick host 0 (codeOf (wayOf (searchOf a rs)))
+      by-router true h none = ap codeOf (none refl)
+      by-router false h none = ap codeOf (h refl)
 
   refused-is : (n : ℕ) → eqb n 0 ≡ false → finishedOf r (refusedAsked n) w ≡ refusedBy n
   unfolding finishedOf
@@ -138,39 +165,54 @@ module _ (r : Relay) (rs : List Route) (number : ℕ) (w : Way) where
       by-number false e j = refused-is n e
 
   module _ (at : Arrival) (h : Header) (n : Renewal) where
-    abbrev node : Address → Sought
-    node a = soughtOf (aim.Node a) (domainOf (at .address)) (h .length)
+    abbrev surveyed : Aim → Survey
+    surveyed x = surveyFor full at x h
 
-    target-same : (a : Address) → targetAsked r a ≡ targetOf (classOf (a .0)) (surveyOf full (node a))
+    target-same : (a : Address) → targetAsked r a ≡ targetOf (classOf (a .0)) (surveyed (aim.Node a))
     unfolding targetOf namedBelow surveyBelow
     target-same a = refl
 
-    ready-same : (a : Address) → namedOf (r .ports) a .ready ≡ surveyOf full (node a) .ready
+    ready-same : (a : Address) → namedOf (r .ports) a .ready ≡ surveyed (aim.Node a) .ready
     unfolding namedBelow surveyBelow
     ready-same a = refl
 
-    node-ruled : (a : Address) → Searched (nodeAsked r number at h n a) → ruledAsked r (nodeAsked r number at h n a) w ≡ ruleOf full at (aim.Node a) h
-    unfolding ruledAsked nodeAsked ruleOf ruleTarget
+    -- the leg by the route that was found is that of the whole
+    leg-same : (a : Address) → Searched (nodeAsked r number at h n a)
+        → legAsked (nodeAsked r number at h n a) w ≡ legFor full at (aim.Node a) h
+    unfolding nodeAsked
+    leg-same a k =
+        ap (λ (c : ℕ). record { arrival = at .address; code = c; header = h }) (code-sought (targetAsked r a) a (r .router) (k .0) (k .1))
+
+    node-ruled : (a : Address) → Searched (nodeAsked r number at h n a)
+        → ruledAsked r (nodeAsked r number at h n a) w ≡ record { ruling = ruleOf full at (aim.Node a) h; legs = legsFor full at (aim.Node a) h }
+    unfolding ruledAsked nodeAsked ruleOf ruleTarget legsFor
     node-ruled a k =
         let t = targetAsked r a in
         let c = caseOf (r .router) (at .set) (h .fields) in
-        let s = surveyOf full (node a) in
+        let l = legFor full at (aim.Node a) h in
+        let s = surveyed (aim.Node a) in
         let u = targetOf (classOf (a .0)) s in
-        wished-ruled r (node a) c t (placeFor r t a (at .set)) w (wayFor full t a) (namedOf (r .ports) a .ready) s (survey-same (node a)) (ready-same a)
-        (way-sought t a (r .router) k)
-        ∙ ap (λ (x : Target). ruledBy x (placeFor r x a (at .set)) (wayFor full x a) c s) (target-same a)
-        ∙ ap (λ (x : Place). ruledBy u x (wayFor full u a) c s) (sym (place-same u a (at .set)))
+        ap
+        (λ (x : Leg). wishedOf r (destination.Node a) (localOf t (placeFor r t a (at .set)) c)
+        (lineOf t (placeFor r t a (at .set)) w c (namedOf (r .ports) a .ready) (localOf t (placeFor r t a (at .set)) c)) c x)
+        (leg-same a k)
+        ∙ wished-ruled r (destination.Node a) l c t (placeFor r t a (at .set)) w (wayFor full t a) (namedOf (r .ports) a .ready) s
+        (survey-same (destination.Node a) (soughtOf l)) (ready-same a) (way-sought t a (r .router) (k .0))
+        ∙ ap (λ (x : Ruling). record { ruling = x; legs = legsOf (x .took) (s .domain) l })
+        (ap (λ (x : Target). ruledBy x (placeFor r x a (at .set)) (wayFor full x a) c s) (target-same a)
+        ∙ ap (λ (x : Place). ruledBy u x (wayFor full u a) c s) (sym (place-same u a (at .set))))
 
-    path-ruled : (p : PathAddress) → ruledAsked r (pathAsked r number at h n p) w ≡ ruleOf full at (aim.Path p) h
-    unfolding ruledAsked wishedOf pathAsked ruleOf ruledBy lineOf pathPlace surveyBelow
-    path-ruled p = refl
+    path-ruled : (p : PathAddress) → Searched (pathAsked r number at h n p)
+        → ruledAsked r (pathAsked r number at h n p) w ≡ record { ruling = ruleOf full at (aim.Path p) h; legs = legsFor full at (aim.Path p) h }
+    unfolding ruledAsked wishedOf pathAsked ruleOf legsFor ruledBy lineOf pathPlace surveyBelow
+    path-ruled p k = ap (λ (x : Way). ruledAsked r (pathAsked r number at h n p) x) (k .1 refl)
 
     aim-is : (x : Aim) → badAim x ≡ false → Searched (aimAsked r number at h n x)
         → finishedOf r (aimAsked r number at h n x) w
-        ≡ record { refusal = 0; ruling = ruleOf full at x h; precedence = precedenceAsked (h .fields .qos); size = h .size }
+        ≡ record { refusal = 0; ruling = ruleOf full at x h; precedence = precedenceAsked (h .fields .qos); size = h .size; legs = legsFor full at x h }
     unfolding finishedOf aimAsked nodeAsked pathAsked
     aim-is (aim.Node a) g k = ap (ended (h .size) (precedenceAsked (h .fields .qos))) (node-ruled a k)
-    aim-is (aim.Path p) g k = ap (ended (h .size) (precedenceAsked (h .fields .qos))) (path-ruled p)
+    aim-is (aim.Path p) g k = ap (ended (h .size) (precedenceAsked (h .fields .qos))) (path-ruled p k)
     aim-is aim.Uncarried g k = true-false g
 
     header-is : Searched (carriedAsked r number at h n) → finishedOf r (carriedAsked r number at h n) w ≡ headerEnding full at h

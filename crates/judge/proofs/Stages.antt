@@ -1,16 +1,16 @@
 -- The stages before the search, over plain variables. Assumes nothing.
 use native.Mathlib.Omega.{arith}
-use Prim.Native.Nat.{ℕ, _<_}
+use Prim.Native.Nat.{ℕ, _≤_, _<_}
 use mathlib.Core.Path.{_≡_, refl, sym, ap, _∙_}
 use mathlib.Core.Bool.{Bool, true, false, not}
 use mathlib.Core.List.{List, [], _∷_}
 use lib.ListN.{getD}
-use borrow.Author.Tests.{eq-eqb, ne-eqb}
+use borrow.Author.Tests.{eq-eqb, ne-eqb, lt-ltb, le-ltb}
 use Rattle.checks.specs.Order.{pick, checkOf, firstOf}
 use Rattle.checks.specs.declared.Check.the-variants.{Passed, Failed}
 use Rattle.checks.specs.declared.Check.{Check}
 use Rattle.checks.proofs.Laws.{passed-false, failed-true}
-use Rattle.checks.proofs.Steps.{fails-here, passes, none-left}
+use Rattle.checks.proofs.Steps.{holds-here, holds-not, fails-here, passes, none-left}
 use Rattle.sets.specs.Sets.{onlyPort}
 use Rattle.address.specs.Class.{classOf, classNumber}
 use Rattle.address.specs.Path.{pathForm, pathNumber}
@@ -18,14 +18,9 @@ use Rattle.address.specs.declared.Address.{Address}
 use Rattle.address.specs.declared.PathAddress.{PathAddress}
 use Rattle.address.specs.declared.Class.{Class}
 use Rattle.address.specs.declared.PathForm.{PathForm}
-use Rattle.header.specs.Limits.{noRoom}
 use Rattle.header.specs.Onward.{foundOf}
 use Rattle.header.specs.declared.Renewal.{Renewal}
-use Rattle.header.specs.declared.Found.the-variants as found
-use Rattle.header.proofs.FoundLaws.{found-good}
 use Rattle.header.specs.declared.Header.{Header}
-use Rattle.header.proofs.Answers.{read-bounds}
-use Rattle.networks.specs.Networks.{domainOf}
 use Rattle.meaning.specs.Names.{aimOf, originOf, notCarried, noDomain, badClass, badPath, badAim, badSource}
 use Rattle.meaning.specs.Arrival.{arrivalChecks}
 use Rattle.meaning.specs.Asked.{precedenceAsked}
@@ -37,7 +32,7 @@ use Rattle.records.specs.declared.Port.{Port}
 use Rattle.state.specs.Relay.{Relay, amongPorts}
 use Rattle.state.specs.Seen.{Board, State, portsSeen, seated}
 use Rattle.survey.specs.Survey.{namedOf}
-use Rattle.survey.specs.declared.Sought.{Sought}
+use Rattle.survey.specs.declared.Destination.the-variants as destination
 use Rattle.lookup.specs.Lookup.{pathPlace}
 use Rattle.lookup.specs.ForTarget.{placeFor}
 use Rattle.verdict.specs.Rule.{targetOf}
@@ -46,8 +41,8 @@ use Rattle.verdict.specs.declared.Target.the-variants as target
 use Rattle.verdict.specs.declared.Place.{Place}
 use Rattle.verdict.specs.declared.Case.{Case}
 use Rattle.verdict.specs.declared.Survey.{Survey}
-use Rattle.judge.specs.Ruling.{caseOf, soughtOf}
-use Rattle.judge.specs.Ending.{callChecks}
+use Rattle.judge.specs.Ruling.{caseOf}
+use Rattle.judge.specs.Ending.{outputRoom, callChecks}
 use Rattle.judge.specs.Asked.{refusedAsked, elseAsked, nodeAsked, pathAsked, aimAsked, carriedAsked, octetsAsked, datagramAsked}
 use Rattle.judge.specs.declared.ruling.Arrival.{Arrival}
 use Rattle.judge.specs.declared.Asked.{Asked}
@@ -75,7 +70,7 @@ module _ (a : Address) {class : Class} {n : ℕ} (is : class ≡ classOf (a .0))
   node-refused rest h told = bad (badClass (a .0)) rest (eq-eqb _ 0 (sym class-told ∙ h)) told
 
   pub node-asked :
-      (b : Board) (s : State) (at : Arrival) (h : Header) (k : Renewal) {m router domain : ℕ} {v : Survey} {t : Target} {p : Place} {c : Case} {q : Sought} {precedence : ℕ}
+      (b : Board) (s : State) (at : Arrival) (h : Header) (k : Renewal) {m router : ℕ} {v : Survey} {t : Target} {p : Place} {c : Case} {precedence : ℕ}
       → (n ≡ 0 → ⊥)
       → m ≡ s .number
       → v ≡ namedOf (portsSeen m b) a
@@ -83,14 +78,12 @@ module _ (a : Address) {class : Class} {n : ℕ} (is : class ≡ classOf (a .0))
       → p ≡ placeFor (seated b s) t a (at .set)
       → router ≡ b .router
       → c ≡ caseOf router (at .set) (h .fields)
-      → domain ≡ domainOf (at .address)
-      → q ≡ soughtOf (aim.Node a) domain (h .length)
       → precedence ≡ precedenceAsked (h .fields .qos)
       → _≡_ {A = Asked}
-      (record { refusal = 0; target = t; place = p; case = c; ready = v .ready; sought = q; number = m; precedence = precedence; size = h .size; renewal = k })
+      (record { refusal = 0; target = t; place = p; case = c; ready = v .ready; destination = destination.Node a; number = m; precedence = precedence; arrival = at .address; header = h; renewal = k })
       (elseAsked (pick (badClass (a .0)) 6 0) (nodeAsked (seated b s) (s .number) at h k a))
   unfolding nodeAsked
-  node-asked b s at h k some e1 e2 e3 e4 e5 e6 e7 e8 e9 = good (badClass (a .0)) _ (ne-eqb _ 0 (λ z. some (class-told ∙ z))) cc
+  node-asked b s at h k some e1 e2 e3 e4 e5 e6 e7 = good (badClass (a .0)) _ (ne-eqb _ 0 (λ z. some (class-told ∙ z))) cc
 
 -- ---- a path
 module _ (p : PathAddress) {form : PathForm} {n : ℕ} (is : form ≡ pathForm (p .0)) (number : n ≡ pathNumber form) where
@@ -101,20 +94,18 @@ module _ (p : PathAddress) {form : PathForm} {n : ℕ} (is : form ≡ pathForm (
   path-refused rest h told = bad (badPath (p .0)) rest (eq-eqb _ 0 (sym form-told ∙ h)) told
 
   pub path-asked :
-      (b : Board) (s : State) (at : Arrival) (h : Header) (k : Renewal) {m router domain : ℕ} {x : Place} {c : Case} {q : Sought} {precedence : ℕ}
+      (b : Board) (s : State) (at : Arrival) (h : Header) (k : Renewal) {m router : ℕ} {x : Place} {c : Case} {precedence : ℕ}
       → (n ≡ 0 → ⊥)
       → x ≡ pathPlace (seated b s) p
       → router ≡ b .router
       → c ≡ caseOf router (at .set) (h .fields)
-      → domain ≡ domainOf (at .address)
-      → q ≡ soughtOf (aim.Path p) domain (h .length)
       → m ≡ s .number
       → precedence ≡ precedenceAsked (h .fields .qos)
       → _≡_ {A = Asked}
-      (record { refusal = 0; target = target.Path; place = x; case = c; ready = 0; sought = q; number = m; precedence = precedence; size = h .size; renewal = k })
+      (record { refusal = 0; target = target.Path; place = x; case = c; ready = 0; destination = destination.Other; number = m; precedence = precedence; arrival = at .address; header = h; renewal = k })
       (elseAsked (pick (badPath (p .0)) 6 0) (pathAsked (seated b s) (s .number) at h k p))
   unfolding pathAsked
-  path-asked b s at h k some e1 e2 e3 e4 e5 e6 e7 = good (badPath (p .0)) _ (ne-eqb _ 0 (λ z. some (form-told ∙ z))) cc
+  path-asked b s at h k some e1 e2 e3 e4 e5 = good (badPath (p .0)) _ (ne-eqb _ 0 (λ z. some (form-told ∙ z))) cc
 
 -- ---- a good header: 6 is given for either address
 either-6 : (t u : Bool) → u ≡ true → 6 ≡ firstOf ((t, 6) ∷ (u, 6) ∷ [])
@@ -165,10 +156,6 @@ module _ (r : Relay) (number : ℕ) (at : Arrival) (h : Header) (k : Renewal) {e
   unfolding aimAsked
   at-path p is = is
 
--- the length field has 13 bits
-pub short-length : (s : List ℕ) (h : Header) (k : Renewal) → ((i : ℕ) → getD s i 0 < 256) → foundOf s ≡ found.Good h k → h .length < 8192
-short-length s h k small e = read-bounds s h small (found-good s h k e .0) .1 .1 .1 .1
-
 -- ---- the whole
 -- the port, by the mission's number
 pub port-told : (b : Board) (port : ℕ) {n m : ℕ} {c : Check}
@@ -183,19 +170,19 @@ module _ (r : Relay) (number port : ℕ) (octets : List ℕ) (room : ℕ) {e : A
   unfolding datagramAsked callChecks
   no-port fails is = by-number _ _ (fails-here _ _ _ told fails) (λ z. omega arith) is
 
-  module _ (ready : c ≡ Passed) {k : Check} (roomy : k ≡ checkOf (noRoom room)) where
-    pub no-room : k ≡ Failed → e ≡ refusedAsked 17 → e ≡ datagramAsked r number port octets room
+  module _ (ready : c ≡ Passed) where
+    pub no-room : room < outputRoom → e ≡ refusedAsked 17 → e ≡ datagramAsked r number port octets room
     unfolding datagramAsked callChecks
-    no-room fails is = by-number _ _ (passes _ _ _ told ready (fails-here _ _ _ roomy fails)) (λ z. omega arith) is
+    no-room short is = by-number _ _ (passes _ _ _ told ready (holds-here _ _ _ (lt-ltb room outputRoom short))) (λ z. omega arith) is
 
     pub judged :
         {p : Port} {set : ℕ}
-        → k ≡ Passed
+        → outputRoom ≤ room
         → p ≡ getD (r .ports) port freshPort
         → set ≡ onlyPort port
         → e ≡ octetsAsked r number (record { set = set; address = p .address }) (foundOf octets)
         → e ≡ datagramAsked r number port octets room
     unfolding datagramAsked callChecks
     judged enough same only is =
-        by-rest _ _ (passes _ _ _ told ready (passes _ _ _ roomy enough none-left)) refl
+        by-rest _ _ (passes _ _ _ told ready (holds-not _ _ _ (le-ltb room outputRoom enough) none-left)) refl
         (is ∙ ap (λ (at : Arrival). octetsAsked r number at (foundOf octets)) cc)

@@ -1,29 +1,48 @@
 -- The ports that a datagram is wanted on are enough to ask: what the others say changes no ruling. Assumes nothing.
 use native.Mathlib.Omega.{arith}
 use Prim.Native.Nat.{ℕ, zero, suc, _+_, _^_, _<_}
-use mathlib.Core.Path.{_≡_, refl, sym, ap, ap₂, _∙_}
-use mathlib.Core.Bool.{Bool, true, false, _&&_}
+use mathlib.Core.Path.{_≡_, refl, sym, ap, ap₂, subst, _∙_}
+use mathlib.Core.Bool.{Bool, true, false, not, _&&_}
 use lib.Bits.{bitAnd}
 use lib.Dec.{eqb}
 use Rattle.checks.specs.Order.{pick}
-use Rattle.checks.proofs.Bools.{and-true}
+use Rattle.checks.proofs.Bools.{true-false, and-true}
 use Rattle.sets.specs.Sets.{inSet, portSet}
 use Rattle.sets.proofs.Members.{in-gathered}
 use Rattle.records.specs.SetUp.{isSetUp}
 use Rattle.state.specs.Relay.{Relay, portIn, queueIn}
-use Rattle.survey.specs.Survey.{inDomain, isFitting, isFull, surveyBelow, surveyOf, surveyWithin}
+use Rattle.survey.specs.Survey.{inDomain, isFitting, isFull, surveyBelow, surveyOf, surveyWithin, wantedOf}
 use Rattle.survey.specs.declared.Sought.{Sought}
+use Rattle.survey.specs.declared.Destination.{Destination}
 use Rattle.survey.proofs.Within.{within}
-use Rattle.verdict.specs.Rule.{sameDomain, largeEnough, afterHops, afterDomain, afterSize, grantedOf, copiesOf, rulingOf}
+use Rattle.survey.proofs.Bits.{in-except, in-none}
+use Rattle.networks.specs.Networks.{domainOf}
+use Rattle.next_leg.specs.Leg.{nextLength, noLegs, legsOf}
+use Rattle.next_leg.specs.declared.Leg.{Leg}
+use Rattle.next_leg.specs.declared.Legs.{Legs}
+use Rattle.verdict.specs.Rule.{exceptBy, sameDomain, largeEnough, afterHops, afterDomain, afterSize, grantedOf, copiesOf, rulingOf}
 use Rattle.verdict.specs.declared.Case.{Case}
 use Rattle.verdict.specs.declared.Local.{Local}
 use Rattle.verdict.specs.declared.Obstacle.{Obstacle}
 use Rattle.verdict.specs.declared.Obstacle.the-variants.{LeavesDomain, TooBig}
 use Rattle.verdict.specs.declared.Onward.the-variants as onward
+use Rattle.verdict.specs.declared.Survey.{Survey}
 use Rattle.verdict.specs.declared.Ruling.{Ruling}
 use Rattle.verdict.specs.declared.Wish.{Wish}
 use Rattle.verdict.specs.declared.Wish.the-variants.{NotAsked, Refused, Wanted}
-use Rattle.judge.specs.Asked.{amongOf, wishedOf}
+use Rattle.judge.specs.Ruling.{soughtOf}
+use Rattle.judge.specs.Asked.{legged, amongOf, wishedOf}
+use Rattle.judge.specs.declared.finishing.Ruled.{Ruled}
+
+-- ---- kinds of wish told apart
+not-asked-wanted : (g : ℕ) → NotAsked ≡ Wanted g → ⊥
+not-asked-wanted g e = true-false cc
+
+refused-wanted : (o : Obstacle) (g : ℕ) → Refused o ≡ Wanted g → ⊥
+refused-wanted o g e = true-false cc
+
+wanted-same : (x g : ℕ) → Wanted x ≡ Wanted g → x ≡ g
+wanted-same x g e = cc
 
 -- ---- sets of the eight ports that a walk gathers
 abbrev gathered : (ℕ → Bool) → ℕ
@@ -105,9 +124,9 @@ module _ (r : Relay) (q : Sought) (set : ℕ) where
   abbrev whole : Local → Wish → Ruling
   whole local w = rulingOf local (afterSize w (gathered (setUp wide))) (gathered (setUp filled))
 
-  domain-same : (local : Local) (basic : ℕ) → asked local (sameDomain set basic (among near)) ≡ whole local (sameDomain set basic (gathered (setUp near)))
+  domain-same : (local : Local) (bound : ℕ) → asked local (sameDomain set bound (among near)) ≡ whole local (sameDomain set bound (gathered (setUp near)))
   unfolding rulingOf
-  domain-same local basic = rw (among-met set near (λ p l is. is)) (by-basic (eqb basic 0))
+  domain-same local bound = rw (among-met set near (λ p l is. is)) (by-bound (eqb bound 0))
     where
       x : ℕ
       x = bitAnd set (gathered (setUp near))
@@ -116,32 +135,103 @@ module _ (r : Relay) (q : Sought) (set : ℕ) where
       by-left true = refl
       by-left false = size-same local x (met-inside set set (setUp near) (λ p l is. is))
 
-      by-basic : (t : Bool) → asked local (pick t (Wanted set) (pick (eqb x 0) (Refused LeavesDomain) (Wanted x))) ≡ whole local (pick t (Wanted set) (pick (eqb x 0) (Refused LeavesDomain) (Wanted x)))
-      by-basic true = size-same local set (λ p l is. is)
-      by-basic false = by-left (eqb x 0)
+      by-bound : (t : Bool) → asked local (pick t (Wanted set) (pick (eqb x 0) (Refused LeavesDomain) (Wanted x))) ≡ whole local (pick t (Wanted set) (pick (eqb x 0) (Refused LeavesDomain) (Wanted x)))
+      by-bound true = size-same local set (λ p l is. is)
+      by-bound false = by-left (eqb x 0)
 
-  among-is : (local : Local) (basic : ℕ)
-      → amongOf r local set basic q ≡ rulingOf local (afterSize (sameDomain set basic (surveyOf r q .domain)) (surveyOf r q .fitting)) (surveyOf r q .full)
+  -- what is left is inside: of the ports granted, of those that took a copy
+  taken-inside : (g full : ℕ) → Inside g set → Inside (exceptBy g full) set
+  taken-inside g full h p l is = h p l (and-true (inSet p g) (not (inSet p full)) (sym (in-except p g full) ∙ is) .0)
+
+  took-inside : (local : Local) (w : Wish) (full : ℕ) → ((g : ℕ) → w ≡ Wanted g → Inside g set) → Inside (rulingOf local w full .took) set
+  unfolding rulingOf copiesOf
+  took-inside local NotAsked full h p l is = true-false (sym is ∙ in-none p)
+  took-inside local (Refused o) full h p l is = true-false (sym is ∙ in-none p)
+  took-inside local (Wanted g) full h p l is = taken-inside g full (h g refl) p l is
+
+  left-inside : (x : ℕ) (o : Obstacle) (none : Bool) → Inside x set → (g : ℕ) → pick none (Refused o) (Wanted x) ≡ Wanted g → Inside g set
+  left-inside x o true h g e = absurd (refused-wanted o g e)
+  left-inside x o false h g e = subst (λ (y : ℕ). Inside y set) (wanted-same x g e) h
+
+  sized-inside : (w : Wish) → ((g : ℕ) → w ≡ Wanted g → Inside g set) → (g : ℕ) → afterSize w (gathered (setUp wide)) ≡ Wanted g → Inside g set
+  sized-inside NotAsked h g e = absurd (not-asked-wanted g e)
+  sized-inside (Refused o) h g e = absurd (refused-wanted o g e)
+  sized-inside (Wanted x) h g e =
+      left-inside (bitAnd x (gathered (setUp wide))) TooBig (eqb (bitAnd x (gathered (setUp wide))) 0) (met-inside x set (setUp wide) (h x refl)) g e
+
+  near-inside : (bound g : ℕ) → sameDomain set bound (gathered (setUp near)) ≡ Wanted g → Inside g set
+  near-inside bound g e = by-bound (eqb bound 0) e
+    where
+      x : ℕ
+      x = bitAnd set (gathered (setUp near))
+
+      by-bound : (t : Bool) → pick t (Wanted set) (pick (eqb x 0) (Refused LeavesDomain) (Wanted x)) ≡ Wanted g → Inside g set
+      by-bound true k = subst (λ (y : ℕ). Inside y set) (wanted-same set g k) (λ p l is. is)
+      by-bound false k = left-inside x LeavesDomain (eqb x 0) (met-inside set set (setUp near) (λ p l is. is)) g k
+
+  -- so the headers of the copies are the same too
+  legs-same : (took : ℕ) (l : Leg) → Inside took set → legsOf took (among near) l ≡ legsOf took (gathered (setUp near)) l
+  unfolding legsOf
+  legs-same took l h = rw (among-met took near h)
+
+  legged-same : (local : Local) (bound : ℕ) (l : Leg)
+      → legged (asked local (sameDomain set bound (among near))) (among near) l
+      ≡ legged (whole local (sameDomain set bound (gathered (setUp near)))) (gathered (setUp near)) l
+  legged-same local bound l =
+      let x = whole local (sameDomain set bound (gathered (setUp near))) in
+      ap (λ (y : Ruling). legged y (among near) l) (domain-same local bound)
+      ∙ ap (λ (y : Legs). record { ruling = x; legs = y })
+      (legs-same (x .took) l
+      (took-inside local (afterSize (sameDomain set bound (gathered (setUp near))) (gathered (setUp wide))) (gathered (setUp filled))
+      (sized-inside (sameDomain set bound (gathered (setUp near))) (near-inside bound))))
+
+module _ (r : Relay) (d : Destination) (l : Leg) where
+  abbrev surveyed : Survey
+  surveyed = surveyOf r d (soughtOf l)
+
+  abbrev ruledLeft : Local → Wish → ℕ → Ruled
+  ruledLeft local w bound = legged (rulingOf local (afterSize (afterDomain w bound (surveyed .domain)) (surveyed .fitting)) (surveyed .full)) (surveyed .domain) l
+
+  among-is : (set : ℕ) (local : Local) (bound : ℕ) → amongOf r local set bound l ≡ ruledLeft local (Wanted set) bound
   unfolding amongOf surveyBelow surveyWithin
-  among-is local basic = domain-same local basic
+  among-is set local bound = legged-same r (soughtOf l) set local bound l
 
--- ---- the three cases, once hops are asked for
-module _ (r : Relay) (local : Local) (wish : Wish) (c : Case) (q : Sought) {hops : Wish} (is : hops ≡ afterHops wish (c .spent)) {out : Ruling} where
-  by-hops : (w : Wish) → hops ≡ w
-      → out ≡ rulingOf local (afterSize (afterDomain w (c .basic) (surveyOf r q .domain)) (surveyOf r q .fitting)) (surveyOf r q .full)
-      → out ≡ wishedOf r local wish c q
-  unfolding wishedOf grantedOf
-  by-hops w same e =
-      e ∙ ap (λ (x : Wish). rulingOf local (afterSize (afterDomain x (c .basic) (surveyOf r q .domain)) (surveyOf r q .fitting)) (surveyOf r q .full)) (sym same ∙ is)
+  -- ---- the three cases, once hops are asked for
+  module _ (local : Local) (wish : Wish) (c : Case) {hops : Wish} (is : hops ≡ afterHops wish (c .spent)) {out : Ruled} where
+    by-hops : (w : Wish) → hops ≡ w → out ≡ ruledLeft local w (c .bound) → out ≡ wishedOf r d local wish c l
+    unfolding wishedOf grantedOf
+    by-hops w same e = e ∙ ap (λ (x : Wish). ruledLeft local x (c .bound)) (sym same ∙ is)
 
-  pub wished-not : hops ≡ NotAsked → out ≡ record { local = local; onward = onward.NotAsked; granted = 0; took = 0; dropped = 0 } → out ≡ wishedOf r local wish c q
-  unfolding rulingOf
-  wished-not same e = by-hops NotAsked same e
+    pub wished-not : hops ≡ NotAsked
+        → out ≡ record { ruling = record { local = local; onward = onward.NotAsked; granted = 0; took = 0; dropped = 0 }; legs = noLegs }
+        → out ≡ wishedOf r d local wish c l
+    unfolding rulingOf legsOf
+    wished-not same e = by-hops NotAsked same e
 
-  pub wished-refused : (o : Obstacle) → hops ≡ Refused o
-      → out ≡ record { local = local; onward = onward.Refused o; granted = 0; took = 0; dropped = 0 } → out ≡ wishedOf r local wish c q
-  unfolding rulingOf
-  wished-refused o same e = by-hops (Refused o) same e
+    pub wished-refused : (o : Obstacle) → hops ≡ Refused o
+        → out ≡ record { ruling = record { local = local; onward = onward.Refused o; granted = 0; took = 0; dropped = 0 }; legs = noLegs }
+        → out ≡ wishedOf r d local wish c l
+    unfolding rulingOf legsOf
+    wished-refused o same e = by-hops (Refused o) same e
 
-  pub wished-among : (set : ℕ) → hops ≡ Wanted set → out ≡ amongOf r local set (c .basic) q → out ≡ wishedOf r local wish c q
-  wished-among set same e = by-hops (Wanted set) same (e ∙ among-is r q set local (c .basic))
+    pub wished-among : (set : ℕ) → hops ≡ Wanted set → out ≡ amongOf r local set (c .bound) l → out ≡ wishedOf r d local wish c l
+    wished-among set same e = by-hops (Wanted set) same (e ∙ among-is set local (c .bound))
+
+-- what is asked of the wanted ports, by what was computed
+pub sought-told : (l : Leg) {domain near far : ℕ}
+    → domain ≡ domainOf (l .arrival)
+    → near ≡ nextLength false (l .arrival .0) (l .code) (l .header)
+    → far ≡ nextLength true (l .arrival .0) (l .code) (l .header)
+    → _≡_ {A = Sought} (record { domain = domain; near = near; far = far }) (soughtOf l)
+sought-told l ed en ef = cc
+
+-- the ruling on the wanted ports, step by step
+pub among-told : (r : Relay) (local : Local) (set bound : ℕ) (l : Leg) {q : Sought} {s : Survey} {granted : Wish} {x : Ruling} {y : Legs}
+    → q ≡ soughtOf l
+    → s ≡ wantedOf r set q
+    → granted ≡ afterSize (sameDomain set bound (s .domain)) (s .fitting)
+    → x ≡ rulingOf local granted (s .full)
+    → y ≡ legsOf (x .took) (s .domain) l
+    → _≡_ {A = Ruled} (record { ruling = x; legs = y }) (amongOf r local set bound l)
+unfolding amongOf
+among-told r local set bound l eq es eg ex ey = cc

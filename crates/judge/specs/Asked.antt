@@ -4,22 +4,24 @@ use Prim.Native.Nat.{ℕ}
 use mathlib.Core.List.{List}
 use lib.Dec.{eqb}
 use Rattle.checks.specs.Order.{pick, firstOf}
-use Rattle.address.specs.Class.{classOf}
 use Rattle.address.specs.declared.Address.{Address}
 use Rattle.address.specs.declared.PathAddress.{PathAddress}
 use Rattle.header.specs.Onward.{foundOf}
+use Rattle.header.specs.declared.Addresses.the-variants as addresses
+use Rattle.header.specs.declared.Qos.the-variants as qos
+use Rattle.header.specs.declared.Octet.the-variants as octet
+use Rattle.header.specs.declared.Timestamp.the-variants as stamp
 use Rattle.header.specs.declared.Header.{Header}
 use Rattle.header.specs.declared.Renewal.{Renewal}
 use Rattle.header.specs.declared.Found.{Found}
 use Rattle.header.specs.declared.Found.the-variants as found
-use Rattle.networks.specs.Networks.{domainOf}
 use Rattle.meaning.specs.Names.{aimOf}
 use Rattle.meaning.specs.Arrival.{arrivalChecks}
 use Rattle.meaning.specs.Asked.{precedenceAsked}
 use Rattle.meaning.specs.declared.Aim.{Aim}
 use Rattle.meaning.specs.declared.Aim.the-variants as aim
 use Rattle.state.specs.Relay.{Relay}
-use Rattle.verdict.specs.Rule.{targetOf, localOf, lineOf, sameDomain, afterSize, grantedOf, rulingOf}
+use Rattle.verdict.specs.Rule.{localOf, lineOf, codeOf, sameDomain, afterSize, grantedOf, rulingOf}
 use Rattle.verdict.specs.declared.Target.{Target}
 use Rattle.verdict.specs.declared.Target.the-variants.{Here, Broadcast, Group, Path, Route}
 use Rattle.verdict.specs.declared.Place.{Place}
@@ -28,23 +30,43 @@ use Rattle.verdict.specs.declared.Way.{Way}
 use Rattle.verdict.specs.declared.Case.{Case}
 use Rattle.verdict.specs.declared.Local.{Local}
 use Rattle.verdict.specs.declared.Wish.{Wish}
+use Rattle.verdict.specs.declared.Survey.{Survey}
 use Rattle.verdict.specs.declared.Ruling.{Ruling}
+use Rattle.next_leg.specs.Leg.{legsOf}
+use Rattle.next_leg.specs.declared.Leg.{Leg}
 use Rattle.survey.specs.Survey.{namedOf, wantedOf, surveyOf}
 use Rattle.survey.specs.declared.Destination.{Destination}
 use Rattle.survey.specs.declared.Destination.the-variants.{Node, Other}
-use Rattle.survey.specs.declared.Sought.{Sought}
 use Rattle.lookup.specs.Lookup.{pathPlace}
 use Rattle.lookup.specs.ForTarget.{placeFor}
-use Rattle.judge.specs.Ruling.{caseOf, soughtOf}
+use Rattle.judge.specs.Ruling.{caseOf, destinationAsked, targetAsked, soughtOf}
 use Rattle.judge.specs.Ending.{callChecks, arrivalAt, orElse}
 use Rattle.judge.specs.declared.ruling.Arrival.{Arrival}
 use Rattle.judge.specs.declared.Asked.{Asked}
+use Rattle.judge.specs.declared.finishing.Ruled.{Ruled}
 use Rattle.judge.specs.declared.Ending.{Ending}
 
 -- ---- before the search
 -- a refusal asks nothing
 abbrev pub noCase : Case
-noCase = record { arrival = 0; router = 0; intermediate = 0; assigned = 0; basic = 0; spent = 0 }
+noCase = record { arrival = 0; router = 0; intermediate = 0; assigned = 0; bound = 0; spent = 0 }
+
+abbrev pub noHeader : Header
+noHeader =
+    record {
+      fields = record {
+        tpid = 0;
+        addresses = addresses.BasicPath 0;
+        qos = qos.Absent;
+        hops = octet.Absent;
+        stamp = stamp.Absent;
+        expanded = octet.Absent;
+        checksum = 0;
+        intermediate = 0;
+      };
+      length = 0;
+      size = 0;
+    }
 
 abbrev pub refusedAsked : ℕ → Asked
 refusedAsked n =
@@ -54,10 +76,11 @@ refusedAsked n =
       place = Missing;
       case = noCase;
       ready = 0;
-      sought = record { destination = Other; domain = 0; length = 0 };
+      destination = Other;
       number = 0;
       precedence = 0;
-      size = 0;
+      arrival = record { 0 = 0 };
+      header = noHeader;
       renewal = record { hops = 0; counted = 0; checksum = 0; summed = 0 };
     }
 
@@ -74,15 +97,13 @@ headerAsked r number at h n x t p ready =
       place = p;
       case = caseOf (r .router) (at .set) (h .fields);
       ready = ready;
-      sought = soughtOf x (domainOf (at .address)) (h .length);
+      destination = destinationAsked x;
       number = number;
       precedence = precedenceAsked (h .fields .qos);
-      size = h .size;
+      arrival = at .address;
+      header = h;
       renewal = n;
     }
-
-abbrev pub targetAsked : Relay → Address → Target
-targetAsked r a = targetOf (classOf (a .0)) (namedOf (r .ports) a)
 
 unfoldable pub nodeAsked : Relay → ℕ → Arrival → Header → Renewal → Address → Asked
 nodeAsked r number at h n a =
@@ -111,27 +132,45 @@ datagramAsked r number port octets room =
     elseAsked (firstOf (callChecks r port room)) (octetsAsked r number (arrivalAt r port) (foundOf octets))
 
 -- ---- after it
--- the ruling by the local half and what the line wants, by what all ports say
-unfoldable pub wishedOf : Relay → Local → Wish → Case → Sought → Ruling
-wishedOf r local wish c q = rulingOf local (grantedOf wish c (surveyOf r q)) (surveyOf r q .full)
+-- a ruling, and the headers of the copies that ports took, where those of the domain are known
+abbrev pub legged : Ruling → ℕ → Leg → Ruled
+legged x domain l = record { ruling = x; legs = legsOf (x .took) domain l }
+
+-- by the local half and what the line wants, and by what all ports say
+abbrev pub wishedBy : Local → Wish → Case → Survey → Leg → Ruled
+wishedBy local wish c s l = legged (rulingOf local (grantedOf wish c s) (s .full)) (s .domain) l
+
+unfoldable pub wishedOf : Relay → Destination → Local → Wish → Case → Leg → Ruled
+wishedOf r d local wish c l = wishedBy local wish c (surveyOf r d (soughtOf l)) l
 
 -- the same by what the wanted ones say, hops left
-unfoldable pub amongOf : Relay → Local → ℕ → ℕ → Sought → Ruling
-amongOf r local set basic q =
-    rulingOf local (afterSize (sameDomain set basic (wantedOf r set q .domain)) (wantedOf r set q .fitting)) (wantedOf r set q .full)
+unfoldable pub amongOf : Relay → Local → ℕ → ℕ → Leg → Ruled
+amongOf r local set bound l =
+    let s = wantedOf r set (soughtOf l) in
+    legged (rulingOf local (afterSize (sameDomain set bound (s .domain)) (s .fitting)) (s .full)) (s .domain) l
 
 -- both halves, of what was looked up
-unfoldable pub ruledAsked : Relay → Asked → Way → Ruling
+abbrev pub legAsked : Asked → Way → Leg
+legAsked a w = record { arrival = a .arrival; code = codeOf w; header = a .header }
+
+unfoldable pub ruledAsked : Relay → Asked → Way → Ruled
 ruledAsked r a w =
-    wishedOf r
+    wishedOf r (a .destination)
     (localOf (a .target) (a .place) (a .case))
     (lineOf (a .target) (a .place) w (a .case) (a .ready) (localOf (a .target) (a .place) (a .case)))
     (a .case)
-    (a .sought)
+    (legAsked a w)
 
 unfoldable pub finishedOf : Relay → Asked → Way → Ending
 finishedOf r a w =
-    orElse (a .refusal) (record { refusal = 0; ruling = ruledAsked r a w; precedence = a .precedence; size = a .size })
+    orElse (a .refusal)
+    (record {
+      refusal = 0;
+      ruling = ruledAsked r a w .ruling;
+      precedence = a .precedence;
+      size = a .header .size;
+      legs = ruledAsked r a w .legs;
+    })
 
 -- ---- between them: a route is searched where the route line decides, on a router
 abbrev pub routeSought : Target → ℕ → ℕ

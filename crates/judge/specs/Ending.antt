@@ -1,12 +1,13 @@
 -- All that becomes of a received datagram: page 01, "One received datagram, step by step". Each list of checks is in the page's order, and
 -- the first whose condition holds ends the call with its number. Assumes nothing.
-use Prim.Native.Nat.{ℕ}
+use Prim.Native.Nat.{ℕ, _*_}
 use mathlib.Core.List.{List, [], _∷_}
 use mathlib.Core.Bool.{not}
-use lib.Dec.{eqb}
+use lib.Dec.{eqb, ltb}
 use Rattle.checks.specs.Order.{pick, Checks, firstOf}
+use Rattle.sets.specs.Limits.{portCount}
 use Rattle.sets.specs.Sets.{onlyPort}
-use Rattle.header.specs.Limits.{noRoom}
+use Rattle.header.specs.Limits.{longestHeader}
 use Rattle.header.specs.Read.{readOf}
 use Rattle.header.specs.declared.Header.{Header}
 use Rattle.header.specs.declared.Read.{Read}
@@ -18,7 +19,8 @@ use Rattle.verdict.specs.declared.Local.the-variants.{No}
 use Rattle.verdict.specs.declared.Onward.the-variants.{NotAsked}
 use Rattle.verdict.specs.declared.Ruling.{Ruling}
 use Rattle.state.specs.Relay.{Relay, portIn, portSetUp}
-use Rattle.judge.specs.Ruling.{ruleOf}
+use Rattle.next_leg.specs.Leg.{noLegs}
+use Rattle.judge.specs.Ruling.{ruleOf, legsFor}
 use Rattle.judge.specs.declared.ruling.Arrival.{Arrival}
 use Rattle.judge.specs.declared.Ending.{Ending}
 
@@ -27,15 +29,19 @@ abbrev pub noRuling : Ruling
 noRuling = record { local = No; onward = NotAsked; granted = 0; took = 0; dropped = 0 }
 
 abbrev pub refusedBy : ℕ → Ending
-refusedBy n = record { refusal = n; ruling = noRuling; precedence = 0; size = 0 }
+refusedBy n = record { refusal = n; ruling = noRuling; precedence = 0; size = 0; legs = noLegs }
 
 -- the ending by a number that refuses, or where it is 0 by what follows
 abbrev pub orElse : ℕ → Ending → Ending
 orElse n e = pick (eqb n 0) e (refusedBy n)
 
 -- ---- step 1
+-- "each output .. has 50 octets for each of eight ports .. 17 .. if fewer" (page 02, W-214)
+abbrev pub outputRoom : ℕ
+outputRoom = portCount * longestHeader
+
 unfoldable pub callChecks : Relay → ℕ → ℕ → Checks
-callChecks r port room = (not (portSetUp r port), 16) ∷ (noRoom room, 17) ∷ []
+callChecks r port room = (not (portSetUp r port), 16) ∷ (ltb room outputRoom, 17) ∷ []
 
 -- ---- the ending
 abbrev pub ruledEnding : Relay → Arrival → Header → Ending
@@ -45,6 +51,7 @@ ruledEnding r at h =
       ruling = ruleOf r at (aimOf (at .address .0) (h .fields .addresses)) h;
       precedence = precedenceAsked (h .fields .qos);
       size = h .size;
+      legs = legsFor r at (aimOf (at .address .0) (h .fields .addresses)) h;
     }
 
 unfoldable pub headerEnding : Relay → Arrival → Header → Ending

@@ -1,16 +1,19 @@
 -- The ruling on a datagram whose header is good, over the relay that a mission sees: page 01, "Local half" and "Onward half". Assumes nothing.
 use Prim.Native.Nat.{ℕ}
+use mathlib.Core.Bool.{true, false}
+use lib.Dec.{eqb}
+use Rattle.checks.specs.Order.{pick}
 use Rattle.address.specs.Class.{classOf}
 use Rattle.address.specs.declared.Address.{Address}
 use Rattle.header.specs.declared.Fields.{Fields}
 use Rattle.header.specs.declared.Header.{Header}
 use Rattle.networks.specs.Networks.{domainOf}
-use Rattle.meaning.specs.Names.{isBasic}
+use Rattle.meaning.specs.Names.{isBound}
 use Rattle.meaning.specs.declared.Aim.{Aim}
 use Rattle.meaning.specs.declared.Aim.the-variants as aim
 use Rattle.meaning.specs.Asked.{assignedOf, spentOf}
 use Rattle.state.specs.Relay.{Relay}
-use Rattle.verdict.specs.Rule.{targetOf, localOf, lineOf, grantedOf, rulingOf}
+use Rattle.verdict.specs.Rule.{targetOf, localOf, lineOf, codeOf, grantedOf, rulingOf}
 use Rattle.verdict.specs.declared.Target.{Target}
 use Rattle.verdict.specs.declared.Target.the-variants.{Path, Route}
 use Rattle.verdict.specs.declared.Place.{Place}
@@ -20,10 +23,13 @@ use Rattle.verdict.specs.declared.Way.the-variants.{Lost}
 use Rattle.verdict.specs.declared.Case.{Case}
 use Rattle.verdict.specs.declared.Survey.{Survey}
 use Rattle.verdict.specs.declared.Ruling.{Ruling}
-use Rattle.survey.specs.Survey.{surveyOf}
+use Rattle.survey.specs.Survey.{namedOf, surveyOf}
 use Rattle.survey.specs.declared.Destination.{Destination}
 use Rattle.survey.specs.declared.Destination.the-variants as destination
 use Rattle.survey.specs.declared.Sought.{Sought}
+use Rattle.next_leg.specs.Leg.{nextLength, legsOf}
+use Rattle.next_leg.specs.declared.Leg.{Leg}
+use Rattle.next_leg.specs.declared.Legs.{Legs}
 use Rattle.lookup.specs.Lookup.{pathPlace}
 use Rattle.lookup.specs.ForTarget.{placeFor, wayFor}
 use Rattle.judge.specs.declared.ruling.Arrival.{Arrival}
@@ -36,7 +42,7 @@ caseOf router arrival f =
       router = router;
       intermediate = f .intermediate;
       assigned = assignedOf (f .tpid);
-      basic = isBasic (f .addresses);
+      bound = isBound (f .addresses);
       spent = spentOf (f .hops);
     }
 
@@ -46,8 +52,31 @@ destinationAsked (aim.Node a) = destination.Node a
 destinationAsked (aim.Path p) = destination.Other
 destinationAsked aim.Uncarried = destination.Other
 
-abbrev pub soughtOf : Aim → ℕ → ℕ → Sought
-soughtOf x domain length = record { destination = destinationAsked x; domain = domain; length = length }
+-- what is asked of the wanted ports: the octets of the copy after its rewrite, for a port of the arrival port's domain and for another
+abbrev pub soughtOf : Leg → Sought
+soughtOf l =
+    record {
+      domain = domainOf (l .arrival);
+      near = nextLength false (l .arrival .0) (l .code) (l .header);
+      far = nextLength true (l .arrival .0) (l .code) (l .header);
+    }
+
+-- the line that fits, by the class of the address and by the ports
+abbrev pub targetAsked : Relay → Address → Target
+targetAsked r a = targetOf (classOf (a .0)) (namedOf (r .ports) a)
+
+-- "the port's route": what the route taken asks for; a host takes none, and neither does a line that asks for no route
+abbrev pub codeFor : Relay → Aim → ℕ
+codeFor r (aim.Node a) = pick (eqb (r .router) 0) 0 (codeOf (wayFor r (targetAsked r a) a))
+codeFor r (aim.Path p) = 0
+codeFor r aim.Uncarried = 0
+
+abbrev pub legFor : Relay → Arrival → Aim → Header → Leg
+legFor r at x h = record { arrival = at .address; code = codeFor r x; header = h }
+
+-- what the ports say of it
+abbrev pub surveyFor : Relay → Arrival → Aim → Header → Survey
+surveyFor r at x h = surveyOf r (destinationAsked x) (soughtOf (legFor r at x h))
 
 -- ---- the ruling
 unfoldable pub ruledBy : Target → Place → Way → Case → Survey → Ruling
@@ -65,5 +94,8 @@ ruleAim r (aim.Path p) c s = ruledBy Path (pathPlace r p) Lost c s
 ruleAim r aim.Uncarried c s = ruledBy Route Missing Lost c s
 
 unfoldable pub ruleOf : Relay → Arrival → Aim → Header → Ruling
-ruleOf r at x h =
-    ruleAim r x (caseOf (r .router) (at .set) (h .fields)) (surveyOf r (soughtOf x (domainOf (at .address)) (h .length)))
+ruleOf r at x h = ruleAim r x (caseOf (r .router) (at .set) (h .fields)) (surveyFor r at x h)
+
+-- the headers of the copies that ports took
+unfoldable pub legsFor : Relay → Arrival → Aim → Header → Legs
+legsFor r at x h = legsOf (ruleOf r at x h .took) (surveyFor r at x h .domain) (legFor r at x h)

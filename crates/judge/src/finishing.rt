@@ -1,14 +1,15 @@
 // The ruling, once the route is known.
 //
-// The local half and the line of the onward half are made of what was looked up before. Domain, MTU and queue are asked only of the ports that the
+// The local half and the line of the onward half are made of what was looked up before. Domain, size and queue are asked only of the ports that the
 // datagram is wanted on, and of none where it is wanted on none or its hops are used up. The definition surveys all ports; that these
-// few are enough is proved (proofs/Wanted.antt).
+// few are enough is proved (proofs/Wanted.antt). Which header each port gets that took a copy is part of the answer; it is written later.
 //
 // The awkward case is a place of a group or a path in a state that no history leaves: its set may have numbers that are no ports; no port of
 // these is surveyed, and none is granted a copy.
 use crate::Asked;
 use crate::Ending;
-use survey::Sought;
+use next_leg::Leg;
+use next_leg::Legs;
 use verdict::Case;
 use verdict::Local;
 use verdict::Onward;
@@ -19,70 +20,89 @@ ghost use mathlib.Core.Path.{_≡_};
 ghost use lib.ListN.{length};
 ghost use Rattle.state.specs.Seen.{seated};
 ghost use Rattle.state.specs.Layout.{boardWords, decodeBoard, missionWords, decode};
+ghost use Rattle.next_leg.specs.Leg.{noLegs, Sound};
+ghost use Rattle.survey.specs.declared.Destination.{Destination};
 ghost use Rattle.judge.specs.Asked.{amongOf, wishedOf, finishedOf};
 
+// A ruling, and the headers of the copies that ports took.
+pub struct Ruled {
+    pub ruling: Ruling,
+    pub legs: Legs,
+}
+
 // A ruling that grants nothing.
-fn unsent(local: Local, onward: Onward) -> Ruling
-    ensures { λ r. ⌜ r ≡ record { local = local; onward = onward; granted = 0; took = 0; dropped = 0 } ⌝ }
+fn unsent(local: Local, onward: Onward) -> Ruled
+    ensures { λ r. ⌜ r ≡ record { ruling = record { local = local; onward = onward; granted = 0; took = 0; dropped = 0 }; legs = noLegs } ⌝ }
 {
-    Ruling {
+    let ruling = Ruling {
         local,
         onward,
         granted: 0,
         took: 0,
         dropped: 0,
+    };
+    Ruled {
+        ruling,
+        legs: next_leg::no_legs(),
     }
 }
 
 // The ruling by the local half and the ports wanted, which are asked.
-fn rule_wanted(
-    board: &[u32],
-    mission: &[u32],
-    local: Local,
-    set: u32,
-    basic: u32,
-    q: Sought,
-) -> Ruling
-    requires { ⌜ (length (now board) ≡ boardWords) × (length (now mission) ≡ missionWords) ⌝ }
+fn rule_wanted(board: &[u32], mission: &[u32], local: Local, set: u32, bound: u32, l: Leg) -> Ruled
+    requires { ⌜ (length (now board) ≡ boardWords) × ((length (now mission) ≡ missionWords) × Sound (l .header)) ⌝ }
     ensures { λ r. ⌜
-        r ≡ amongOf (seated (decodeBoard (now (board .entry))) (decode (now (mission .entry)))) local set basic q
+        r ≡ amongOf (seated (decodeBoard (now (board .entry))) (decode (now (mission .entry)))) local set bound l
         ⌝ }
 {
+    let q = crate::ruling::sought_of(l);
     let s = survey::wanted(board, mission, set, q);
-    let granted = verdict::copies::granted_among(set, basic, s);
-    verdict::copies::ruling_of(local, granted, s.full)
+    let granted = verdict::copies::granted_among(set, bound, s);
+    let ruling = verdict::copies::ruling_of(local, granted, s.full);
+    Ruled {
+        ruling,
+        legs: next_leg::legs_of(ruling.took, s.domain, l),
+    }
 }
 
 // The ruling by the local half and what the line wants.
-fn rule(board: &[u32], mission: &[u32], local: Local, wish: Wish, c: Case, q: Sought) -> Ruling
-    requires { ⌜ (length (now board) ≡ boardWords) × (length (now mission) ≡ missionWords) ⌝ }
+fn rule(board: &[u32], mission: &[u32], local: Local, wish: Wish, c: Case, l: Leg) -> Ruled
+    requires { ⌜ (length (now board) ≡ boardWords) × ((length (now mission) ≡ missionWords) × Sound (l .header)) ⌝ }
     ensures { λ r. ⌜
-        r ≡ wishedOf (seated (decodeBoard (now (board .entry))) (decode (now (mission .entry)))) local wish c q
+        ((d : Destination) → r ≡ wishedOf (seated (decodeBoard (now (board .entry))) (decode (now (mission .entry)))) d local wish c l)
         ⌝ }
 {
     match verdict::copies::after_hops(wish, c.spent) {
         Wish::NotAsked => unsent(local, Onward::NotAsked),
         Wish::Refused(obstacle) => unsent(local, Onward::Refused(obstacle)),
-        Wish::Wanted(set) => rule_wanted(board, mission, local, set, c.basic, q),
+        Wish::Wanted(set) => rule_wanted(board, mission, local, set, c.bound, l),
     }
 }
 
 // What becomes of a datagram that is not refused, with the route that was found for it, if one was sought.
 pub fn finish(board: &[u32], mission: &[u32], a: Asked, way: Way) -> Ending
-    requires { ⌜ (length (now board) ≡ boardWords) × ((length (now mission) ≡ missionWords) × (a .refusal ≡ 0)) ⌝ }
+    requires { ⌜ (length (now board) ≡ boardWords) × ((length (now mission) ≡ missionWords) × ((a .refusal ≡ 0) × Sound (a .header))) ⌝ }
     ensures { λ r. ⌜ r ≡ finishedOf (seated (decodeBoard (now (board .entry))) (decode (now (mission .entry)))) a way ⌝ }
 {
     let target = a.target;
     let place = a.place;
     let case = a.case;
-    let sought = a.sought;
+    let arrival = a.arrival;
+    let header = a.header;
     let local = verdict::local_half::local_of(target, place, case);
     let wish = verdict::onward_half::line_of(target, place, way, case, a.ready, local);
-    let ruling = rule(board, mission, local, wish, case, sought);
+    let leg = Leg {
+        arrival,
+        code: verdict::code_of(way),
+        header,
+    };
+    let ruled = rule(board, mission, local, wish, case, leg);
+    let ruling = ruled.ruling;
+    let legs = ruled.legs;
     Ending {
         refusal: 0,
         ruling,
         precedence: a.precedence,
-        size: a.size,
+        size: header.size,
+        legs,
     }
 }

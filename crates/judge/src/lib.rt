@@ -15,12 +15,17 @@ use crate::ruling::Arrival;
 use address::Address;
 use address::PathAddress;
 use checks::Check;
+use header::Addresses;
+use header::Fields;
 use header::Found;
 use header::Header;
+use header::Octet;
+use header::Qos;
 use header::Renewal;
+use header::Timestamp;
 use meaning::Aim;
+use next_leg::Legs;
 use survey::Destination;
-use survey::Sought;
 use verdict::Case;
 use verdict::Local;
 use verdict::Onward;
@@ -28,16 +33,15 @@ use verdict::Place;
 use verdict::Ruling;
 use verdict::Target;
 ghost use mathlib.Core.Path.{_≡_};
-ghost use Prim.Native.Nat.{_<_};
 ghost use lib.ListN.{length};
 ghost use Rattle.checks.specs.Order.{pick};
-ghost use Rattle.header.specs.Limits.{lengthLimit};
 ghost use Rattle.header.specs.Onward.{foundOf};
 ghost use Rattle.meaning.specs.Names.{badClass, badPath};
 ghost use Rattle.state.specs.Seen.{seated};
 ghost use Rattle.state.specs.Layout.{boardWords, decodeBoard, missionWords, decode};
 ghost use Rattle.judge.specs.Ending.{refusedBy};
 ghost use Rattle.judge.specs.Asked.{
+  noHeader,
   refusedAsked,
   elseAsked,
   nodeAsked,
@@ -47,29 +51,55 @@ ghost use Rattle.judge.specs.Asked.{
   datagramAsked,
 };
 
-// All that becomes of a datagram: the refusal that ended the call, or 0 and the ruling, the precedence it waits with and its header's own
-// length.
+// The room that a call has to lend for the headers of all ports.
+pub const OUTPUT_ROOM: usize = sets::indexes::PORTS * header::limits::LONGEST_HEADER;
+
+// All that becomes of a datagram: the refusal that ended the call, or 0 and the ruling, the precedence it waits with, its header's own length, and
+// the headers of its copies.
 pub struct Ending {
     pub refusal: u32,
     pub ruling: Ruling,
     pub precedence: u16,
     pub size: usize,
+    pub legs: Legs,
 }
 
 // What is known before the search: the refusal that ends the call, or 0 and the target; what the place of a group or a path says; what the rule
-// asks of node, arrival port and header; the ports set up; what is asked of wanted ports; the mission's number; the precedence, the header's own
-// length, and where it differs when it is sent on.
+// asks of node, arrival port and header; the ports set up; the destination; the mission's number; the precedence; the arrival port's address; the
+// header, and where it differs when it is sent on as it came.
 pub struct Asked {
     pub refusal: u32,
     pub target: Target,
     pub place: Place,
     pub case: Case,
     pub ready: u32,
-    pub sought: Sought,
+    pub destination: Destination,
     pub number: u32,
     pub precedence: u16,
-    pub size: usize,
+    pub arrival: Address,
+    pub header: Header,
     pub renewal: Renewal,
+}
+
+// No header.
+fn no_header() -> Header
+    ensures { λ r. ⌜ r ≡ noHeader ⌝ }
+{
+    let fields = Fields {
+        tpid: 0,
+        addresses: Addresses::BasicPath(0),
+        qos: Qos::Absent,
+        hops: Octet::Absent,
+        stamp: Timestamp::Absent,
+        expanded: Octet::Absent,
+        checksum: 0,
+        intermediate: 0,
+    };
+    Header {
+        fields,
+        length: 0,
+        size: 0,
+    }
 }
 
 // A refusal.
@@ -81,13 +111,8 @@ pub fn refused(refusal: u32) -> Asked
         router: 0,
         intermediate: 0,
         assigned: 0,
-        basic: 0,
+        bound: 0,
         spent: 0,
-    };
-    let sought = Sought {
-        destination: Destination::Other,
-        domain: 0,
-        length: 0,
     };
     let renewal = Renewal {
         hops: 0,
@@ -101,10 +126,11 @@ pub fn refused(refusal: u32) -> Asked
         place: Place::Missing,
         case,
         ready: 0,
-        sought,
+        destination: Destination::Other,
         number: 0,
         precedence: 0,
-        size: 0,
+        arrival: Address(0),
+        header: no_header(),
         renewal,
     }
 }
@@ -125,12 +151,13 @@ pub fn ended_by(refusal: u32) -> Ending
         ruling,
         precedence: 0,
         size: 0,
+        legs: next_leg::no_legs(),
     }
 }
 
 // An end system's address or a group's: its class (6), and by this and the ports its target.
 fn ask_node(board: &[u32], mission: &[u32], at: Arrival, h: Header, n: Renewal, a: Address) -> Asked
-    requires { ⌜ (length (now board) ≡ boardWords) × ((length (now mission) ≡ missionWords) × (h .length < lengthLimit)) ⌝ }
+    requires { ⌜ (length (now board) ≡ boardWords) × (length (now mission) ≡ missionWords) ⌝ }
     ensures { λ r. ⌜
         r
         ≡ elseAsked (pick (badClass (a .0)) 6 0)
@@ -154,10 +181,11 @@ fn ask_node(board: &[u32], mission: &[u32], at: Arrival, h: Header, n: Renewal, 
         place,
         case: crate::ruling::case_of(state_board::router_of(board), at.set, f),
         ready: s.ready,
-        sought: crate::ruling::sought_of(Aim::Node(a), networks::domain_of(from), h.length as u32),
+        destination: Destination::Node(a),
         number,
         precedence: meaning::asked::precedence_of(qos),
-        size: h.size,
+        arrival: from,
+        header: h,
         renewal: n,
     }
 }
@@ -171,7 +199,7 @@ fn ask_path(
     n: Renewal,
     p: PathAddress,
 ) -> Asked
-    requires { ⌜ (length (now board) ≡ boardWords) × ((length (now mission) ≡ missionWords) × (h .length < lengthLimit)) ⌝ }
+    requires { ⌜ (length (now board) ≡ boardWords) × (length (now mission) ≡ missionWords) ⌝ }
     ensures { λ r. ⌜
         r
         ≡ elseAsked (pick (badPath (p .0)) 6 0)
@@ -190,10 +218,11 @@ fn ask_path(
         place: lookup::path_place(mission, p),
         case: crate::ruling::case_of(state_board::router_of(board), at.set, f),
         ready: 0,
-        sought: crate::ruling::sought_of(Aim::Path(p), networks::domain_of(from), h.length as u32),
+        destination: Destination::Other,
         number: state_mission::number_of(mission),
         precedence: meaning::asked::precedence_of(qos),
-        size: h.size,
+        arrival: from,
+        header: h,
         renewal: n,
     }
 }
@@ -201,7 +230,7 @@ fn ask_path(
 // What the relay carries (8), a domain for addresses of one octet (7), the source and the destination that the header names by its arrival
 // port (6, by two checks), and what is asked for these.
 fn ask_header(board: &[u32], mission: &[u32], at: Arrival, h: Header, n: Renewal) -> Asked
-    requires { ⌜ (length (now board) ≡ boardWords) × ((length (now mission) ≡ missionWords) × (h .length < lengthLimit)) ⌝ }
+    requires { ⌜ (length (now board) ≡ boardWords) × (length (now mission) ≡ missionWords) ⌝ }
     ensures { λ r. ⌜
         r
         ≡ carriedAsked (seated (decodeBoard (now (board .entry))) (decode (now (mission .entry)))) (decode (now (mission .entry)) .number) at h n
@@ -254,9 +283,9 @@ pub fn judge(board: &[u32], mission: &[u32], port: u32, octets: &[u8], room: usi
     let Check::Passed = state_board::check_port(board, number, port) else {
         return refused(16);
     };
-    let Check::Passed = header::limits::check_room(room) else {
+    if room < OUTPUT_ROOM {
         return refused(17);
-    };
+    }
     let p = state_board::seen_port(board, number, port as usize);
     let address = p.address;
     let at = Arrival {

@@ -1,15 +1,16 @@
 // What the rule asks of the node, the arrival port and the header.
 //
-// It is gathered here once, before the search, and handed on. The awkward cases are destinations that no port could have, a path or a system
-// that is not reached by what is carried here: no port is asked for them.
+// The case is gathered before the search, and handed on. What is asked of the wanted ports waits for the route, since a route may ask for a longer
+// header: the octets of the datagram as a port of the arrival port's domain gets it, and as another does. The awkward case is one that fits the near
+// ports alone, or, where the header that came was not the shortest, the far ones alone.
 use address::Address;
 use header::Fields;
-use meaning::Aim;
-use survey::Destination;
+use next_leg::Leg;
 use survey::Sought;
 use verdict::Case;
 ghost use mathlib.Core.Path.{_≡_};
-ghost use Rattle.judge.specs.Ruling.{caseOf, destinationAsked, soughtOf};
+ghost use Rattle.next_leg.specs.Leg.{Sound};
+ghost use Rattle.judge.specs.Ruling.{caseOf, soughtOf};
 
 // Where a datagram came in: the port as a set, and its address.
 pub struct Arrival {
@@ -28,30 +29,21 @@ pub fn case_of(router: u32, arrival: u32, f: Fields) -> Case
         router,
         intermediate: f.intermediate as u32,
         assigned: meaning::asked::assigned_of(f.tpid),
-        basic: meaning::is_basic(addresses),
+        bound: meaning::is_bound(addresses),
         spent: meaning::asked::spent_of(hops),
     }
 }
 
-// The destination as the ports are asked for it.
-fn destination_of(aim: Aim) -> Destination
-    ensures { λ r. ⌜ r ≡ destinationAsked aim ⌝ }
+// What is asked of the wanted ports.
+pub fn sought_of(l: Leg) -> Sought
+    requires { ⌜ Sound (l .header) ⌝ }
+    ensures { λ r. ⌜ r ≡ soughtOf l ⌝ }
 {
-    match aim {
-        Aim::Node(a) => Destination::Node(a),
-        Aim::Path(_) => Destination::Other,
-        Aim::Uncarried => Destination::Other,
-    }
-}
-
-// What is asked of the ports.
-pub fn sought_of(aim: Aim, domain: u32, length: u32) -> Sought
-    ensures { λ r. ⌜ r ≡ soughtOf aim domain length ⌝ }
-{
-    let destination = destination_of(aim);
+    let arrival = l.arrival;
+    let h = l.header;
     Sought {
-        destination,
-        domain,
-        length,
+        domain: networks::domain_of(arrival),
+        near: next_leg::length_next(false, arrival, l.code, h) as u32,
+        far: next_leg::length_next(true, arrival, l.code, h) as u32,
     }
 }

@@ -22,9 +22,9 @@ placeFor r Group a arrival = groupPlace r a arrival
 placeFor r Path a arrival = Missing
 placeFor r Route a arrival = Missing
 
--- the port of the route taken, as a set: a route that the search answers is up
+-- the port of the route taken, as a set, and its capabilities: a route that the search answers is up
 abbrev pub wayOf : Found → Way
-wayOf (At place ones route) = By (onlyPort (route .port))
+wayOf (At place ones route) = By (onlyPort (route .port)) (route .capabilities)
 wayOf No = Lost
 
 -- the route, where the route line decides

@@ -44,6 +44,14 @@ isBasic (BasicEndSystem d s) = 1
 isBasic (ExtendedEndSystem d s) = 0
 isBasic (Ipv6 d s) = 0
 
+-- a path of one octet: no other header can carry it, so that it is bound to its domain (page 02, W-214: "one-octet paths keep 13")
+abbrev pub isBound : Addresses → ℕ
+isBound (BasicPath z) = 1
+isBound (ExtendedPath p) = 0
+isBound (BasicEndSystem d s) = 0
+isBound (ExtendedEndSystem d s) = 0
+isBound (Ipv6 d s) = 0
+
 abbrev pub routingAsked : Qos → ℕ
 routingAsked qos.Absent = 0
 routingAsked (qos.Present precedence routing program) = routing

@@ -20,6 +20,7 @@ ghost use Rattle.meaning.specs.Names.{
   aimOf,
   originOf,
   isBasic,
+  isBound,
   routingAsked,
   notCarried,
   noDomain,
@@ -41,7 +42,7 @@ pub enum Origin {
 }
 
 // An address of one octet with the first three of the port.
-fn filled_in(port: Address, octet: u8) -> u32
+pub fn filled_in(port: Address, octet: u8) -> u32
     ensures { λ r. ⌜ r ≡ filledIn (port .0) octet ⌝ }
 {
     networks::domain_of(port) * 256 + octet as u32
@@ -81,6 +82,19 @@ pub fn is_basic(a: Addresses) -> u32
         Addresses::BasicPath(_) => 1,
         Addresses::ExtendedPath(_) => 0,
         Addresses::BasicEndSystem(_, _) => 1,
+        Addresses::ExtendedEndSystem(_, _) => 0,
+        Addresses::Ipv6(_, _) => 0,
+    }
+}
+
+// 1 for a path of one octet, which is bound to its domain, else 0.
+pub fn is_bound(a: Addresses) -> u32
+    ensures { λ r. ⌜ r ≡ isBound a ⌝ }
+{
+    match a {
+        Addresses::BasicPath(_) => 1,
+        Addresses::ExtendedPath(_) => 0,
+        Addresses::BasicEndSystem(_, _) => 0,
         Addresses::ExtendedEndSystem(_, _) => 0,
         Addresses::Ipv6(_, _) => 0,
     }

@@ -2,18 +2,19 @@
 use native.Mathlib.Omega.{arith}
 use native.Mathlib.Decide.{decLe}
 use native.Mathlib.Nat.{lt-of-not-le}
-use Prim.Native.Nat.{ℕ, _<_, _≤_}
+use Prim.Native.Nat.{ℕ, zero, suc, _<_, _≤_}
 use mathlib.Core.Path.{_≡_, refl, sym, ap, subst, _∙_}
 use mathlib.Core.Logic.{⊎-elim, by-cases, _≢_}
 use mathlib.Core.Bool.{Bool, true, false, not, _&&_, _||_}
 use mathlib.Core.List.{List}
 use lib.Dec.{eqb, ltb}
 use lib.ListN.{length}
-use borrow.Author.Tests.{eqb-true, eqb-false, ltb-true, ltb-false, lt-ltb, le-ltb, not-true}
+use borrow.Author.Tests.{eq-eqb, eqb-true, eqb-false, ltb-true, ltb-false, lt-ltb, le-ltb, not-true}
 use Rattle.checks.specs.Order.{pick}
 use Rattle.checks.proofs.Bools.{true-false, refuted, and-true, or-true}
-use Rattle.sets.specs.Sets.{anyBelow}
+use Rattle.sets.specs.Sets.{anyBelow, firstBelow}
 use Rattle.sets.proofs.Anywhere.{any-is, any-found}
+use Rattle.sets.proofs.Loops.{firstBelow-found}
 use Rattle.address.specs.declared.Address.{Address}
 use Rattle.routes.specs.Routes.{routeAt, candidate}
 use Rattle.routes.specs.Search.{searchOf}
@@ -24,11 +25,17 @@ use Rattle.routes.proofs.Longest.{CandidateAt, maskAt, search-found, search-no,
 use Rattle.meaning.specs.declared.Aim.the-variants.{Node}
 use Rattle.lookup.specs.ForTarget.{wayOf}
 use Rattle.state.specs.Relay.{Relay}
-use Rattle.verdict.specs.Rule.{routeLine}
-use Rattle.page.specs.Table.{refused, wanted, matches, someMatches, outdoes, isBest, bestPort}
+use Rattle.verdict.specs.Rule.{routeLine, codeOf}
+use Rattle.page.specs.Table.{matches, someMatches, outdoes, isBest, bestPort, bestCode, Line, refused, wanted}
 use Rattle.page.specs.Ends.{Chooses}
 use Rattle.page.proofs.Sets.{only-is}
-use Rattle.page.proofs.Copies.{Same}
+use Rattle.page.proofs.Copies.{Alone, Same}
+
+-- a test that holds nowhere among the first n is first met behind them
+first-none : (test : ℕ → Bool) (n : ℕ) → ((i : ℕ) → i < n → test i ≡ false) → firstBelow test n ≡ n
+first-none test zero none = refl
+first-none test (suc n) none =
+    simp (first-none test n (λ i l. none i (omega (arith, l))), eq-eqb n n refl, none n (omega arith))
 
 module _ (more : Route → Route → Bool) (r : Relay) (chooses : Chooses more r) (a : Address) where
   abbrev rs : List Route
@@ -134,6 +141,17 @@ module _ (more : Route → Route → Bool) (r : Relay) (chooses : Chooses more r
             ∙ ap (λ (y : Route). eqb p (y .port)) (sym held)
             ∙ e))
 
+    port-alone : Alone (bestPort more r (Node a))
+    port-alone p q l k hp hq = eqb-true p (x .port) (port-is p ∙ hp) ∙ sym (eqb-true q (x .port) (port-is q ∙ hq))
+
+    -- And what it asks for is the table's code.
+    pub code-is : x .capabilities ≡ bestCode more r (Node a)
+    unfolding bestCode
+    code-is =
+        let none : (q : ℕ) → q < place → best q ≡ false = λ q l. refuted (best q) (λ h. let e = only-best q h in omega (arith, e, l)) in
+        let first = firstBelow-found best place (length rs) inside (first-none best place none) is-best in
+        ap (λ (y : Route). y .capabilities) held ∙ ap (λ (q : ℕ). routeAt rs q .capabilities) (sym first)
+
     some-match : someMatches r (Node a) ≡ true
     unfolding someMatches
     some-match = any-found (matches r (Node a)) place (length rs) inside fits
@@ -145,15 +163,18 @@ module _ (more : Route → Route → Bool) (r : Relay) (chooses : Chooses more r
       let at = any-is (matches r (Node a)) (length rs) .0 h in
       true-false (sym (at .2) ∙ search-no a rs .0 e (at .0))
 
+  abbrev bestLine : Line
+  bestLine = wanted (bestPort more r (Node a)) (bestCode more r (Node a))
+
   found-same : (f : Found) → searchOf a rs ≡ f
-      → Same (routeLine (wayOf f)) (pick (not (someMatches r (Node a))) (refused 11) (wanted (bestPort more r (Node a))))
+      → Same (codeOf (wayOf f)) (routeLine (wayOf f)) (pick (not (someMatches r (Node a))) (refused 11) bestLine)
   unfolding routeLine
   found-same No e = rw (none-match e)
   found-same (At place ones x) e =
-      subst (λ (t : Bool). Same (routeLine (wayOf (At place ones x))) (pick (not t) (refused 11) (wanted (bestPort more r (Node a)))))
+      subst (λ (t : Bool). Same (x .capabilities) (routeLine (wayOf (At place ones x))) (pick (not t) (refused 11) bestLine))
       (sym (some-match place ones x e))
-      (λ p l. only-is p (x .port) l ∙ port-is place ones x e p)
+      ((code-is place ones x e, λ some. port-alone place ones x e), λ p l. only-is p (x .port) l ∙ port-is place ones x e p)
 
-  -- The search and the table's line want the same.
-  pub route-same : Same (routeLine (wayOf (searchOf a rs))) (pick (not (someMatches r (Node a))) (refused 11) (wanted (bestPort more r (Node a))))
+  -- The search and the table's line want the same, and their routes ask for the same.
+  pub route-same : Same (codeOf (wayOf (searchOf a rs))) (routeLine (wayOf (searchOf a rs))) (pick (not (someMatches r (Node a))) (refused 11) bestLine)
   route-same = found-same (searchOf a rs) refl

@@ -30,38 +30,38 @@ use Rattle.state.specs.Relay.{Relay, portIn, routeIn}
 use Rattle.verdict.specs.Numbers.{localNumber, onwardNumber}
 use Rattle.judge.specs.Ending.{endingOf}
 use Rattle.judge.specs.declared.Ending.{Ending}
-use Rattle.page.specs.Table.{Ports, firstRow, Decides, GivenBy, stepRows, destinationIs, equalsPort, isLimited, broadcastOfOurs, isMulticast, isOurs, localRows, localHalf, matches, someMatches, bestPort, Line, notAsked, refused, wanted, isHost, onwardRows, onwardLine, hasRoom, copyRows, lineNumber, GivesNumber, lineGrants, Verdict, judged, refusedWith, verdictBy}
+use Rattle.page.specs.Table.{Ports, firstRow, Decides, GivenBy, stepRows, destinationIs, equalsPort, isLimited, broadcastOfOurs, isMulticast, isOurs, localRows, localHalf, matches, someMatches, bestPort, bestCode, Line, notAsked, refused, wanted, isHost, onwardRows, onwardLine, hasRoom, copyRows, lineNumber, GivesNumber, lineGrants, lineCode, Verdict, judged, refusedWith, verdictBy}
 use Rattle.page.specs.Ends.{Agrees, Chooses}
 use Rattle.page.proofs.Rows.{row-decides, every-row, every-check}
 use Rattle.page.proofs.Verdict.{ends, masks-choose, steps-numbers}
 
 -- ---- a line's number
-module _ (r : Relay) (at : ℕ) (h : Header) (ports : Ports) where
+module _ (r : Relay) (at : ℕ) (h : Header) (ports : Ports) (code : ℕ) where
   -- the last row of copies always holds
-  never-zero : firstOf (copyRows r at h ports) ≡ 0 → ⊥
+  never-zero : firstOf (copyRows r at h ports code) ≡ 0 → ⊥
   unfolding copyRows
-  never-zero e = true-false (decided (copyRows r at h ports) refl .0 .0 e .1 .1 .1 .1 .0)
+  never-zero e = true-false (decided (copyRows r at h ports code) refl .0 .0 e .1 .1 .1 .1 .0)
 
-  copies-say : (n : ℕ) → (firstOf (copyRows r at h ports) ≡ n) ↔ firstHolds (copyRows r at h ports) n
-  copies-say n = (λ e. number-first (copyRows r at h ports) n (λ z. never-zero (e ∙ z)) e, first-number (copyRows r at h ports) n)
+  copies-say : (n : ℕ) → (firstOf (copyRows r at h ports code) ≡ n) ↔ firstHolds (copyRows r at h ports code) n
+  copies-say n = (λ e. number-first (copyRows r at h ports code) n (λ z. never-zero (e ∙ z)) e, first-number (copyRows r at h ports code) n)
 
   -- copies give 10, 13, 14, 15 and 1 alone
-  copies-not-9 : firstOf (copyRows r at h ports) ≢ 9
+  copies-not-9 : firstOf (copyRows r at h ports code) ≢ 9
   unfolding copyRows
   copies-not-9 =
-      every-check (λ (m : ℕ). m ≢ 9) (copyRows r at h ports)
+      every-check (λ (m : ℕ). m ≢ 9) (copyRows r at h ports code)
       ((λ z. omega arith), ((λ z. omega arith), ((λ z. omega arith), ((λ z. omega arith), ((λ z. omega arith), tt))))) (λ z. omega arith)
 
-  copies-not-11 : firstOf (copyRows r at h ports) ≢ 11
+  copies-not-11 : firstOf (copyRows r at h ports code) ≢ 11
   unfolding copyRows
   copies-not-11 =
-      every-check (λ (m : ℕ). m ≢ 11) (copyRows r at h ports)
+      every-check (λ (m : ℕ). m ≢ 11) (copyRows r at h ports code)
       ((λ z. omega arith), ((λ z. omega arith), ((λ z. omega arith), ((λ z. omega arith), ((λ z. omega arith), tt))))) (λ z. omega arith)
 
 gives-is : (r : Relay) (at : ℕ) (h : Header) (n : ℕ) (line : Line) → (lineNumber r at h line ≡ n) ↔ GivesNumber r at h n line
 gives-is r at h n notAsked = (λ e. e, λ e. e)
 gives-is r at h n (refused m) = (λ e. e, λ e. e)
-gives-is r at h n (wanted ports) = copies-say r at h ports n
+gives-is r at h n (wanted ports code) = copies-say r at h ports code n
 
 -- ---- the local half, by whether it is ours and its TP-ID is assigned
 abbrev half : Bool → Bool → ℕ
@@ -201,16 +201,21 @@ module _ (r : Relay) (at : ℕ) (octets : List ℕ) (room : ℕ) where
     onward-number none =
         ends more r chooses at octets room .ruling .onward ∙ ap (λ (v : Verdict). v .onward) (judged-is more (passed .1 none))
 
+    -- What the route asks of a header is what the line says.
+    pub code-number : noneHolds rows → verdict more .code ≡ lineCode (onwardLine more r at x (h .fields))
+    unfolding judged
+    code-number none = ap (λ (v : Verdict). v .code) (judged-is more (passed .1 none))
+
     -- a line of the table says n, and so decides
     abbrev pub LineGives : ℕ → Type 0
-    LineGives n = Decides (GivesNumber r at h n) (onwardRows r at x (h .fields)) (wanted (bestPort more r x))
+    LineGives n = Decides (GivesNumber r at h n) (onwardRows r at x (h .fields)) (wanted (bestPort more r x) (bestCode more r x))
 
     -- Where no step refuses, each number, 0 for not asked too, exactly where its line decides.
     pub onward-exactly : noneHolds rows → (n : ℕ) → (onward ≡ n) ↔ LineGives n
     unfolding onwardLine
     onward-exactly none n =
         let gives = gives-is r at h n (onwardLine more r at x (h .fields)) in
-        let decides = row-decides (GivesNumber r at h n) (onwardRows r at x (h .fields)) (wanted (bestPort more r x)) in
+        let decides = row-decides (GivesNumber r at h n) (onwardRows r at x (h .fields)) (wanted (bestPort more r x) (bestCode more r x)) in
         (λ e. decides .0 (gives .0 (sym (onward-number none) ∙ e)), λ d. onward-number none ∙ gives .1 (decides .1 d))
 
     -- So of any call: 9, 10, 11, 13, 14, 15 and 1 exactly where no step refuses and their line decides.
@@ -222,20 +227,20 @@ module _ (r : Relay) (at : ℕ) (octets : List ℕ) (room : ℕ) where
     line = onwardLine more r at x (h .fields)
 
     -- A line decides exactly where its row does.
-    pub line-exactly : (l : Line) → (line ≡ l) ↔ Decides (λ k. k ≡ l) (onwardRows r at x (h .fields)) (wanted (bestPort more r x))
+    pub line-exactly : (l : Line) → (line ≡ l) ↔ Decides (λ k. k ≡ l) (onwardRows r at x (h .fields)) (wanted (bestPort more r x) (bestCode more r x))
     unfolding onwardLine
-    line-exactly l = row-decides (λ k. k ≡ l) (onwardRows r at x (h .fields)) (wanted (bestPort more r x))
+    line-exactly l = row-decides (λ k. k ≡ l) (onwardRows r at x (h .fields)) (wanted (bestPort more r x) (bestCode more r x))
 
     -- the numbers that lines have themselves
     abbrev Known : Line → Type 0
     Known notAsked = Unit
     Known (refused m) = (m ≡ 9) ⊎ (m ≡ 11)
-    Known (wanted ports) = Unit
+    Known (wanted ports code) = Unit
 
     known : Known line
     unfolding onwardLine
     known =
-        every-row Known (onwardRows r at x (h .fields)) (wanted (bestPort more r x))
+        every-row Known (onwardRows r at x (h .fields)) (wanted (bestPort more r x) (bestCode more r x))
         (tt, (tt, (inl refl, (tt, (tt, (tt, (inr refl, (tt, (inr refl, (tt, (tt, (inr refl, tt)))))))))))) tt
 
     not-asked-line : (l : Line) → Known l → (lineNumber r at h l ≡ 0) ↔ (l ≡ notAsked)
@@ -244,16 +249,16 @@ module _ (r : Relay) (at : ℕ) (octets : List ℕ) (room : ℕ) where
         there : (k : Line) → Known k → lineNumber r at h k ≡ 0 → k ≡ notAsked
         there notAsked n e = refl
         there (refused m) n e = absurd (⊎-elim (λ (f : m ≡ 9). omega (arith, e, f)) (λ (f : m ≡ 11). omega (arith, e, f)) n)
-        there (wanted ports) n e = absurd (never-zero r at h ports e)
+        there (wanted ports code) n e = absurd (never-zero r at h ports code e)
 
     copies-line : (n : ℕ) → n ≢ 0 → n ≢ 9 → n ≢ 11 → (l : Line) → Known l
-        → (lineNumber r at h l ≡ n) ↔ ((ports : Ports) × (l ≡ wanted ports) × firstHolds (copyRows r at h ports) n)
-    copies-line n zero nine eleven l k = (there l k, λ d. ap (lineNumber r at h) (d .1) ∙ copies-say r at h (d .0) n .1 (d .2))
+        → (lineNumber r at h l ≡ n) ↔ ((ports : Ports) × (code : ℕ) × (l ≡ wanted ports code) × firstHolds (copyRows r at h ports code) n)
+    copies-line n zero nine eleven l k = (there l k, λ d. ap (lineNumber r at h) (d .2) ∙ copies-say r at h (d .0) (d .1) n .1 (d .3))
       where
-        there : (l : Line) → Known l → lineNumber r at h l ≡ n → (ports : Ports) × (l ≡ wanted ports) × firstHolds (copyRows r at h ports) n
+        there : (l : Line) → Known l → lineNumber r at h l ≡ n → (ports : Ports) × (code : ℕ) × (l ≡ wanted ports code) × firstHolds (copyRows r at h ports code) n
         there notAsked k e = absurd (zero (sym e))
         there (refused m) k e = absurd (⊎-elim (λ (f : m ≡ 9). nine (sym e ∙ f)) (λ (f : m ≡ 11). eleven (sym e ∙ f)) k)
-        there (wanted ports) k e = (ports, refl, copies-say r at h ports n .0 e)
+        there (wanted ports code) k e = (ports, code, refl, copies-say r at h ports code n .0 e)
 
     eleven-line : (l : Line) → (lineNumber r at h l ≡ 11) ↔ (l ≡ refused 11)
     eleven-line l = (there l, λ e. ap (lineNumber r at h) e)
@@ -261,7 +266,7 @@ module _ (r : Relay) (at : ℕ) (octets : List ℕ) (room : ℕ) where
         there : (l : Line) → lineNumber r at h l ≡ 11 → l ≡ refused 11
         there notAsked e = absurd (omega arith)
         there (refused m) e = ap refused e
-        there (wanted ports) e = absurd (copies-not-11 r at h ports e)
+        there (wanted ports code) e = absurd (copies-not-11 r at h ports code e)
 
     -- Not asked, where no step refuses: such a line decides.
     pub not-asked-exactly : noneHolds rows → (onward ≡ 0) ↔ (line ≡ notAsked)
@@ -273,7 +278,7 @@ module _ (r : Relay) (at : ℕ) (octets : List ℕ) (room : ℕ) where
 
     -- 10, 13, 14, 15 and 1: ports are wanted, and the number's row on copies decides.
     pub wanted-exactly : (n : ℕ) → n ≢ 0 → n ≢ 9 → n ≢ 11
-        → (onward ≡ n) ↔ (noneHolds rows × ((ports : Ports) × (line ≡ wanted ports) × firstHolds (copyRows r at h ports) n))
+        → (onward ≡ n) ↔ (noneHolds rows × ((ports : Ports) × (code : ℕ) × (line ≡ wanted ports code) × firstHolds (copyRows r at h ports code) n))
     wanted-exactly n zero nine eleven =
         in-any-call zero onward-none (λ none. by-number (onward-number none) (copies-line n zero nine eleven line known))
 
@@ -324,12 +329,12 @@ module _ (r : Relay) (at : ℕ) (octets : List ℕ) (room : ℕ) where
   below = drop 3 (onwardRows r at x (h .fields))
 
   abbrev routed : Line
-  routed = wanted (bestPort longerMask r x)
+  routed = wanted (bestPort longerMask r x) (bestCode longerMask r x)
 
   below-host : lineNumber r at h (firstRow below routed) ≢ 9
   below-host =
       every-row (λ (line : Line). lineNumber r at h line ≢ 9) below routed
-      (zero, (no _, (zero, (eleven, (no _, (eleven, (zero, (no _, (eleven, tt))))))))) (no _)
+      (zero, (no _ 0, (zero, (eleven, (no _ 0, (eleven, (zero, (no _ 0, (eleven, tt))))))))) (no _ _)
     where
       zero : _≢_ {A = ℕ} 0 9
       zero z = omega arith
@@ -337,7 +342,7 @@ module _ (r : Relay) (at : ℕ) (octets : List ℕ) (room : ℕ) where
       eleven : _≢_ {A = ℕ} 11 9
       eleven z = omega arith
 
-      no : (ports : Ports) → firstOf (copyRows r at h ports) ≢ 9
+      no : (ports : Ports) (code : ℕ) → firstOf (copyRows r at h ports code) ≢ 9
       no = copies-not-9 r at h
 
   nine-case : (first host heard : Bool) (rest : Line) → lineNumber r at h rest ≢ 9 → (first ≡ true → heard ≡ true)
@@ -371,7 +376,7 @@ module _ (r : Relay) (at : ℕ) (octets : List ℕ) (room : ℕ) where
   module _ (a : Address) (named : x ≡ Node a) (router : isHost r ≡ false) (first : (equalsPort r (Node a) || isLimited a) ≡ false)
       (not-ours : broadcastOfOurs r (Node a) ≡ false) (no-group : isMulticast a ≡ false) where
     route-line : onwardLine longerMask r at (Node a) (h .fields)
-        ≡ pick (not (someMatches r (Node a))) (refused 11) (wanted (bestPort longerMask r (Node a)))
+        ≡ pick (not (someMatches r (Node a))) (refused 11) (wanted (bestPort longerMask r (Node a)) (bestCode longerMask r (Node a)))
     unfolding onwardLine
     route-line = simp (first, router, not-ours, no-group)
 
@@ -385,9 +390,9 @@ module _ (r : Relay) (at : ℕ) (octets : List ℕ) (room : ℕ) where
           true-false (sym (where-is .2) ∙ none (where-is .0))),
     )
 
-    eleven-case : (some : Bool) (ports : Ports) → (lineNumber r at h (pick (not some) (refused 11) (wanted ports)) ≡ 11) ↔ (some ≡ false)
-    eleven-case true ports = (λ e. absurd (copies-not-11 r at h ports e), λ d. true-false d)
-    eleven-case false ports = (λ e. refl, λ d. refl)
+    eleven-case : (some : Bool) (ports : Ports) (code : ℕ) → (lineNumber r at h (pick (not some) (refused 11) (wanted ports code)) ≡ 11) ↔ (some ≡ false)
+    eleven-case true ports code = (λ e. absurd (copies-not-11 r at h ports code e), λ d. true-false d)
+    eleven-case false ports code = (λ e. refl, λ d. refl)
 
     -- "'No route', 11, is said exactly when no up entry matches" (page 02, W-204).
     pub no-route-exactly : noneHolds rows → (onwardNumber (ending .ruling .onward) ≡ 11) ↔ ((q : ℕ) → candidate (routeIn r q) a ≡ false)
@@ -396,5 +401,5 @@ module _ (r : Relay) (at : ℕ) (octets : List ℕ) (room : ℕ) where
         onward-number longerMask (masks-choose r) none
         ∙ ap (λ (y : Aim). lineNumber r at h (onwardLine longerMask r at y (h .fields))) named
         ∙ ap (lineNumber r at h) route-line in
-        let case = eleven-case (someMatches r (Node a)) (bestPort longerMask r (Node a)) in
+        let case = eleven-case (someMatches r (Node a)) (bestPort longerMask r (Node a)) (bestCode longerMask r (Node a)) in
         by-number is (λ e. no-match .0 (case .0 e), λ d. case .1 (no-match .1 d))

@@ -14,16 +14,16 @@ use Rattle.address.specs.declared.PathAddress.{PathAddress}
 use Rattle.address.specs.declared.Class.{Class}
 use Rattle.address.specs.declared.Class.the-variants as class
 use Rattle.header.specs.declared.Header.{Header}
-use Rattle.networks.specs.Networks.{domainOf}
 use Rattle.meaning.specs.declared.Aim.{Aim}
 use Rattle.meaning.specs.declared.Aim.the-variants.{Node, Path, Uncarried}
 use Rattle.routes.specs.declared.Route.{Route}
 use Rattle.state.specs.Relay.{Relay, portIn, groupIn, pathIn, portSetUp}
-use Rattle.survey.specs.Survey.{surveyOf}
+use Rattle.survey.specs.Survey.{namedBelow, surveyBelow}
+use Rattle.survey.specs.declared.Sought.{Sought}
 use Rattle.lookup.specs.Lookup.{groupFound, pathFound, groupSays, pathSays, groupPlace, pathPlace}
 use Rattle.lookup.specs.ForTarget.{placeFor, wayFor}
 use Rattle.verdict.specs.Numbers.{localNumber}
-use Rattle.verdict.specs.Rule.{grantedOf, rulingOf, routeLine, unheardBy, classTarget, overBroadcast, targetOf, hereBy, oursBy, localOf, routerLine, hostLine, lineOf}
+use Rattle.verdict.specs.Rule.{grantedOf, rulingOf, routeLine, codeOf, unheardBy, classTarget, overBroadcast, targetOf, hereBy, oursBy, localOf, routerLine, hostLine, lineOf}
 use Rattle.verdict.specs.declared.Target.{Target}
 use Rattle.verdict.specs.declared.Target.the-variants as target
 use Rattle.verdict.specs.declared.Place.{Place}
@@ -36,12 +36,13 @@ use Rattle.verdict.specs.declared.Local.{Local}
 use Rattle.verdict.specs.declared.Obstacle.the-variants.{NoRoute}
 use Rattle.verdict.specs.declared.Wish.{Wish}
 use Rattle.verdict.specs.declared.Wish.the-variants.{Refused}
-use Rattle.judge.specs.Ruling.{caseOf, soughtOf, ruledBy, ruleTarget, ruleAim}
-use Rattle.page.specs.Table.{somePort, without, nothingBut, destinationIs, equalsPort, isLimited, broadcastOf, broadcastOfOurs, isMulticast, hasGroup, hasPath, isSubscribed, isHere, localRows, matches, someMatches, bestPort, Line, notAsked, refused, wanted, isHost, otherPorts, groupSet, groupPorts, onwardLine, halves, judged}
+use Rattle.judge.specs.Ruling.{caseOf, soughtOf, targetAsked, codeFor, legFor, surveyFor, ruledBy, ruleTarget, ruleAim}
+use Rattle.judge.specs.Ending.{arrivalAt}
+use Rattle.page.specs.Table.{somePort, without, nothingBut, destinationIs, equalsPort, isLimited, broadcastOf, broadcastOfOurs, isMulticast, hasGroup, hasPath, isSubscribed, isHere, localRows, matches, someMatches, bestPort, bestCode, Line, notAsked, refused, wanted, isHost, otherPorts, groupSet, groupPorts, onwardLine, halves, judged}
 use Rattle.page.specs.Ends.{Agrees, Chooses}
-use Rattle.page.proofs.Bits.{only-in}
+use Rattle.survey.proofs.Bits.{only-in}
 use Rattle.page.proofs.Ports.{addressed-none, broadcast-none}
-use Rattle.page.proofs.Copies.{Same, line-agrees}
+use Rattle.page.proofs.Copies.{Coded, Same, same-coded, line-agrees}
 use Rattle.page.proofs.Best.{route-same}
 use Rattle.page.proofs.Local.{oursByName, local-is}
 use Rattle.page.proofs.Lines.{host-same, broadcast-same, group-same, path-same}
@@ -86,11 +87,16 @@ module _ (more : Route → Route → Bool) (r : Relay) (chooses : Chooses more r
   abbrev c : Case
   c = caseOf (r .router) (onlyPort at) (h .fields)
 
-  abbrev domain : ℕ
-  domain = domainOf (portIn r at .address)
+  -- what is asked of the ports, and what they say
+  abbrev sought : Aim → Sought
+  sought x = soughtOf (legFor r (arrivalAt r at) x h)
 
   abbrev survey : Aim → Survey
-  survey x = surveyOf r (soughtOf x domain (h .length))
+  survey x = surveyFor r (arrivalAt r at) x h
+
+  -- the ruling is the table's, and so is what the route asks for
+  abbrev pub Ruled : Aim → Type 0
+  Ruled x = Agrees (ruleAim r x c (survey x)) (judged more r at x h) × Coded (codeFor r x) (onwardLine more r at x (h .fields))
 
   abbrev noOther : Bool
   noOther = not (somePort (otherPorts r at))
@@ -105,15 +111,19 @@ module _ (more : Route → Route → Bool) (r : Relay) (chooses : Chooses more r
   -- a ruling by the same name and the same line
   ruled-agrees : (x : Aim) (t : Target) (p : Place) (w : Way)
       → eqb (oursBy t (hereBy p)) 0 ≡ not (oursByName r at x)
-      → ((local : Local) → localNumber local ≡ here x → Same (lineOf t p w c (survey x .ready) local) (onwardLine more r at x (h .fields)))
-      → Agrees (ruledBy t p w c (survey x)) (judged more r at x h)
+      → ((local : Local) → localNumber local ≡ here x
+      → Same (codeFor r x) (lineOf t p w c (survey x .ready) local) (onwardLine more r at x (h .fields)))
+      → Agrees (ruledBy t p w c (survey x)) (judged more r at x h) × Coded (codeFor r x) (onwardLine more r at x (h .fields))
   unfolding ruledBy judged
   ruled-agrees x t p w ours line =
       let local = localOf t p c in
       let is = local-is r at x (h .fields) flag t p ours in
       let wish = lineOf t p w c (survey x .ready) local in
-      subst (λ (n : ℕ). Agrees (rulingOf local (grantedOf wish c (survey x)) (survey x .full)) (halves r at h n (onwardLine more r at x (h .fields)))) is
-      (line-agrees r at x h local wish (onwardLine more r at x (h .fields)) (line local is))
+      let same = line local is in (
+        subst (λ (n : ℕ). Agrees (rulingOf local (grantedOf wish c (survey x)) (survey x .full)) (halves r at h n (onwardLine more r at x (h .fields)))) is
+            (line-agrees r at x h (codeFor r x) local wish (onwardLine more r at x (h .fields)) same),
+        same-coded (codeFor r x) wish (onwardLine more r at x (h .fields)) same,
+      )
 
   -- ---- an address
   module _ (a : Address) where
@@ -126,8 +136,13 @@ module _ (more : Route → Route → Bool) (r : Relay) (chooses : Chooses more r
     target-is =
         ap (λ (t : Target). pick (not (eqb (survey (Node a) .addressed) 0)) target.Here (pick (not (eqb (survey (Node a) .broadcast) 0)) (overBroadcast t) t)) (class-is a)
         ∙ ap₂ (λ (u v : Bool). byTests u v (isLimited a) (isMulticast a))
-        (ap not (addressed-none r (Node a) domain (h .length)) ∙ Bool·not-not (equalsPort r (Node a)))
-        (ap not (broadcast-none r (Node a) domain (h .length)) ∙ Bool·not-not (broadcastOfOurs r (Node a)))
+        (ap not (addressed-none r (Node a) (sought (Node a))) ∙ Bool·not-not (equalsPort r (Node a)))
+        (ap not (broadcast-none r (Node a) (sought (Node a))) ∙ Bool·not-not (broadcastOfOurs r (Node a)))
+
+    -- before the search the ports name the same target
+    asked-is : targetAsked r a ≡ byTests (equalsPort r (Node a)) (broadcastOfOurs r (Node a)) (isLimited a) (isMulticast a)
+    unfolding targetOf namedBelow surveyBelow
+    asked-is = target-is
 
     subscribed-none : eqb (hereBy (groupPlace r a arrival)) 0 ≡ not (isSubscribed r at a)
     unfolding groupPlace
@@ -153,6 +168,10 @@ module _ (more : Route → Route → Bool) (r : Relay) (chooses : Chooses more r
       abbrev line : Bool → Target → Wish
       line host t = pick host (hostLine t local) (routerLine t (placeFor r t a arrival) (wayFor r t a) arrival (survey (Node a) .ready))
 
+      -- what the route asks for, where one is taken
+      abbrev code : Bool → Target → ℕ
+      code host t = pick host 0 (codeOf (wayFor r t a))
+
       -- the table's rows, where the destination is an address
       abbrev rows : Bool → Bool → Bool → Bool → Bool → Line
       rows own ours limited multicast host =
@@ -160,13 +179,14 @@ module _ (more : Route → Route → Bool) (r : Relay) (chooses : Chooses more r
           (pick (host && heard (Node a)) notAsked
           (pick host (refused 9)
           (pick (ours && noOther) notAsked
-          (pick ours (wanted (otherPorts r at))
+          (pick ours (wanted (otherPorts r at) 0)
           (pick (multicast && isSubscribed r at a && noOther) notAsked
           (pick (multicast && (not (hasGroup r a) || nothingBut at (groupSet r a))) (refused 11)
-          (pick multicast (wanted (without at (groupPorts r (Node a))))
-          (pick (not (someMatches r (Node a))) (refused 11) (wanted (bestPort more r (Node a)))))))))))
+          (pick multicast (wanted (without at (groupPorts r (Node a))) 0)
+          (pick (not (someMatches r (Node a))) (refused 11) (wanted (bestPort more r (Node a)) (bestCode more r (Node a)))))))))))
 
-      node-line : (own ours limited multicast host : Bool) → Same (line host (byTests own ours limited multicast)) (rows own ours limited multicast host)
+      node-line : (own ours limited multicast host : Bool)
+          → Same (code host (byTests own ours limited multicast)) (line host (byTests own ours limited multicast)) (rows own ours limited multicast host)
       node-line true ours limited multicast true = tt
       node-line true ours limited multicast false = tt
       node-line false true true multicast true = tt
@@ -177,36 +197,41 @@ module _ (more : Route → Route → Bool) (r : Relay) (chooses : Chooses more r
       node-line false true false false true = host-same r at inside local _ is
       node-line false false false true true = host-same r at inside local _ is
       node-line false false false false true = host-same r at inside local _ is
-      node-line false true false true false = broadcast-same r at inside (Node a) domain (h .length)
-      node-line false true false false false = broadcast-same r at inside (Node a) domain (h .length)
-      node-line false false false true false = group-same r at inside (Node a) domain (h .length) a
+      node-line false true false true false = broadcast-same r at inside (Node a) (sought (Node a))
+      node-line false true false false false = broadcast-same r at inside (Node a) (sought (Node a))
+      node-line false false false true false = group-same r at inside (Node a) (sought (Node a)) a
       node-line false false false false false = route-same more r chooses a
 
-    node-agrees : Agrees (ruleAim r (Node a) c (survey (Node a))) (judged more r at (Node a) h)
+    node-agrees : Ruled (Node a)
     unfolding ruleTarget lineOf onwardLine
     node-agrees =
         let t = byTests (equalsPort r (Node a)) (broadcastOfOurs r (Node a)) (isLimited a) (isMulticast a) in
-        subst (λ (u : Target). Agrees (ruleTarget r u a c (survey (Node a))) (judged more r at (Node a) h)) (sym target-is)
+        subst
+        (λ (u : Target).
+        Agrees (ruleTarget r u a c (survey (Node a))) (judged more r at (Node a) h) × Coded (codeFor r (Node a)) (onwardLine more r at (Node a) (h .fields)))
+        (sym target-is)
         (ruled-agrees (Node a) t (placeFor r t a arrival) (wayFor r t a) (node-ours (equalsPort r (Node a)) (broadcastOfOurs r (Node a)) (isLimited a) (isMulticast a))
-        (λ local is. node-line local is (equalsPort r (Node a)) (broadcastOfOurs r (Node a)) (isLimited a) (isMulticast a) (isHost r)))
+        (λ local is.
+        subst (λ (u : Target). Same (code local is (isHost r) u) (line local is (isHost r) t) (onwardLine more r at (Node a) (h .fields))) (sym asked-is)
+        (node-line local is (equalsPort r (Node a)) (broadcastOfOurs r (Node a)) (isLimited a) (isMulticast a) (isHost r))))
 
   -- ---- what is no address: of the lines above the path's the host's alone fits
   module _ (x : Aim) (none : (test : Address → Bool) → destinationIs x test ≡ false) (local : Local) (is : localNumber local ≡ here x)
-      (wish : Wish) (line : Line) (same : Same wish line) where
+      (wish : Wish) (line : Line) (same : Same 0 wish line) where
     by-tests : (own ours host : Bool) → own ≡ false → ours ≡ false
-        → Same (pick host (unheardBy local) wish)
+        → Same 0 (pick host (unheardBy local) wish)
         (pick (own || false) notAsked
         (pick (host && heard x) notAsked
-        (pick host (refused 9) (pick (ours && noOther) notAsked (pick ours (wanted (otherPorts r at)) line)))))
+        (pick host (refused 9) (pick (ours && noOther) notAsked (pick ours (wanted (otherPorts r at) 0) line)))))
     by-tests true ours host e f = true-false e
     by-tests false true host e f = true-false f
     by-tests false false true e f = host-same r at inside local (here x) is
     by-tests false false false e f = same
 
-    no-address : Same (pick (isHost r) (unheardBy local) wish)
+    no-address : Same 0 (pick (isHost r) (unheardBy local) wish)
         (pick (equalsPort r x || false) notAsked
         (pick (isHost r && heard x) notAsked
-        (pick (isHost r) (refused 9) (pick (broadcastOfOurs r x && noOther) notAsked (pick (broadcastOfOurs r x) (wanted (otherPorts r at)) line)))))
+        (pick (isHost r) (refused 9) (pick (broadcastOfOurs r x && noOther) notAsked (pick (broadcastOfOurs r x) (wanted (otherPorts r at) 0) line)))))
     no-address = by-tests (equalsPort r x) (broadcastOfOurs r x) (isHost r) (equals-none r x none) (ours-none r x none)
 
   no-port : (x : Aim) → ((test : Address → Bool) → destinationIs x test ≡ false) → (t : Bool)
@@ -223,7 +248,7 @@ module _ (more : Route → Route → Bool) (r : Relay) (chooses : Chooses more r
         by true = sym (Bool·not-not (eqb (pathIn r (pathFound r y) .here) 0))
         by false = refl
 
-    path-agrees : Agrees (ruleAim r (Path y) c (survey (Path y))) (judged more r at (Path y) h)
+    path-agrees : Ruled (Path y)
     unfolding lineOf onwardLine
     path-agrees =
         ruled-agrees (Path y) target.Path (pathPlace r y) Lost
@@ -235,15 +260,15 @@ module _ (more : Route → Route → Bool) (r : Relay) (chooses : Chooses more r
   unfolding someMatches
   match-none = refuted _ λ e. true-false (sym (any-is (matches r Uncarried) (length (r .routes)) .0 e .2))
 
-  uncarried-agrees : Agrees (ruleAim r Uncarried c (survey Uncarried)) (judged more r at Uncarried h)
+  uncarried-agrees : Ruled Uncarried
   unfolding lineOf onwardLine routeLine
   uncarried-agrees =
       ruled-agrees Uncarried target.Route Missing Lost
       (ap not (sym (no-port Uncarried (λ test. refl) false)))
-      (λ local is. no-address Uncarried (λ test. refl) local is (Refused NoRoute) (pick (not (someMatches r Uncarried)) (refused 11) (wanted (bestPort more r Uncarried))) (rw match-none))
+      (λ local is. no-address Uncarried (λ test. refl) local is (Refused NoRoute) (pick (not (someMatches r Uncarried)) (refused 11) (wanted (bestPort more r Uncarried) (bestCode more r Uncarried))) (rw match-none))
 
   -- Whatever the destination names, receiving rules as the table says.
-  pub aim-agrees : (x : Aim) → Agrees (ruleAim r x c (survey x)) (judged more r at x h)
+  pub aim-agrees : (x : Aim) → Ruled x
   aim-agrees (Node a) = node-agrees a
   aim-agrees (Path y) = path-agrees y
   aim-agrees Uncarried = uncarried-agrees

@@ -3,7 +3,7 @@ use native.Mathlib.Omega.{arith}
 use Prim.Native.Nat.{ℕ, _/_, _^_, _<_}
 use mathlib.Core.Path.{_≡_, refl, sym, ap, ap₂, _∙_}
 use mathlib.Core.Bool.{Bool, true, false, not, _&&_, _||_, and-true, or-false}
-use lib.Dec.{eqb, ltb}
+use lib.Dec.{eqb}
 use borrow.Author.Tests.{lt-ltb}
 use Rattle.checks.specs.Order.{pick}
 use Rattle.sets.specs.Sets.{inSet, onlyPort}
@@ -13,7 +13,7 @@ use Rattle.address.specs.Class.{between, familyOf}
 use Rattle.address.specs.declared.Address.{Address}
 use Rattle.address.specs.declared.Family.{Family}
 use Rattle.address.specs.declared.Family.the-variants as family
-use Rattle.networks.specs.Networks.{inNet10, domainOf, subnetBroadcast, broadcastIn, classBroadcast}
+use Rattle.networks.specs.Networks.{inNet10, subnetBroadcast, broadcastIn, classBroadcast}
 use Rattle.meaning.specs.declared.Aim.{Aim}
 use Rattle.meaning.specs.declared.Aim.the-variants.{Node, Path, Uncarried}
 use Rattle.records.specs.SetUp.{isSetUp}
@@ -22,9 +22,10 @@ use Rattle.state.specs.Relay.{Relay, portIn, queueIn, amongPorts, portSetUp}
 use Rattle.survey.specs.Survey.{broadcastIs, ownBroadcast, isAddressed, isBroadcast, inDomain, isFitting, isFull, portsBelow, surveyBelow, surveyOf}
 use Rattle.survey.specs.declared.Sought.{Sought}
 use Rattle.verdict.specs.Rule.{exceptBy}
-use Rattle.judge.specs.Ruling.{destinationAsked, soughtOf}
+use Rattle.verdict.specs.declared.Survey.{Survey}
+use Rattle.judge.specs.Ruling.{destinationAsked}
 use Rattle.page.specs.Table.{Ports, somePort, destinationIs, equalsPort, endsNet, broadcastOf, broadcastOfOurs, otherPorts, hasRoom}
-use Rattle.page.proofs.Bits.{in-except, in-gathered}
+use Rattle.survey.proofs.Bits.{in-except, in-gathered}
 use Rattle.page.proofs.Sets.{empty-is, only-is}
 
 -- ---- a broadcast of ours
@@ -103,53 +104,53 @@ module _ (r : Relay) where
   ours-is (Path x) own = refl
   ours-is Uncarried own = refl
 
-  module _ (x : Aim) (domain length : ℕ) where
-    abbrev survey : Sought
-    survey = soughtOf x domain length
+  module _ (x : Aim) (q : Sought) where
+    abbrev survey : Survey
+    survey = surveyOf r (destinationAsked x) q
 
     -- "the destination equals any port's address"
-    pub addressed-none : eqb (surveyOf r survey .addressed) 0 ≡ not (equalsPort r x)
+    pub addressed-none : eqb (survey .addressed) 0 ≡ not (equalsPort r x)
     unfolding surveyBelow equalsPort
     addressed-none = gathered-none _ _ (λ p. addressed-is x (portIn r p .address))
 
     -- "is a broadcast of ours"
-    pub broadcast-none : eqb (surveyOf r survey .broadcast) 0 ≡ not (broadcastOfOurs r x)
+    pub broadcast-none : eqb (survey .broadcast) 0 ≡ not (broadcastOfOurs r x)
     unfolding surveyBelow broadcastOfOurs
     broadcast-none = gathered-none _ _ (λ p. ours-is x (portIn r p))
 
     module _ (p : ℕ) (l : p < 8) where
-      pub ready-in : inSet p (surveyOf r survey .ready) ≡ portSetUp r p
+      pub ready-in : inSet p (survey .ready) ≡ portSetUp r p
       unfolding surveyBelow
       ready-in = gathered (λ (i : ℕ). true) p l ∙ and-true (portSetUp r p)
 
-      pub domain-in : inSet p (surveyOf r survey .domain) ≡ (portSetUp r p && eqb (domainOf (portIn r p .address)) domain)
+      pub domain-in : inSet p (survey .domain) ≡ (portSetUp r p && inDomain (portIn r p) q)
       unfolding surveyBelow
-      domain-in = gathered (λ (i : ℕ). inDomain (portIn r i) survey) p l
+      domain-in = gathered (λ (i : ℕ). inDomain (portIn r i) q) p l
 
-      pub fitting-in : inSet p (surveyOf r survey .fitting) ≡ (portSetUp r p && not (ltb (portIn r p .mtu) length))
+      pub fitting-in : inSet p (survey .fitting) ≡ (portSetUp r p && isFitting (portIn r p) q)
       unfolding surveyBelow
-      fitting-in = gathered (λ (i : ℕ). isFitting (portIn r i) survey) p l
+      fitting-in = gathered (λ (i : ℕ). isFitting (portIn r i) q) p l
 
-      pub full-in : inSet p (surveyOf r survey .full) ≡ (portSetUp r p && not (hasRoom r p))
+      pub full-in : inSet p (survey .full) ≡ (portSetUp r p && not (hasRoom r p))
       unfolding surveyBelow
       full-in = gathered (λ (i : ℕ). isFull (queueIn r i .count)) p l
 
       -- "all other set-up ports"
-      pub others-in : (at : ℕ) → inSet p (exceptBy (surveyOf r survey .ready) (onlyPort at)) ≡ otherPorts r at p
+      pub others-in : (at : ℕ) → inSet p (exceptBy (survey .ready) (onlyPort at)) ≡ otherPorts r at p
       others-in at = in-except p _ (onlyPort at) ∙ ap₂ (λ (s t : Bool). s && not t) ready-in (only-is p at l)
 
-    pub domain-small : surveyOf r survey .domain < 256
+    pub domain-small : survey .domain < 256
     unfolding surveyBelow
-    domain-small = small (λ (i : ℕ). inDomain (portIn r i) survey)
+    domain-small = small (λ (i : ℕ). inDomain (portIn r i) q)
 
-    pub fitting-small : surveyOf r survey .fitting < 256
+    pub fitting-small : survey .fitting < 256
     unfolding surveyBelow
-    fitting-small = small (λ (i : ℕ). isFitting (portIn r i) survey)
+    fitting-small = small (λ (i : ℕ). isFitting (portIn r i) q)
 
-    ready-small : surveyOf r survey .ready < 256
+    ready-small : survey .ready < 256
     unfolding surveyBelow
     ready-small = small (λ (i : ℕ). true)
 
     -- "if there are none"
-    pub others-none : (at : ℕ) → eqb (exceptBy (surveyOf r survey .ready) (onlyPort at)) 0 ≡ not (somePort (otherPorts r at))
+    pub others-none : (at : ℕ) → eqb (exceptBy (survey .ready) (onlyPort at)) 0 ≡ not (somePort (otherPorts r at))
     others-none at = empty-is _ (otherPorts r at) (omega (arith, ready-small)) (λ p l. others-in p l at)

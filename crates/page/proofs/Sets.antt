@@ -17,7 +17,7 @@ use Rattle.sets.proofs.Anywhere.{any-is, any-found}
 use Rattle.networks.proofs.Bits.{bit, bit-small, same-bits}
 use Rattle.verdict.specs.Rule.{exceptBy}
 use Rattle.page.specs.Table.{Ports, somePort, nothingBut}
-use Rattle.page.proofs.Bits.{in-none, with-power, only-that, only-has}
+use Rattle.survey.proofs.Bits.{in-none, with-power, only-that, only-has}
 
 -- a bit that is not one is zero
 bit-none : (p n : ℕ) → inSet p n ≡ false → bit p n ≡ bit p 0

@@ -123,14 +123,14 @@ module _ (r : Relay) (at : ℕ) (octets : List ℕ) (room : ℕ) where
   steps-numbers = refl
 
   -- the arrival port is one of the eight
-  arrival-inside : firstOf (stepRows r at octets room) ≡ 0 → at < 8
+  pub arrival-inside : firstOf (stepRows r at octets room) ≡ 0 → at < 8
   unfolding stepRows amongPorts
   arrival-inside e =
       let none = zero-none (stepRows r at octets room) (numbered (stepRows r at octets room) steps-numbers) e in
       ltb-true at 8 (and-true (ltb at 8) _ (not-false (portSetUp r at) (none .0)) .0)
 
   -- the flag is one bit
-  flag-small : header .fields .intermediate < 2
+  pub flag-small : header .fields .intermediate < 2
   unfolding headerOf fieldsOf
   flag-small = mod-lt (controlOf octets .third / 16) (zero-lt-suc 1)
 
@@ -144,7 +144,7 @@ module _ (more : Route → Route → Bool) (r : Relay) (chooses : Chooses more r
   unfolding ruleOf judged
   by-steps n true e inside = record {
     refusal = refl;
-    ruling = aim-agrees more r chooses at (inside (eqb-true n 0 e)) h (flag-small r at octets room) (aimOf (portIn r at .address .0) (h .fields .addresses));
+    ruling = aim-agrees more r chooses at (inside (eqb-true n 0 e)) h (flag-small r at octets room) (aimOf (portIn r at .address .0) (h .fields .addresses)) .0;
   }
   by-steps n false e inside = record {
     refusal = refl;

@@ -1,7 +1,8 @@
 -- Page 01's "One received datagram, step by step" as tables: in each the first row whose condition holds decides. Written from the page and
--- from page 02, W-204 ("Only routes that are up are now candidates"; 12 is given nowhere), not from the code: a set of ports is a test of a
--- port's number here, and nothing is gathered beforehand. proofs/Verdict.antt has that receiving does exactly this. Assumes nothing.
-use Prim.Native.Nat.{ℕ, _/_, _^_}
+-- from page 02, W-204 ("Only routes that are up are now candidates"; 12 is given nowhere) and W-214 (headers rewritten for the next leg), not from the
+-- code: a set of ports is a test of a port's number here, and nothing is gathered beforehand. proofs/Verdict.antt has that receiving does exactly
+-- this. Assumes nothing.
+use Prim.Native.Nat.{ℕ, _*_, _/_, _^_}
 use mathlib.Core.Path.{_≡_}
 use mathlib.Core.Logic.{_⊎_, _↔_, _≢_}
 use mathlib.Core.Bool.{Bool, true, false, not, _&&_, _||_}
@@ -10,7 +11,7 @@ use lib.Dec.{eqb, ltb}
 use lib.ListN.{length}
 use Rattle.checks.specs.Order.{pick, Checks, firstOf, noneHolds, firstHolds}
 use Rattle.sets.specs.Limits.{portCount, groupPlaces, pathPlaces}
-use Rattle.sets.specs.Sets.{inSet, anyBelow}
+use Rattle.sets.specs.Sets.{inSet, anyBelow, firstBelow}
 use Rattle.address.specs.Octets.{dotted}
 use Rattle.address.specs.Class.{familyOf, classOf, classNumber}
 use Rattle.address.specs.Mask.{onesOf}
@@ -18,7 +19,7 @@ use Rattle.address.specs.declared.Address.{Address}
 use Rattle.address.specs.declared.PathAddress.{PathAddress}
 use Rattle.address.specs.declared.Family.{Family}
 use Rattle.address.specs.declared.Family.the-variants as family
-use Rattle.header.specs.Limits.{longestHeader}
+use Rattle.header.specs.Limits.{longestHeader, lengthLimit}
 use Rattle.header.specs.Form.{controlOf, placesOf, forbidden}
 use Rattle.header.specs.Read.{headerOf, otherVersion, cut, misfit, wrongChecksum}
 use Rattle.header.specs.declared.Addresses.{Addresses}
@@ -28,10 +29,11 @@ use Rattle.header.specs.declared.Octet.{Octet}
 use Rattle.header.specs.declared.Octet.the-variants as octet
 use Rattle.queue.specs.Queue.{entryPlaces}
 use Rattle.networks.specs.Networks.{inNet10, domainOf, lastOf, subnetBroadcast}
-use Rattle.meaning.specs.Names.{aimOf, originOf, isBasic, notCarried, noDomain, badAim, badSource}
+use Rattle.meaning.specs.Names.{aimOf, originOf, isBasic, isBound, notCarried, noDomain, badAim, badSource}
 use Rattle.meaning.specs.Asked.{isAssigned}
 use Rattle.meaning.specs.declared.Aim.{Aim}
 use Rattle.meaning.specs.declared.Aim.the-variants.{Node, Path, Uncarried}
+use Rattle.next_leg.specs.Leg.{nextLength}
 use Rattle.records.specs.declared.Port.{Port}
 use Rattle.routes.specs.Routes.{candidate}
 use Rattle.routes.specs.declared.Route.{Route}
@@ -91,9 +93,9 @@ unfoldable pub stepRows : Relay → ℕ → List ℕ → ℕ → Checks
 stepRows r at octets room =
     let own = portIn r at .address in
     let f = headerOf octets .fields in
-    -- "1. Port not set up, or over 7: 16. Output under 50 octets: 17."
+    -- "1. Port not set up, or over 7: 16." W-214: "50 octets for each of eight ports ..; 17 .. if fewer"
     (not (portSetUp r at), 16)
-    ∷ (ltb room longestHeader, 17)
+    ∷ (ltb room (portCount * longestHeader), 17)
     -- "2. Fewer than 3 octets: 1. Version not the assigned one: 2. Octets end inside the control field: 1. Control bits that 003 does not
     -- allow: 4. Length field over the octets lent, or under the header's own length: 3."
     ∷ (ltb (length octets) 3, 1)
@@ -220,11 +222,16 @@ module _ (more : Route → Route → Bool) where
   unfoldable pub bestPort : Relay → Aim → Ports
   bestPort r x p = anyBelow (λ (q : ℕ). isBest r x q && eqb p (routeIn r q .port)) (length (r .routes))
 
+  -- and its capabilities, which say what it "asks for" (W-214)
+  unfoldable pub bestCode : Relay → Aim → ℕ
+  bestCode r x = routeIn r (firstBelow (isBest r x) (length (r .routes))) .capabilities
+
 -- ---- the onward half: which ports are wanted
 pub data Line : Type 0 where
   notAsked : Line
   refused : ℕ → Line
-  wanted : Ports → Line
+  -- and what the port's route asks of a header, 0 where there is none: W-214, "Copies without a route get no added elements"
+  wanted : Ports → ℕ → Line
 
 abbrev pub isHost : Relay → Bool
 isHost r = eqb (r .router) 0
@@ -256,23 +263,23 @@ onwardRows r at x f =
     ∷ (isHost r, refused 9)
     -- "broadcast of ours: all other set-up ports; not asked if there are none;"
     ∷ (broadcastOfOurs r x && noPort (otherPorts r at), notAsked)
-    ∷ (broadcastOfOurs r x, wanted (otherPorts r at))
+    ∷ (broadcastOfOurs r x, wanted (otherPorts r at) 0)
     -- "multicast: the group's set without the arrival port; not asked if subscribed on the arrival port and no other port is set up; else 11 if
     -- there is no group or that set is empty;"
     ∷ (destinationIs x (λ a. isMulticast a && isSubscribed r at a && noPort (otherPorts r at)), notAsked)
     ∷ (destinationIs x (λ a. isMulticast a && (not (hasGroup r a) || nothingBut at (groupSet r a))), refused 11)
-    ∷ (destinationIs x isMulticast, wanted (without at (groupPorts r x)))
+    ∷ (destinationIs x isMulticast, wanted (without at (groupPorts r x)) 0)
     -- "path: the place's set without the arrival port; 11 if there is no place, or the set is empty and the place is not delivered here; not
     -- asked if empty and delivered here;"
     ∷ (pathIs x (λ a. not (hasPath r a) || (nothingBut at (pathSet r a) && not (isHere r a))), refused 11)
     ∷ (pathIs x (λ a. nothingBut at (pathSet r a)), notAsked)
-    ∷ (pathIs x (λ a. true), wanted (without at (pathPorts r x)))
+    ∷ (pathIs x (λ a. true), wanted (without at (pathPorts r x)) 0)
     -- "else the route with most mask ones among all that match; 11 if none" (that it is up: page 02)
     ∷ (not (someMatches r x), refused 11)
     ∷ []
 
 unfoldable pub onwardLine : (Route → Route → Bool) → Relay → ℕ → Aim → Fields → Line
-onwardLine more r at x f = firstRow (onwardRows r at x f) (wanted (bestPort more r x))
+onwardLine more r at x f = firstRow (onwardRows r at x f) (wanted (bestPort more r x) (bestCode more r x))
 
 -- ---- with ports wanted
 
@@ -285,6 +292,18 @@ hopsUsedUp (octet.Present n) = ltb n 2
 abbrev pub oneOctet : Addresses → Bool
 oneOctet a = eqb (isBasic a) 1
 
+-- W-214: "one-octet paths keep 13"
+abbrev pub oneOctetPath : Addresses → Bool
+oneOctetPath a = eqb (isBound a) 1
+
+-- W-214: "a granted port lies in another domain": "first three octets differ from the arrival port's"
+abbrev pub liesFar : Relay → ℕ → ℕ → Bool
+liesFar r at p = not (eqb (domainOf (portIn r p .address)) (domainOf (portIn r at .address)))
+
+-- W-214: the size of the copy for port p "after the rewrite", where its route asks for so much
+abbrev pub sizeAfter : Relay → ℕ → Header → ℕ → ℕ → ℕ
+sizeAfter r at h code p = nextLength (liesFar r at p) (portIn r at .address .0) code h
+
 -- "Each with fewer than 32 waiting takes one entry (slot, precedence); the others drop theirs"
 abbrev pub hasRoom : Relay → ℕ → Bool
 hasRoom r p = ltb (queueIn r p .count) entryPlaces
@@ -296,16 +315,14 @@ abbrev pub withoutRoom : Relay → Ports → Ports
 withoutRoom r ports p = ports p && not (hasRoom r p)
 
 -- what is left of the wanted ports. A port that is not set up has no address and no MTU; no history leaves one that is wanted.
-module _ (r : Relay) (at : ℕ) (h : Header) (ports : Ports) where
-  -- "If addresses are one octet, ports whose first three octets differ from the arrival port's are struck out"
+module _ (r : Relay) (at : ℕ) (h : Header) (ports : Ports) (code : ℕ) where
+  -- "ports whose first three octets differ from the arrival port's are struck out", with a one-octet path alone
   abbrev pub ofDomain : Ports
-  ofDomain p =
-      ports p
-      && (not (oneOctet (h .fields .addresses)) || (portSetUp r p && eqb (domainOf (portIn r p .address)) (domainOf (portIn r at .address))))
+  ofDomain p = ports p && (not (oneOctetPath (h .fields .addresses)) || (portSetUp r p && not (liesFar r at p)))
 
-  -- "Ports whose MTU is under the length are struck out"
+  -- "Size is tested against MTU and 8,191 after the rewrite"
   abbrev pub ofSize : Ports
-  ofSize p = ofDomain p && (portSetUp r p && not (ltb (portIn r p .mtu) (h .length)))
+  ofSize p = ofDomain p && (portSetUp r p && (not (ltb (portIn r p .mtu) (sizeAfter r at h code p)) && ltb (sizeAfter r at h code p) lengthLimit))
 
   -- "The ports left are the granted copies."
   abbrev pub grantedPorts : Ports
@@ -317,7 +334,7 @@ module _ (r : Relay) (at : ℕ) (h : Header) (ports : Ports) where
       -- "hop count present and 0 or 1: 10."
       (hopsUsedUp (h .fields .hops), 10)
       -- "none left: 13."
-      ∷ (oneOctet (h .fields .addresses) && noPort ofDomain, 13)
+      ∷ (oneOctetPath (h .fields .addresses) && noPort ofDomain, 13)
       -- "none left: 14."
       ∷ (noPort ofSize, 14)
       -- "all dropped: 15"
@@ -337,23 +354,30 @@ pub record Verdict : Type 0 where
   pub granted : Ports
   pub took : Ports
   pub dropped : Ports
+  -- what the route taken asks of a header, 0 without one
+  pub code : ℕ
 
 -- a line's number, and what it grants
 abbrev pub lineNumber : Relay → ℕ → Header → Line → ℕ
 lineNumber r at h notAsked = 0
 lineNumber r at h (refused n) = n
-lineNumber r at h (wanted ports) = firstOf (copyRows r at h ports)
+lineNumber r at h (wanted ports code) = firstOf (copyRows r at h ports code)
 
 -- the line's number is n: by itself, or by the first of the rows on copies that holds
 abbrev pub GivesNumber : Relay → ℕ → Header → ℕ → Line → Type 0
 GivesNumber r at h n notAsked = 0 ≡ n
 GivesNumber r at h n (refused m) = m ≡ n
-GivesNumber r at h n (wanted ports) = firstHolds (copyRows r at h ports) n
+GivesNumber r at h n (wanted ports code) = firstHolds (copyRows r at h ports code) n
 
 abbrev pub lineGrants : Relay → ℕ → Header → Line → Ports
 lineGrants r at h notAsked = nobody
 lineGrants r at h (refused n) = nobody
-lineGrants r at h (wanted ports) = grantedPorts r at h ports
+lineGrants r at h (wanted ports code) = grantedPorts r at h ports code
+
+abbrev pub lineCode : Line → ℕ
+lineCode notAsked = 0
+lineCode (refused n) = 0
+lineCode (wanted ports code) = code
 
 abbrev pub halves : Relay → ℕ → Header → ℕ → Line → Verdict
 halves r at h local line =
@@ -364,6 +388,7 @@ halves r at h local line =
       granted = lineGrants r at h line;
       took = withRoom r (lineGrants r at h line);
       dropped = withoutRoom r (lineGrants r at h line);
+      code = lineCode line;
     }
 
 -- the two halves, by what the destination names
@@ -372,7 +397,7 @@ judged more r at x h = halves r at h (localHalf r at x (h .fields)) (onwardLine 
 
 -- "A refusal at any check ends the call"
 abbrev pub refusedWith : ℕ → Verdict
-refusedWith n = record { refusal = n; local = 0; onward = 0; granted = nobody; took = nobody; dropped = nobody }
+refusedWith n = record { refusal = n; local = 0; onward = 0; granted = nobody; took = nobody; dropped = nobody; code = 0 }
 
 -- what becomes of these octets, come in by port `at`, with so much room for output, where `more` compares two routes
 unfoldable pub verdictBy : (Route → Route → Bool) → Relay → ℕ → List ℕ → ℕ → Verdict

@@ -1,25 +1,21 @@
 -- What is asked, by the number of routes and of words lent; and back. Assumes nothing.
 use native.Mathlib.Omega.{arith}
 use Prim.Native.Nat.{ℕ, _≤_, _<_}
-use mathlib.Core.Path.{_≡_, refl, sym, ap, _∙_}
+use mathlib.Core.Path.{_≡_, refl, sym, ap, subst⁻¹, _∙_}
 use mathlib.Core.Bool.{Bool, true, false}
 use mathlib.Core.List.{List}
 use lib.ListN.{length}
 use lib.Dec.{eqb, ltb}
 use borrow.Author.Tests.{eq-eqb, ne-eqb, lt-ltb, le-ltb, ltb-true, ltb-false, eqb-true, eqb-false}
-use Rattle.header.specs.Form.{placesOf}
-use Rattle.header.specs.Onward.{renewalOf}
-use Rattle.state.specs.Relay.{Relay}
 use Rattle.state.specs.Seen.{Board, State, seated}
 use Rattle.state.specs.Layout.{boardWords, missionWords, decodeBoard, decode}
 use Rattle.lent_state.proofs.Calls.{both-held-told, no-board-told, no-mission-told}
 use Rattle.verdict.specs.declared.Target.{Target}
 use Rattle.verdict.specs.declared.Target.the-variants as target
-use Rattle.verdict.specs.declared.Way.{Way}
 use Rattle.judge.specs.declared.Asked.{Asked}
-use Rattle.judge.specs.declared.Ending.{Ending}
-use Rattle.judge.specs.Asked.{routeSought, refusedAsked, datagramAsked, finishedOf}
-use Rattle.judge.proofs.Took.{Takes, took-good}
+use Rattle.judge.specs.Ending.{outputRoom}
+use Rattle.judge.specs.Asked.{routeSought, refusedAsked, datagramAsked}
+use Rattle.judge.proofs.Took.{WasRead, asked-good}
 use Rattle.relay.specs.Split.{askedOf, Following}
 
 -- ---- a route is sought by the route line alone, on a router
@@ -85,11 +81,10 @@ module _ (b w octets : List ℕ) (room : ℕ) (a : Asked) where
 pub judged-good : (b w octets : List ℕ) (room : ℕ) (a : Asked) → Following b w octets room a → a .refusal ≡ 0 → Judged b w octets room a
 judged-good b w octets room a f zero = was-judged b w octets room a f (λ e. omega (arith, zero, e)) (λ e. omega (arith, zero, e))
 
--- some port took an entry: there is room, and the header lies in the octets
-pub took-told : (r : Relay) (w : Way) (number port : ℕ) (octets : List ℕ) (room : ℕ) {a : Asked} {e : Ending}
-    → a ≡ datagramAsked r number port octets room → e ≡ finishedOf r a w → Takes e
-    → (50 ≤ room) × ((placesOf octets .size ≤ length octets) × (a .renewal ≡ renewalOf octets))
-took-told r w number port octets room ea ee h =
-    let t =
-    took-good r w number port octets room (λ z. h (ap (λ (x : Ending). x .ruling .took) (ee ∙ ap (λ (x : Asked). finishedOf r x w) ea) ∙ z)) in
-    (t .0, (t .1 .0, ap (λ (x : Asked). x .renewal) ea ∙ t .1 .1))
+-- there is room for the headers of all ports, and the octets were read
+pub judged-read : (b w octets : List ℕ) (room : ℕ) (a : Asked) → Following b w octets room a → a .refusal ≡ 0 → (outputRoom ≤ room) × WasRead octets a
+judged-read b w octets room a f zero =
+    let j = judged-good b w octets room a f zero in
+    let is = j .1 .1 .1 in
+    subst⁻¹ (λ (x : Asked). (outputRoom ≤ room) × WasRead octets x) is
+    (asked-good (seated (decodeBoard b) (decode w)) (decode w .number) (j .1 .1 .0) octets room (sym (ap (λ (x : Asked). x .refusal) is) ∙ zero))

@@ -12,6 +12,7 @@ use Rattle.lent_state.specs.View.{Lent, Held, Other, byLent, onLent, lentBoard,
 use Rattle.lent_state.proofs.Calls.{both-held-changed}
 use Rattle.listing.specs.declared.Scan.{Scan}
 use Rattle.verdict.specs.declared.Way.{Way}
+use Rattle.next_leg.specs.Leg.{noLegs}
 use Rattle.judge.specs.declared.Asked.{Asked}
 use Rattle.judge.specs.declared.Ending.{Ending}
 use Rattle.judge.specs.Ending.{refusedBy}
@@ -21,7 +22,8 @@ use Rattle.tally.specs.Tally.{counterFor, countedAt, movesOf, countedAll}
 use Rattle.relay.specs.Outgoing.{enteredAll, sentOutput}
 use Rattle.relay.specs.Received.{newEntry, receivedRelay, receivedState}
 use Rattle.relay.specs.Split.{wayIn, endingAfter, answerAfter, wordsAfter, outputAfter, wordsRefused}
-use Rattle.relay.proofs.outgoing.Entries.{none-entered, not-sent}
+use Rattle.relay.proofs.outgoing.Entries.{none-entered}
+use Rattle.relay.proofs.outgoing.Headers.{nothing-sent}
 
 -- ---- counted, and then entered
 pub received : (b : Board) (s : State) (slot : Slot) (e : Ending) {x y : State}
@@ -99,6 +101,11 @@ module _ (b w octets output : List ℕ) (slot : ℕ) (a : Asked) (s : Scan) wher
   unfolding endingAfter finishedOf
   ended-refused some = simp (ne-eqb (a .refusal) 0 some)
 
+  -- a refusal has no port that took
+  refused-sends-nothing : output ≡ sentOutput (refusedBy (a .refusal)) octets output
+  unfolding sentOutput
+  refused-sends-nothing = nothing-sent noLegs octets output 8
+
   pub after-refused : (v : List ℕ) {answer : ℕ} → (a .refusal ≡ 0 → ⊥) → answer ≡ receiveNumber (refusedBy (a .refusal)) → lent v ≡ wordsRefused b w (record { 0 = slot }) (a .refusal)
       → (answer ≡ answerAfter b w a s) × ((lent v ≡ wordsAfter b w slot a s) × (output ≡ outputAfter b w octets output a s))
   after-refused v some told left =
@@ -106,7 +113,7 @@ module _ (b w octets output : List ℕ) (slot : ℕ) (a : Asked) (s : Scan) wher
         told ∙ ap receiveNumber e,
         (
           left ∙ ap (λ (x : Ending). changedBoth (λ (y : Board) (z : State). receivedState y z (record { 0 = slot }) x) b w) e,
-          not-sent 0 octets output refl ∙ ap (λ (x : Ending). sentOutput (x .ruling .took) octets output) e,
+          refused-sends-nothing ∙ ap (λ (x : Ending). sentOutput x octets output) e,
         ),
       )
 
@@ -116,7 +123,7 @@ module _ (b w octets output : List ℕ) (slot : ℕ) (a : Asked) (s : Scan) wher
       → e ≡ finishedOf (seated (decodeBoard b) (decode w)) a way
       → answer ≡ receiveNumber e
       → decode v ≡ receivedState (decodeBoard b) (decode w) (record { 0 = slot }) e
-      → out ≡ sentOutput (e .ruling .took) octets output
+      → out ≡ sentOutput e octets output
       → (answer ≡ answerAfter b w a s) × ((lent v ≡ wordsAfter b w slot a s) × (out ≡ outputAfter b w octets output a s))
   unfolding endingAfter
   after-done v eb ew ev way is told left sent =
@@ -125,6 +132,6 @@ module _ (b w octets output : List ℕ) (slot : ℕ) (a : Asked) (s : Scan) wher
         (
           both-held-changed b w eb ew (λ (y : Board) (z : State). receivedState y z (record { 0 = slot }) (endingAfter b w a s)) v ev
               (left ∙ ap (receivedState (decodeBoard b) (decode w) (record { 0 = slot })) e),
-          sent ∙ ap (λ (x : Ending). sentOutput (x .ruling .took) octets output) e,
+          sent ∙ ap (λ (x : Ending). sentOutput x octets output) e,
         ),
       )

@@ -1,2 +1,3 @@
--- What the entering hands together.
+-- What the entering hands together, and the writing of headers.
 pub mod Entries
+pub mod Headers

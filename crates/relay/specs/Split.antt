@@ -35,7 +35,7 @@ queryOf a =
     record {
       refusal = a .refusal;
       sought = searchedIn a;
-      address = addressIn (a .sought .destination);
+      address = addressIn (a .destination);
       mask = 0;
       mission = a .number;
       own = a .ready;
@@ -43,7 +43,7 @@ queryOf a =
 
 -- ---- after: the route that the scan found, if any
 abbrev pub wayIn : Scan → Way
-wayIn s = pick (eqb (s .found) 0) Lost (By (onlyPort (s .port)))
+wayIn s = pick (eqb (s .found) 0) Lost (By (onlyPort (s .port)) (s .capabilities))
 
 unfoldable pub endingAfter : List ℕ → List ℕ → Asked → Scan → Ending
 endingAfter b w a s = finishedOf (seated (decodeBoard b) (decode w)) a (wayIn s)
@@ -55,7 +55,7 @@ abbrev pub wordsAfter : List ℕ → List ℕ → ℕ → Asked → Scan → Len
 wordsAfter b w slot a s = changedBoth (λ (x : Board) (y : State). receivedState x y (record { 0 = slot }) (endingAfter b w a s)) b w
 
 abbrev pub outputAfter : List ℕ → List ℕ → List ℕ → List ℕ → Asked → Scan → List ℕ
-outputAfter b w octets output a s = sentOutput (endingAfter b w a s .ruling .took) octets output
+outputAfter b w octets output a s = sentOutput (endingAfter b w a s) octets output
 
 -- a refusal that counts: not 16, 17 or 21
 abbrev pub Counted : ℕ → Type 0

@@ -5,11 +5,12 @@
 // queues of the ports that took a copy, and the header sent on is written, `after`. The list itself is lent to none of the three.
 //
 // The awkward case is words of the wrong number, which hold no relay, and a list that is too long: both are refusals like others, but
-// nothing is counted. Nor is anything by 16 and 17 otherwise; every other refusal counts, and then the words are of the right number. The output is written only where some
-// port took an entry, and then the header was read and there was room, which the verdict has tested.
+// nothing is counted. Nor is anything by 16 and 17 otherwise; every other refusal counts, and then the words are of the right number. The output is written
+// only where a port took an entry, a stretch for each such port, and then the header was read and there was room, which the verdict has tested.
 pub mod outgoing;
 
 use address::Slot;
+use header::Header;
 use header::Renewal;
 use judge::Asked;
 use judge::Ending;
@@ -28,13 +29,14 @@ ghost use Rattle.checks.specs.Order.{pick};
 ghost use Rattle.address.specs.declared.Slot.{Slot};
 ghost use Rattle.header.specs.Form.{placesOf};
 ghost use Rattle.header.specs.Onward.{renewalOf};
-ghost use Rattle.header.specs.Limits.{longestHeader};
+ghost use Rattle.header.specs.Read.{headerOf};
+ghost use Rattle.next_leg.specs.Leg.{Sound};
 ghost use Rattle.state.specs.Seen.{Board};
 ghost use Rattle.state.specs.Layout.{boardWords, missionWords, decode};
 ghost use Rattle.lent_state.specs.View.{lent};
 ghost use Rattle.answers.specs.Answers.{receiveNumber};
 ghost use Rattle.judge.specs.Asked.{routeSought, addressIn};
-ghost use Rattle.judge.specs.Ending.{refusedBy};
+ghost use Rattle.judge.specs.Ending.{outputRoom, refusedBy};
 ghost use Rattle.relay.specs.Outgoing.{sentOutput};
 ghost use Rattle.relay.specs.Received.{receivedState};
 ghost use Rattle.relay.specs.Split.{
@@ -115,8 +117,7 @@ pub fn query_of(a: Asked) -> Query
 {
     let target = a.target;
     let case = a.case;
-    let asked = a.sought;
-    let destination = asked.destination;
+    let destination = a.destination;
     Query {
         refusal: a.refusal,
         sought: searched_in(a.refusal, target, case.router),
@@ -134,7 +135,7 @@ fn way_in(s: Scan) -> Way
     if s.found == 0 {
         return Way::Lost;
     }
-    Way::By(sets::only_port(s.port))
+    Way::By(sets::only_port(s.port), s.capabilities)
 }
 
 // A refusal: counted, but for 16, 17 and 21.
@@ -166,16 +167,18 @@ fn carry_out(
     octets: &[u8],
     output: &mut [u8],
     e: Ending,
+    header: Header,
     renewal: Renewal,
 ) -> u64
     requires { ⌜ (length (now mission) ≡ missionWords)
-        × ((e .ruling .took ≡ 0 → ⊥) → (longestHeader ≤ length (now output))
-        × ((placesOf (now octets) .size ≤ length (now octets)) × (renewal ≡ renewalOf (now octets)))) ⌝ }
+        × ((outputRoom ≤ length (now output))
+        × (Sound header × ((header ≡ headerOf (now octets)) × ((placesOf (now octets) .size ≤ length (now octets)) × (renewal ≡ renewalOf (now octets)))))) ⌝ }
     ensures { λ r. ⌜ r ≡ receiveNumber e ⌝ }
     ensures { λ _. ⌜ ((b : Board) → decode (now (mission .exit)) ≡ receivedState b (decode (now (mission .entry))) slot e) ⌝ }
-    ensures { λ _. ⌜ now (output .exit) ≡ sentOutput (e .ruling .took) (now (octets .entry)) (now (output .entry)) ⌝ }
+    ensures { λ _. ⌜ now (output .exit) ≡ sentOutput e (now (octets .entry)) (now (output .entry)) ⌝ }
 {
     let took = e.ruling.took;
+    let legs = e.legs;
     tally::count(mission, e);
     crate::outgoing::enter_all(
         mission,
@@ -185,7 +188,7 @@ fn carry_out(
             precedence: e.precedence,
         },
     );
-    crate::outgoing::send(took, octets, output, renewal);
+    crate::outgoing::send_all(took, legs, header, renewal, octets, output);
     answers::receive_number(e)
 }
 
@@ -210,8 +213,9 @@ pub fn after(
     if refusal != 0 {
         return refuse(mission, refusal);
     }
+    let header = a.header;
     let renewal = a.renewal;
     let way = way_in(s);
     let e = judge::finishing::finish(board, mission, a, way);
-    carry_out(mission, Slot(slot), octets, output, e, renewal)
+    carry_out(mission, Slot(slot), octets, output, e, header, renewal)
 }

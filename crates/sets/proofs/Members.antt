@@ -27,6 +27,10 @@ top-bit p x h =
 pub over-bit : (p x : ℕ) → x < 2 ^ p → x / 2 ^ p % 2 ≡ 0
 over-bit p x h = ap (λ (n : ℕ). n % 2) (div-eq-of-lt h)
 
+-- no port is in the empty set
+pub in-none : (p : ℕ) → inSet p 0 ≡ false
+in-none p = simp (over-bit p 0 (pow-pos p))
+
 -- port p of the sets of one port more
 top-case : (t : Bool) (p x : ℕ) → x < 2 ^ p → inSet p (x + pick t (2 ^ p) 0) ≡ t
 top-case true p x h = simp (top-bit p x h)

@@ -25,7 +25,7 @@ use Rattle.state.specs.Relay.{Relay, portIn, queueIn}
 use Rattle.state.specs.Seen.{Board, portsSeen}
 use Rattle.verdict.specs.declared.Survey.{Survey}
 use Rattle.survey.specs.declared.Sought.{Sought}
-use Rattle.survey.specs.Survey.{broadcastIs, ownBroadcast, isFitting, isFull, Roomy, joinedBy, withNamed, namedBelow, namedOf, withWanted, surveyWithin, wantedOf}
+use Rattle.survey.specs.Survey.{broadcastIs, ownBroadcast, fitsPort, sizeAt, isFull, Roomy, joinedBy, withNamed, namedBelow, namedOf, withWanted, surveyWithin, wantedOf}
 
 -- ---- a broadcast of ours
 pub own-subnet : (p : Port) (a x : Address) → x ≡ subnetBroadcast (p .address) (p .mask) → x .0 ≡ a .0 → true ≡ ownBroadcast p a
@@ -102,16 +102,20 @@ module _ (s : Survey) (port : ℕ) (p : Port) (waiting : ℕ) (q : Sought) where
 
   pub wanted-all :
       (p .ready ≡ 0 → ⊥)
-      → {d e f domain : ℕ}
+      → {d e f domain size : ℕ} {fitting : Bool}
       → domain ≡ domainOf (p .address)
       → d ≡ joinedBy (s .domain) (eqb domain (q .domain)) port
-      → e ≡ joinedBy (s .fitting) (isFitting p q) port
+      → size ≡ sizeAt (eqb domain (q .domain)) q
+      → fitting ≡ fitsPort (p .mtu) size
+      → e ≡ joinedBy (s .fitting) fitting port
       → f ≡ joinedBy (s .full) (isFull waiting) port
       → _≡_ {A = Survey}
       (record { ready = s .ready; addressed = s .addressed; broadcast = s .broadcast; domain = d; fitting = e; full = f })
       (withWanted s port true p waiting q)
   unfolding withWanted
-  wanted-all h td ed ee ef = simp (ne-eqb (p .ready) 0 h, ed, td, ee, ef)
+  wanted-all h td ed es et ee ef =
+      let fits = et ∙ ap (fitsPort (p .mtu)) (es ∙ ap (λ (n : ℕ). sizeAt (eqb n (q .domain)) q) td) in
+      simp (ne-eqb (p .ready) 0 h, ed, td, ee, fits, ef)
 
 and-false : (t : Bool) → (t && false) ≡ false
 and-false true = refl

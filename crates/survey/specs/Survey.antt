@@ -1,5 +1,5 @@
 -- What the ports say of a datagram: page 01, "Local half" (a port's address; a broadcast of ours) and "Onward half" (set-up ports; the arrival
--- port's first three octets; MTU; 32 waiting). Only ports that are set up are in a set. Assumes nothing.
+-- port's first three octets; size; 32 waiting). Only ports that are set up are in a set. Assumes nothing.
 use Prim.Native.Nat.{ℕ, _+_, _<_}
 use mathlib.Core.Bool.{Bool, true, false, not, _&&_, _||_}
 use mathlib.Core.List.{List}
@@ -9,6 +9,7 @@ use Rattle.checks.specs.Order.{pick}
 use Rattle.sets.specs.Limits.{portCount}
 use Rattle.sets.specs.Sets.{portSet, inSet}
 use Rattle.address.specs.declared.Address.{Address}
+use Rattle.header.specs.Limits.{lengthLimit}
 use Rattle.networks.specs.Networks.{domainOf, subnetBroadcast, classBroadcast}
 use Rattle.networks.specs.declared.Broadcast.{Broadcast}
 use Rattle.networks.specs.declared.Broadcast.the-variants.{At, None}
@@ -45,9 +46,16 @@ isBroadcast p Other = false
 abbrev pub inDomain : Port → Sought → Bool
 inDomain p q = eqb (domainOf (p .address)) (q .domain)
 
--- an MTU equal to the length is good
+-- "Size is tested against MTU and 8,191 after the rewrite" (page 02, W-214): an MTU equal to the size is good, and so are 8,191 octets
+abbrev pub fitsPort : ℕ → ℕ → Bool
+fitsPort mtu size = not (ltb mtu size) && ltb size lengthLimit
+
+-- the octets of the datagram as a port gets it, by whether it lies in the arrival port's domain
+abbrev pub sizeAt : Bool → Sought → ℕ
+sizeAt near q = pick near (q .near) (q .far)
+
 abbrev pub isFitting : Port → Sought → Bool
-isFitting p q = not (ltb (p .mtu) (q .length))
+isFitting p q = fitsPort (p .mtu) (sizeAt (inDomain p q) q)
 
 abbrev pub isFull : ℕ → Bool
 isFull waiting = not (ltb waiting entryPlaces)
@@ -56,19 +64,19 @@ isFull waiting = not (ltb waiting entryPlaces)
 abbrev pub portsBelow : Relay → (ℕ → Bool) → ℕ → ℕ
 portsBelow r test n = portSet (λ (p : ℕ). isSetUp (portIn r p) && test p) n
 
-unfoldable pub surveyBelow : Relay → Sought → ℕ → Survey
-surveyBelow r q n =
+unfoldable pub surveyBelow : Relay → Destination → Sought → ℕ → Survey
+surveyBelow r d q n =
     record {
       ready = portsBelow r (λ (p : ℕ). true) n;
-      addressed = portsBelow r (λ (p : ℕ). isAddressed (portIn r p .address) (q .destination)) n;
-      broadcast = portsBelow r (λ (p : ℕ). isBroadcast (portIn r p) (q .destination)) n;
+      addressed = portsBelow r (λ (p : ℕ). isAddressed (portIn r p .address) d) n;
+      broadcast = portsBelow r (λ (p : ℕ). isBroadcast (portIn r p) d) n;
       domain = portsBelow r (λ (p : ℕ). inDomain (portIn r p) q) n;
       fitting = portsBelow r (λ (p : ℕ). isFitting (portIn r p) q) n;
       full = portsBelow r (λ (p : ℕ). isFull (queueIn r p .count)) n;
     }
 
-abbrev pub surveyOf : Relay → Sought → Survey
-surveyOf r q = surveyBelow r q portCount
+abbrev pub surveyOf : Relay → Destination → Sought → Survey
+surveyOf r d q = surveyBelow r d q portCount
 
 -- no port in any set
 abbrev pub noSurvey : Survey
@@ -93,7 +101,7 @@ namedBelow ports a n =
 abbrev pub namedOf : List Port → Address → Survey
 namedOf ports a = namedBelow ports a portCount
 
--- ---- after it: domain, MTU and fullness of the ports of a set
+-- ---- after it: domain, size and fullness of the ports of a set
 abbrev pub wantedBelow : Relay → ℕ → (ℕ → Bool) → ℕ → ℕ
 wantedBelow r set test n = portsBelow r (λ (p : ℕ). inSet p set && test p) n
 

@@ -1,12 +1,13 @@
 // What the eight ports say of a datagram.
 //
 // The verdict asks sets of ports: which are set up, which have the destination's address, of which it is a broadcast, which lie in the
-// arrival port's domain, which have an MTU that holds the datagram, which have a full queue. The first three are asked before the route is
+// arrival port's domain, which the datagram fits, which have a full queue. The first three are asked before the route is
 // searched; the last three after it, and only of the ports that the datagram is wanted on. So there are two walks, and each leaves the
 // other's sets empty. Only ports that the mission sees and that are set up are in any of the sets: whatever else a board says of a port
 // that is not set up, nothing is granted to it. A path is no address: no port is asked for it.
 //
-// The awkward case is a port in net 10, of which two addresses are broadcasts: that of its own subnet, 10.x.y.255, and 10.255.255.255.
+// The awkward cases are a port in net 10, of which two addresses are broadcasts: that of its own subnet, 10.x.y.255, and 10.255.255.255; and a datagram
+// that is not equally long on all ports, since its header is rewritten for some: two lengths are asked with, for ports of the domain and for others.
 use address::Address;
 use networks::Broadcast;
 use records::Port;
@@ -26,6 +27,8 @@ ghost use Rattle.survey.specs.Survey.{
   ownBroadcast,
   noSurvey,
   Roomy,
+  sizeAt,
+  fitsPort,
   joinedBy,
   withNamed,
   withWanted,
@@ -39,11 +42,11 @@ pub enum Destination {
     Other,
 }
 
-// What is asked: the destination, the arrival port's domain, and the length field.
+// What is asked of the wanted ports: the arrival port's domain, and the octets of the datagram as a port of that domain gets it, and as another does.
 pub struct Sought {
-    pub destination: Destination,
     pub domain: u32,
-    pub length: u32,
+    pub near: u32,
+    pub far: u32,
 }
 
 fn broadcast_is(b: Broadcast, a: Address) -> bool
@@ -129,7 +132,27 @@ pub fn named(board: &[u32], number: u32, a: Address) -> Survey
     s
 }
 
-// The survey with one more wanted port, which has so many entries waiting, asked for domain, MTU and fullness.
+// The octets of the datagram as a port gets it.
+fn size_at(near: bool, q: Sought) -> u32
+    ensures { λ r. ⌜ r ≡ sizeAt near q ⌝ }
+{
+    if near {
+        return q.near;
+    }
+    q.far
+}
+
+// Whether a datagram of so many octets goes by a port: its MTU holds them, and so does the length field.
+fn fits_port(mtu: u32, size: u32) -> bool
+    ensures { λ r. ⌜ r ≡ fitsPort mtu size ⌝ }
+{
+    if mtu < size {
+        return false;
+    }
+    size < header::limits::LENGTH_LIMIT as u32
+}
+
+// The survey with one more wanted port, which has so many entries waiting, asked for domain, size and fullness.
 fn see_wanted(s: Survey, port: u32, p: Port, waiting: u32, q: Sought) -> Survey
     requires { ⌜ Roomy s × (port ≤ 128) ⌝ }
     ensures { λ r. ⌜ r ≡ withWanted s port true p waiting q ⌝ }
@@ -138,12 +161,13 @@ fn see_wanted(s: Survey, port: u32, p: Port, waiting: u32, q: Sought) -> Survey
         return s;
     }
     let own = p.address;
+    let near = networks::domain_of(own) == q.domain;
     Survey {
         ready: s.ready,
         addressed: s.addressed,
         broadcast: s.broadcast,
-        domain: with_port(s.domain, networks::domain_of(own) == q.domain, port),
-        fitting: with_port(s.fitting, !(p.mtu < q.length), port),
+        domain: with_port(s.domain, near, port),
+        fitting: with_port(s.fitting, fits_port(p.mtu, size_at(near, q)), port),
         full: with_port(s.full, !(waiting < queue::ENTRIES), port),
     }
 }
@@ -170,7 +194,7 @@ fn see_if(board: &[u32], mission: &[u32], s: Survey, i: usize, set: u32, q: Soug
     )
 }
 
-// After the search: of the ports of a set, those in the domain, those whose MTU holds the datagram, and those with a full queue.
+// After the search: of the ports of a set, those in the domain, those that the datagram fits, and those with a full queue.
 pub fn wanted(board: &[u32], mission: &[u32], set: u32, q: Sought) -> Survey
     requires { ⌜ (length (now board) ≡ boardWords) × (length (now mission) ≡ missionWords) ⌝ }
     ensures { λ r. ⌜ r ≡ wantedOf (seated (decodeBoard (now (board .entry))) (decode (now (mission .entry)))) set q ⌝ }

@@ -74,7 +74,7 @@ router-asked Path Missing w arrival ready o h = refused-asked NoRoute h
 router-asked Path (Held send word) w arrival ready o h =
     eqb-false word 0 (path-case (eqb (exceptBy send arrival) 0) (eqb word 0) (exceptBy send arrival) h) o
 router-asked Route p Lost arrival ready o h = refused-asked NoRoute h
-router-asked Route p (By port) arrival ready o h = wanted-asked port h
+router-asked Route p (By port code) arrival ready o h = wanted-asked port h
 
 host-asked : (t : Target) (p : Place) (local : Local) → oursBy t (hereBy p) ≡ 0 → local ≡ No → hostLine t local ≡ NotAsked → ⊥
 host-asked Here p local o z h = omega arith

@@ -96,7 +96,12 @@ pathLine (Held send here) arrival =
 -- the port of the route taken; 11 if no route that is up matches (page 02, W-204)
 unfoldable pub routeLine : Way → Wish
 routeLine Lost = Refused NoRoute
-routeLine (By port) = Wanted port
+routeLine (By port code) = Wanted port
+
+-- what a header needs on its next leg: the capabilities of the route taken; "Copies without a route get no added elements" (page 02, W-214)
+abbrev pub codeOf : Way → ℕ
+codeOf Lost = 0
+codeOf (By port code) = code
 
 abbrev pub routerLine : Target → Place → Way → ℕ → ℕ → Wish
 routerLine Here p w arrival ready = NotAsked
@@ -126,9 +131,10 @@ lineOf t p w c ready local = pick (eqb (c .router) 0) (hostLine t local) (router
 abbrev pub hopsLeft : ℕ → ℕ → Wish
 hopsLeft set spent = pick (eqb spent 0) (Wanted set) (Refused HopsUsedUp)
 
+-- "one-octet paths keep 13" (page 02, W-214)
 abbrev pub sameDomain : ℕ → ℕ → ℕ → Wish
-sameDomain set basic domain =
-    pick (eqb basic 0) (Wanted set) (pick (eqb (bitAnd set domain) 0) (Refused LeavesDomain) (Wanted (bitAnd set domain)))
+sameDomain set bound domain =
+    pick (eqb bound 0) (Wanted set) (pick (eqb (bitAnd set domain) 0) (Refused LeavesDomain) (Wanted (bitAnd set domain)))
 
 abbrev pub largeEnough : ℕ → ℕ → Wish
 largeEnough set fitting = pick (eqb (bitAnd set fitting) 0) (Refused TooBig) (Wanted (bitAnd set fitting))
@@ -140,9 +146,9 @@ afterHops (Refused o) spent = Refused o
 afterHops (Wanted set) spent = hopsLeft set spent
 
 abbrev pub afterDomain : Wish → ℕ → ℕ → Wish
-afterDomain NotAsked basic domain = NotAsked
-afterDomain (Refused o) basic domain = Refused o
-afterDomain (Wanted set) basic domain = sameDomain set basic domain
+afterDomain NotAsked bound domain = NotAsked
+afterDomain (Refused o) bound domain = Refused o
+afterDomain (Wanted set) bound domain = sameDomain set bound domain
 
 abbrev pub afterSize : Wish → ℕ → Wish
 afterSize NotAsked fitting = NotAsked
@@ -150,7 +156,7 @@ afterSize (Refused o) fitting = Refused o
 afterSize (Wanted set) fitting = largeEnough set fitting
 
 unfoldable pub grantedOf : Wish → Case → Survey → Wish
-grantedOf w c s = afterSize (afterDomain (afterHops w (c .spent)) (c .basic) (s .domain)) (s .fitting)
+grantedOf w c s = afterSize (afterDomain (afterHops w (c .spent)) (c .bound) (s .domain)) (s .fitting)
 
 -- ---- the copies: a port whose queue is not full takes one, the others drop theirs; all dropped: 15
 

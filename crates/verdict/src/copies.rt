@@ -1,7 +1,7 @@
 // The copies of one datagram: of the ports that it is wanted on, those that are granted one, and those that take it.
 //
-// Three rules strike ports out, in the order 10, 13, 14: no hops left, another domain with addresses of one octet, an MTU that is too
-// small. Where no hops are left nothing is asked of the ports. What is left is granted. A port whose queue is full drops its copy. All
+// Three rules strike ports out, in the order 10, 13, 14: no hops left, another domain with a path of one octet, a port that the datagram does not
+// fit. Where no hops are left nothing is asked of the ports. What is left is granted. A port whose queue is full drops its copy. All
 // this is arithmetic on sets of ports, numbers in which port p is 2 to the power of p. The awkward case is a set that becomes empty: the
 // rule that struck out its last port gives the number, and full queues alone give 15, with every copy granted and dropped.
 use crate::Local;
@@ -23,11 +23,11 @@ fn hops_left(set: u32, spent: u32) -> Wish
     Wish::Wanted(set)
 }
 
-// With addresses of one octet, the ports of the arrival port's domain alone; none left is 13.
-fn same_domain(set: u32, basic: u32, domain: u32) -> Wish
-    ensures { λ r. ⌜ r ≡ sameDomain set basic domain ⌝ }
+// With a path of one octet, the ports of the arrival port's domain alone; none left is 13.
+fn same_domain(set: u32, bound: u32, domain: u32) -> Wish
+    ensures { λ r. ⌜ r ≡ sameDomain set bound domain ⌝ }
 {
-    if basic == 0 {
+    if bound == 0 {
         return Wish::Wanted(set);
     }
     let left = set & domain;
@@ -37,7 +37,7 @@ fn same_domain(set: u32, basic: u32, domain: u32) -> Wish
     Wish::Wanted(left)
 }
 
-// The ports whose MTU holds the datagram; none left is 14.
+// The ports that the datagram fits; none left is 14.
 fn large_enough(set: u32, fitting: u32) -> Wish
     ensures { λ r. ⌜ r ≡ largeEnough set fitting ⌝ }
 {
@@ -70,10 +70,10 @@ fn after_size(w: Wish, fitting: u32) -> Wish
 }
 
 // The ports that are granted a copy, of the wanted ones, which hops are left for: 13, then 14.
-pub fn granted_among(set: u32, basic: u32, s: Survey) -> Wish
-    ensures { λ r. ⌜ r ≡ afterSize (sameDomain set basic (s .domain)) (s .fitting) ⌝ }
+pub fn granted_among(set: u32, bound: u32, s: Survey) -> Wish
+    ensures { λ r. ⌜ r ≡ afterSize (sameDomain set bound (s .domain)) (s .fitting) ⌝ }
 {
-    let near = same_domain(set, basic, s.domain);
+    let near = same_domain(set, bound, s.domain);
     after_size(near, s.fitting)
 }
 

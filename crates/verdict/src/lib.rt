@@ -14,7 +14,7 @@ pub mod onward_half;
 
 ghost use mathlib.Core.Path.{_≡_};
 ghost use Rattle.verdict.specs.Numbers.{localNumber, obstacleNumber, onwardNumber};
-ghost use Rattle.verdict.specs.Rule.{exceptBy};
+ghost use Rattle.verdict.specs.Rule.{codeOf, exceptBy};
 
 // Which line of the onward half a destination falls under, apart from what a host makes of it.
 pub enum Target {
@@ -26,7 +26,7 @@ pub enum Target {
 }
 
 // What the ports say of a datagram: the ports set up, those with the destination's address, those it is a broadcast of, those in the
-// domain of the arrival port, those whose MTU holds the datagram, those with a full queue.
+// domain of the arrival port, those that the datagram fits as they would get it, those with a full queue.
 pub struct Survey {
     pub ready: u32,
     pub addressed: u32,
@@ -43,20 +43,21 @@ pub enum Place {
     Missing,
 }
 
-// What the route search found: the port of the route taken, as a set. A route that is taken is up.
+// What the route search found: the port of the route taken, as a set, and its capabilities, which say what a header needs on that leg. A route that is
+// taken is up.
 pub enum Way {
-    By(u32),
+    By(u32, u32),
     Lost,
 }
 
 // What is asked of the rule besides: the arrival port as a set, whether the node is a router, whether intermediate delivery is asked
-// for, whether the TP-ID is assigned, whether addresses have one octet, and whether the hops are used up.
+// for, whether the TP-ID is assigned, whether it goes by a path of one octet, which is bound to its domain, and whether the hops are used up.
 pub struct Case {
     pub arrival: u32,
     pub router: u32,
     pub intermediate: u32,
     pub assigned: u32,
-    pub basic: u32,
+    pub bound: u32,
     pub spent: u32,
 }
 
@@ -133,6 +134,16 @@ pub fn onward_number(onward: Onward) -> u32
         Onward::NotAsked => 0,
         Onward::SentOn => 1,
         Onward::Refused(obstacle) => obstacle_number(obstacle),
+    }
+}
+
+// What the route taken asks of a header, 0 without a route.
+pub fn code_of(w: Way) -> u32
+    ensures { λ r. ⌜ r ≡ codeOf w ⌝ }
+{
+    match w {
+        Way::By(_, code) => code,
+        Way::Lost => 0,
     }
 }
 

@@ -75,7 +75,7 @@ fn path_line(p: Place, arrival: u32) -> Wish
 fn route_line(w: Way) -> Wish
     ensures { λ r. ⌜ r ≡ routeLine w ⌝ }
 {
-    let Way::By(port) = w else {
+    let Way::By(port, _) = w else {
         return Wish::Refused(Obstacle::NoRoute);
     };
     Wish::Wanted(port)

@@ -7,7 +7,7 @@
 use header::Fields;
 use header::control_bits;
 ghost use mathlib.Core.Path.{_≡_};
-ghost use Prim.Native.Nat.{_+_, _≤_, _<_};
+ghost use Prim.Native.Nat.{_+_, _*_, _≤_, _<_};
 ghost use lib.ListN.{length};
 ghost use Rattle.octets.specs.Octets.{pasted};
 ghost use Rattle.header.specs.Limits.{lengthLimit};
@@ -49,9 +49,10 @@ pub fn second_octet(f: Fields, third: u8) -> u8
         + control_bits::EXTENDED * header::flags::extended_flag(addresses)
 }
 
-// Version, length field, TP-ID and control field; `shared` is the octet that TP-ID and bits 20 to 23 share.
+// Version, length field, TP-ID and control field; `shared` is the octet that TP-ID and bits 20 to 23 share. A length that does not fit its field
+// runs into the version; who sends such a header has tested its length before.
 pub fn put_front(out: &mut [u8], len: usize, shared: u8, second: u8, third: u8) -> usize
-    requires { ⌜ (5 ≤ length (now out)) × (len < lengthLimit) ⌝ }
+    requires { ⌜ (5 ≤ length (now out)) × (len < 2 * lengthLimit) ⌝ }
     ensures { λ r. ⌜ r ≡ 0 + length (frontOctets len shared second third) ⌝ }
     ensures { λ _. ⌜ now (out .exit) ≡ pasted (now (out .entry)) 0 (frontOctets len shared second third) ⌝ }
 {

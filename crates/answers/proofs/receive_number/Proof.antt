@@ -1,11 +1,9 @@
 -- `answers::receive_number` meets its contract. Assumes nothing.
+use native.Mathlib.Omega.{arith}
 use Rattle.answers.proofs.Joined.{received}
 use borrow.Author.Needs.{needs}
 use Rattle.answers.proofs.receive_number.Statement.{statement}
 use Rattle.answers.proofs.receive_number.Tie as tie
-
-sent-size-requires : tie.Need-sent-size-requires
-sent-size-requires c κs = search needs
 
 part-requires : tie.Need-part-requires
 part-requires c κs = search needs
@@ -28,20 +26,28 @@ part-requires-4 c κs = search needs
 part-requires-5 : tie.Need-part-requires-5
 part-requires-5 c κs = search needs
 
+ruling-parts-requires : tie.Need-ruling-parts-requires
+ruling-parts-requires c κs = search needs
+
+octets-part-requires : tie.Need-octets-part-requires
+octets-part-requires c κs = search needs
+
+octets-part-requires-2 : tie.Need-octets-part-requires-2
+octets-part-requires-2 c κs = search needs
+
 part-requires-6 : tie.Need-part-requires-6
 part-requires-6 c κs = search needs
 
-parts-requires : tie.Need-parts-requires
-parts-requires c κs = search needs
+header-parts-requires : tie.Need-header-parts-requires
+header-parts-requires c κs = (c .before .before .before .ruling-parts .ensures .1, (omega (arith, c .before .before .octets-part .ensures), (omega (arith, c .before .octets-part2 .ensures), omega (arith, c .part6 .ensures))))
 
 returns : tie.Need-returns
-returns c = received (c .before .before .before .before .before .before .before .before .before .before .before .args .e) (c .before .before .before .before .before .before .before .before .before .sent-size .ensures) (c .before .before .before .before .before .before .before .before .part .ensures) (c .before .before .before .before .before .before .before .local-number .ensures) (c .before .before .before .before .before .before .part2 .ensures) (c .before .before .before .before .before .onward-number .ensures) (c .before .before .before .before .part3 .ensures) (c .before .before .before .part4 .ensures) (c .before .before .part5 .ensures) (c .before .part6 .ensures) (c .parts .ensures)
+returns c = received _ (c .before .before .before .before .before .before .before .before .before .before .before .part .ensures) (c .before .before .before .before .before .before .before .before .before .before .local-number .ensures) (c .before .before .before .before .before .before .before .before .before .part2 .ensures) (c .before .before .before .before .before .before .before .before .onward-number .ensures) (c .before .before .before .before .before .before .before .part3 .ensures) (c .before .before .before .before .before .before .part4 .ensures) (c .before .before .before .before .before .part5 .ensures) (c .before .before .before .before .ruling-parts .ensures .0) (c .before .before .before .octets-part .ensures) (c .before .before .octets-part2 .ensures) (c .before .part6 .ensures) (c .header-parts .ensures)
 
 pub receive-number-spec : {M : Type 1} → statement M
 receive-number-spec =
     tie.close
     (tie.spec
-    sent-size-requires
     part-requires
     local-number-requires
     part-requires-2
@@ -49,6 +55,9 @@ receive-number-spec =
     part-requires-3
     part-requires-4
     part-requires-5
+    ruling-parts-requires
+    octets-part-requires
+    octets-part-requires-2
     part-requires-6
-    parts-requires
+    header-parts-requires
     returns)

@@ -1,4 +1,5 @@
 -- `builder::build_header` meets its contract: each check's answer is told by its condition, and each return is a law of `Laws`. Assumes nothing.
+use native.Mathlib.Omega.{arith}
 use borrow.Author.Needs.{needs}
 use mathlib.Core.Path.{_≡_, sym, _∙_}
 use lib.ListN.{length}
@@ -77,7 +78,7 @@ write-header-requires c κs =
     let fitted = last .before .before .before in
     let roomed = fitted .before .before .before in
     let args = roomed .before .before .before .before .args in
-    ((roomy (args .f) (args .n) (args .out .now) (room roomed), short (args .n) (few last)), small-fields (args .f) (fits fitted))
+    ((roomy (args .f) (args .n) (args .out .now) (room roomed), omega (arith, short (args .n) (few last))), small-fields (args .f) (fits fitted))
 
 same-length : tie.Need-same-length
 same-length c = search needs

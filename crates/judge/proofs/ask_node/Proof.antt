@@ -1,5 +1,4 @@
 -- `judge::ask_node` meets its contract. Assumes nothing.
-use native.Mathlib.Omega.{arith}
 use Rattle.state.specs.Layout.{decode}
 use Rattle.judge.proofs.Stages.{node-refused, node-asked}
 use borrow.Author.Needs.{needs}
@@ -36,20 +35,11 @@ router-of-requires c κs = search needs
 case-of-requires : tie.Need-case-of-requires
 case-of-requires c κs = search needs
 
-domain-of-requires : tie.Need-domain-of-requires
-domain-of-requires c κs = search needs
-
-cast-sought-of : tie.Need-cast-sought-of
-cast-sought-of c = omega (arith, c .before .before .before .before .before .before .before .before .before .before .before .before .before .before .before .pre .1 .1)
-
-sought-of-requires : tie.Need-sought-of-requires
-sought-of-requires c κs = search needs
-
 precedence-of-requires : tie.Need-precedence-of-requires
 precedence-of-requires c κs = search needs
 
 returns-2 : tie.Need-returns-2
-returns-2 c = node-asked _ (c .before .before .before .before .before .before .before .before .before .before .before .before .before .before .class-of .ensures) (c .before .before .before .before .before .before .before .before .before .before .before .before .before .class-number .ensures) _ (decode (c .before .before .before .before .before .before .before .before .before .before .before .before .before .before .before .before .before .args .mission .now)) _ _ _ (c .before .before .before .before .before .before .before .before .before .before .before .before .if1 .left) (c .before .before .before .before .before .before .before .before .before .before .before .number-of .ensures) (c .before .before .before .before .before .before .before .before .before .before .named .ensures) (c .before .before .before .before .before .before .before .before .before .target-of .ensures) (c .before .before .before .before .before .before .before .before .place-for .ensures _) (c .before .before .before .before .before .router-of .ensures) (c .before .before .before .before .case-of .ensures) (c .before .before .before .domain-of .ensures) (c .before .sought-of .ensures) (c .precedence-of .ensures)
+returns-2 c = node-asked _ (c .before .before .before .before .before .before .before .before .before .before .before .class-of .ensures) (c .before .before .before .before .before .before .before .before .before .before .class-number .ensures) _ (decode (c .before .before .before .before .before .before .before .before .before .before .before .before .before .before .args .mission .now)) _ _ _ (c .before .before .before .before .before .before .before .before .before .if1 .left) (c .before .before .before .before .before .before .before .before .number-of .ensures) (c .before .before .before .before .before .before .before .named .ensures) (c .before .before .before .before .before .before .target-of .ensures) (c .before .before .before .before .before .place-for .ensures _) (c .before .before .router-of .ensures) (c .before .case-of .ensures) (c .precedence-of .ensures)
 
 pub ask-node-spec : {M : Type 1} → statement M
 ask-node-spec =
@@ -65,8 +55,5 @@ ask-node-spec =
     place-for-requires
     router-of-requires
     case-of-requires
-    domain-of-requires
-    cast-sought-of
-    sought-of-requires
     precedence-of-requires
     returns-2)

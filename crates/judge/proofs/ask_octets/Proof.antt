@@ -1,6 +1,5 @@
 -- `judge::ask_octets` meets its contract. Assumes nothing.
 use mathlib.Core.Path.{sym, _∙_}
-use Rattle.judge.proofs.Stages.{short-length}
 use borrow.Author.Needs.{needs}
 use Rattle.judge.proofs.ask_octets.Statement.{statement}
 use Rattle.judge.proofs.ask_octets.Tie as tie
@@ -12,7 +11,7 @@ enum-known-h : tie.Need-enum-known-h
 enum-known-h c = search needs
 
 ask-header-requires : tie.Need-ask-header-requires
-ask-header-requires c κs = (c .before .before .before .before .before .before .before .pre .0, (c .before .before .before .before .before .before .before .pre .1, short-length _ _ _ (λ i. c .before .before .before .before .shared-slice-known3 .given i .fits) (sym (c .before .before .before .find-header .ensures) ∙ c .before .h .given .1)))
+ask-header-requires c κs = search needs
 
 enum-known-number : tie.Need-enum-known-number
 enum-known-number c = search needs

@@ -26,23 +26,14 @@ router-of-requires c κs = search needs
 case-of-requires : tie.Need-case-of-requires
 case-of-requires c κs = search needs
 
-domain-of-requires : tie.Need-domain-of-requires
-domain-of-requires c κs = search needs
-
-cast-sought-of : tie.Need-cast-sought-of
-cast-sought-of c = search needs
-
-sought-of-requires : tie.Need-sought-of-requires
-sought-of-requires c κs = search needs
-
 number-of-requires : tie.Need-number-of-requires
-number-of-requires c κs = c .before .before .before .before .before .before .before .before .before .before .before .before .before .pre .1 .0
+number-of-requires c κs = search needs
 
 precedence-of-requires : tie.Need-precedence-of-requires
 precedence-of-requires c κs = search needs
 
 returns-2 : tie.Need-returns-2
-returns-2 c = path-asked _ (c .before .before .before .before .before .before .before .before .before .before .before .before .path-form .ensures) (c .before .before .before .before .before .before .before .before .before .before .before .path-number .ensures) _ (decode (c .before .before .before .before .before .before .before .before .before .before .before .before .before .before .before .args .mission .now)) _ _ _ (c .before .before .before .before .before .before .before .before .before .before .if1 .left) (c .before .before .before .before .before .before .before .path-place .ensures _) (c .before .before .before .before .before .before .router-of .ensures) (c .before .before .before .before .before .case-of .ensures) (c .before .before .before .before .domain-of .ensures) (c .before .before .sought-of .ensures) (c .before .number-of .ensures) (c .precedence-of .ensures)
+returns-2 c = path-asked _ (c .before .before .before .before .before .before .before .before .before .path-form .ensures) (c .before .before .before .before .before .before .before .before .path-number .ensures) _ (decode (c .before .before .before .before .before .before .before .before .before .before .before .before .args .mission .now)) _ _ _ (c .before .before .before .before .before .before .before .if1 .left) (c .before .before .before .before .path-place .ensures _) (c .before .before .before .router-of .ensures) (c .before .before .case-of .ensures) (c .before .number-of .ensures) (c .precedence-of .ensures)
 
 pub ask-path-spec : {M : Type 1} → statement M
 ask-path-spec =
@@ -55,9 +46,6 @@ ask-path-spec =
     path-place-requires
     router-of-requires
     case-of-requires
-    domain-of-requires
-    cast-sought-of
-    sought-of-requires
     number-of-requires
     precedence-of-requires
     returns-2)

@@ -23,23 +23,14 @@ refused-requires c κs = search needs
 returns : tie.Need-returns
 returns c = no-port _ _ _ _ _ (port-told _ _ (c .before .before .before .before .number-of .ensures) (c .before .before .before .check-port .ensures)) (c .before .enum-told2 .given .1) (c .refused .ensures)
 
-check-room-requires : tie.Need-check-room-requires
-check-room-requires c κs = search needs
-
-enum-told-3 : tie.Need-enum-told-3
-enum-told-3 c = search needs
-
-enum-told-4 : tie.Need-enum-told-4
-enum-told-4 c = search needs
-
 refused-requires-2 : tie.Need-refused-requires-2
 refused-requires-2 c κs = search needs
 
 returns-2 : tie.Need-returns-2
-returns-2 c = no-room _ _ _ _ _ (port-told _ _ (c .before .before .before .before .before .before .before .number-of .ensures) (c .before .before .before .before .before .before .check-port .ensures)) (c .before .before .before .before .enum-told .given .1) (c .before .before .before .check-room .ensures) (c .before .enum-told4 .given .1) (c .refused2 .ensures)
+returns-2 c = no-room _ _ _ _ _ (port-told _ _ (c .before .before .before .before .before .number-of .ensures) (c .before .before .before .before .check-port .ensures)) (c .before .before .enum-told .given .1) (c .before .if1 .taken) (c .refused2 .ensures)
 
 seen-port-requires : tie.Need-seen-port-requires
-seen-port-requires c κs = (c .before .before .before .before .before .before .before .before .before .before .pre .0, passed-port _ _ (c .before .before .before .before .before .check-port .ensures) (c .before .before .before .enum-told .given .1))
+seen-port-requires c κs = (c .before .before .before .before .before .before .before .before .pre .0, passed-port _ _ (c .before .before .before .check-port .ensures) (c .before .enum-told .given .1))
 
 only-port-requires : tie.Need-only-port-requires
 only-port-requires c κs = search needs
@@ -48,7 +39,7 @@ ask-octets-requires : tie.Need-ask-octets-requires
 ask-octets-requires c κs = search needs
 
 returns-3 : tie.Need-returns-3
-returns-3 c = judged _ _ _ _ _ (port-told _ _ (c .before .before .before .before .before .before .before .before .before .before .number-of .ensures) (c .before .before .before .before .before .before .before .before .before .check-port .ensures)) (c .before .before .before .before .before .before .before .enum-told .given .1) (c .before .before .before .before .before .before .check-room .ensures) (c .before .before .before .before .enum-told3 .given .1) (port-seen _ _ (c .before .before .before .before .before .before .before .before .before .before .number-of .ensures) (c .before .before .before .seen-port .ensures)) (c .before .only-port .ensures) (c .ask-octets .ensures)
+returns-3 c = judged _ _ _ _ _ (port-told _ _ (c .before .before .before .before .before .before .before .before .number-of .ensures) (c .before .before .before .before .before .before .before .check-port .ensures)) (c .before .before .before .before .before .enum-told .given .1) (c .before .before .before .before .if1 .left) (port-seen _ _ (c .before .before .before .before .before .before .before .before .number-of .ensures) (c .before .before .before .seen-port .ensures)) (c .before .only-port .ensures) (c .ask-octets .ensures)
 
 pub judge-spec : {M : Type 1} → statement M
 judge-spec =
@@ -60,9 +51,6 @@ judge-spec =
     enum-told-2
     refused-requires
     returns
-    check-room-requires
-    enum-told-3
-    enum-told-4
     refused-requires-2
     returns-2
     seen-port-requires

@@ -4,21 +4,18 @@ use native.Mathlib.Numerals.{add-one}
 use Prim.Native.Nat.{ℕ, zero, suc, _+_, _≤_}
 use mathlib.Core.Path.{_≡_, refl, sym, ap, _∙_}
 use mathlib.Core.Bool.{Bool, true, false}
-use mathlib.Core.List.{List}
 use lib.Bits.{bitAnd, and-zero-l}
 use lib.Dec.{eqb}
 use borrow.Author.Tests.{eq-eqb, ne-eqb}
 use Rattle.checks.specs.Order.{pick}
-use Rattle.octets.specs.Octets.{fronted}
 use Rattle.sets.specs.Sets.{onlyPort}
-use Rattle.header.specs.Onward.{headerSentOn}
 use Rattle.queue.specs.Queue.{putOf}
 use Rattle.queue.specs.declared.Entry.{Entry}
 use Rattle.queue.specs.declared.Queue.{Queue}
 use Rattle.queue.specs.declared.Put.{Put}
 use Rattle.state.specs.Relay.{Mission, Relay, queueAt, putQueue, withMission}
 use Rattle.state.specs.Seen.{Board, State, seated, onMission, onSeated}
-use Rattle.relay.specs.Outgoing.{entered, enteredIf, enteredAll, sentOutput}
+use Rattle.relay.specs.Outgoing.{entered, enteredIf, enteredAll}
 
 pub one-entered :
     (b : Board) (s : State) (p : ℕ) (e : Entry) {t : State} {q : Queue} {put : Put}
@@ -80,13 +77,3 @@ pub none-entered : (r : Relay) (e : Entry) (n : ℕ) → enteredAll r 0 e n ≡ 
 unfolding enteredAll enteredIf
 none-entered r e zero = refl
 none-entered r e (suc p) = rw (and-zero-l (onlyPort p)) (none-entered r e p)
-
--- ---- the header
-pub not-sent : (took : ℕ) (octets lent : List ℕ) → took ≡ 0 → lent ≡ sentOutput took octets lent
-unfolding sentOutput
-not-sent took octets lent h = simp (eq-eqb took 0 h)
-
-pub sent : (took : ℕ) (octets lent : List ℕ) {out : List ℕ}
-    → (took ≡ 0 → ⊥) → out ≡ fronted (headerSentOn octets) lent → out ≡ sentOutput took octets lent
-unfolding sentOutput
-sent took octets lent h e = simp (ne-eqb took 0 h) e

@@ -1,5 +1,6 @@
 -- `relay::way_in` meets its contract. Assumes nothing.
 use borrow.Author.Tests.{eq-eqb, ne-eqb}
+use Prim.Native.Nat.{ℕ}
 use mathlib.Core.Path.{ap}
 use Rattle.verdict.specs.declared.Way.the-variants.{By}
 use borrow.Author.Needs.{needs}
@@ -13,7 +14,7 @@ only-port-requires : tie.Need-only-port-requires
 only-port-requires c κs = search needs
 
 returns-2 : tie.Need-returns-2
-returns-2 c = simp (ne-eqb _ 0 (c .before .if1 .left)) (ap By (c .only-port .ensures))
+returns-2 c = simp (ne-eqb _ 0 (c .before .if1 .left)) (ap (λ (n : ℕ). By n (c .before .before .before .args .s .capabilities)) (c .only-port .ensures))
 
 pub way-in-spec : {M : Type 1} → statement M
 way-in-spec = tie.close (tie.spec returns only-port-requires returns-2)

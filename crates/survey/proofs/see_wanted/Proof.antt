@@ -13,6 +13,12 @@ domain-of-requires c κs = search needs
 with-port-requires : tie.Need-with-port-requires
 with-port-requires c κs = (c .before .before .before .before .before .pre .0 .1 .1 .1 .0, c .before .before .before .before .before .pre .1)
 
+size-at-requires : tie.Need-size-at-requires
+size-at-requires c κs = search needs
+
+fits-port-requires : tie.Need-fits-port-requires
+fits-port-requires c κs = search needs
+
 with-port-requires-2 : tie.Need-with-port-requires-2
 with-port-requires-2 c κs = (c .before .before .before .before .before .before .before .before .pre .0 .1 .1 .1 .1 .0, c .before .before .before .before .before .before .before .before .pre .1)
 
@@ -20,7 +26,7 @@ with-port-requires-3 : tie.Need-with-port-requires-3
 with-port-requires-3 c κs = (c .before .before .before .before .before .before .before .before .before .pre .0 .1 .1 .1 .1 .1, c .before .before .before .before .before .before .before .before .before .pre .1)
 
 returns-2 : tie.Need-returns-2
-returns-2 c = wanted-all _ _ _ _ _ (c .before .before .before .before .before .before .before .before .if1 .left) (c .before .before .before .before .before .before .domain-of .ensures) (c .before .before .before .before .with-port .ensures) (c .before .with-port2 .ensures) (c .with-port3 .ensures)
+returns-2 c = wanted-all _ _ _ _ _ (c .before .before .before .before .before .before .before .before .if1 .left) (c .before .before .before .before .before .before .domain-of .ensures) (c .before .before .before .before .with-port .ensures) (c .before .before .before .size-at .ensures) (c .before .before .fits-port .ensures) (c .before .with-port2 .ensures) (c .with-port3 .ensures)
 
 pub see-wanted-spec : {M : Type 1} → statement M
 see-wanted-spec =
@@ -29,6 +35,8 @@ see-wanted-spec =
     returns
     domain-of-requires
     with-port-requires
+    size-at-requires
+    fits-port-requires
     with-port-requires-2
     with-port-requires-3
     returns-2)

@@ -1,4 +1,4 @@
--- `judge::finishing::rule` meets its contract, case by case. Assumes nothing.
+-- `judge::finishing::rule` meets its contract. Assumes nothing.
 use Rattle.judge.proofs.Wanted.{wished-not, wished-refused, wished-among}
 use borrow.Author.Needs.{needs}
 use Rattle.judge.proofs.finishing.rule.Statement.{statement}
@@ -26,13 +26,13 @@ rule-wanted-requires : tie.Need-rule-wanted-requires
 rule-wanted-requires c κs = search needs
 
 returns : tie.Need-returns
-returns c = wished-not _ _ _ _ _ (c .before .before .before .after-hops .ensures) (c .before .enum-told .given .1) (c .unsent .ensures)
+returns c d = wished-not _ d _ _ _ _ (c .before .before .before .after-hops .ensures) (c .before .enum-told .given .1) (c .unsent .ensures)
 
 returns-2 : tie.Need-returns-2
-returns-2 c = wished-refused _ _ _ _ _ (c .before .before .before .before .after-hops .ensures) _ (c .before .before .obstacle .given .1) (c .unsent2 .ensures)
+returns-2 c d = wished-refused _ d _ _ _ _ (c .before .before .before .before .after-hops .ensures) _ (c .before .before .obstacle .given .1) (c .unsent2 .ensures)
 
 returns-3 : tie.Need-returns-3
-returns-3 c = wished-among _ _ _ _ _ (c .before .before .before .before .after-hops .ensures) _ (c .before .before .set .given .1) (c .rule-wanted .ensures)
+returns-3 c d = wished-among _ d _ _ _ _ (c .before .before .before .before .after-hops .ensures) _ (c .before .before .set .given .1) (c .rule-wanted .ensures)
 
 pub rule-spec : {M : Type 1} → statement M
 rule-spec =

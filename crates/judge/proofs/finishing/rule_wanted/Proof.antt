@@ -1,8 +1,11 @@
 -- `judge::finishing::rule_wanted` meets its contract. Assumes nothing.
-use Rattle.judge.specs.Asked.{amongOf}
+use Rattle.judge.proofs.Wanted.{among-told}
 use borrow.Author.Needs.{needs}
 use Rattle.judge.proofs.finishing.rule_wanted.Statement.{statement}
 use Rattle.judge.proofs.finishing.rule_wanted.Tie as tie
+
+sought-of-requires : tie.Need-sought-of-requires
+sought-of-requires c κs = search needs
 
 wanted-requires : tie.Need-wanted-requires
 wanted-requires c κs = search needs
@@ -13,10 +16,19 @@ granted-among-requires c κs = search needs
 ruling-of-requires : tie.Need-ruling-of-requires
 ruling-of-requires c κs = search needs
 
+legs-of-requires : tie.Need-legs-of-requires
+legs-of-requires c κs = search needs
+
 returns : tie.Need-returns
-unfolding amongOf
-returns c = cc
+returns c = among-told _ _ _ _ _ (c .before .before .before .before .sought-of .ensures) (c .before .before .before .wanted .ensures) (c .before .before .granted-among .ensures) (c .before .ruling-of .ensures) (c .legs-of .ensures)
 
 pub rule-wanted-spec : {M : Type 1} → statement M
 rule-wanted-spec =
-    tie.close (tie.spec wanted-requires granted-among-requires ruling-of-requires returns)
+    tie.close
+    (tie.spec
+    sought-of-requires
+    wanted-requires
+    granted-among-requires
+    ruling-of-requires
+    legs-of-requires
+    returns)

@@ -9,8 +9,8 @@ cast-t6 c = search needs
 assigned-of-requires : tie.Need-assigned-of-requires
 assigned-of-requires c κs = search needs
 
-is-basic-requires : tie.Need-is-basic-requires
-is-basic-requires c κs = search needs
+is-bound-requires : tie.Need-is-bound-requires
+is-bound-requires c κs = search needs
 
 spent-of-requires : tie.Need-spent-of-requires
 spent-of-requires c κs = search needs
@@ -20,4 +20,4 @@ returns c = cc
 
 pub case-of-spec : {M : Type 1} → statement M
 case-of-spec =
-    tie.close (tie.spec cast-t6 assigned-of-requires is-basic-requires spent-of-requires returns)
+    tie.close (tie.spec cast-t6 assigned-of-requires is-bound-requires spent-of-requires returns)

@@ -1,6 +1,6 @@
 -- Which ports a set has: the bits of an intersection, of a set without another, and of one port; what a walk gathers stands with the sets. Assumes nothing.
 use native.Mathlib.Omega.{arith}
-use native.Mathlib.Nat.{mod-lt, zero-lt-suc, div-div-eq-div-mul, pow-succ', div-one, div-eq-of-lt, eq-or-lt-of-le, lt-of-not-le}
+use native.Mathlib.Nat.{mod-lt, zero-lt-suc, div-div-eq-div-mul, pow-succ', div-one, eq-or-lt-of-le, lt-of-not-le}
 use native.Mathlib.Numerals.{one-add}
 use Prim.Native.Nat.{ℕ, zero, suc, _+_, _-_, _*_, _/_, _%_, _^_, _≤_, _<_, min}
 use mathlib.Core.Path.{_≡_, refl, sym, ap, ap₂, _∙_}
@@ -16,7 +16,7 @@ use Rattle.networks.proofs.Bits.{bit, bit-small, and-bit}
 use Rattle.verdict.specs.Rule.{exceptBy}
 use Rattle.sets.specs.Sets.{inSet, onlyPort}
 use Rattle.sets.proofs.Members.{added-bit, top-bit, over-bit}
-pub use Rattle.sets.proofs.Members.{in-gathered}
+pub use Rattle.sets.proofs.Members.{in-gathered, in-none}
 
 -- one bit of a set without another
 except-step : (g f : ℕ) → exceptBy g f ≡ exceptBy (g / 2) (f / 2) * 2 + (g % 2 - min (g % 2) (f % 2))
@@ -102,7 +102,3 @@ pub only-has : (p : ℕ) → p < 8 → inSet p (onlyPort p) ≡ true
 only-has p h =
     ap (inSet p) (simp (lt-ltb p 8 h))
     ∙ ap (λ (b : ℕ). eqb b 1) (ap (λ (n : ℕ). bit p n) (let e : 2 ^ p ≡ 0 + 2 ^ p = omega arith in e) ∙ top-bit p 0 (pow-pos p))
-
--- no port is in the empty set
-pub in-none : (p : ℕ) → inSet p 0 ≡ false
-in-none p = ap (λ (n : ℕ). eqb (n % 2) 1) (div-eq-of-lt (pow-pos p))

@@ -1,0 +1,2 @@
+-- What the contracts cite: the octets of each element.
+pub mod Measure

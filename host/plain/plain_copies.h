@@ -1,0 +1,61 @@
+/*
+ * The copies of a received datagram, from the ports wanted to the headers
+ * written: which ports are struck out, which drop their copy, and by which
+ * header each copy leaves (page 02, W-214).
+ */
+#ifndef PLAIN_COPIES_H
+#define PLAIN_COPIES_H
+
+#include "plain_header.h"
+#include "plain_relay.h"
+
+/* What is known of a datagram once no check refuses it. */
+typedef struct {
+    plain_header header;
+    uint32_t arrival;
+    bool by_path;
+    plain_address destination;     /* where not by path; as four octets */
+    plain_address source;          /* likewise */
+    plain_path path;               /* where by path */
+    plain_class class;             /* of the destination, else invalid */
+    bool for_this_node;            /* a port's address, limited broadcast */
+    bool our_broadcast;
+    bool subscribed;               /* multicast, on the arrival port */
+    const plain_group *group;      /* where multicast */
+    const plain_path_place *place; /* where by path */
+} plain_datagram;
+
+/* A copy leaves by the header that came, or by the rewritten one, which is
+ * the same for all ports that have it. */
+typedef struct {
+    plain_set ports;           /* those wanted, then those granted */
+    uint32_t capabilities;     /* of the route taken; 0 without one */
+    plain_set rewritten;       /* ports that have the rewritten header */
+    plain_fields fields;       /* its fields, where there is such a port */
+    uint32_t rewritten_octets; /* how long it is, likewise */
+} plain_copies;
+
+/* The first three octets of an address. */
+static inline uint32_t plain_domain(plain_address address)
+{
+    return address.bits & 0xffffff00;
+}
+
+/* Leaves of the ports wanted, of which there is one, those granted, and
+ * settles their headers: 0, or 10, 13 or 14. */
+plain_refusal plain_copies_grant(const plain_view *view,
+                                 const plain_datagram *d,
+                                 plain_copies *copies);
+
+/* Each port granted takes an entry or drops its copy, and the verdict says
+ * which did: 0, or 15 where none took one. */
+plain_refusal plain_copies_put(const plain_view *view,
+                               const plain_copies *copies, plain_entry entry,
+                               plain_verdict *verdict);
+
+/* Writes the headers of the ports that took an entry. */
+void plain_copies_write(const plain_datagram *d, const plain_copies *copies,
+                        const plain_verdict *verdict, const uint8_t *octets,
+                        uint8_t *output);
+
+#endif

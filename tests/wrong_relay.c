@@ -1,0 +1,144 @@
+/*
+ * wrong_relay.c: wrong relays, to show that the rehearsal finds them out. They
+ * stand in for hj_take and hj_receive_at (by the linker's --wrap) in
+ * build/rehearsal_wrong; the variable WRONG_RELAY says which one. Where it is
+ * not set, or is another word, the relay is the right one.
+ *
+ *   lose      loses the first entry where two or more wait: its ledger does
+ *             not close
+ *   swap      hands out the second and then the first where two or more wait:
+ *             its ledger closes, but no take of theirs is the one foretold
+ *   repeat    hands out an entry twice
+ *   keep      sends one-octet addresses into another domain as they came
+ *   fill      writes them as four octets, and fills them in from the port by
+ *             which they go
+ */
+#include <stdbool.h>
+#include <stdlib.h>
+#include <string.h>
+
+#include "harpjuniper.h"
+
+#define BOARD const hj_board *board, size_t board_words
+#define MISSION hj_mission *mission, size_t mission_words
+#define LENT board, board_words, mission, mission_words
+#define ARRIVAL                                                                \
+    const hj_record *routes, size_t route_count, uint32_t port, uint16_t slot, \
+        const uint8_t *octets, size_t length, uint8_t *output, size_t room
+#define ARRIVED routes, route_count, port, slot, octets, length, output, room
+
+hj_answer __real_hj_take(BOARD, MISSION, uint32_t port);
+hj_answer __wrap_hj_take(BOARD, MISSION, uint32_t port);
+hj_verdict __real_hj_receive_at(BOARD, MISSION, ARRIVAL);
+hj_verdict __wrap_hj_receive_at(BOARD, MISSION, ARRIVAL);
+
+static bool wrong(const char *kind)
+{
+    const char *said = getenv("WRONG_RELAY");
+
+    return said != NULL && strcmp(said, kind) == 0;
+}
+
+/* ---- Entries ----------------------------------------------------------- */
+
+/* The entry that the next take of its port hands out; one at a time. */
+static struct {
+    const hj_mission *mission;
+    uint32_t port;
+    hj_answer entry;
+} aside;
+
+static void set_aside(const hj_mission *mission, uint32_t port,
+                      hj_answer entry)
+{
+    aside.mission = mission;
+    aside.port = port;
+    aside.entry = entry;
+}
+
+static hj_answer lose(BOARD, MISSION, uint32_t port)
+{
+    if (hj_value(hj_waiting(mission, mission_words, port)) >= 2)
+        (void)__real_hj_take(LENT, port);
+    return __real_hj_take(LENT, port);
+}
+
+static hj_answer swap(BOARD, MISSION, uint32_t port)
+{
+    if (aside.mission == NULL &&
+        hj_value(hj_waiting(mission, mission_words, port)) >= 2)
+        set_aside(mission, port, __real_hj_take(LENT, port));
+    return __real_hj_take(LENT, port);
+}
+
+static hj_answer repeat(BOARD, MISSION, uint32_t port)
+{
+    hj_answer entry = __real_hj_take(LENT, port);
+
+    if (aside.mission == NULL && hj_refusal(entry) == HJ_DONE)
+        set_aside(mission, port, entry);
+    return entry;
+}
+
+hj_answer __wrap_hj_take(BOARD, MISSION, uint32_t port)
+{
+    if (aside.mission == mission && aside.port == port) {
+        aside.mission = NULL;
+        return aside.entry;
+    }
+    if (wrong("lose"))
+        return lose(LENT, port);
+    if (wrong("swap"))
+        return swap(LENT, port);
+    return wrong("repeat") ? repeat(LENT, port) : __real_hj_take(LENT, port);
+}
+
+/* ---- Headers ----------------------------------------------------------- */
+
+/* The verdict of a relay that has no second header. */
+static hj_verdict keep(hj_verdict verdict, const uint8_t *octets,
+                       uint8_t *output)
+{
+    for (uint32_t port = 0; port < HJ_PORTS; port++) {
+        if (hj_rewritten(verdict) >> port & 1)
+            memcpy(output + HJ_HEADER_ROOM * port, octets,
+                   hj_data_from(verdict));
+    }
+    return verdict & UINT64_C(0xffffffffffff);
+}
+
+/* A rewritten header, its addresses moved into the domain of an address. */
+static void move(uint8_t *header, uint32_t octets, uint32_t address)
+{
+    static uint8_t copy[HJ_MOST_LENGTH];
+    hj_reading reading;
+    uint32_t domain = address & 0xffffff00;
+
+    memcpy(copy, header, octets);
+    reading = hj_read(copy, sizeof copy);
+    reading.fields.destination_low =
+        domain | (reading.fields.destination_low & 0xff);
+    reading.fields.source_low = domain | (reading.fields.source_low & 0xff);
+    (void)hj_build(reading.fields, reading.length - reading.header, header,
+                   HJ_HEADER_ROOM);
+}
+
+static void fill(BOARD, hj_verdict verdict, uint8_t *output)
+{
+    for (uint32_t port = 0; port < HJ_PORTS; port++) {
+        if (hj_rewritten(verdict) >> port & 1)
+            move(output + HJ_HEADER_ROOM * port, hj_rewritten_octets(verdict),
+                 hj_get_port(board, board_words, port).address);
+    }
+}
+
+hj_verdict __wrap_hj_receive_at(BOARD, MISSION, ARRIVAL)
+{
+    hj_verdict verdict = __real_hj_receive_at(LENT, ARRIVED);
+
+    if (hj_read(octets, length).fields.extended)
+        return verdict;
+    if (wrong("fill"))
+        fill(board, board_words, verdict, output);
+    return wrong("keep") ? keep(verdict, octets, output) : verdict;
+}
