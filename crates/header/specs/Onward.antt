@@ -1,4 +1,4 @@
--- The header sent on (page 01, "One received datagram", last sentence): as it came, hop count less one and checksum redone, where present.
+-- A header that is kept (page 01, "One received datagram", the end of "Onward half"): as it came, hop count less one and checksum redone, where present.
 -- Assumes nothing.
 use Prim.Native.Nat.{ℕ, _-_}
 use mathlib.Core.List.{List, _++_}

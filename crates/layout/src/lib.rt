@@ -1,7 +1,7 @@
 // The control field and where each element stands.
 //
 // A header says by the bits of its control field which elements follow, and the elements lie end to end in one fixed order, so a
-// place is the sum of the sizes before it. The reader needs the places to find the fields, the header sent on to find hop count
+// place is the sum of the sizes before it. The reader needs the places to find the fields, a header that is kept to find hop count
 // and checksum. The awkward one is the timestamp with an explicit P-field: every place behind it waits for the octet at its own.
 use checks::Check;
 use header::Control;

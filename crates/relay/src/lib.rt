@@ -2,7 +2,7 @@
 //
 // To receive is to judge, to search the routes and then to do. Judging reads and writes nothing, `before`; what is to be sought in the list of
 // routes, if anything, is a query by value, `query_of`; with what the scan of the list found, the verdict is finished, counted, entered in the
-// queues of the ports that took a copy, and the header sent on is written, `after`. The list itself is lent to none of the three.
+// queues of the ports that took a copy, and a header is written for each of them, `after`. The list itself is lent to none of the three.
 //
 // The awkward case is words of the wrong number, which hold no relay, and a list that is too long: both are refusals like others, but
 // nothing is counted. Nor is anything by 16 and 17 otherwise; every other refusal counts, and then the words are of the right number. The output is written

@@ -1,6 +1,6 @@
-// A header as it goes on.
+// A header that is kept when it goes on.
 //
-// What is sent on is the header that came, octet for octet, in the form it came in: only the hop count is one less and the checksum is
+// It is the header that came, octet for octet, in the form it came in: only the hop count is one less and the checksum is
 // redone, each where it is present. So nothing is built anew; the octets before the checksum are copied, the hop count is lessened
 // among the copies, and the checksum is summed over what then stands there. The places of both were found when the header was read, and are
 // handed on from there: nothing is looked up again.
