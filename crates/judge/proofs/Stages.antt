@@ -32,7 +32,7 @@ use Rattle.records.specs.declared.Port.{Port}
 use Rattle.state.specs.Relay.{Relay, amongPorts}
 use Rattle.state.specs.Seen.{Board, State, portsSeen, seated}
 use Rattle.survey.specs.Survey.{namedOf}
-use Rattle.survey.specs.declared.Destination.the-variants as destination
+use Rattle.survey.specs.declared.Destination.{Destination}
 use Rattle.lookup.specs.Lookup.{pathPlace}
 use Rattle.lookup.specs.ForTarget.{placeFor}
 use Rattle.verdict.specs.Rule.{targetOf}
@@ -41,10 +41,11 @@ use Rattle.verdict.specs.declared.Target.the-variants as target
 use Rattle.verdict.specs.declared.Place.{Place}
 use Rattle.verdict.specs.declared.Case.{Case}
 use Rattle.verdict.specs.declared.Survey.{Survey}
-use Rattle.judge.specs.Ruling.{caseOf}
+use Rattle.judge.specs.Ruling.{caseOf, destinationAsked}
 use Rattle.judge.specs.Ending.{outputRoom, callChecks}
-use Rattle.judge.specs.Asked.{refusedAsked, elseAsked, nodeAsked, pathAsked, aimAsked, carriedAsked, octetsAsked, datagramAsked}
+use Rattle.judge.specs.Asked.{refusedAsked, elseAsked, headerAsked, nodeAsked, pathAsked, aimAsked, refusedLooked, nodeLooked, pathLooked, aimLooked, carriedAsked, octetsAsked, datagramAsked}
 use Rattle.judge.specs.declared.ruling.Arrival.{Arrival}
+use Rattle.judge.specs.declared.Looked.{Looked}
 use Rattle.judge.specs.declared.Asked.{Asked}
 
 -- ---- by a number, or by what follows
@@ -54,58 +55,78 @@ by-number m rest same h is = rw (← same) (simp (ne-eqb _ 0 h) is)
 pub by-rest : {n : ℕ} {e : Asked} (m : ℕ) (rest : Asked) → n ≡ m → n ≡ 0 → e ≡ rest → e ≡ elseAsked m rest
 by-rest m rest same h is = rw (← same) (simp (eq-eqb _ 0 h) is)
 
--- 6 by one test, or what follows
-bad : {e : Asked} (t : Bool) (rest : Asked) → t ≡ true → e ≡ refusedAsked 6 → e ≡ elseAsked (pick t 6 0) rest
-bad t rest h is = rw h is
-
-good : {e : Asked} (t : Bool) (rest : Asked) → t ≡ false → e ≡ rest → e ≡ elseAsked (pick t 6 0) rest
-good t rest h is = rw h is
-
 -- ---- an end system's address or a group's
 module _ (a : Address) {class : Class} {n : ℕ} (is : class ≡ classOf (a .0)) (number : n ≡ classNumber class) where
   class-told : n ≡ classNumber (classOf (a .0))
   class-told = number ∙ ap classNumber is
 
-  pub node-refused : {e : Asked} (rest : Asked) → n ≡ 0 → e ≡ refusedAsked 6 → e ≡ elseAsked (pick (badClass (a .0)) 6 0) rest
-  node-refused rest h told = bad (badClass (a .0)) rest (eq-eqb _ 0 (sym class-told ∙ h)) told
+  pub node-refused : {e : Looked} (rest : Looked) → n ≡ 0 → e ≡ refusedLooked 6 → e ≡ pick (badClass (a .0)) (refusedLooked 6) rest
+  node-refused rest h told = rw (eq-eqb _ 0 (sym class-told ∙ h)) told
 
-  pub node-asked :
-      (b : Board) (s : State) (at : Arrival) (h : Header) (k : Renewal) {m router : ℕ} {v : Survey} {t : Target} {p : Place} {c : Case} {precedence : ℕ}
+  pub node-looked : (b : Board) (s : State) (arrival : ℕ) {m : ℕ} {v : Survey} {t : Target} {p : Place}
       → (n ≡ 0 → ⊥)
       → m ≡ s .number
       → v ≡ namedOf (portsSeen m b) a
       → t ≡ targetOf class v
-      → p ≡ placeFor (seated b s) t a (at .set)
-      → router ≡ b .router
-      → c ≡ caseOf router (at .set) (h .fields)
-      → precedence ≡ precedenceAsked (h .fields .qos)
-      → _≡_ {A = Asked}
-      (record { refusal = 0; target = t; place = p; case = c; ready = v .ready; destination = destination.Node a; number = m; precedence = precedence; arrival = at .address; header = h; renewal = k })
-      (elseAsked (pick (badClass (a .0)) 6 0) (nodeAsked (seated b s) (s .number) at h k a))
-  unfolding nodeAsked
-  node-asked b s at h k some e1 e2 e3 e4 e5 e6 e7 = good (badClass (a .0)) _ (ne-eqb _ 0 (λ z. some (class-told ∙ z))) cc
+      → p ≡ placeFor (seated b s) t a arrival
+      → _≡_ {A = Looked} (record { refusal = 0; target = t; place = p; ready = v .ready })
+      (pick (badClass (a .0)) (refusedLooked 6) (nodeLooked (seated b s) arrival a))
+  unfolding nodeLooked
+  node-looked b s arrival some e1 e2 e3 e4 = rw (ne-eqb _ 0 (λ z. some (class-told ∙ z))) cc
 
 -- ---- a path
 module _ (p : PathAddress) {form : PathForm} {n : ℕ} (is : form ≡ pathForm (p .0)) (number : n ≡ pathNumber form) where
   form-told : n ≡ pathNumber (pathForm (p .0))
   form-told = number ∙ ap pathNumber is
 
-  pub path-refused : {e : Asked} (rest : Asked) → n ≡ 0 → e ≡ refusedAsked 6 → e ≡ elseAsked (pick (badPath (p .0)) 6 0) rest
-  path-refused rest h told = bad (badPath (p .0)) rest (eq-eqb _ 0 (sym form-told ∙ h)) told
+  pub path-refused : {e : Looked} (rest : Looked) → n ≡ 0 → e ≡ refusedLooked 6 → e ≡ pick (badPath (p .0)) (refusedLooked 6) rest
+  path-refused rest h told = rw (eq-eqb _ 0 (sym form-told ∙ h)) told
 
-  pub path-asked :
-      (b : Board) (s : State) (at : Arrival) (h : Header) (k : Renewal) {m router : ℕ} {x : Place} {c : Case} {precedence : ℕ}
-      → (n ≡ 0 → ⊥)
-      → x ≡ pathPlace (seated b s) p
-      → router ≡ b .router
+  pub path-looked : (r : Relay) {x : Place} → (n ≡ 0 → ⊥) → x ≡ pathPlace r p
+      → _≡_ {A = Looked} (record { refusal = 0; target = target.Path; place = x; ready = 0 }) (pick (badPath (p .0)) (refusedLooked 6) (pathLooked r p))
+  unfolding pathLooked
+  path-looked r some e = rw (ne-eqb _ 0 (λ z. some (form-told ∙ z))) cc
+
+-- ---- what was looked up, with the header
+module _ (r : Relay) (number : ℕ) (at : Arrival) (h : Header) (k : Renewal) where
+  abbrev asked-with : Aim → Looked → Asked
+  asked-with x l = elseAsked (l .refusal) (headerAsked r number at h k x (l .target) (l .place) (l .ready))
+
+  pub looked-asked : (x : Aim) → asked-with x (aimLooked r (at .set) x) ≡ elseAsked (pick (badAim x) 6 0) (aimAsked r number at h k x)
+  unfolding aimAsked nodeAsked pathAsked nodeLooked pathLooked
+  looked-asked (aim.Node a) = by-class (badClass (a .0))
+    where
+      by-class : (bad : Bool) → asked-with (aim.Node a) (pick bad (refusedLooked 6) (nodeLooked r (at .set) a)) ≡ elseAsked (pick bad 6 0) (nodeAsked r number at h k a)
+      by-class true = refl
+      by-class false = refl
+  looked-asked (aim.Path p) = by-form (badPath (p .0))
+    where
+      by-form : (bad : Bool) → asked-with (aim.Path p) (pick bad (refusedLooked 6) (pathLooked r p)) ≡ elseAsked (pick bad 6 0) (pathAsked r number at h k p)
+      by-form true = refl
+      by-form false = refl
+  looked-asked aim.Uncarried = refl
+
+  pub good-refused : (x : Aim) {l : Looked} {e : Asked} → l ≡ aimLooked r (at .set) x → (l .refusal ≡ 0 → ⊥) → e ≡ refusedAsked (l .refusal)
+      → e ≡ elseAsked (pick (badAim x) 6 0) (aimAsked r number at h k x)
+  good-refused x {l} {e} el some told =
+      let is : e ≡ asked-with x l = simp (ne-eqb (l .refusal) 0 some) told in
+      is ∙ ap (asked-with x) el ∙ looked-asked x
+
+  pub good-asked : (x : Aim) {l : Looked} {router m : ℕ} {c : Case} {d : Destination} {precedence : ℕ}
+      → l ≡ aimLooked r (at .set) x
+      → l .refusal ≡ 0
+      → router ≡ r .router
       → c ≡ caseOf router (at .set) (h .fields)
-      → m ≡ s .number
+      → d ≡ destinationAsked x
+      → m ≡ number
       → precedence ≡ precedenceAsked (h .fields .qos)
       → _≡_ {A = Asked}
-      (record { refusal = 0; target = target.Path; place = x; case = c; ready = 0; destination = destination.Other; number = m; precedence = precedence; arrival = at .address; header = h; renewal = k })
-      (elseAsked (pick (badPath (p .0)) 6 0) (pathAsked (seated b s) (s .number) at h k p))
-  unfolding pathAsked
-  path-asked b s at h k some e1 e2 e3 e4 e5 = good (badPath (p .0)) _ (ne-eqb _ 0 (λ z. some (form-told ∙ z))) cc
+      (record { refusal = 0; target = l .target; place = l .place; case = c; ready = l .ready; destination = d; number = m; precedence = precedence; arrival = at .address; header = h; renewal = k })
+      (elseAsked (pick (badAim x) 6 0) (aimAsked r number at h k x))
+  good-asked x {l} {router} {m} {c} {d} {precedence} el none e1 e2 e3 e4 e5 =
+      let e : Asked = record { refusal = 0; target = l .target; place = l .place; case = c; ready = l .ready; destination = d; number = m; precedence = precedence; arrival = at .address; header = h; renewal = k } in
+      let is : e ≡ asked-with x l = simp (eq-eqb (l .refusal) 0 none) cc in
+      is ∙ ap (asked-with x) el ∙ looked-asked x
 
 -- ---- a good header: 6 is given for either address
 either-6 : (t u : Bool) → u ≡ true → 6 ≡ firstOf ((t, 6) ∷ (u, 6) ∷ [])
@@ -134,27 +155,14 @@ module _ (r : Relay) (number : ℕ) (at : Arrival) (h : Header) (k : Renewal) {e
     source-refused fails is =
         header-refused (passes _ _ _ told carries (passes _ _ _ told′ has (either-6 _ _ (failed-true _ (sym (source-told at h from told″) ∙ fails))))) (λ z. omega arith) is
 
-    pub header-aimed : origin ≡ Passed → {y : Aim} (x : Aim) → y ≡ aimOf (at .address .0) (h .fields .addresses) → y ≡ x
+    pub header-aimed : origin ≡ Passed → {x : Aim} → x ≡ aimOf (at .address .0) (h .fields .addresses)
         → e ≡ elseAsked (pick (badAim x) 6 0) (aimAsked r number at h k x) → e ≡ carriedAsked r number at h k
     unfolding carriedAsked
-    header-aimed passed x named same is =
-        let aimed : x ≡ aimOf (at .address .0) (h .fields .addresses) = sym same ∙ named in
+    header-aimed passed aimed is =
         is
         ∙ ap (λ (z : Aim). elseAsked (pick (badAim z) 6 0) (aimAsked r number at h k z)) aimed
         ∙ ap (λ (n : ℕ). elseAsked n (aimAsked r number at h k (aimOf (at .address .0) (h .fields .addresses))))
         (passes _ _ _ told carries (passes _ _ _ told′ has (first-6 _ _ (passed-false _ (sym (source-told at h from told″) ∙ passed)))))
-
--- the three aims
-module _ (r : Relay) (number : ℕ) (at : Arrival) (h : Header) (k : Renewal) {e : Asked} where
-  pub at-node : (a : Address) → e ≡ elseAsked (pick (badClass (a .0)) 6 0) (nodeAsked r number at h k a)
-      → e ≡ elseAsked (pick (badAim (aim.Node a)) 6 0) (aimAsked r number at h k (aim.Node a))
-  unfolding aimAsked
-  at-node a is = is
-
-  pub at-path : (p : PathAddress) → e ≡ elseAsked (pick (badPath (p .0)) 6 0) (pathAsked r number at h k p)
-      → e ≡ elseAsked (pick (badAim (aim.Path p)) 6 0) (aimAsked r number at h k (aim.Path p))
-  unfolding aimAsked
-  at-path p is = is
 
 -- ---- the whole
 -- the port, by the mission's number

@@ -16,9 +16,9 @@ use Rattle.survey.specs.declared.Sought.{Sought}
 use Rattle.survey.specs.declared.Destination.{Destination}
 use Rattle.survey.proofs.Within.{within}
 use Rattle.survey.proofs.Bits.{in-except, in-none}
-use Rattle.networks.specs.Networks.{domainOf}
-use Rattle.next_leg.specs.Leg.{nextLength, noLegs, legsOf}
+use Rattle.next_leg.specs.Leg.{nextLengths, noLegs, legsOf}
 use Rattle.next_leg.specs.declared.Leg.{Leg}
+use Rattle.next_leg.specs.declared.Lengths.{Lengths}
 use Rattle.next_leg.specs.declared.Legs.{Legs}
 use Rattle.verdict.specs.Rule.{exceptBy, sameDomain, largeEnough, afterHops, afterDomain, afterSize, grantedOf, copiesOf, rulingOf}
 use Rattle.verdict.specs.declared.Case.{Case}
@@ -30,7 +30,7 @@ use Rattle.verdict.specs.declared.Survey.{Survey}
 use Rattle.verdict.specs.declared.Ruling.{Ruling}
 use Rattle.verdict.specs.declared.Wish.{Wish}
 use Rattle.verdict.specs.declared.Wish.the-variants.{NotAsked, Refused, Wanted}
-use Rattle.judge.specs.Ruling.{soughtOf}
+use Rattle.judge.specs.Ruling.{soughtBy, soughtOf}
 use Rattle.judge.specs.Asked.{legged, amongOf, wishedOf}
 use Rattle.judge.specs.declared.finishing.Ruled.{Ruled}
 
@@ -217,21 +217,14 @@ module _ (r : Relay) (d : Destination) (l : Leg) where
     pub wished-among : (set : ℕ) → hops ≡ Wanted set → out ≡ amongOf r local set (c .bound) l → out ≡ wishedOf r d local wish c l
     wished-among set same e = by-hops (Wanted set) same (e ∙ among-is set local (c .bound))
 
--- what is asked of the wanted ports, by what was computed
-pub sought-told : (l : Leg) {domain near far : ℕ}
-    → domain ≡ domainOf (l .arrival)
-    → near ≡ nextLength false (l .arrival .0) (l .code) (l .header)
-    → far ≡ nextLength true (l .arrival .0) (l .code) (l .header)
-    → _≡_ {A = Sought} (record { domain = domain; near = near; far = far }) (soughtOf l)
-sought-told l ed en ef = cc
-
 -- the ruling on the wanted ports, step by step
-pub among-told : (r : Relay) (local : Local) (set bound : ℕ) (l : Leg) {q : Sought} {s : Survey} {granted : Wish} {x : Ruling} {y : Legs}
-    → q ≡ soughtOf l
-    → s ≡ wantedOf r set q
+pub among-told : (r : Relay) (local : Local) (set bound : ℕ) (l : Leg) {q : Lengths} {x : Sought} {s : Survey} {granted : Wish} {y : Ruling} {z : Legs}
+    → q ≡ nextLengths l
+    → x ≡ soughtBy (l .arrival) q
+    → s ≡ wantedOf r set x
     → granted ≡ afterSize (sameDomain set bound (s .domain)) (s .fitting)
-    → x ≡ rulingOf local granted (s .full)
-    → y ≡ legsOf (x .took) (s .domain) l
-    → _≡_ {A = Ruled} (record { ruling = x; legs = y }) (amongOf r local set bound l)
+    → y ≡ rulingOf local granted (s .full)
+    → z ≡ legsOf (y .took) (s .domain) l
+    → _≡_ {A = Ruled} (record { ruling = y; legs = z }) (amongOf r local set bound l)
 unfolding amongOf
-among-told r local set bound l eq es eg ex ey = cc
+among-told r local set bound l eq ex es eg ey ez = cc

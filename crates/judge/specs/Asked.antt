@@ -15,7 +15,7 @@ use Rattle.header.specs.declared.Header.{Header}
 use Rattle.header.specs.declared.Renewal.{Renewal}
 use Rattle.header.specs.declared.Found.{Found}
 use Rattle.header.specs.declared.Found.the-variants as found
-use Rattle.meaning.specs.Names.{aimOf}
+use Rattle.meaning.specs.Names.{aimOf, badClass, badPath}
 use Rattle.meaning.specs.Arrival.{arrivalChecks}
 use Rattle.meaning.specs.Asked.{precedenceAsked}
 use Rattle.meaning.specs.declared.Aim.{Aim}
@@ -42,6 +42,7 @@ use Rattle.lookup.specs.ForTarget.{placeFor}
 use Rattle.judge.specs.Ruling.{caseOf, destinationAsked, targetAsked, soughtOf}
 use Rattle.judge.specs.Ending.{callChecks, arrivalAt, orElse}
 use Rattle.judge.specs.declared.ruling.Arrival.{Arrival}
+use Rattle.judge.specs.declared.Looked.{Looked}
 use Rattle.judge.specs.declared.Asked.{Asked}
 use Rattle.judge.specs.declared.finishing.Ruled.{Ruled}
 use Rattle.judge.specs.declared.Ending.{Ending}
@@ -112,6 +113,22 @@ nodeAsked r number at h n a =
 -- a path's line asks for no other port
 unfoldable pub pathAsked : Relay → ℕ → Arrival → Header → Renewal → PathAddress → Asked
 pathAsked r number at h n p = headerAsked r number at h n (aim.Path p) Path (pathPlace r p) 0
+
+-- what is looked up of a destination alone, or its refusal (6); law `looked-asked`: with the header it is what is asked
+abbrev pub refusedLooked : ℕ → Looked
+refusedLooked n = record { refusal = n; target = Here; place = Missing; ready = 0 }
+
+unfoldable pub nodeLooked : Relay → ℕ → Address → Looked
+nodeLooked r arrival a =
+    record { refusal = 0; target = targetAsked r a; place = placeFor r (targetAsked r a) a arrival; ready = namedOf (r .ports) a .ready }
+
+unfoldable pub pathLooked : Relay → PathAddress → Looked
+pathLooked r p = record { refusal = 0; target = Path; place = pathPlace r p; ready = 0 }
+
+abbrev pub aimLooked : Relay → ℕ → Aim → Looked
+aimLooked r arrival (aim.Node a) = pick (badClass (a .0)) (refusedLooked 6) (nodeLooked r arrival a)
+aimLooked r arrival (aim.Path p) = pick (badPath (p .0)) (refusedLooked 6) (pathLooked r p)
+aimLooked r arrival aim.Uncarried = refusedLooked 6
 
 -- what is not carried is refused before
 unfoldable pub aimAsked : Relay → ℕ → Arrival → Header → Renewal → Aim → Asked

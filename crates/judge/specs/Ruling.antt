@@ -1,6 +1,5 @@
 -- The ruling on a datagram whose header is good, over the relay that a mission sees: page 01, "Local half" and "Onward half". Assumes nothing.
 use Prim.Native.Nat.{ℕ}
-use mathlib.Core.Bool.{true, false}
 use lib.Dec.{eqb}
 use Rattle.checks.specs.Order.{pick}
 use Rattle.address.specs.Class.{classOf}
@@ -27,8 +26,9 @@ use Rattle.survey.specs.Survey.{namedOf, surveyOf}
 use Rattle.survey.specs.declared.Destination.{Destination}
 use Rattle.survey.specs.declared.Destination.the-variants as destination
 use Rattle.survey.specs.declared.Sought.{Sought}
-use Rattle.next_leg.specs.Leg.{nextLength, legsOf}
+use Rattle.next_leg.specs.Leg.{nextLengths, legsOf}
 use Rattle.next_leg.specs.declared.Leg.{Leg}
+use Rattle.next_leg.specs.declared.Lengths.{Lengths}
 use Rattle.next_leg.specs.declared.Legs.{Legs}
 use Rattle.lookup.specs.Lookup.{pathPlace}
 use Rattle.lookup.specs.ForTarget.{placeFor, wayFor}
@@ -53,13 +53,11 @@ destinationAsked (aim.Path p) = destination.Other
 destinationAsked aim.Uncarried = destination.Other
 
 -- what is asked of the wanted ports: the octets of the copy after its rewrite, for a port of the arrival port's domain and for another
+abbrev pub soughtBy : Address → Lengths → Sought
+soughtBy arrival q = record { domain = domainOf arrival; near = q .near; far = q .far }
+
 abbrev pub soughtOf : Leg → Sought
-soughtOf l =
-    record {
-      domain = domainOf (l .arrival);
-      near = nextLength false (l .arrival .0) (l .code) (l .header);
-      far = nextLength true (l .arrival .0) (l .code) (l .header);
-    }
+soughtOf l = soughtBy (l .arrival) (nextLengths l)
 
 -- the line that fits, by the class of the address and by the ports
 abbrev pub targetAsked : Relay → Address → Target

@@ -54,13 +54,14 @@ fn rule_wanted(board: &[u32], mission: &[u32], local: Local, set: u32, bound: u3
         r ≡ amongOf (seated (decodeBoard (now (board .entry))) (decode (now (mission .entry)))) local set bound l
         ⌝ }
 {
-    let q = crate::ruling::sought_of(l);
-    let s = survey::wanted(board, mission, set, q);
+    let arrival = l.arrival;
+    let q = next_leg::lengths_next(l);
+    let s = survey::wanted(board, mission, set, crate::ruling::sought_of(arrival, q));
     let granted = verdict::copies::granted_among(set, bound, s);
     let ruling = verdict::copies::ruling_of(local, granted, s.full);
     Ruled {
         ruling,
-        legs: next_leg::legs_of(ruling.took, s.domain, l),
+        legs: next_leg::legs_of(ruling.took, s.domain, l, q),
     }
 }
 

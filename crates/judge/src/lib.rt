@@ -36,16 +36,20 @@ ghost use mathlib.Core.Path.{_≡_};
 ghost use lib.ListN.{length};
 ghost use Rattle.checks.specs.Order.{pick};
 ghost use Rattle.header.specs.Onward.{foundOf};
-ghost use Rattle.meaning.specs.Names.{badClass, badPath};
-ghost use Rattle.state.specs.Seen.{seated};
+ghost use Rattle.meaning.specs.Names.{badClass, badPath, badAim};
+ghost use Rattle.state.specs.Seen.{Board, seated};
 ghost use Rattle.state.specs.Layout.{boardWords, decodeBoard, missionWords, decode};
+ghost use Rattle.judge.specs.Ruling.{destinationAsked};
 ghost use Rattle.judge.specs.Ending.{refusedBy};
 ghost use Rattle.judge.specs.Asked.{
   noHeader,
   refusedAsked,
   elseAsked,
-  nodeAsked,
-  pathAsked,
+  refusedLooked,
+  nodeLooked,
+  pathLooked,
+  aimLooked,
+  aimAsked,
   carriedAsked,
   octetsAsked,
   datagramAsked,
@@ -79,6 +83,15 @@ pub struct Asked {
     pub arrival: Address,
     pub header: Header,
     pub renewal: Renewal,
+}
+
+// What is looked up of a destination: the refusal that ends the call, or 0 and the target; what the place of a group or a path says; the ports set
+// up. It is looked up apart from the header, which is large: handing that to a function and back costs more than most of what is asked.
+pub struct Looked {
+    pub refusal: u32,
+    pub target: Target,
+    pub place: Place,
+    pub ready: u32,
 }
 
 // No header.
@@ -155,70 +168,106 @@ pub fn ended_by(refusal: u32) -> Ending
     }
 }
 
+// Nothing is looked up: a refusal.
+fn not_looked(refusal: u32) -> Looked
+    ensures { λ r. ⌜ r ≡ refusedLooked refusal ⌝ }
+{
+    Looked {
+        refusal,
+        target: Target::Here,
+        place: Place::Missing,
+        ready: 0,
+    }
+}
+
 // An end system's address or a group's: its class (6), and by this and the ports its target.
-fn ask_node(board: &[u32], mission: &[u32], at: Arrival, h: Header, n: Renewal, a: Address) -> Asked
+fn ask_node(board: &[u32], mission: &[u32], arrival: u32, a: Address) -> Looked
     requires { ⌜ (length (now board) ≡ boardWords) × (length (now mission) ≡ missionWords) ⌝ }
     ensures { λ r. ⌜
         r
-        ≡ elseAsked (pick (badClass (a .0)) 6 0)
-        (nodeAsked (seated (decodeBoard (now (board .entry))) (decode (now (mission .entry)))) (decode (now (mission .entry)) .number) at h n a)
+        ≡ pick (badClass (a .0)) (refusedLooked 6)
+        (nodeLooked (seated (decodeBoard (now (board .entry))) (decode (now (mission .entry)))) arrival a)
         ⌝ }
 {
     let class = address::class_of(a);
     if address::class_number(class) == 0 {
-        return refused(6);
+        return not_looked(6);
     }
     let number = state_mission::number_of(mission);
     let s = survey::named(board, number, a);
     let target = verdict::local_half::target_of(class, s);
-    let place = lookup::for_target::place_for(mission, target, a, at.set);
+    Looked {
+        refusal: 0,
+        target,
+        place: lookup::for_target::place_for(mission, target, a, arrival),
+        ready: s.ready,
+    }
+}
+
+// A path: its form (6), and what its place says.
+fn ask_path(mission: &[u32], p: PathAddress) -> Looked
+    requires { ⌜ length (now mission) ≡ missionWords ⌝ }
+    ensures { λ r. ⌜ ((b : Board) → r ≡ pick (badPath (p .0)) (refusedLooked 6) (pathLooked (seated b (decode (now (mission .entry)))) p)) ⌝ }
+{
+    if address::path_number(address::path_form(p)) == 0 {
+        return not_looked(6);
+    }
+    Looked {
+        refusal: 0,
+        target: Target::Path,
+        place: lookup::path_place(mission, p),
+        ready: 0,
+    }
+}
+
+// What is looked up of what the header aims at.
+fn ask_aim(board: &[u32], mission: &[u32], arrival: u32, x: Aim) -> Looked
+    requires { ⌜ (length (now board) ≡ boardWords) × (length (now mission) ≡ missionWords) ⌝ }
+    ensures { λ r. ⌜ r ≡ aimLooked (seated (decodeBoard (now (board .entry))) (decode (now (mission .entry)))) arrival x ⌝ }
+{
+    match x {
+        Aim::Node(a) => ask_node(board, mission, arrival, a),
+        Aim::Path(p) => ask_path(mission, p),
+        Aim::Uncarried => not_looked(6),
+    }
+}
+
+// What the ports are compared with.
+fn destination_of(x: Aim) -> Destination
+    ensures { λ r. ⌜ r ≡ destinationAsked x ⌝ }
+{
+    match x {
+        Aim::Node(a) => Destination::Node(a),
+        Aim::Path(_) => Destination::Other,
+        Aim::Uncarried => Destination::Other,
+    }
+}
+
+// What is known before the search, of a header that is good so far.
+fn ask_good(board: &[u32], mission: &[u32], at: Arrival, h: Header, n: Renewal, x: Aim) -> Asked
+    requires { ⌜ (length (now board) ≡ boardWords) × (length (now mission) ≡ missionWords) ⌝ }
+    ensures { λ r. ⌜
+        r
+        ≡ elseAsked (pick (badAim x) 6 0)
+        (aimAsked (seated (decodeBoard (now (board .entry))) (decode (now (mission .entry)))) (decode (now (mission .entry)) .number) at h n x)
+        ⌝ }
+{
+    let l = ask_aim(board, mission, at.set, x);
+    if l.refusal != 0 {
+        return refused(l.refusal);
+    }
     let f = h.fields;
     let from = at.address;
     let qos = f.qos;
+    let target = l.target;
+    let place = l.place;
     Asked {
         refusal: 0,
         target,
         place,
         case: crate::ruling::case_of(state_board::router_of(board), at.set, f),
-        ready: s.ready,
-        destination: Destination::Node(a),
-        number,
-        precedence: meaning::asked::precedence_of(qos),
-        arrival: from,
-        header: h,
-        renewal: n,
-    }
-}
-
-// A path: its form (6), and what its place says.
-fn ask_path(
-    board: &[u32],
-    mission: &[u32],
-    at: Arrival,
-    h: Header,
-    n: Renewal,
-    p: PathAddress,
-) -> Asked
-    requires { ⌜ (length (now board) ≡ boardWords) × (length (now mission) ≡ missionWords) ⌝ }
-    ensures { λ r. ⌜
-        r
-        ≡ elseAsked (pick (badPath (p .0)) 6 0)
-        (pathAsked (seated (decodeBoard (now (board .entry))) (decode (now (mission .entry)))) (decode (now (mission .entry)) .number) at h n p)
-        ⌝ }
-{
-    if address::path_number(address::path_form(p)) == 0 {
-        return refused(6);
-    }
-    let f = h.fields;
-    let from = at.address;
-    let qos = f.qos;
-    Asked {
-        refusal: 0,
-        target: Target::Path,
-        place: lookup::path_place(mission, p),
-        case: crate::ruling::case_of(state_board::router_of(board), at.set, f),
-        ready: 0,
-        destination: Destination::Other,
+        ready: l.ready,
+        destination: destination_of(x),
         number: state_mission::number_of(mission),
         precedence: meaning::asked::precedence_of(qos),
         arrival: from,
@@ -248,11 +297,7 @@ fn ask_header(board: &[u32], mission: &[u32], at: Arrival, h: Header, n: Renewal
     let Check::Passed = meaning::check_origin(meaning::origin_of(port, addresses)) else {
         return refused(6);
     };
-    match meaning::aim_of(port, addresses) {
-        Aim::Node(a) => ask_node(board, mission, at, h, n, a),
-        Aim::Path(p) => ask_path(board, mission, at, h, n, p),
-        Aim::Uncarried => refused(6),
-    }
+    ask_good(board, mission, at, h, n, meaning::aim_of(port, addresses))
 }
 
 // Steps 2 and 3, and what follows.

@@ -5,12 +5,13 @@
 // ports alone, or, where the header that came was not the shortest, the far ones alone.
 use address::Address;
 use header::Fields;
-use next_leg::Leg;
+use next_leg::Lengths;
 use survey::Sought;
 use verdict::Case;
 ghost use mathlib.Core.Path.{_≡_};
-ghost use Rattle.next_leg.specs.Leg.{Sound};
-ghost use Rattle.judge.specs.Ruling.{caseOf, soughtOf};
+ghost use Prim.Native.Nat.{_*_, _<_};
+ghost use Rattle.header.specs.Limits.{lengthLimit};
+ghost use Rattle.judge.specs.Ruling.{caseOf, soughtBy};
 
 // Where a datagram came in: the port as a set, and its address.
 pub struct Arrival {
@@ -34,16 +35,14 @@ pub fn case_of(router: u32, arrival: u32, f: Fields) -> Case
     }
 }
 
-// What is asked of the wanted ports.
-pub fn sought_of(l: Leg) -> Sought
-    requires { ⌜ Sound (l .header) ⌝ }
-    ensures { λ r. ⌜ r ≡ soughtOf l ⌝ }
+// What is asked of the wanted ports, with both lengths of the datagram.
+pub fn sought_of(arrival: Address, q: Lengths) -> Sought
+    requires { ⌜ (q .near < 2 * lengthLimit) × (q .far < 2 * lengthLimit) ⌝ }
+    ensures { λ r. ⌜ r ≡ soughtBy arrival q ⌝ }
 {
-    let arrival = l.arrival;
-    let h = l.header;
     Sought {
         domain: networks::domain_of(arrival),
-        near: next_leg::length_next(false, arrival, l.code, h) as u32,
-        far: next_leg::length_next(true, arrival, l.code, h) as u32,
+        near: q.near as u32,
+        far: q.far as u32,
     }
 }

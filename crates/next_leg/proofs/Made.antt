@@ -2,9 +2,8 @@
 use native.Mathlib.Omega.{arith}
 use Prim.Native.Nat.{ℕ, _+_, _*_, _-_, _≤_, _<_}
 use mathlib.Core.Path.{_≡_, sym, ap, _∙_}
-use mathlib.Core.Bool.{Bool, true, false, not, _&&_, _||_}
+use mathlib.Core.Bool.{Bool, true, false, _&&_, _||_}
 use mathlib.Core.List.{List}
-use lib.Dec.{eqb}
 use lib.ListN.{length}
 use borrow.Author.Tests.{eq-eqb, ne-eqb}
 use Rattle.checks.specs.Order.{pick}
@@ -129,10 +128,6 @@ module _ (far : Bool) (arrival code : ℕ) (h : Header) (octets lent : List ℕ)
 -- ---- the copies
 pub octets-none : (rewritten far : ℕ) (l : Leg) → rewritten ≡ 0 → 0 ≡ rewrittenOctets rewritten far l
 octets-none rewritten far l h = simp (eq-eqb rewritten 0 h)
-
-pub octets-some : (rewritten far : ℕ) (l : Leg) → (rewritten ≡ 0 → ⊥) → {f : Fields} {n : ℕ}
-    → f ≡ nextFields (not (eqb far 0)) (l .arrival .0) (l .code) (l .header .fields) → n ≡ sizeOf f → n ≡ rewrittenOctets rewritten far l
-octets-some rewritten far l h ef en = simp (ne-eqb rewritten 0 h) (en ∙ ap sizeOf ef)
 
 pub legs-none : (took domain : ℕ) (l : Leg) → took ≡ 0 → {x : Legs} → x ≡ noLegs → x ≡ legsOf took domain l
 unfolding legsOf

@@ -19,6 +19,7 @@ use Rattle.meaning.specs.Names.{filledIn}
 use Rattle.sets.specs.Sets.{inSet}
 use Rattle.verdict.specs.Rule.{exceptBy}
 use Rattle.next_leg.specs.declared.Leg.{Leg}
+use Rattle.next_leg.specs.declared.Lengths.{Lengths}
 use Rattle.next_leg.specs.declared.Legs.{Legs}
 
 -- ---- what a route asks for: "checksum or hop count (codes 1, 2, 4)"; page 01: "0 none, 1 checksum, 2 hop count, 4 both"
@@ -57,6 +58,14 @@ widened arrival (ExtendedPath p) = ExtendedPath p
 widened arrival (BasicEndSystem d s) = ExtendedEndSystem (record { 0 = filledIn arrival d }) (record { 0 = filledIn arrival s })
 widened arrival (ExtendedEndSystem d s) = ExtendedEndSystem d s
 widened arrival (Ipv6 d s) = Ipv6 d s
+
+-- the octets that this adds (law `wider-by`)
+abbrev pub widening : Addresses → ℕ
+widening (BasicPath z) = 0
+widening (ExtendedPath p) = 0
+widening (BasicEndSystem d s) = 6
+widening (ExtendedEndSystem d s) = 0
+widening (Ipv6 d s) = 0
 
 abbrev pub widens : Bool → Addresses → Bool
 widens far a = far && isNarrow a
@@ -105,6 +114,14 @@ nextSize far arrival code h = pick (rewrites far code (h .fields)) (sizeOf (next
 unfoldable pub nextLength : Bool → ℕ → ℕ → Header → ℕ
 nextLength far arrival code h = pick (rewrites far code (h .fields)) (sizeOf (nextFields far arrival code (h .fields)) + dataOf h) (h .length)
 
+-- of the copies of one datagram: for a port of the arrival port's domain, and for another
+abbrev pub nextLengths : Leg → Lengths
+nextLengths l =
+    record {
+      near = nextLength false (l .arrival .0) (l .code) (l .header);
+      far = nextLength true (l .arrival .0) (l .code) (l .header);
+    }
+
 -- the header's octets: "A rewritten header has the built form" (page 01); any other keeps the form in which it came
 unfoldable pub nextHeader : Bool → ℕ → ℕ → List ℕ → List ℕ
 nextHeader far arrival code octets =
@@ -133,6 +150,10 @@ rewrittenAmong took far code f = pick (adds code f) took (pick (isNarrow (f .add
 abbrev pub rewrittenOctets : ℕ → ℕ → Leg → ℕ
 rewrittenOctets rewritten far l =
     pick (eqb rewritten 0) 0 (sizeOf (nextFields (not (eqb far 0)) (l .arrival .0) (l .code) (l .header .fields)))
+
+-- the length of the datagram with it (law `octets-some`)
+abbrev pub lengthFor : ℕ → Lengths → ℕ
+lengthFor far q = pick (eqb far 0) (q .near) (q .far)
 
 -- where domain are the ports of the arrival port's domain
 unfoldable pub legsOf : ℕ → ℕ → Leg → Legs

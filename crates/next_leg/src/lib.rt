@@ -14,7 +14,9 @@ use header::Header;
 use header::Octet;
 use header::Renewal;
 ghost use mathlib.Core.Path.{_≡_};
+ghost use mathlib.Core.Bool.{true, false, not};
 ghost use Prim.Native.Nat.{_*_, _≤_, _<_};
+ghost use lib.Dec.{eqb};
 ghost use lib.ListN.{length};
 ghost use Rattle.octets.specs.Octets.{fronted};
 ghost use Rattle.header.specs.Limits.{longestHeader, lengthLimit};
@@ -36,12 +38,15 @@ ghost use Rattle.next_leg.specs.Leg.{
   checksumNext,
   addressesNext,
   nextFields,
+  widening,
   nextLength,
+  nextLengths,
   nextHeader,
   Sound,
   noLegs,
   rewrittenAmong,
   rewrittenOctets,
+  lengthFor,
   legsOf,
 };
 
@@ -54,6 +59,12 @@ pub struct Leg {
     pub arrival: Address,
     pub code: u32,
     pub header: Header,
+}
+
+// The octets of the datagram as a port of the arrival port's domain gets it, and as another does.
+pub struct Lengths {
+    pub near: usize,
+    pub far: usize,
 }
 
 // The headers of the copies that ports took: what they are made of; of these ports those in another domain, and those whose header is rewritten; and the
@@ -231,17 +242,52 @@ fn fields_next(far: bool, arrival: Address, code: u32, f: Fields) -> Fields
     }
 }
 
-// The octets of the datagram as the port gets it.
-pub fn length_next(far: bool, arrival: Address, code: u32, h: Header) -> usize
+// What the addresses grow by where they are widened: each of the two from one octet to four.
+fn widening_of(a: Addresses) -> usize
+    ensures { λ r. ⌜ r ≡ widening a ⌝ }
+{
+    match a {
+        Addresses::BasicPath(_) => 0,
+        Addresses::ExtendedPath(_) => 0,
+        Addresses::BasicEndSystem(_, _) => 6,
+        Addresses::ExtendedEndSystem(_, _) => 0,
+        Addresses::Ipv6(_, _) => 0,
+    }
+}
+
+// The octets of the datagram as a port of another domain gets it.
+fn length_far(arrival: Address, code: u32, h: Header) -> usize
     requires { ⌜ Sound h ⌝ }
-    ensures { λ r. ⌜ (r ≡ nextLength far (arrival .0) code h) × (r < 2 * lengthLimit) ⌝ }
+    ensures { λ r. ⌜ (r ≡ nextLength true (arrival .0) code h) × (r < 2 * lengthLimit) ⌝ }
 {
     let f = h.fields;
-    if is_rewritten(far, code, f) {
-        let size = builder::measure::header_size(fields_next(far, arrival, code, f));
+    if is_rewritten(true, code, f) {
+        let size = builder::measure::header_size(fields_next(true, arrival, code, f));
         return size + (h.length - h.size);
     }
     h.length
+}
+
+// Both lengths. A header is measured once at most, and not at all where no port's is rewritten: the two forms differ by their addresses alone.
+pub fn lengths_next(l: Leg) -> Lengths
+    requires { ⌜ Sound (l .header) ⌝ }
+    ensures { λ r. ⌜ (r ≡ nextLengths l) × ((r .near < 2 * lengthLimit) × (r .far < 2 * lengthLimit)) ⌝ }
+{
+    let h = l.header;
+    let f = h.fields;
+    let addresses = f.addresses;
+    let arrival = l.arrival;
+    let far = length_far(arrival, l.code, h);
+    if adds_any(l.code, f) {
+        return Lengths {
+            near: far - widening_of(addresses),
+            far,
+        };
+    }
+    Lengths {
+        near: h.length,
+        far,
+    }
 }
 
 // No port took a copy.
@@ -271,23 +317,35 @@ fn rewritten_among(took: u32, far: u32, code: u32, f: Fields) -> u32
     0
 }
 
-// The octets of the rewritten header: a datagram has one at most, since only a route asks for elements, and a route has one port.
-fn rewritten_octets(rewritten: u32, far: u32, l: Leg) -> usize
-    requires { ⌜ Sound (l .header) ⌝ }
+// The length where some of the ports lie in another domain, and where none does.
+fn length_for(far: u32, q: Lengths) -> usize
+    ensures { λ r. ⌜ r ≡ lengthFor far q ⌝ }
+{
+    if far == 0 {
+        return q.near;
+    }
+    q.far
+}
+
+// The octets of the rewritten header: a datagram has one at most, since only a route asks for elements, and a route has one port. It was measured
+// with the lengths, and is what they have besides the data.
+fn rewritten_octets(rewritten: u32, far: u32, l: Leg, q: Lengths) -> usize
+    requires { ⌜
+        Sound (l .header)
+        × ((q ≡ nextLengths l) × (eqb rewritten 0 ≡ false → rewrites (not (eqb far 0)) (l .code) (l .header .fields) ≡ true))
+        ⌝ }
     ensures { λ r. ⌜ r ≡ rewrittenOctets rewritten far l ⌝ }
 {
     if rewritten == 0 {
         return 0;
     }
     let h = l.header;
-    let f = h.fields;
-    let arrival = l.arrival;
-    builder::measure::header_size(fields_next(far != 0, arrival, l.code, f))
+    length_for(far, q) - (h.length - h.size)
 }
 
-// The headers of the copies that these ports took, where those of the domain are known.
-pub fn legs_of(took: u32, domain: u32, l: Leg) -> Legs
-    requires { ⌜ Sound (l .header) ⌝ }
+// The headers of the copies that these ports took, where those of the domain and both lengths are known.
+pub fn legs_of(took: u32, domain: u32, l: Leg, q: Lengths) -> Legs
+    requires { ⌜ Sound (l .header) × (q ≡ nextLengths l) ⌝ }
     ensures { λ r. ⌜ r ≡ legsOf took domain l ⌝ }
 {
     if took == 0 {
@@ -303,7 +361,7 @@ pub fn legs_of(took: u32, domain: u32, l: Leg) -> Legs
         code: l.code,
         far,
         rewritten,
-        octets: rewritten_octets(rewritten, far, l),
+        octets: rewritten_octets(rewritten, far, l, q),
     }
 }
 

@@ -1,8 +1,7 @@
 -- `judge::ask_header` meets its contract: the checks gone through one by one. Assumes nothing.
 use native.Mathlib.Omega.{arith}
 use Rattle.checks.proofs.Steps.{fails-here, passes}
-use Rattle.judge.proofs.Stages.{header-refused, source-refused, header-aimed, at-node, at-path}
-use Rattle.meaning.specs.declared.Aim.the-variants as aim
+use Rattle.judge.proofs.Stages.{header-refused, source-refused, header-aimed}
 use borrow.Author.Needs.{needs}
 use Rattle.judge.proofs.ask_header.Statement.{statement}
 use Rattle.judge.proofs.ask_header.Tie as tie
@@ -58,32 +57,11 @@ returns-3 c = source-refused _ _ _ _ _ (c .before .before .before .before .befor
 aim-of-requires : tie.Need-aim-of-requires
 aim-of-requires c κs = search needs
 
-enum-known-a : tie.Need-enum-known-a
-enum-known-a c = search needs
-
-ask-node-requires : tie.Need-ask-node-requires
-ask-node-requires c κs = search needs
-
-enum-known-p : tie.Need-enum-known-p
-enum-known-p c = search needs
-
-ask-path-requires : tie.Need-ask-path-requires
-ask-path-requires c κs = search needs
-
-enum-told-7 : tie.Need-enum-told-7
-enum-told-7 c = search needs
-
-refused-requires-4 : tie.Need-refused-requires-4
-refused-requires-4 c κs = search needs
+ask-good-requires : tie.Need-ask-good-requires
+ask-good-requires c κs = search needs
 
 returns-4 : tie.Need-returns-4
-returns-4 c = header-aimed _ _ _ _ _ (c .before .before .before .before .before .before .before .before .before .before .before .before .before .before .check-carried .ensures) (c .before .before .before .before .before .before .before .before .before .before .before .before .enum-told .given .1) (c .before .before .before .before .before .before .before .before .before .before .before .check-domain .ensures) (c .before .before .before .before .before .before .before .before .before .enum-told3 .given .1) (c .before .before .before .before .before .before .before .before .origin-of .ensures) (c .before .before .before .before .before .before .before .check-origin .ensures) (c .before .before .before .before .before .enum-told5 .given .1) _ (c .before .before .before .before .aim-of .ensures) (c .before .before .a .given .1) (at-node _ _ _ _ _ _ (c .ask-node .ensures))
-
-returns-5 : tie.Need-returns-5
-returns-5 c = header-aimed _ _ _ _ _ (c .before .before .before .before .before .before .before .before .before .before .before .before .before .before .check-carried .ensures) (c .before .before .before .before .before .before .before .before .before .before .before .before .enum-told .given .1) (c .before .before .before .before .before .before .before .before .before .before .before .check-domain .ensures) (c .before .before .before .before .before .before .before .before .before .enum-told3 .given .1) (c .before .before .before .before .before .before .before .before .origin-of .ensures) (c .before .before .before .before .before .before .before .check-origin .ensures) (c .before .before .before .before .before .enum-told5 .given .1) _ (c .before .before .before .before .aim-of .ensures) (c .before .before .p .given .1) (at-path _ _ _ _ _ _ (c .ask-path .ensures))
-
-returns-6 : tie.Need-returns-6
-returns-6 c = header-aimed _ _ _ _ _ (c .before .before .before .before .before .before .before .before .before .before .before .before .before .check-carried .ensures) (c .before .before .before .before .before .before .before .before .before .before .before .enum-told .given .1) (c .before .before .before .before .before .before .before .before .before .before .check-domain .ensures) (c .before .before .before .before .before .before .before .before .enum-told3 .given .1) (c .before .before .before .before .before .before .before .origin-of .ensures) (c .before .before .before .before .before .before .check-origin .ensures) (c .before .before .before .before .enum-told5 .given .1) aim.Uncarried (c .before .before .before .aim-of .ensures) (c .before .enum-told7 .given .1) (c .refused4 .ensures)
+returns-4 c = header-aimed _ _ _ _ _ (c .before .before .before .before .before .before .before .before .before .before .before .check-carried .ensures) (c .before .before .before .before .before .before .before .before .before .enum-told .given .1) (c .before .before .before .before .before .before .before .before .check-domain .ensures) (c .before .before .before .before .before .before .enum-told3 .given .1) (c .before .before .before .before .before .origin-of .ensures) (c .before .before .before .before .check-origin .ensures) (c .before .before .enum-told5 .given .1) (c .before .aim-of .ensures) (c .ask-good .ensures)
 
 pub ask-header-spec : {M : Type 1} → statement M
 ask-header-spec =
@@ -106,12 +84,5 @@ ask-header-spec =
     refused-requires-3
     returns-3
     aim-of-requires
-    enum-known-a
-    ask-node-requires
-    enum-known-p
-    ask-path-requires
-    enum-told-7
-    refused-requires-4
-    returns-4
-    returns-5
-    returns-6)
+    ask-good-requires
+    returns-4)

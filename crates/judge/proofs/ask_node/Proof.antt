@@ -1,6 +1,6 @@
 -- `judge::ask_node` meets its contract. Assumes nothing.
 use Rattle.state.specs.Layout.{decode}
-use Rattle.judge.proofs.Stages.{node-refused, node-asked}
+use Rattle.judge.proofs.Stages.{node-refused, node-looked}
 use borrow.Author.Needs.{needs}
 use Rattle.judge.proofs.ask_node.Statement.{statement}
 use Rattle.judge.proofs.ask_node.Tie as tie
@@ -11,11 +11,11 @@ class-of-requires c κs = search needs
 class-number-requires : tie.Need-class-number-requires
 class-number-requires c κs = search needs
 
-refused-requires : tie.Need-refused-requires
-refused-requires c κs = search needs
+not-looked-requires : tie.Need-not-looked-requires
+not-looked-requires c κs = search needs
 
 returns : tie.Need-returns
-returns c = node-refused _ (c .before .before .before .class-of .ensures) (c .before .before .class-number .ensures) _ (c .before .if1 .taken) (c .refused .ensures)
+returns c = node-refused _ (c .before .before .before .class-of .ensures) (c .before .before .class-number .ensures) _ (c .before .if1 .taken) (c .not-looked .ensures)
 
 number-of-requires : tie.Need-number-of-requires
 number-of-requires c κs = search needs
@@ -29,17 +29,8 @@ target-of-requires c κs = search needs
 place-for-requires : tie.Need-place-for-requires
 place-for-requires c κs = search needs
 
-router-of-requires : tie.Need-router-of-requires
-router-of-requires c κs = search needs
-
-case-of-requires : tie.Need-case-of-requires
-case-of-requires c κs = search needs
-
-precedence-of-requires : tie.Need-precedence-of-requires
-precedence-of-requires c κs = search needs
-
 returns-2 : tie.Need-returns-2
-returns-2 c = node-asked _ (c .before .before .before .before .before .before .before .before .before .before .before .class-of .ensures) (c .before .before .before .before .before .before .before .before .before .before .class-number .ensures) _ (decode (c .before .before .before .before .before .before .before .before .before .before .before .before .before .before .args .mission .now)) _ _ _ (c .before .before .before .before .before .before .before .before .before .if1 .left) (c .before .before .before .before .before .before .before .before .number-of .ensures) (c .before .before .before .before .before .before .before .named .ensures) (c .before .before .before .before .before .before .target-of .ensures) (c .before .before .before .before .before .place-for .ensures _) (c .before .before .router-of .ensures) (c .before .case-of .ensures) (c .precedence-of .ensures)
+returns-2 c = node-looked _ (c .before .before .before .before .before .before .class-of .ensures) (c .before .before .before .before .before .class-number .ensures) _ (decode (c .before .before .before .before .before .before .before .before .before .args .mission .now)) _ (c .before .before .before .before .if1 .left) (c .before .before .before .number-of .ensures) (c .before .before .named .ensures) (c .before .target-of .ensures) (c .place-for .ensures _)
 
 pub ask-node-spec : {M : Type 1} → statement M
 ask-node-spec =
@@ -47,13 +38,10 @@ ask-node-spec =
     (tie.spec
     class-of-requires
     class-number-requires
-    refused-requires
+    not-looked-requires
     returns
     number-of-requires
     named-requires
     target-of-requires
     place-for-requires
-    router-of-requires
-    case-of-requires
-    precedence-of-requires
     returns-2)

@@ -1,5 +1,6 @@
 -- `next_leg::legs_of` meets its contract. Assumes nothing.
 use Rattle.next_leg.proofs.Made.{legs-none, legs-made}
+use Rattle.next_leg.proofs.Measured.{among-rewrites}
 use borrow.Author.Needs.{needs}
 use Rattle.next_leg.proofs.legs_of.Statement.{statement}
 use Rattle.next_leg.proofs.legs_of.Tie as tie
@@ -17,7 +18,7 @@ rewritten-among-requires : tie.Need-rewritten-among-requires
 rewritten-among-requires c κs = search needs
 
 rewritten-octets-requires : tie.Need-rewritten-octets-requires
-rewritten-octets-requires c κs = search needs
+rewritten-octets-requires c κs = (c .before .before .before .before .before .before .pre .0, (c .before .before .before .before .before .before .pre .1, among-rewrites (c .before .before .before .before .before .before .args .took) (c .before .before .before .before .before .before .args .domain) (c .before .before .before .before .before .before .args .l) (c .before .before .before .before .except .ensures) (c .rewritten-among .ensures)))
 
 returns-2 : tie.Need-returns-2
 returns-2 c = legs-made _ _ _ (c .before .before .before .before .before .before .if1 .left) (c .before .before .before .before .before .except .ensures) (c .before .rewritten-among .ensures) (c .rewritten-octets .ensures)

@@ -1,9 +1,9 @@
--- `next_leg::length_next` meets its contract. Assumes nothing.
+-- `next_leg::length_far` meets its contract. Assumes nothing.
 use native.Mathlib.Omega.{arith}
 use Rattle.next_leg.proofs.Made.{next-small, length-kept, length-made}
 use borrow.Author.Needs.{needs}
-use Rattle.next_leg.proofs.length_next.Statement.{statement}
-use Rattle.next_leg.proofs.length_next.Tie as tie
+use Rattle.next_leg.proofs.length_far.Statement.{statement}
+use Rattle.next_leg.proofs.length_far.Tie as tie
 
 is-rewritten-requires : tie.Need-is-rewritten-requires
 is-rewritten-requires c κs = search needs
@@ -26,8 +26,8 @@ returns c = length-made _ _ _ _ (c .before .before .before .before .before .befo
 returns-2 : tie.Need-returns-2
 returns-2 c = length-kept _ _ _ _ (c .before .before .before .pre) (c .before .is-rewritten .ensures) (c .if1 .left)
 
-pub length-next-spec : {M : Type 1} → statement M
-length-next-spec =
+pub length-far-spec : {M : Type 1} → statement M
+length-far-spec =
     tie.close
     (tie.spec
     is-rewritten-requires
