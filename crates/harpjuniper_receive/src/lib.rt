@@ -11,7 +11,7 @@
 use routes::Record;
 ghost use Rattle.harpjuniper_receive.specs.Face.{Receives};
 
-// The verdict on the octets that came in by a port, carried out.
+// The verdict on the octets that came in by a port in a second, carried out.
 #[no_mangle]
 pub extern "C" fn hj_receive_at(
     board: &[u32],
@@ -19,13 +19,22 @@ pub extern "C" fn hj_receive_at(
     routes: &[Record],
     port: u32,
     slot: u16,
+    second: u32,
     octets: &[u8],
     output: &mut [u8],
 ) -> u64
-    ensures { λ r. ⌜ Receives (now (board .entry)) (now (mission .entry)) (now (routes .entry)) port slot (now (octets .entry)) (now (output .entry)) r (now (mission .exit)) (now (output .exit)) ⌝ }
+    ensures { λ r. ⌜ Receives (now (board .entry)) (now (mission .entry)) (now (routes .entry)) port slot second (now (octets .entry)) (now (output .entry)) r (now (mission .exit)) (now (output .exit)) ⌝ }
 {
-    let a = relay::before(board, mission, routes.len(), port, octets, output.len());
+    let a = relay::before(
+        board,
+        mission,
+        routes.len(),
+        port,
+        second,
+        octets,
+        output.len(),
+    );
     let q = relay::query_of(a);
     let s = list::scan(routes, q);
-    relay::after(board, mission, slot, octets, output, a, s)
+    relay::after(board, mission, slot, second, octets, output, a, s)
 }
