@@ -17,6 +17,7 @@ use Rattle.header.specs.declared.Found.{Found}
 use Rattle.header.specs.declared.Found.the-variants as found
 use Rattle.header.specs.declared.Read.the-variants as read
 use Rattle.header.proofs.FoundLaws.{found-good, found-refused}
+use Rattle.header.proofs.Refusals.{never-zero}
 use Rattle.meaning.specs.Names.{aimOf, badAim}
 use Rattle.meaning.specs.Flood.{pairOf}
 use Rattle.meaning.specs.Arrival.{arrivalChecks}
@@ -49,15 +50,10 @@ first-of test is (c ∷ cs) all some = by-first (c .0) (λ z. first-of test is c
     by-first false rest z = rest z
 
 -- ---- what is remembered
-module _ (second : ℕ) (k : Memory) where
-  -- of a refusal
-  pub unheard-left : (n : ℕ) → isUnheard n ≡ true → rememberedBy second (refusedAsked n) k ≡ k
-  unfolding rememberedBy
-  unheard-left n h = rw h
-
-  pub heard-refused : (n : ℕ) → isUnheard n ≡ false → rememberedBy second (refusedAsked n) k ≡ putLast k second
-  unfolding rememberedBy remembering
-  heard-refused n h = rw h
+-- of a refusal
+refused-kept : (second : ℕ) (k : Memory) (n : ℕ) (is : Bool) → (n ≡ 0 → ⊥) → isUnheard n ≡ is → rememberedBy second (refusedAsked n) k ≡ pick is k (putLast k second)
+unfolding rememberedBy
+refused-kept second k n is some e = rw (ne-eqb n 0 some, e)
 
 -- the reader's numbers are none of these
 read-heard : (s : List ℕ) (n : ℕ) → readOf s ≡ read.Refused n → isUnheard n ≡ false
@@ -101,12 +97,14 @@ module _ (r : Relay) (number second : ℕ) where
             let none = zero-none cs ((λ z. omega arith), ((λ z. omega arith), ((λ z. omega arith), ((λ z. omega arith), ((λ z. omega arith), tt))))) (eqb-true (firstOf cs) 0 e) in
             aim-kept x (none .1 .1 .0)
         by-number false e =
-            heard-refused second (r .memory) (firstOf cs)
-            (first-of isUnheard false cs (refl, (refl, (refl, (refl, (refl, tt))))) (eqb-false (firstOf cs) 0 e))
+            let some = eqb-false (firstOf cs) 0 e in
+            refused-kept second (r .memory) (firstOf cs) false some (first-of isUnheard false cs (refl, (refl, (refl, (refl, (refl, tt))))) some)
 
   octets-kept : (at : Arrival) (s : List ℕ) (x : Found) → foundOf s ≡ x → by (octetsAsked r number at x) ≡ octetsMemory r at second (readOf s)
   octets-kept at s (found.Good h n) e = rw (found-good s h n e .0) (header-kept at h n)
-  octets-kept at s (found.Refused n) e = rw (found-refused s n e) (heard-refused second (r .memory) n (read-heard s n (found-refused s n e)))
+  octets-kept at s (found.Refused n) e = 
+      rw (found-refused s n e)
+      (refused-kept second (r .memory) n false (λ z. never-zero s (found-refused s n e ∙ ap read.Refused z)) (read-heard s n (found-refused s n e)))
 
   -- by what was asked, what the definition of the whole says
   pub remembered-is : (port : ℕ) (octets : List ℕ) (room : ℕ) → by (datagramAsked r number port second octets room) ≡ memoryOf r port second octets room
@@ -121,4 +119,5 @@ module _ (r : Relay) (number second : ℕ) where
           ≡ pick t (octetsMemory r (arrivalAt r port) second (readOf octets)) (r .memory)
       by-number true e = octets-kept (arrivalAt r port) octets (foundOf octets) refl
       by-number false e =
-          unheard-left second (r .memory) (firstOf cs) (first-of isUnheard true cs (refl, (refl, (refl, tt))) (eqb-false (firstOf cs) 0 e))
+          let some = eqb-false (firstOf cs) 0 e in
+          refused-kept second (r .memory) (firstOf cs) true some (first-of isUnheard true cs (refl, (refl, (refl, tt))) some)

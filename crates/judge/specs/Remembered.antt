@@ -41,6 +41,10 @@ memoryOf r port second octets room =
 abbrev pub isUnheard : ℕ → Bool
 isUnheard n = eqb n 21 || (eqb n 16 || (eqb n 17 || eqb n 29))
 
+-- by a refusal the second alone
+abbrev pub refusedMemory : ℕ → ℕ → Memory → Memory
+refusedMemory second n k = pick (isUnheard n) k (putLast k second)
+
 unfoldable pub rememberedBy : ℕ → Asked → Memory → Memory
 rememberedBy second a k =
-    pick (isUnheard (a .refusal)) k (remembering (a .case .flood) (pairOf (a .arrival .0) (a .header .fields)) second k)
+    pick (eqb (a .refusal) 0) (remembering (a .case .flood) (pairOf (a .arrival .0) (a .header .fields)) second k) (refusedMemory second (a .refusal) k)

@@ -19,7 +19,7 @@ use Rattle.judge.specs.declared.Asked.{Asked}
 use Rattle.judge.specs.declared.Ending.{Ending}
 use Rattle.judge.specs.Ending.{refusedBy}
 use Rattle.judge.specs.Asked.{refusedAsked, datagramAsked, searchedIn, addressIn, finishedOf}
-use Rattle.judge.specs.Remembered.{rememberedBy}
+use Rattle.judge.specs.Remembered.{refusedMemory, rememberedBy}
 use Rattle.answers.specs.Answers.{receiveNumber}
 use Rattle.relay.specs.Outgoing.{sentOutput}
 use Rattle.relay.specs.Received.{receivedState}
@@ -65,7 +65,7 @@ Counted n = (n ≡ 16 → ⊥) × ((n ≡ 17 → ⊥) × ((n ≡ 21 → ⊥) × 
 
 abbrev pub wordsRefused : List ℕ → List ℕ → Slot → ℕ → ℕ → Lent State
 wordsRefused b w slot second n =
-    changedBoth (λ (x : Board) (y : State). receivedState x y slot (rememberedBy second (refusedAsked n) (y .memory)) (refusedBy n)) b w
+    changedBoth (λ (x : Board) (y : State). receivedState x y slot (refusedMemory second n (y .memory)) (refusedBy n)) b w
 
 -- what is asked was asked of these words and octets, in this second and with this room: by whatever count of routes, and whatever port
 pub record Following (b w : List ℕ) (second : ℕ) (octets : List ℕ) (room : ℕ) (a : Asked) : Type 0 where
