@@ -26,8 +26,10 @@ use Rattle.meaning.specs.declared.Aim.the-variants as aim
 use Rattle.state.specs.Relay.{Memory, putLast, Relay}
 use Rattle.verdict.specs.declared.Flood.{Flood}
 use Rattle.verdict.specs.declared.Flood.the-variants.{Plain}
-use Rattle.floods.specs.Memory.{remembering}
-use Rattle.judge.specs.Ruling.{floodFor}
+use Rattle.verdict.specs.declared.Target.the-variants as target
+use Rattle.floods.specs.Memory.{remembering, InPlaces}
+use Rattle.floods.proofs.Placed.{flood-in-places}
+use Rattle.judge.specs.Ruling.{targetAsked, floodFor}
 use Rattle.judge.specs.Ending.{callChecks, arrivalAt}
 use Rattle.judge.specs.Asked.{refusedAsked, elseAsked, nodeAsked, pathAsked, aimAsked, carriedAsked, octetsAsked, datagramAsked}
 use Rattle.judge.specs.Remembered.{headerMemory, octetsMemory, memoryOf, isUnheard, rememberedBy}
@@ -121,3 +123,30 @@ module _ (r : Relay) (number second : ℕ) where
       by-number false e =
           let some = eqb-false (firstOf cs) 0 e in
           refused-kept second (r .memory) (firstOf cs) true some (first-of isUnheard true cs (refl, (refl, (refl, tt))) some)
+
+-- ---- a place that a pair is kept in is one of the 64
+module _ (r : Relay) (number : ℕ) where
+  else-placed : (n : ℕ) (a : Asked) → InPlaces (a .case .flood) → InPlaces (elseAsked n a .case .flood)
+  else-placed n a h = by-number (eqb n 0)
+    where
+      by-number : (t : Bool) → InPlaces (pick t a (refusedAsked n) .case .flood)
+      by-number true = h
+      by-number false = tt
+
+  aim-placed : (at : Arrival) (h : Header) (n : Renewal) (x : Aim) → InPlaces (aimAsked r number at h n x .case .flood)
+  unfolding aimAsked nodeAsked pathAsked
+  aim-placed at h n (aim.Node a) = flood-in-places (r .router) (targetAsked r a) (r .memory) (at .address .0) (h .fields)
+  aim-placed at h n (aim.Path p) = flood-in-places (r .router) target.Path (r .memory) (at .address .0) (h .fields)
+  aim-placed at h n aim.Uncarried = tt
+
+  found-placed : (at : Arrival) (x : Found) → InPlaces (octetsAsked r number at x .case .flood)
+  unfolding carriedAsked
+  found-placed at (found.Good h n) =
+      else-placed (firstOf (arrivalChecks (at .address) (h .fields))) (aimAsked r number at h n (aimOf (at .address .0) (h .fields .addresses)))
+      (aim-placed at h n (aimOf (at .address .0) (h .fields .addresses)))
+  found-placed at (found.Refused n) = tt
+
+  pub asked-placed : (port second : ℕ) (octets : List ℕ) (room : ℕ) → InPlaces (datagramAsked r number port second octets room .case .flood)
+  unfolding datagramAsked
+  asked-placed port second octets room =
+      else-placed (firstOf (callChecks r port second room)) (octetsAsked r number (arrivalAt r port) (foundOf octets)) (found-placed (arrivalAt r port) (foundOf octets))
