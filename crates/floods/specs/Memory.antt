@@ -28,12 +28,12 @@ freePlace k = firstBelow (λ (i : ℕ). isFree (pairAt k i)) pairPlaces
 unfoldable pub soughtPair : Memory → Pair → Flood
 soughtPair k q = pick (isHeld k q) Unsent (pick (ltb (freePlace k) pairPlaces) (New (freePlace k)) Full)
 
--- ".. a port's address or limited broadcast": these are for this node, and no pair is looked up
+-- ".. a port's address or limited broadcast": these are for this node, and no pair is looked up. A path has no source, and a flood of it was refused by 28.
 abbrev pub unlessHere : Target → Flood → Flood
 unlessHere Here f = Unsent
 unlessHere Broadcast f = f
 unlessHere Group f = f
-unlessHere Path f = f
+unlessHere Path f = Plain
 unlessHere Route f = f
 
 -- "Onward, on a router": a host looks nothing up, and neither does one of a datagram that is not flooded; port is the arrival port's address

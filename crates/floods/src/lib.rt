@@ -71,7 +71,7 @@ fn seek_for(mission: &[u32], t: Target, port: Address, f: Fields) -> Flood
         Target::Here => Flood::Unsent,
         Target::Broadcast => seek(mission, meaning::flood::pair_of(port, f)),
         Target::Group => seek(mission, meaning::flood::pair_of(port, f)),
-        Target::Path => seek(mission, meaning::flood::pair_of(port, f)),
+        Target::Path => Flood::Plain,
         Target::Route => seek(mission, meaning::flood::pair_of(port, f)),
     }
 }
