@@ -1,61 +1,68 @@
+-- `floods::seek` meets its contract: no place below i holds the pair, and free is the lowest free one of them. Assumes nothing.
+use native.Mathlib.Omega.{arith}
+use Prim.Native.Nat.{ℕ, _-_, _≤_}
+use mathlib.Core.Path.{_≡_, refl}
+use mathlib.Core.Bool.{false}
+use Rattle.sets.specs.Sets.{anyBelow, firstBelow}
+use Rattle.records.specs.Held.{holdsPair, isFree}
+use Rattle.state.specs.Layout.{decode}
+use Rattle.state.specs.Relay.{pairAt}
+use Rattle.floods.proofs.Seeking.{held-there, not-there, free-further, none-free, one-free}
 use borrow.Author.Needs.{needs}
 use Rattle.floods.proofs.seek.Statement.{statement}
 use Rattle.floods.proofs.seek.Tie as tie
-use Rattle.floods.proofs.seek.Reads as reads
-use Rattle.floods.proofs.seek.Lts as lts
-use Rattle.floods.proofs.free_next.Reads as free-next-reads
-use Rattle.records.proofs.holds_pair.Reads as holds-pair-reads
-use Rattle.state_pairs.proofs.pair_of.Reads as pair-of-reads
 
 abbrev Inv-loop : tie.InvT-loop
-Inv-loop mission q free₀ i₀ free i = ?
+Inv-loop mission q free₀ i₀ free i = (i ≤ 64) × ((anyBelow (λ (j : ℕ). holdsPair (pairAt (decode mission .memory) j) q) i ≡ false) × (free ≡ firstBelow (λ (j : ℕ). isFree (pairAt (decode mission .memory) j)) i))
 
 abbrev μ-loop : tie.MeasureT-loop
-μ-loop mission q free₀ i₀ free i = ?
+μ-loop mission q free₀ i₀ free i = 64 - i
 
--- src/lib.rt:51:5
 loop-holds : tie.Need-loop-holds Inv-loop μ-loop
-loop-holds c = search needs
+loop-holds c = (omega arith, (refl, refl))
 
--- src/lib.rt:52:13
 pair-of-requires : tie.Need-pair-of-requires Inv-loop μ-loop
 pair-of-requires c κs = search needs
 
--- src/lib.rt:53:12
 holds-pair-requires : tie.Need-holds-pair-requires Inv-loop μ-loop
 holds-pair-requires c κs = search needs
 
--- src/lib.rt:54:13
 returns : tie.Need-returns Inv-loop μ-loop
-returns c = search needs
+returns c = held-there (decode (c .before .before .before .before .before .before .args .mission .now) .memory) (c .before .before .before .before .before .before .args .q) (c .before .before .before .before .loop .i) (c .before .before .pair-of .ensures)
+    (c .before .before .before .loop-test .taken) (c .before .holds-pair .ensures) (c .if1 .taken)
 
--- src/lib.rt:56:9
 free-next-requires : tie.Need-free-next-requires Inv-loop μ-loop
 free-next-requires c κs = search needs
 
--- src/lib.rt:57:9
 add-i : tie.Need-add-i Inv-loop μ-loop
 add-i c = search needs
 
--- src/lib.rt:51:5
 loop-less : tie.Need-loop-less Inv-loop μ-loop
 loop-less c = search needs
 
--- src/lib.rt:51:5
 loop-again : tie.Need-loop-again Inv-loop μ-loop
-loop-again c = search needs
+loop-again c = let start = c .before .before .before .before .before .before .before in
+    let at = c .before .before .before .before .before .loop in
+    let k = decode (start .args .mission .now) .memory in (
+      omega arith,
+      (
+        not-there k (start .args .q) (at .i) (c .before .before .before .pair-of .ensures) (at .inv .1 .0) (c .before .before .holds-pair .ensures) (c .before .if1 .left),
+        free-further k (at .i) (c .before .before .before .pair-of .ensures) (at .inv .1 .1) (c .free-next .ensures),
+      ),
+    )
 
--- src/lib.rt:60:9
 returns-2 : tie.Need-returns-2 Inv-loop μ-loop
-returns-2 c = search needs
+returns-2 c = let start = c .before .before .before .before in
+    let at = c .before .before .loop in
+    none-free (decode (start .args .mission .now) .memory) (start .args .q) (c .before .loop-test .left) (at .inv .0) (at .inv .1 .0) (at .inv .1 .1) (c .if2 .taken)
 
--- src/lib.rt:62:16
 cast-t9 : tie.Need-cast-t9 Inv-loop μ-loop
 cast-t9 c = search needs
 
--- src/lib.rt:45:1
 returns-3 : tie.Need-returns-3 Inv-loop μ-loop
-returns-3 c = search needs
+returns-3 c = let start = c .before .before .before .before in
+    let at = c .before .before .loop in
+    one-free (decode (start .args .mission .now) .memory) (start .args .q) (c .before .loop-test .left) (at .inv .0) (at .inv .1 .0) (at .inv .1 .1) (c .if2 .left)
 
 pub seek-spec : {M : Type 1} → statement M
 seek-spec =

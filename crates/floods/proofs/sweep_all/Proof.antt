@@ -1,43 +1,42 @@
+-- `floods::sweep_all` meets its contract: after i turns the first i places are swept. Assumes nothing.
+use native.Mathlib.Omega.{arith}
+use Prim.Native.Nat.{_-_, _≤_}
+use mathlib.Core.Path.{_≡_, refl}
+use lib.ListN.{length}
+use Rattle.state.specs.Seen.{onMemory}
+use Rattle.state.specs.Layout.{missionWords, decode}
+use Rattle.floods.specs.Sweep.{sweptBelow}
+use Rattle.floods.proofs.Sweeping.{one-further, all-passed}
 use borrow.Author.Needs.{needs}
 use Rattle.floods.proofs.sweep_all.Statement.{statement}
 use Rattle.floods.proofs.sweep_all.Tie as tie
-use Rattle.floods.proofs.sweep_all.Reads as reads
-use Rattle.floods.proofs.sweep_all.Lts as lts
-use Rattle.floods.proofs.sweep_at.Reads as sweep-at-reads
 
 abbrev Inv-loop : tie.InvT-loop
-Inv-loop mission₀ lifetime second i₀ mission i = ?
+Inv-loop mission₀ lifetime second i₀ mission i = (i ≤ 64) × ((length mission ≡ missionWords) × (decode mission ≡ onMemory (λ k. sweptBelow lifetime second k i) (decode mission₀)))
 
 abbrev μ-loop : tie.MeasureT-loop
-μ-loop mission₀ lifetime second i₀ mission i = ?
+μ-loop mission₀ lifetime second i₀ mission i = 64 - i
 
--- src/lib.rt:155:5
 loop-holds : tie.Need-loop-holds Inv-loop μ-loop
-loop-holds c = search needs
+loop-holds c = (omega arith, (c .before .pre, refl))
 
--- src/lib.rt:156:9
 sweep-at-requires : tie.Need-sweep-at-requires Inv-loop μ-loop
 sweep-at-requires c κs = search needs
 
--- src/lib.rt:157:9
 add-i : tie.Need-add-i Inv-loop μ-loop
 add-i c = search needs
 
--- src/lib.rt:155:5
 loop-less : tie.Need-loop-less Inv-loop μ-loop
 loop-less c = search needs
 
--- src/lib.rt:155:5
 loop-again : tie.Need-loop-again Inv-loop μ-loop
-loop-again c = search needs
+loop-again c = (omega arith, (search needs, one-further _ _ _ _ (c .before .before .before .before .before .loop .inv .1 .1) (c .before .before .sweep-at .ensures)))
 
--- src/lib.rt:150:1
 same-length : tie.Need-same-length Inv-loop μ-loop
 same-length c = search needs
 
--- src/lib.rt:150:1
 returns : tie.Need-returns Inv-loop μ-loop
-returns c = search needs
+returns c = all-passed _ _ _ _ (c .loop-test .left) (c .before .loop .inv .0) (c .before .loop .inv .1 .1)
 
 pub sweep-all-spec : {M : Type 1} → statement M
 sweep-all-spec =
