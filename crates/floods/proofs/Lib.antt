@@ -3,3 +3,4 @@ pub mod Seeking
 pub mod Keeping
 pub mod Swept
 pub mod Sweeping
+pub mod Placed
