@@ -9,7 +9,7 @@ use Rattle.verdict.specs.declared.Flood.the-variants.{Plain, Unsent, Full, New}
 use Rattle.floods.specs.Memory.{kept, remembering}
 
 -- nothing, unless the pair is new
-kept-none : (f : Flood) (q : Pair) (second : ℕ) (k : Memory) → ((place : ℕ) → f ≡ New place → ⊥) → k ≡ kept f q second k
+pub kept-none : (f : Flood) (q : Pair) (second : ℕ) (k : Memory) → ((place : ℕ) → f ≡ New place → ⊥) → k ≡ kept f q second k
 kept-none Plain q second k h = refl
 kept-none Unsent q second k h = refl
 kept-none Full q second k h = refl

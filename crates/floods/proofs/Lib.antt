@@ -1,5 +1,8 @@
--- What a mission's pairs remember, and what a sweep leaves, Swept; Seeking, Keeping and Sweeping serve the code's proofs.
+-- The laws of a mission's pairs. To be read: what the pairs say of a datagram, Sought; what is held after one, Held; what a sweep leaves, Swept. Seeking, Keeping
+-- and Sweeping serve the code's proofs.
 pub mod Seeking
 pub mod Keeping
 pub mod Swept
 pub mod Sweeping
+pub mod Sought
+pub mod Held
