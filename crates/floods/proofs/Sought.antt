@@ -41,7 +41,7 @@ module _ (k : Memory) where
   unfolding freePlace
   all-held h = first-none (λ (i : ℕ). isFree (pairAt k i)) 64 h
 
-  -- and a free place is not below it
+  -- and where one is free it is one of the 64
   pub free-below : (i : ℕ) → i < 64 → isFree (pairAt k i) ≡ true → freePlace k < 64
   free-below i h is =
       by-cases (decLe (freePlace k) i) (λ l. omega arith) (λ g. true-false (sym is ∙ none-lower i (lt-of-not-le g)))
@@ -77,7 +77,7 @@ module _ (k : Memory) (q : Pair) where
       let inside : freePlace k < 64 = ltb-true (freePlace k) 64 (told .1 .0) in
       (told .1 .1, (rw (told .1 .1) inside, (rw (told .1 .1) (free-there k inside), told .0)))
 
-  -- a pair that is not held gets a place wherever one is free, and so one that was freed "is used again"
+  -- a pair that is not held gets a place wherever one is free: "freed places are used again"
   pub sought-free : (i : ℕ) → i < 64 → isFree (pairAt k i) ≡ true → isHeld k q ≡ false → soughtPair k q ≡ New (freePlace k)
   unfolding soughtPair
   sought-free i h is unheld = rw (unheld, lt-ltb (freePlace k) 64 (free-below k i h is))
@@ -109,6 +109,7 @@ unless-in-places Group f h = h
 unless-in-places Path f h = tt
 unless-in-places Route f h = h
 
+-- and so where anything is said of a datagram
 pub flood-in-places : (router : ℕ) (t : Target) (k : Memory) (port : ℕ) (f : Fields) → InPlaces (floodOf router t k port f)
 unfolding floodOf
 flood-in-places router t k port f =

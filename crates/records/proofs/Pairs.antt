@@ -1,4 +1,4 @@
--- Two pairs are the same exactly where a place that holds the one holds the other: page 02, W-207 ("pairs of source and timestamp, format included");
+-- What is told to be the same pair is the same pair, and what a place holds is its own pair alone: page 02, W-207 ("pairs of source and timestamp, format included");
 -- ruling 25: source, format and all octets of the timestamp, and nothing else. Assumes nothing.
 use Prim.Native.Nat.{ℕ}
 use mathlib.Core.Path.{_≡_, refl, ap, _∙_}
