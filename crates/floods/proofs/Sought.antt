@@ -6,23 +6,17 @@ use native.Mathlib.Nat.{lt-of-not-le}
 use Prim.Native.Nat.{ℕ, _<_}
 use mathlib.Core.Path.{_≡_, refl, sym, _∙_}
 use mathlib.Core.Logic.{_↔_, by-cases}
-use mathlib.Core.Bool.{Bool, true, false, not, _&&_}
-use lib.Dec.{eqb, ltb}
+use mathlib.Core.Bool.{Bool, true, false}
+use lib.Dec.{ltb}
 use borrow.Author.Tests.{ltb-true, ltb-false, lt-ltb}
 use Rattle.checks.specs.Order.{pick}
 use Rattle.checks.proofs.Bools.{true-false}
-use Rattle.checks.proofs.Laws.{either}
 use Rattle.sets.proofs.First.{first-holds, first-before, first-none}
 use Rattle.records.specs.Held.{isFree}
 use Rattle.records.specs.declared.Pair.{Pair}
 use Rattle.state.specs.Relay.{Memory, pairAt}
-use Rattle.header.specs.declared.Fields.{Fields}
-use Rattle.meaning.specs.Flood.{isFlooded, pairOf}
-use Rattle.verdict.specs.declared.Flood.{Flood}
 use Rattle.verdict.specs.declared.Flood.the-variants.{Unsent, Full, New}
-use Rattle.verdict.specs.declared.Target.{Target}
-use Rattle.verdict.specs.declared.Target.the-variants.{Here, Broadcast, Group, Path, Route}
-use Rattle.floods.specs.Memory.{isHeld, freePlace, soughtPair, unlessHere, floodOf, InPlaces}
+use Rattle.floods.specs.Memory.{isHeld, freePlace, soughtPair}
 
 -- ---- the lowest free place
 module _ (k : Memory) where
@@ -64,10 +58,6 @@ module _ (n : ℕ) where
   full-case false true e = true-false cc
   full-case false false e = (refl, refl)
 
-  placed : (u : Bool) → ltb n 64 ≡ u → InPlaces (pick u (New n) Full)
-  placed true e = ltb-true n 64 e
-  placed false e = tt
-
 module _ (k : Memory) (q : Pair) where
   -- "else the pair is kept": in the lowest free place, where the pair is not held
   pub sought-new : {i : ℕ} → soughtPair k q ≡ New i → (i ≡ freePlace k) × ((i < 64) × ((isFree (pairAt k i) ≡ true) × (isHeld k q ≡ false)))
@@ -96,21 +86,3 @@ module _ (k : Memory) (q : Pair) where
         (told .0, λ i h. none-lower k i (omega (arith, ltb-false (freePlace k) 64 (told .1)))),
     λ both. rw (both .0, all-held k (both .1)),
   )
-
-  -- a place that is said is one of the 64
-  pub sought-in-places : InPlaces (soughtPair k q)
-  unfolding soughtPair
-  sought-in-places = either InPlaces (isHeld k q) tt (placed (freePlace k) (ltb (freePlace k) 64) refl)
-
-unless-in-places : (t : Target) (f : Flood) → InPlaces f → InPlaces (unlessHere t f)
-unless-in-places Here f h = tt
-unless-in-places Broadcast f h = h
-unless-in-places Group f h = h
-unless-in-places Path f h = tt
-unless-in-places Route f h = h
-
--- and so where anything is said of a datagram
-pub flood-in-places : (router : ℕ) (t : Target) (k : Memory) (port : ℕ) (f : Fields) → InPlaces (floodOf router t k port f)
-unfolding floodOf
-flood-in-places router t k port f =
-    either InPlaces (isFlooded f && not (eqb router 0)) (unless-in-places t _ (sought-in-places k (pairOf port f))) tt
