@@ -9,7 +9,7 @@ use Rattle.verdict.specs.declared.Flood.the-variants.{Plain, Unsent, Full, New}
 use Rattle.floods.specs.Memory.{kept, remembering}
 
 -- nothing, unless the pair is new
-kept-none : (f : Flood) (q : Pair) (second : ℕ) (k : Memory) → ((place : ℕ) → f ≡ New place → ⊥) → k ≡ kept f q second k
+pub kept-none : (f : Flood) (q : Pair) (second : ℕ) (k : Memory) → ((place : ℕ) → f ≡ New place → ⊥) → k ≡ kept f q second k
 kept-none Plain q second k h = refl
 kept-none Unsent q second k h = refl
 kept-none Full q second k h = refl
@@ -20,12 +20,12 @@ module _ (f : Flood) (q : Pair) (second : ℕ) (s : State) where
   nothing-kept h = ap (λ (k : Memory). onMemory (λ l. k) s) (kept-none f q second (s .memory) h)
 
   pub pair-kept :
-      {place : ℕ} {t : State} → f ≡ New place → t ≡ onMemory (λ k. putPair k place (record { pair = q; second = second })) s
+      {place : ℕ} {p : Pair} {t : State} → f ≡ New place → p ≡ q
+      → t ≡ onMemory (λ k. putPair k place (record { pair = p; second = second })) s
       → t ≡ onMemory (kept f q second) s
-  pair-kept e told = rw e told
+  pair-kept e same told = rw (e, ← same) told
 
   pub second-kept :
-      {p : Pair} {t u : State} → p ≡ q → t ≡ onMemory (λ k. putLast k second) s → u ≡ onMemory (kept f p second) t
-      → u ≡ onMemory (remembering f q second) s
+      {t u : State} → t ≡ onMemory (λ k. putLast k second) s → u ≡ onMemory (kept f q second) t → u ≡ onMemory (remembering f q second) s
   unfolding remembering
-  second-kept ep et eu = eu ∙ ap (onMemory (kept f _ second)) et ∙ ap (λ (x : Pair). onMemory (λ k. kept f x second (putLast k second)) s) ep
+  second-kept et eu = eu ∙ ap (onMemory (kept f q second)) et

@@ -5,15 +5,14 @@ use Prim.Native.Nat.{ℕ, _+_, _-_, _≤_, _<_}
 use mathlib.Core.Path.{_≡_, sym, ap, _∙_}
 use mathlib.Core.Bool.{Bool, true, false, not}
 use lib.ListN.{length}
-use borrow.Author.Tests.{ne-eqb, lt-ltb, le-ltb, not-true, not-false}
+use borrow.Author.Tests.{ne-eqb, le-ltb, not-true, not-false}
 use Rattle.checks.specs.Order.{firstOf}
-use Rattle.checks.proofs.Steps.{holds-here, holds-not, none-left}
 use Rattle.records.specs.Fresh.{freshPair}
 use Rattle.records.specs.declared.PairPlace.{PairPlace}
 use Rattle.state.specs.Relay.{Memory, pairAt, putPair, putLast}
 use Rattle.state.specs.Seen.{State, onMemory}
 use Rattle.floods.specs.Sweep.{isOld, sweptAt, sweptBelow, sweepChecks, sweptMemory}
-use Rattle.floods.proofs.Swept.{swept-all}
+use Rattle.floods.proofs.Swept.{swept-all, past-sweep, accepted-sweep}
 
 module _ (lifetime second : ℕ) where
   -- a pair younger than the sweep has no age
@@ -53,24 +52,20 @@ module _ (lifetime second : ℕ) where
 
   -- ---- the whole call
   module _ (s : State) {last : ℕ} (told : last ≡ s .memory .last) where
-    -- "a second under the last accepted one (0 at first) refuses a .. sweep with 29"
     pub past : second < last → (29 ≡ firstOf (sweepChecks (s .memory) second)) × (s ≡ onMemory (sweptMemory lifetime second) s)
-    unfolding sweptMemory
     past h =
-        let no : 29 ≡ firstOf (sweepChecks (s .memory) second) = holds-here _ _ _ (lt-ltb second (s .memory .last) (rw told at h)) in
-        (no, rw (← no))
+        let both = past-sweep lifetime second (s .memory) (rw told at h) in
+        (sym (both .0), ap (λ (k : Memory). onMemory (λ m. k) s) (sym (both .1)))
 
-    -- "any other second is accepted at that point"
     pub accepted :
         {t u : State} → last ≤ second → length (s .memory .pairs) ≡ 64
         → t ≡ onMemory (λ k. putLast k second) s
         → u ≡ onMemory (λ k. sweptBelow lifetime second k 64) t
         → (0 ≡ firstOf (sweepChecks (s .memory) second)) × (u ≡ onMemory (sweptMemory lifetime second) s)
-    unfolding sweptMemory
     accepted h l et eu =
-        let yes : 0 ≡ firstOf (sweepChecks (s .memory) second) = holds-not _ _ _ (le-ltb second (s .memory .last) (rw told at h)) none-left in (
-          yes,
+        let both = accepted-sweep lifetime second (s .memory) (rw told at h) in (
+          sym (both .0),
           eu
               ∙ ap (onMemory (λ k. sweptBelow lifetime second k 64)) et
-              ∙ rw (← yes) (ap (λ (k : Memory). onMemory (λ m. k) s) (swept-all lifetime second (s .memory) l)),
+              ∙ ap (λ (k : Memory). onMemory (λ m. k) s) (swept-all lifetime second (s .memory) l ∙ sym (both .1)),
         )

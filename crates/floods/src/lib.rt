@@ -90,15 +90,16 @@ pub fn flood_of(mission: &[u32], router: u32, t: Target, port: Address, f: Field
     seek_for(mission, t, port, f)
 }
 
-// A pair kept in its place with its second.
-fn keep(mission: &mut [u32], f: Flood, q: Pair, second: u32)
+// The pair of a datagram kept in its place with its second, where it is new. No other datagram pays for making a pair.
+fn keep(mission: &mut [u32], f: Flood, port: Address, fields: Fields, second: u32)
     requires { ⌜ (length (now mission) ≡ missionWords) × InPlaces f ⌝ }
-    ensures { λ _. ⌜ decode (now (mission .exit)) ≡ onMemory (kept f q second) (decode (now (mission .entry))) ⌝ }
+    ensures { λ _. ⌜ decode (now (mission .exit)) ≡ onMemory (kept f (pairOf (port .0) fields) second) (decode (now (mission .entry))) ⌝ }
 {
     let Flood::New(place) = f else {
         return;
     };
-    state_pairs::put_pair(mission, place as usize, PairPlace { pair: q, second });
+    let pair = meaning::flood::pair_of(port, fields);
+    state_pairs::put_pair(mission, place as usize, PairPlace { pair, second });
 }
 
 // The second accepted, and the pair of a datagram kept where it is new.
@@ -107,7 +108,7 @@ pub fn remember(mission: &mut [u32], f: Flood, port: Address, fields: Fields, se
     ensures { λ _. ⌜ decode (now (mission .exit)) ≡ onMemory (remembering f (pairOf (port .0) fields) second) (decode (now (mission .entry))) ⌝ }
 {
     state_pairs::put_last(mission, second);
-    keep(mission, f, meaning::flood::pair_of(port, fields), second);
+    keep(mission, f, port, fields, second);
 }
 
 // Whether a sweep at this second frees a place.

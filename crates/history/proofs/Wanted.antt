@@ -7,10 +7,11 @@ use mathlib.Core.Bool.{Bool, true, false, not, _&&_}
 use mathlib.Core.Logic.{⊎-elim}
 use mathlib.Core.List.{List}
 use lib.Dec.{eqb, ltb}
-use borrow.Author.Tests.{eqb-false, ltb-true}
+use borrow.Author.Tests.{ltb-true}
 use Rattle.checks.specs.Order.{pick}
 use Rattle.checks.proofs.Bools.{true-false, and-true, or-false, and-not-false}
-use Rattle.sets.specs.Sets.{inSet, firstBelow}
+use Rattle.sets.specs.Sets.{inSet}
+use Rattle.sets.proofs.First.{first-holds}
 use Rattle.settings.specs.Sets.{isReady, namesOther, setRefused}
 use Rattle.address.specs.declared.Address.{Address}
 use Rattle.address.specs.declared.PathAddress.{PathAddress}
@@ -51,27 +52,6 @@ use Rattle.history.specs.Outcome.{seatAfter}
 use Rattle.history.proofs.Ports.{ready-is}
 use Rattle.history.proofs.Reach.{Kept, kept-after}
 use Rattle.survey.proofs.Bits.{in-except, in-gathered, only-that}
-
--- ---- the first place that a test holds at
-first-case : (test : ℕ → Bool) (i : ℕ) (f : ℕ) (t u : Bool) → eqb f i ≡ t → test i ≡ u → f ≤ i → (f < i → test f ≡ true)
-    → pick t (pick u i (suc i)) f < suc i → test (pick t (pick u i (suc i)) f) ≡ true
-first-case test i f true true e k l ih h = k
-first-case test i f true false e k l ih h = absurd (omega arith)
-first-case test i f false u e k l ih h = ih (⊎-elim (λ z. absurd (eqb-false f i e z)) (λ z. z) (eq-or-lt-of-le l))
-
-below-case : (i f : ℕ) (t u : Bool) → f ≤ i → pick t (pick u i (suc i)) f ≤ suc i
-below-case i f true true l = omega arith
-below-case i f true false l = omega arith
-below-case i f false u l = omega arith
-
-first-at-most : (test : ℕ → Bool) (n : ℕ) → firstBelow test n ≤ n
-first-at-most test zero = omega arith
-first-at-most test (suc i) = below-case i (firstBelow test i) (eqb (firstBelow test i) i) (test i) (first-at-most test i)
-
-pub first-holds : (test : ℕ → Bool) (n : ℕ) → firstBelow test n < n → test (firstBelow test n) ≡ true
-first-holds test zero h = absurd (omega arith)
-first-holds test (suc i) h =
-    first-case test i (firstBelow test i) (eqb (firstBelow test i) i) (test i) refl refl (first-at-most test i) (first-holds test i) h
 
 -- ---- a set that is not refused names ports that are ready
 names-ready : (k s ready p : ℕ) → namesOther k s ready ≡ false → p < k → inSet p s ≡ true → isReady p ready ≡ true

@@ -7,9 +7,6 @@ use Rattle.floods.proofs.remember.Tie as tie
 put-last-requires : tie.Need-put-last-requires
 put-last-requires c κs = search needs
 
-pair-of-requires : tie.Need-pair-of-requires
-pair-of-requires c κs = search needs
-
 keep-requires : tie.Need-keep-requires
 keep-requires c κs = search needs
 
@@ -17,8 +14,7 @@ same-length : tie.Need-same-length
 same-length c = search needs
 
 returns : tie.Need-returns
-returns c = second-kept (c .before .before .before .before .before .before .before .before .before .before .args .f) _ _ _ (c .before .before .before .pair-of .ensures) (c .before .before .before .before .before .before .before .put-last .ensures) (c .before .before .keep .ensures)
+returns c = second-kept (c .before .before .before .before .before .before .before .before .before .args .f) _ _ _ (c .before .before .before .before .before .before .put-last .ensures) (c .before .before .keep .ensures)
 
 pub remember-spec : {M : Type 1} → statement M
-remember-spec =
-    tie.close (tie.spec put-last-requires pair-of-requires keep-requires same-length returns)
+remember-spec = tie.close (tie.spec put-last-requires keep-requires same-length returns)
