@@ -238,7 +238,8 @@ pub fn after(
     let fields = header.fields;
     let renewal = a.renewal;
     let arrival = a.arrival;
-    let flood = a.case.flood;
+    let case = a.case;
+    let flood = case.flood;
     let way = way_in(s);
     let e = judge::finishing::finish(board, mission, a, way);
     let answer = carry_out(mission, Slot(slot), octets, output, e, header, renewal);

@@ -1,52 +1,48 @@
+-- `relay::refuse` meets its contract. Assumes nothing.
+use mathlib.Core.Path.{_≡_, ap, _∙_}
+use lib.ListN.{length}
+use Rattle.state.specs.Layout.{missionWords}
+use Rattle.answers.specs.Answers.{receiveNumber}
+use Rattle.relay.specs.Split.{Counted}
+use Rattle.relay.proofs.Received.{refused-counted, idle-16, idle-17, idle-21, idle-29}
 use borrow.Author.Needs.{needs}
 use Rattle.relay.proofs.refuse.Statement.{statement}
 use Rattle.relay.proofs.refuse.Tie as tie
-use Rattle.relay.proofs.refuse.Reads as reads
-use Rattle.relay.proofs.refuse.Lts as lts
-use Rattle.answers.proofs.receive_number.Reads as receive-number-reads
-use Rattle.judge.proofs.ended_by.Reads as ended-by-reads
-use Rattle.state_pairs.proofs.put_last.Reads as put-last-reads
-use Rattle.tally.proofs.count.Reads as count-reads
 
--- src/lib.rt:164:9
 ended-by-requires : tie.Need-ended-by-requires
 ended-by-requires c κs = search needs
 
--- src/lib.rt:165:9
 receive-number-requires : tie.Need-receive-number-requires
 receive-number-requires c κs = search needs
 
--- src/lib.rt:167:9
 returns : tie.Need-returns
-returns c = search needs
+returns c = (c .before .receive-number .ensures ∙ ap receiveNumber (c .before .before .ended-by .ensures), λ b slot k. idle-16 _ b _ slot _ (c .if1 .taken))
 
--- src/lib.rt:170:9
 returns-2 : tie.Need-returns-2
-returns-2 c = search needs
+returns-2 c = (c .before .before .receive-number .ensures ∙ ap receiveNumber (c .before .before .before .ended-by .ensures), λ b slot k. idle-17 _ b _ slot _ (c .if2 .taken))
 
--- src/lib.rt:173:9
 returns-3 : tie.Need-returns-3
-returns-3 c = search needs
+returns-3 c = (c .before .before .before .receive-number .ensures ∙ ap receiveNumber (c .before .before .before .before .ended-by .ensures), λ b slot k. idle-21 _ b _ slot _ (c .if3 .taken))
 
--- src/lib.rt:176:9
 returns-4 : tie.Need-returns-4
-returns-4 c = search needs
+returns-4 c = (c .before .before .before .before .receive-number .ensures ∙ ap receiveNumber (c .before .before .before .before .before .ended-by .ensures), λ b slot k. idle-29 _ b _ slot _ (c .if4 .taken))
 
--- src/lib.rt:178:5
 count-requires : tie.Need-count-requires
-count-requires c κs = search needs
+count-requires c κs = c .before .before .before .before .before .before .before .before .pre (c .before .before .before .before .if1 .left, (c .before .before .before .if2 .left, (c .before .before .if3 .left, c .before .if4 .left)))
 
--- src/lib.rt:179:5
 put-last-requires : tie.Need-put-last-requires
-put-last-requires c κs = search needs
+put-last-requires c κs = let long : length (c .before .before .before .before .before .before .before .before .before .before .before .before .args .mission .now) ≡ missionWords = c .before .before .before .before .before .before .before .before .before .before .before .before .pre (c .before .before .before .before .before .before .before .before .if1 .left, (c .before .before .before .before .before .before .before .if2 .left, (c .before .before .before .before .before .before .if3 .left, c .before .before .before .before .before .if4 .left))) in search needs
 
--- src/lib.rt:158:1
 same-length : tie.Need-same-length
 same-length c = search needs
 
--- src/lib.rt:158:1
 returns-5 : tie.Need-returns-5
-returns-5 c = search needs
+returns-5 c =
+    let counts : Counted (c .before .before .before .before .before .before .before .before .before .before .before .before .before .before .before .args .refusal) = (c .before .before .before .before .before .before .before .before .before .before .before .if1 .left, (c .before .before .before .before .before .before .before .before .before .before .if2 .left, (c .before .before .before .before .before .before .before .before .before .if3 .left, c .before .before .before .before .before .before .before .before .if4 .left))) in
+    let long : length (c .before .before .before .before .before .before .before .before .before .before .before .before .before .before .before .args .mission .now) ≡ missionWords = c .before .before .before .before .before .before .before .before .before .before .before .before .before .before .before .pre counts in (
+      c .before .before .before .before .before .before .before .before .before .before .before .before .receive-number .ensures ∙ ap receiveNumber (c .before .before .before .before .before .before .before .before .before .before .before .before .before .ended-by .ensures),
+      λ b slot k. refused-counted b _ _ slot _ _ counts (k counts) long (search needs) (c .before .before .before .before .before .before .before .before .before .before .before .before .before .ended-by .ensures) (c .before .before .before .before .before .before .count .ensures) (c .before .before .put-last .ensures),
+    )
 
 pub refuse-spec : {M : Type 1} → statement M
 refuse-spec =
