@@ -19,6 +19,7 @@ use Rattle.address.specs.declared.Address.{Address}
 use Rattle.header.specs.Read.{headerOf}
 use Rattle.header.specs.declared.Header.{Header}
 use Rattle.meaning.specs.Asked.{isAssigned}
+use Rattle.meaning.specs.Flood.{isFlooded}
 use Rattle.meaning.specs.Names.{aimOf}
 use Rattle.meaning.specs.declared.Aim.{Aim}
 use Rattle.meaning.specs.declared.Aim.the-variants.{Node}
@@ -36,6 +37,10 @@ use Rattle.page.proofs.Rows.{row-decides, every-row, every-check}
 use Rattle.page.proofs.Verdict.{ends, masks-choose, steps-numbers}
 
 -- ---- a line's number
+-- a number of the rows on copies, or none
+abbrev isCopied : ℕ → Bool
+isCopied n = eqb n 0 || (eqb n 10 || (eqb n 13 || (eqb n 14 || (eqb n 15 || eqb n 1))))
+
 module _ (r : Relay) (at : ℕ) (h : Header) (ports : Ports) (code : ℕ) where
   -- the last row of copies always holds
   never-zero : firstOf (copyRows r at h ports code) ≡ 0 → ⊥
@@ -46,17 +51,12 @@ module _ (r : Relay) (at : ℕ) (h : Header) (ports : Ports) (code : ℕ) where
   copies-say n = (λ e. number-first (copyRows r at h ports code) n (λ z. never-zero (e ∙ z)) e, first-number (copyRows r at h ports code) n)
 
   -- copies give 10, 13, 14, 15 and 1 alone
-  copies-not-9 : firstOf (copyRows r at h ports code) ≢ 9
+  copies-known : isCopied (firstOf (copyRows r at h ports code)) ≡ true
   unfolding copyRows
-  copies-not-9 =
-      every-check (λ (m : ℕ). m ≢ 9) (copyRows r at h ports code)
-      ((λ z. omega arith), ((λ z. omega arith), ((λ z. omega arith), ((λ z. omega arith), ((λ z. omega arith), tt))))) (λ z. omega arith)
+  copies-known = every-check (λ (m : ℕ). isCopied m ≡ true) (copyRows r at h ports code) (refl, (refl, (refl, (refl, (refl, tt))))) refl
 
-  copies-not-11 : firstOf (copyRows r at h ports code) ≢ 11
-  unfolding copyRows
-  copies-not-11 =
-      every-check (λ (m : ℕ). m ≢ 11) (copyRows r at h ports code)
-      ((λ z. omega arith), ((λ z. omega arith), ((λ z. omega arith), ((λ z. omega arith), ((λ z. omega arith), tt))))) (λ z. omega arith)
+  copies-not : (n : ℕ) → isCopied n ≡ false → firstOf (copyRows r at h ports code) ≢ n
+  copies-not n other e = true-false (sym copies-known ∙ ap isCopied e ∙ other)
 
 gives-is : (r : Relay) (at : ℕ) (h : Header) (n : ℕ) (line : Line) → (lineNumber r at h line ≡ n) ↔ GivesNumber r at h n line
 gives-is r at h n notAsked = (λ e. e, λ e. e)
@@ -90,9 +90,9 @@ by-number : {m k n : ℕ} {D : Type 0} → m ≡ k → (k ≡ n) ↔ D → (m �
 by-number e d = (λ f. d .0 (sym e ∙ f), λ f. e ∙ d .1 f)
 
 -- ---- the whole call
-module _ (r : Relay) (at : ℕ) (octets : List ℕ) (room : ℕ) where
+module _ (r : Relay) (at second : ℕ) (octets : List ℕ) (room : ℕ) where
   abbrev rows : Checks
-  rows = stepRows r at octets room
+  rows = stepRows r at second octets room
 
   abbrev h : Header
   h = headerOf octets
@@ -102,11 +102,11 @@ module _ (r : Relay) (at : ℕ) (octets : List ℕ) (room : ℕ) where
   x = aimOf (portIn r at .address .0) (h .fields .addresses)
 
   abbrev ending : Ending
-  ending = endingOf r at octets room
+  ending = endingOf r at second octets room
 
   module _ (more : Route → Route → Bool) where
     abbrev verdict : Verdict
-    verdict = verdictBy more r at octets room
+    verdict = verdictBy more r at second octets room
 
     refusal-is : verdict .refusal ≡ firstOf rows
     unfolding verdictBy judged
@@ -127,12 +127,12 @@ module _ (r : Relay) (at : ℕ) (octets : List ℕ) (room : ℕ) where
   -- Steps 1 to 6: each number exactly where its row decides.
   pub refusal-exactly : GivenBy rows (ending .refusal)
   refusal-exactly =
-      let is : ending .refusal ≡ firstOf rows = ends longerMask r (masks-choose r) at octets room .refusal ∙ refusal-is longerMask in
-      subst (GivenBy rows) (sym is) (decided rows (steps-numbers r at octets room))
+      let is : ending .refusal ≡ firstOf rows = ends longerMask r (masks-choose r) at second octets room .refusal ∙ refusal-is longerMask in
+      subst (GivenBy rows) (sym is) (decided rows (steps-numbers r at second octets room))
 
   -- no row holds exactly where their number is 0
   passed : (firstOf rows ≡ 0) ↔ noneHolds rows
-  passed = decided rows (steps-numbers r at octets room) .0
+  passed = decided rows (steps-numbers r at second octets room) .0
 
   -- a half that has a number other than 0 was judged
   was-judged : (n m : ℕ) → n ≢ 0 → m ≡ n → (firstOf rows ≢ 0 → m ≡ 0) → noneHolds rows
@@ -154,12 +154,12 @@ module _ (r : Relay) (at : ℕ) (octets : List ℕ) (room : ℕ) where
   local = localNumber (ending .ruling .local)
 
   local-none : firstOf rows ≢ 0 → local ≡ 0
-  local-none n = ends longerMask r (masks-choose r) at octets room .ruling .local ∙ ap (λ (v : Verdict). v .local) (refused-is longerMask n)
+  local-none n = ends longerMask r (masks-choose r) at second octets room .ruling .local ∙ ap (λ (v : Verdict). v .local) (refused-is longerMask n)
 
   pub local-number : noneHolds rows → local ≡ localHalf r at x (h .fields)
   unfolding judged
   local-number none =
-      ends longerMask r (masks-choose r) at octets room .ruling .local ∙ ap (λ (v : Verdict). v .local) (judged-is longerMask (passed .1 none))
+      ends longerMask r (masks-choose r) at second octets room .ruling .local ∙ ap (λ (v : Verdict). v .local) (judged-is longerMask (passed .1 none))
 
   abbrev ours : Bool
   ours = isOurs r at x (h .fields)
@@ -194,12 +194,12 @@ module _ (r : Relay) (at : ℕ) (octets : List ℕ) (room : ℕ) where
     onward = onwardNumber (ending .ruling .onward)
 
     onward-none : firstOf rows ≢ 0 → onward ≡ 0
-    onward-none n = ends more r chooses at octets room .ruling .onward ∙ ap (λ (v : Verdict). v .onward) (refused-is more n)
+    onward-none n = ends more r chooses at second octets room .ruling .onward ∙ ap (λ (v : Verdict). v .onward) (refused-is more n)
 
     pub onward-number : noneHolds rows → onward ≡ lineNumber r at h (onwardLine more r at x (h .fields))
     unfolding judged
     onward-number none =
-        ends more r chooses at octets room .ruling .onward ∙ ap (λ (v : Verdict). v .onward) (judged-is more (passed .1 none))
+        ends more r chooses at second octets room .ruling .onward ∙ ap (λ (v : Verdict). v .onward) (judged-is more (passed .1 none))
 
     -- What the route asks of a header is what the line says.
     pub code-number : noneHolds rows → verdict more .code ≡ lineCode (onwardLine more r at x (h .fields))
@@ -218,7 +218,7 @@ module _ (r : Relay) (at : ℕ) (octets : List ℕ) (room : ℕ) where
         let decides = row-decides (GivesNumber r at h n) (onwardRows r at x (h .fields)) (wanted (bestPort more r x) (bestCode more r x)) in
         (λ e. decides .0 (gives .0 (sym (onward-number none) ∙ e)), λ d. onward-number none ∙ gives .1 (decides .1 d))
 
-    -- So of any call: 9, 10, 11, 13, 14, 15 and 1 exactly where no step refuses and their line decides.
+    -- So of any call: 9, 10, 11, 13, 14, 15, 30 and 1 exactly where no step refuses and their line decides.
     pub onward-given : (n : ℕ) → n ≢ 0 → (onward ≡ n) ↔ (noneHolds rows × LineGives n)
     onward-given n some = in-any-call some onward-none (λ none. onward-exactly none n)
 
@@ -234,39 +234,48 @@ module _ (r : Relay) (at : ℕ) (octets : List ℕ) (room : ℕ) where
     -- the numbers that lines have themselves
     abbrev Known : Line → Type 0
     Known notAsked = Unit
-    Known (refused m) = (m ≡ 9) ⊎ (m ≡ 11)
+    Known (refused m) = (m ≡ 9) ⊎ ((m ≡ 11) ⊎ (m ≡ 30))
     Known (wanted ports code) = Unit
 
     known : Known line
     unfolding onwardLine
     known =
         every-row Known (onwardRows r at x (h .fields)) (wanted (bestPort more r x) (bestCode more r x))
-        (tt, (tt, (inl refl, (tt, (tt, (tt, (inr refl, (tt, (inr refl, (tt, (tt, (inr refl, tt)))))))))))) tt
+        (tt, (tt, (inl refl, (tt, (thirty, (eleven, (tt, (tt, (tt, (tt, (eleven, (tt, (eleven, (tt, (tt, (eleven, tt)))))))))))))))) tt
+      where
+        eleven : Known (refused 11)
+        eleven = inr (inl refl)
+
+        thirty : Known (refused 30)
+        thirty = inr (inr refl)
 
     not-asked-line : (l : Line) → Known l → (lineNumber r at h l ≡ 0) ↔ (l ≡ notAsked)
     not-asked-line l k = (there l k, λ e. ap (lineNumber r at h) e)
       where
         there : (k : Line) → Known k → lineNumber r at h k ≡ 0 → k ≡ notAsked
         there notAsked n e = refl
-        there (refused m) n e = absurd (⊎-elim (λ (f : m ≡ 9). omega (arith, e, f)) (λ (f : m ≡ 11). omega (arith, e, f)) n)
+        there (refused m) n e =
+            absurd (⊎-elim (λ (f : m ≡ 9). omega (arith, e, f)) (⊎-elim (λ (f : m ≡ 11). omega (arith, e, f)) (λ (f : m ≡ 30). omega (arith, e, f))) n)
         there (wanted ports code) n e = absurd (never-zero r at h ports code e)
 
-    copies-line : (n : ℕ) → n ≢ 0 → n ≢ 9 → n ≢ 11 → (l : Line) → Known l
+    copies-line : (n : ℕ) → n ≢ 0 → n ≢ 9 → n ≢ 11 → n ≢ 30 → (l : Line) → Known l
         → (lineNumber r at h l ≡ n) ↔ ((ports : Ports) × (code : ℕ) × (l ≡ wanted ports code) × firstHolds (copyRows r at h ports code) n)
-    copies-line n zero nine eleven l k = (there l k, λ d. ap (lineNumber r at h) (d .2) ∙ copies-say r at h (d .0) (d .1) n .1 (d .3))
+    copies-line n zero nine eleven thirty l k = (there l k, λ d. ap (lineNumber r at h) (d .2) ∙ copies-say r at h (d .0) (d .1) n .1 (d .3))
       where
         there : (l : Line) → Known l → lineNumber r at h l ≡ n → (ports : Ports) × (code : ℕ) × (l ≡ wanted ports code) × firstHolds (copyRows r at h ports code) n
         there notAsked k e = absurd (zero (sym e))
-        there (refused m) k e = absurd (⊎-elim (λ (f : m ≡ 9). nine (sym e ∙ f)) (λ (f : m ≡ 11). eleven (sym e ∙ f)) k)
+        there (refused m) k e =
+            absurd (⊎-elim (λ (f : m ≡ 9). nine (sym e ∙ f)) (⊎-elim (λ (f : m ≡ 11). eleven (sym e ∙ f)) (λ (f : m ≡ 30). thirty (sym e ∙ f))) k)
         there (wanted ports code) k e = (ports, code, refl, copies-say r at h ports code n .0 e)
 
-    eleven-line : (l : Line) → (lineNumber r at h l ≡ 11) ↔ (l ≡ refused 11)
-    eleven-line l = (there l, λ e. ap (lineNumber r at h) e)
+    -- a number that copies do not give is the line's own
+    own-line : (n : ℕ) → isCopied n ≡ false → (l : Line) → (lineNumber r at h l ≡ n) ↔ (l ≡ refused n)
+    own-line n other l = (there l, λ e. ap (lineNumber r at h) e)
       where
-        there : (l : Line) → lineNumber r at h l ≡ 11 → l ≡ refused 11
-        there notAsked e = absurd (omega arith)
+        there : (l : Line) → lineNumber r at h l ≡ n → l ≡ refused n
+        there notAsked e = true-false (ap isCopied e ∙ other)
         there (refused m) e = ap refused e
-        there (wanted ports code) e = absurd (copies-not-11 r at h ports code e)
+        there (wanted ports code) e = absurd (copies-not r at h ports code n other e)
 
     -- Not asked, where no step refuses: such a line decides.
     pub not-asked-exactly : noneHolds rows → (onward ≡ 0) ↔ (line ≡ notAsked)
@@ -274,18 +283,22 @@ module _ (r : Relay) (at : ℕ) (octets : List ℕ) (room : ℕ) where
 
     -- 11: such a line decides.
     pub eleven-exactly : (onward ≡ 11) ↔ (noneHolds rows × (line ≡ refused 11))
-    eleven-exactly = in-any-call (λ z. omega arith) onward-none (λ none. by-number (onward-number none) (eleven-line line))
+    eleven-exactly = in-any-call (λ z. omega arith) onward-none (λ none. by-number (onward-number none) (own-line 11 refl line))
+
+    -- 30: such a line decides.
+    pub thirty-exactly : (onward ≡ 30) ↔ (noneHolds rows × (line ≡ refused 30))
+    thirty-exactly = in-any-call (λ z. omega arith) onward-none (λ none. by-number (onward-number none) (own-line 30 refl line))
 
     -- 10, 13, 14, 15 and 1: ports are wanted, and the number's row on copies decides.
-    pub wanted-exactly : (n : ℕ) → n ≢ 0 → n ≢ 9 → n ≢ 11
+    pub wanted-exactly : (n : ℕ) → n ≢ 0 → n ≢ 9 → n ≢ 11 → n ≢ 30
         → (onward ≡ n) ↔ (noneHolds rows × ((ports : Ports) × (code : ℕ) × (line ≡ wanted ports code) × firstHolds (copyRows r at h ports code) n))
-    wanted-exactly n zero nine eleven =
-        in-any-call zero onward-none (λ none. by-number (onward-number none) (copies-line n zero nine eleven line known))
+    wanted-exactly n zero nine eleven thirty =
+        in-any-call zero onward-none (λ none. by-number (onward-number none) (copies-line n zero nine eleven thirty line known))
 
     -- ---- the copies
     module _ (p : ℕ) (inside : p < 8) where
       abbrev agrees : Agrees (ending .ruling) (verdict more)
-      agrees = ends more r chooses at octets room .ruling
+      agrees = ends more r chooses at second octets room .ruling
 
       granted-none : firstOf rows ≢ 0 → inSet p (ending .ruling .granted) ≡ false
       granted-none n = agrees .granted p inside ∙ ap (λ (v : Verdict). v .granted p) (refused-is more n)
@@ -307,7 +320,7 @@ module _ (r : Relay) (at : ℕ) (octets : List ℕ) (room : ℕ) where
 
   module _ (p : ℕ) (inside : p < 8) where
     abbrev by-masks : Agrees (ending .ruling) (verdict longerMask)
-    by-masks = ends longerMask r (masks-choose r) at octets room .ruling
+    by-masks = ends longerMask r (masks-choose r) at second octets room .ruling
 
     abbrev Shared : Verdict → Type 0
     Shared v = (v .took p ≡ (v .granted p && hasRoom r p)) × (v .dropped p ≡ (v .granted p && not (hasRoom r p)))
@@ -334,7 +347,7 @@ module _ (r : Relay) (at : ℕ) (octets : List ℕ) (room : ℕ) where
   below-host : lineNumber r at h (firstRow below routed) ≢ 9
   below-host =
       every-row (λ (line : Line). lineNumber r at h line ≢ 9) below routed
-      (zero, (no _ 0, (zero, (eleven, (no _ 0, (eleven, (zero, (no _ 0, (eleven, tt))))))))) (no _ _)
+      (zero, (thirty, (eleven, (no _ 0, (zero, (no _ 0, (zero, (eleven, (no _ 0, (eleven, (zero, (no _ 0, (eleven, tt))))))))))))) (no _ _)
     where
       zero : _≢_ {A = ℕ} 0 9
       zero z = omega arith
@@ -342,8 +355,11 @@ module _ (r : Relay) (at : ℕ) (octets : List ℕ) (room : ℕ) where
       eleven : _≢_ {A = ℕ} 11 9
       eleven z = omega arith
 
+      thirty : _≢_ {A = ℕ} 30 9
+      thirty z = omega arith
+
       no : (ports : Ports) (code : ℕ) → firstOf (copyRows r at h ports code) ≢ 9
-      no = copies-not-9 r at h
+      no ports code = copies-not r at h ports code 9 refl
 
   nine-case : (first host heard : Bool) (rest : Line) → lineNumber r at h rest ≢ 9 → (first ≡ true → heard ≡ true)
       → (lineNumber r at h (pick first notAsked (pick (host && heard) notAsked (pick host (refused 9) rest))) ≡ 9)
@@ -372,13 +388,13 @@ module _ (r : Relay) (at : ℕ) (octets : List ℕ) (room : ℕ) where
       in-any-call (λ z. omega arith) (onward-none longerMask (masks-choose r)) λ none.
       by-number (onward-number longerMask (masks-choose r) none) nine-line
 
-  -- ---- 11, where the route line decides: a router, and an address that is no port's, no broadcast of ours and no group's
-  module _ (a : Address) (named : x ≡ Node a) (router : isHost r ≡ false) (first : (equalsPort r (Node a) || isLimited a) ≡ false)
+  -- ---- 11, where the route line decides: a router, a datagram that is not flooded, and an address that is no port's, no broadcast of ours and no group's
+  module _ (a : Address) (named : x ≡ Node a) (router : isHost r ≡ false) (not-flooded : isFlooded (h .fields) ≡ false) (first : (equalsPort r (Node a) || isLimited a) ≡ false)
       (not-ours : broadcastOfOurs r (Node a) ≡ false) (no-group : isMulticast a ≡ false) where
     route-line : onwardLine longerMask r at (Node a) (h .fields)
         ≡ pick (not (someMatches r (Node a))) (refused 11) (wanted (bestPort longerMask r (Node a)) (bestCode longerMask r (Node a)))
     unfolding onwardLine
-    route-line = simp (first, router, not-ours, no-group)
+    route-line = simp (first, router, not-flooded, not-ours, no-group)
 
     no-match : (someMatches r (Node a) ≡ false) ↔ ((q : ℕ) → candidate (routeIn r q) a ≡ false)
     unfolding someMatches
@@ -391,7 +407,7 @@ module _ (r : Relay) (at : ℕ) (octets : List ℕ) (room : ℕ) where
     )
 
     eleven-case : (some : Bool) (ports : Ports) (code : ℕ) → (lineNumber r at h (pick (not some) (refused 11) (wanted ports code)) ≡ 11) ↔ (some ≡ false)
-    eleven-case true ports code = (λ e. absurd (copies-not-11 r at h ports code e), λ d. true-false d)
+    eleven-case true ports code = (λ e. absurd (copies-not r at h ports code 11 refl e), λ d. true-false d)
     eleven-case false ports code = (λ e. refl, λ d. refl)
 
     -- "'No route', 11, is said exactly when no up entry matches" (page 02, W-204).

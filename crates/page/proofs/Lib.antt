@@ -6,6 +6,7 @@
 -- port by port.
 pub mod Sets
 pub mod Ports
+pub mod Pairs
 pub mod Copies
 pub mod Best
 pub mod Local
