@@ -1,25 +1,28 @@
 -- When each number is given: exactly where the condition of a row that says it holds, and none before it. First for all rows of a table at
 -- once, then number by number in the page's words. Assumes nothing.
 use native.Mathlib.Omega.{arith}
-use Prim.Native.Nat.{ℕ, _<_}
+use Prim.Native.Nat.{ℕ, _*_, _<_, _≤_}
 use mathlib.Core.Path.{_≡_, refl, sym, ap, subst, _∙_}
 use mathlib.Core.Logic.{_↔_, _≢_, _⊎_, inl, inr, ⊎-elim}
 use mathlib.Core.Bool.{Bool, true, false, not, _&&_, _||_}
 use mathlib.Core.List.{List, [], _∷_}
-use lib.Dec.{eqb}
-use lib.ListN.{length, drop}
-use borrow.Author.Tests.{eqb-true, eqb-false, eq-eqb, ne-eqb}
+use lib.Dec.{eqb, ltb}
+use lib.ListN.{length, take, drop}
+use borrow.Author.Tests.{eqb-true, eqb-false, eq-eqb, ne-eqb, ltb-true, ltb-false, lt-ltb, le-ltb}
 use Rattle.checks.specs.Order.{pick, Checks, firstOf, noneHolds, firstHolds}
-use Rattle.checks.proofs.Bools.{true-false, refuted}
+use Rattle.checks.proofs.Bools.{true-false, not-false, and-true, or-true, refuted}
 use Rattle.checks.proofs.Laws.{either, number-first, first-number}
 use Rattle.refusals.proofs.Chains.{decided}
+use Rattle.sets.specs.Limits.{portCount}
 use Rattle.sets.specs.Sets.{inSet}
 use Rattle.sets.proofs.Anywhere.{any-is, any-found}
 use Rattle.address.specs.declared.Address.{Address}
+use Rattle.header.specs.Limits.{longestHeader}
+use Rattle.header.specs.Build.{sourceFlag, formatOf}
 use Rattle.header.specs.Read.{headerOf}
 use Rattle.header.specs.declared.Header.{Header}
 use Rattle.meaning.specs.Asked.{isAssigned}
-use Rattle.meaning.specs.Flood.{isFlooded}
+use Rattle.meaning.specs.Flood.{isFlooded, unmarked}
 use Rattle.meaning.specs.Names.{aimOf}
 use Rattle.meaning.specs.declared.Aim.{Aim}
 use Rattle.meaning.specs.declared.Aim.the-variants.{Node}
@@ -27,18 +30,18 @@ use Rattle.routes.specs.Routes.{candidate}
 use Rattle.routes.specs.Search.{longerMask}
 use Rattle.routes.specs.declared.Route.{Route}
 use Rattle.routes.proofs.Candidates.{candidate-within}
-use Rattle.state.specs.Relay.{Relay, portIn, routeIn}
+use Rattle.state.specs.Relay.{Relay, portIn, routeIn, portSetUp}
 use Rattle.verdict.specs.Numbers.{localNumber, onwardNumber}
 use Rattle.judge.specs.Ending.{endingOf}
 use Rattle.judge.specs.declared.Ending.{Ending}
 use Rattle.page.specs.Table.{Ports, firstRow, Decides, GivenBy, stepRows, destinationIs, equalsPort, isLimited, broadcastOfOurs, isMulticast, isOurs, localRows, localHalf, matches, someMatches, bestPort, bestCode, Line, notAsked, refused, wanted, isHost, onwardRows, onwardLine, hasRoom, copyRows, lineNumber, GivesNumber, lineGrants, lineCode, Verdict, judged, refusedWith, verdictBy}
 use Rattle.page.specs.Ends.{Agrees, Chooses}
-use Rattle.page.proofs.Rows.{row-decides, every-row, every-check}
+use Rattle.page.proofs.Rows.{row-decides, every-row, every-check, only-row}
 use Rattle.page.proofs.Verdict.{ends, masks-choose, steps-numbers}
 
 -- ---- a line's number
 -- a number of the rows on copies, or none
-abbrev isCopied : ℕ → Bool
+abbrev pub isCopied : ℕ → Bool
 isCopied n = eqb n 0 || (eqb n 10 || (eqb n 13 || (eqb n 14 || (eqb n 15 || eqb n 1))))
 
 module _ (r : Relay) (at : ℕ) (h : Header) (ports : Ports) (code : ℕ) where
@@ -51,11 +54,11 @@ module _ (r : Relay) (at : ℕ) (h : Header) (ports : Ports) (code : ℕ) where
   copies-say n = (λ e. number-first (copyRows r at h ports code) n (λ z. never-zero (e ∙ z)) e, first-number (copyRows r at h ports code) n)
 
   -- copies give 10, 13, 14, 15 and 1 alone
-  copies-known : isCopied (firstOf (copyRows r at h ports code)) ≡ true
+  pub copies-known : isCopied (firstOf (copyRows r at h ports code)) ≡ true
   unfolding copyRows
   copies-known = every-check (λ (m : ℕ). isCopied m ≡ true) (copyRows r at h ports code) (refl, (refl, (refl, (refl, (refl, tt))))) refl
 
-  copies-not : (n : ℕ) → isCopied n ≡ false → firstOf (copyRows r at h ports code) ≢ n
+  pub copies-not : (n : ℕ) → isCopied n ≡ false → firstOf (copyRows r at h ports code) ≢ n
   copies-not n other e = true-false (sym copies-known ∙ ap isCopied e ∙ other)
 
 gives-is : (r : Relay) (at : ℕ) (h : Header) (n : ℕ) (line : Line) → (lineNumber r at h line ≡ n) ↔ GivesNumber r at h n line
@@ -88,6 +91,19 @@ half-none false t = refl
 -- a number that is another's is given where that is
 by-number : {m k n : ℕ} {D : Type 0} → m ≡ k → (k ≡ n) ↔ D → (m ≡ n) ↔ D
 by-number e d = (λ f. d .0 (sym e ∙ f), λ f. e ∙ d .1 f)
+
+-- 28's test
+unmarked-is : (flooded : Bool) (source format : ℕ)
+    → ((flooded && (eqb source 0 || eqb format 0)) ≡ true) ↔ ((flooded ≡ true) × ((source ≡ 0) ⊎ (format ≡ 0)))
+unmarked-is flooded source format = (
+  λ e. (let both = and-true flooded (eqb source 0 || eqb format 0) e in
+      (both .0, ⊎-elim (λ u. inl (eqb-true source 0 u)) (λ u. inr (eqb-true format 0 u)) (or-true (eqb source 0) (eqb format 0) (both .1)))),
+  λ d. rw (d .0) (⊎-elim (λ (u : source ≡ 0). rw (eq-eqb source 0 u)) (λ (u : format ≡ 0). rw (eq-eqb format 0 u) (either-true (eqb source 0))) (d .1)),
+)
+  where
+    either-true : (t : Bool) → (t || true) ≡ true
+    either-true true = refl
+    either-true false = refl
 
 -- ---- the whole call
 module _ (r : Relay) (at second : ℕ) (octets : List ℕ) (room : ℕ) where
@@ -124,11 +140,37 @@ module _ (r : Relay) (at second : ℕ) (octets : List ℕ) (room : ℕ) where
     unfolding verdictBy
     refused-is n = ap (λ (t : Bool). pick t (judged more r at x h) (refusedWith (firstOf rows))) (ne-eqb (firstOf rows) 0 n)
 
+  refusal-number : ending .refusal ≡ firstOf rows
+  refusal-number = ends longerMask r (masks-choose r) at second octets room .refusal ∙ refusal-is longerMask
+
   -- Steps 1 to 6: each number exactly where its row decides.
   pub refusal-exactly : GivenBy rows (ending .refusal)
-  refusal-exactly =
-      let is : ending .refusal ≡ firstOf rows = ends longerMask r (masks-choose r) at second octets room .refusal ∙ refusal-is longerMask in
-      subst (GivenBy rows) (sym is) (decided rows (steps-numbers r at second octets room))
+  refusal-exactly = subst (GivenBy rows) (sym refusal-number) (decided rows (steps-numbers r at second octets room))
+
+  -- 29: the second is under the last accepted one, and neither 16 nor 17 stands before.
+  pub past-exactly : (ending .refusal ≡ 29) ↔ (((portSetUp r at ≡ true) × (portCount * longestHeader ≤ room)) × (second < r .memory .last))
+  unfolding stepRows
+  past-exactly = by-number refusal-number (
+    λ e. (let d = row .0 e in
+        ((not-false (portSetUp r at) (d .0 .0), ltb-false room _ (d .0 .1 .0)), ltb-true second (r .memory .last) (d .1))),
+    λ d. row .1 ((ap not (d .0 .0), (le-ltb room _ (d .0 .1), tt)), lt-ltb second (r .memory .last) (d .1)),
+  )
+    where
+      row : (firstOf rows ≡ 29) ↔ (noneHolds (take 2 rows) × (ltb second (r .memory .last) ≡ true))
+      row = only-row (take 2 rows) (drop 3 rows) (ltb second (r .memory .last)) 29 (λ z. omega arith) refl refl
+
+  -- 28: the datagram is flooded, it has no source or no timestamp, and no step before refuses.
+  pub unmarked-exactly : (ending .refusal ≡ 28)
+      ↔ (noneHolds (take 12 rows)
+      × ((isFlooded (h .fields) ≡ true) × ((sourceFlag (h .fields .addresses) ≡ 0) ⊎ (formatOf (h .fields .stamp) ≡ 0))))
+  unfolding stepRows
+  unmarked-exactly = by-number refusal-number (
+    λ e. (let d = row .0 e in (d .0, unmarked-is (isFlooded (h .fields)) _ _ .0 (d .1))),
+    λ d. row .1 (d .0, unmarked-is (isFlooded (h .fields)) _ _ .1 (d .1)),
+  )
+    where
+      row : (firstOf rows ≡ 28) ↔ (noneHolds (take 12 rows) × (unmarked (h .fields) ≡ true))
+      row = only-row (take 12 rows) [] (unmarked (h .fields)) 28 (λ z. omega arith) refl refl
 
   -- no row holds exactly where their number is 0
   passed : (firstOf rows ≡ 0) ↔ noneHolds rows
@@ -303,7 +345,7 @@ module _ (r : Relay) (at second : ℕ) (octets : List ℕ) (room : ℕ) where
       granted-none : firstOf rows ≢ 0 → inSet p (ending .ruling .granted) ≡ false
       granted-none n = agrees .granted p inside ∙ ap (λ (v : Verdict). v .granted p) (refused-is more n)
 
-      granted-line : noneHolds rows → inSet p (ending .ruling .granted) ≡ lineGrants r at h line p
+      pub granted-line : noneHolds rows → inSet p (ending .ruling .granted) ≡ lineGrants r at h line p
       unfolding judged
       granted-line none = agrees .granted p inside ∙ ap (λ (v : Verdict). v .granted p) (judged-is more (passed .1 none))
 

@@ -53,10 +53,10 @@ use Rattle.page.proofs.Local.{oursByName, local-is}
 use Rattle.page.proofs.Lines.{host-same, broadcast-same, flood-same, group-same, path-same}
 
 -- ---- the target, by the table's tests: a port's address, a broadcast of ours, limited broadcast, multicast
-abbrev byClass : Bool → Bool → Target
+abbrev pub byClass : Bool → Bool → Target
 byClass limited multicast = pick limited target.Here (pick multicast target.Group target.Route)
 
-abbrev byTests : Bool → Bool → Bool → Bool → Target
+abbrev pub byTests : Bool → Bool → Bool → Bool → Target
 byTests own ours limited multicast = pick own target.Here (pick ours (overBroadcast (byClass limited multicast)) (byClass limited multicast))
 
 class-is : (a : Address) → classTarget (classOf (a .0)) ≡ byClass (isLimited a) (isMulticast a)
@@ -190,7 +190,7 @@ module _ (more : Route → Route → Bool) (r : Relay) (chooses : Chooses more r
     abbrev tested : Target
     tested = byTests (equalsPort r (Node a)) (broadcastOfOurs r (Node a)) (isLimited a) (isMulticast a)
 
-    flood-node : flood (Node a) ≡ floodBy flooded (isHost r) tested (say held (someFree r))
+    pub flood-node : flood (Node a) ≡ floodBy flooded (isHost r) tested (say held (someFree r))
     flood-node =
         flood-is r at (h .fields) (targetAsked r a) ∙ ap (λ (t : Target). floodBy flooded (isHost r) t (say held (someFree r))) asked-is
 
@@ -317,7 +317,7 @@ module _ (more : Route → Route → Bool) (r : Relay) (chooses : Chooses more r
         by false = refl
 
     -- the pairs are not looked up for it: it has no source
-    path-plain : flood (Path y) ≡ Plain
+    pub path-plain : flood (Path y) ≡ Plain
     unfolding floodOf
     path-plain = either (λ (f : Flood). f ≡ Plain) (isFlooded (h .fields) && not (isHost r)) refl refl
 

@@ -15,6 +15,7 @@ pub mod Halves
 pub mod Small
 pub mod Legs
 pub mod Verdict
+pub mod Memory
 pub mod Rows
 pub mod Exactly
 pub mod Sought

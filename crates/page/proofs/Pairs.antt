@@ -51,8 +51,9 @@ module _ (test : ℕ → Bool) where
       by first true met = lt-ltb first n (met .0)
       by first false met = le-ltb first n (omega (arith, met))
 
-  pub first-holds : (n : ℕ) → anyBelow test n ≡ true → (firstBelow test n < n) × (test (firstBelow test n) ≡ true)
-  first-holds n e = by (firstBelow test n) (anyBelow test n) (first-met n) e
+  -- and there it holds
+  pub first-where : (n : ℕ) → anyBelow test n ≡ true → (firstBelow test n < n) × (test (firstBelow test n) ≡ true)
+  first-where n e = by (firstBelow test n) (anyBelow test n) (first-met n) e
     where
       by : (first : ℕ) (some : Bool) → Met n first some → some ≡ true → (first < n) × (test first ≡ true)
       by first true met e = met

@@ -3,7 +3,7 @@ use native.Mathlib.Nat.{mod-lt, zero-lt-suc}
 use Prim.Native.Nat.{ℕ, _/_, _<_}
 use mathlib.Core.Path.{_≡_, refl, sym, ap, subst, _∙_}
 use mathlib.Core.Logic.{_↔_}
-use mathlib.Core.Bool.{Bool, true, false, _||_}
+use mathlib.Core.Bool.{Bool, true, false, _&&_, _||_}
 use mathlib.Core.List.{List, [], _∷_, _++_}
 use lib.Dec.{eqb, ltb}
 use borrow.Author.Tests.{eqb-true, eqb-false, ltb-true, lt-ltb}
@@ -14,12 +14,15 @@ use Rattle.checks.proofs.Steps.{joined}
 use Rattle.refusals.proofs.Chains.{areNumbers, numbered, others-decide, first-decides}
 use Rattle.address.proofs.Masks.{form-ones, form-count, mask-order}
 use Rattle.address.specs.declared.Address.{Address}
+use Rattle.header.specs.Build.{sourceFlag, formatOf}
 use Rattle.header.specs.Form.{controlOf}
 use Rattle.header.specs.Read.{fieldsOf, headerOf, readChecks, readOf}
+use Rattle.header.specs.declared.Addresses.{Addresses}
+use Rattle.header.specs.declared.Addresses.the-variants.{BasicPath, ExtendedPath, BasicEndSystem, ExtendedEndSystem, Ipv6}
 use Rattle.header.specs.declared.Header.{Header}
 use Rattle.header.specs.declared.Read.the-variants as read
 use Rattle.meaning.specs.Names.{aimOf, originOf, notCarried, noDomain, badAim, badSource}
-use Rattle.meaning.specs.Flood.{unmarked}
+use Rattle.meaning.specs.Flood.{isFlooded, unmarked}
 use Rattle.meaning.specs.Arrival.{arrivalChecks}
 use Rattle.routes.specs.Routes.{routeAt}
 use Rattle.routes.specs.Search.{longerMask}
@@ -32,7 +35,7 @@ use Rattle.verdict.specs.declared.Onward.the-variants.{NotAsked}
 use Rattle.judge.specs.Ruling.{ruleOf}
 use Rattle.judge.specs.Ending.{refusedBy, orElse, callChecks, ruledEnding, headerEnding, octetsEnding, arrivalAt, endingOf}
 use Rattle.judge.specs.declared.Ending.{Ending}
-use Rattle.page.specs.Table.{stepRows, moreOnes, judged, refusedWith, verdictBy, verdictOf}
+use Rattle.page.specs.Table.{stepRows, destinationIs, moreOnes, floodedWith, judged, refusedWith, verdictBy, verdictOf}
 use Rattle.page.specs.Ends.{Ends, Chooses}
 use Rattle.page.proofs.Copies.{empty-agrees}
 use Rattle.page.proofs.Halves.{aim-agrees}
@@ -53,6 +56,18 @@ chained : (n m k : ℕ) (e : Ending) (s t : Bool) → eqb n 0 ≡ s → eqb m 0 
 chained n m k e true true hs ht = refl
 chained n m k e true false hs ht = sym (rw ht)
 chained n m k e false t hs ht = sym (rw hs)
+
+-- what is flooded has a source, and so names an address
+named-case : (port : ℕ) (a : Addresses) (flooded undated t : Bool) → badAim (aimOf port a) ≡ false → (flooded && (eqb (sourceFlag a) 0 || undated)) ≡ false
+    → destinationIs (aimOf port a) (λ d. flooded && t) ≡ (flooded && t)
+unfolding aimOf
+named-case port (BasicPath z) true undated t good marked = true-false marked
+named-case port (BasicPath z) false undated t good marked = refl
+named-case port (ExtendedPath p) true undated t good marked = true-false marked
+named-case port (ExtendedPath p) false undated t good marked = refl
+named-case port (BasicEndSystem d s) flooded undated t good marked = refl
+named-case port (ExtendedEndSystem d s) flooded undated t good marked = refl
+named-case port (Ipv6 d s) flooded undated t good marked = true-false good
 
 module _ (r : Relay) (at second : ℕ) (octets : List ℕ) (room : ℕ) where
   abbrev header : Header
@@ -87,7 +102,7 @@ module _ (r : Relay) (at second : ℕ) (octets : List ℕ) (room : ℕ) where
   unfolding readChecks
   read-numbers = refl
 
-  steps-are : firstOf (stepRows r at second octets room)
+  pub steps-are : firstOf (stepRows r at second octets room)
       ≡ pick (eqb (firstOf (callChecks r at second room)) 0)
       (pick (eqb (firstOf (readChecks octets)) 0) (firstOf (arrivalChecks own (header .fields))) (firstOf (readChecks octets)))
       (firstOf (callChecks r at second room))
@@ -137,6 +152,15 @@ module _ (r : Relay) (at second : ℕ) (octets : List ℕ) (room : ℕ) where
   aim-carried e =
       let none = zero-none (stepRows r at second octets room) (numbered (stepRows r at second octets room) steps-numbers) e in
       or-false (badAim (aimOf (own .0) (header .fields .addresses))) _ (none .1 .1 .1 .1 .1 .1 .1 .1 .1 .1 .1 .0) .0
+
+  -- and what is flooded names an address, since 28 leaves it no path
+  pub flooded-named : firstOf (stepRows r at second octets room) ≡ 0
+      → (t : Bool) → floodedWith (aimOf (own .0) (header .fields .addresses)) (header .fields) t ≡ (isFlooded (header .fields) && t)
+  unfolding stepRows
+  flooded-named e t =
+      let none = zero-none (stepRows r at second octets room) (numbered (stepRows r at second octets room) steps-numbers) e in
+      named-case (own .0) (header .fields .addresses) (isFlooded (header .fields)) (eqb (formatOf (header .fields .stamp)) 0) t (aim-carried e)
+      (none .1 .1 .1 .1 .1 .1 .1 .1 .1 .1 .1 .1 .0)
 
   -- the flag is one bit
   pub flag-small : header .fields .intermediate < 2
