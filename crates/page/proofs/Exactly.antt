@@ -46,7 +46,7 @@ isCopied n = eqb n 0 || (eqb n 10 || (eqb n 13 || (eqb n 14 || (eqb n 15 || eqb 
 
 module _ (r : Relay) (at : ℕ) (h : Header) (ports : Ports) (code : ℕ) where
   -- the last row of copies always holds
-  never-zero : firstOf (copyRows r at h ports code) ≡ 0 → ⊥
+  pub never-zero : firstOf (copyRows r at h ports code) ≡ 0 → ⊥
   unfolding copyRows
   never-zero e = true-false (decided (copyRows r at h ports code) refl .0 .0 e .1 .1 .1 .1 .0)
 
@@ -140,7 +140,7 @@ module _ (r : Relay) (at second : ℕ) (octets : List ℕ) (room : ℕ) where
     unfolding verdictBy
     refused-is n = ap (λ (t : Bool). pick t (judged more r at x h) (refusedWith (firstOf rows))) (ne-eqb (firstOf rows) 0 n)
 
-  refusal-number : ending .refusal ≡ firstOf rows
+  pub refusal-number : ending .refusal ≡ firstOf rows
   refusal-number = ends longerMask r (masks-choose r) at second octets room .refusal ∙ refusal-is longerMask
 
   -- Steps 1 to 6: each number exactly where its row decides.
@@ -173,7 +173,7 @@ module _ (r : Relay) (at second : ℕ) (octets : List ℕ) (room : ℕ) where
       row = only-row (take 12 rows) [] (unmarked (h .fields)) 28 (λ z. omega arith) refl refl
 
   -- no row holds exactly where their number is 0
-  passed : (firstOf rows ≡ 0) ↔ noneHolds rows
+  pub passed : (firstOf rows ≡ 0) ↔ noneHolds rows
   passed = decided rows (steps-numbers r at second octets room) .0
 
   -- a half that has a number other than 0 was judged

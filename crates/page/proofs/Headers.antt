@@ -1,4 +1,4 @@
--- The headers of the copies are those that W-214 gives them: for any relay, port, octets and room each port that took a copy gets its header, rewritten
+-- The headers of the copies are those that W-214 gives them: for any relay, port, second, octets and room each port that took a copy gets its header, rewritten
 -- exactly where the tables say so. Assumes nothing.
 use native.Mathlib.Omega.{arith}
 use Prim.Native.Nat.{ℕ, _<_}

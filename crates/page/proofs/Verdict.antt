@@ -1,4 +1,4 @@
--- The verdict is the page's: for any relay, port, octets and room, receiving ends as the tables say. Assumes nothing.
+-- The verdict is the page's: for any relay, port, second, octets and room, receiving ends as the tables say. Assumes nothing.
 use native.Mathlib.Nat.{mod-lt, zero-lt-suc}
 use Prim.Native.Nat.{ℕ, _/_, _<_}
 use mathlib.Core.Path.{_≡_, refl, sym, ap, subst, _∙_}

@@ -2,6 +2,7 @@
 -- up, since a datagram is flooded (page 02, W-207). Assumes nothing.
 use Prim.Native.Nat.{ℕ, _≤_}
 use mathlib.Core.Path.{_≡_}
+use mathlib.Core.Logic.{_⊎_}
 use mathlib.Core.Bool.{true, false, _||_}
 use mathlib.Core.List.{List}
 use Rattle.checks.specs.Order.{noneHolds}
@@ -44,3 +45,7 @@ pub record FloodNew (r : Relay) (at second : ℕ) (octets : List ℕ) (room : �
   pub sought : FloodSought r at second octets room
   pub not-held : pairHeld r at (headerOf octets .fields) ≡ false
   pub free : someFree r ≡ true
+
+-- what becomes of it onward: ports that took an entry, "11 if none" is wanted, "and 10, 13, 14 and 15 apply"
+abbrev pub FloodNumber : ℕ → Type 0
+FloodNumber n = (n ≡ 1) ⊎ ((n ≡ 10) ⊎ ((n ≡ 11) ⊎ ((n ≡ 13) ⊎ ((n ≡ 14) ⊎ (n ≡ 15)))))
