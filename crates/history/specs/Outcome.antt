@@ -16,8 +16,8 @@ use Rattle.taking.specs.declared.Taking.{Taking}
 use Rattle.taking.specs.declared.Taking.the-variants.{Handed, Refused}
 use Rattle.tally.specs.Tally.{Move, movesOf}
 use Rattle.floods.specs.Sweep.{sweepChecks, sweptMemory}
-use Rattle.relay.specs.Received.{receivedRelay, heardMemory}
-use Rattle.history.specs.Seat.{Seat, freshSeat, stateOf, relayIn, heardBy}
+use Rattle.relay.specs.Received.{receivedRelay}
+use Rattle.history.specs.Seat.{Seat, freshSeat, relayIn, heardBy, memoryBy}
 use Rattle.history.specs.Calls.{
   OperatorCall,
   orders,
@@ -118,7 +118,7 @@ nextMission x (looks l) = x .mission
 
 abbrev pub nextMemory : Seat → MissionCall → Memory
 nextMemory x (sets s) = x .memory
-nextMemory x (hears rs p slot second octets output) = heardMemory (x .board) (stateOf x []) rs p second octets (length output)
+nextMemory x (hears rs p slot second octets output) = memoryBy x rs p second octets (length output)
 nextMemory x (takes p) = x .memory
 nextMemory x (sweeps second) = sweptMemory (x .board .lifetime) second (x .memory)
 nextMemory x (looks l) = x .memory

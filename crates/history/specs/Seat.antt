@@ -6,7 +6,7 @@ use Rattle.routes.specs.declared.Record.{Record}
 use Rattle.state.specs.Relay.{Mission, Memory, Relay}
 use Rattle.state.specs.Seen.{Board, State, freshBoard, freshMission, freshMemory, seated}
 use Rattle.listing.specs.Listed.{seen}
-use Rattle.relay.specs.Received.{heardEnding}
+use Rattle.relay.specs.Received.{heardEnding, heardMemory}
 use Rattle.judge.specs.declared.Ending.{Ending}
 
 pub record Seat : Type 0 where
@@ -33,3 +33,7 @@ relayWith x rs = seen (x .board) (stateOf x []) rs
 -- how a datagram ends that comes in by this port in this second
 abbrev pub heardBy : Seat → List Record → ℕ → ℕ → List ℕ → ℕ → Ending
 heardBy x rs port second octets room = heardEnding (x .board) (stateOf x []) rs port second octets room
+
+-- and what is remembered then
+abbrev pub memoryBy : Seat → List Record → ℕ → ℕ → List ℕ → ℕ → Memory
+memoryBy x rs port second octets room = heardMemory (x .board) (stateOf x []) rs port second octets room
