@@ -33,9 +33,11 @@ use Rattle.state.specs.Relay.{Relay, portIn, groupIn, pathIn}
 use Rattle.survey.specs.Survey.{surveyBelow, surveyOf}
 use Rattle.survey.specs.declared.Destination.{Destination}
 use Rattle.survey.specs.declared.Sought.{Sought}
-use Rattle.verdict.specs.Rule.{exceptBy, aloneBy, groupLine, pathLine, routeLine, routerLine, unheardBy, hostLine, lineOf}
+use Rattle.verdict.specs.Rule.{exceptBy, aloneBy, groupLine, pathLine, routeLine, routerLine, unheardBy, hostLine, plainLine, floodLine, lineOf}
 use Rattle.verdict.specs.declared.Target.{Target}
 use Rattle.verdict.specs.declared.Target.the-variants as target
+use Rattle.verdict.specs.declared.Flood.{Flood}
+use Rattle.verdict.specs.declared.Flood.the-variants.{Plain, Unsent, Full, New}
 use Rattle.verdict.specs.declared.Case.{Case}
 use Rattle.verdict.specs.declared.Local.{Local}
 use Rattle.verdict.specs.declared.Local.the-variants.{No, Delivered, Unknown}
@@ -181,9 +183,19 @@ module _ (seat : Seat) (k : Kept seat) (rs : List Record) (p : ℕ) (inside : p 
   router-line target.Path x w arrival d q g h = path-line x arrival g
   router-line target.Route x w arrival d q g h = route-line w h
 
+  -- a flood wants ports that are set up, or what the line wants
+  flood-line : (f : Flood) (arrival : ℕ) (d : Destination) (q : Sought) (l : Wish) → GoodLine l → GoodLine (floodLine f (exceptBy (surveyOf r d q .ready) arrival) l)
+  flood-line Plain arrival d q l g = g
+  flood-line Unsent arrival d q l g = tt
+  flood-line Full arrival d q l g = tt
+  flood-line (New place) arrival d q l g =
+      let ready = surveyOf r d q .ready in
+      pick-line (eqb (exceptBy ready arrival) 0) (Refused NoRoute) (Wanted (exceptBy ready arrival)) tt (λ m. survey-ready d q (except-in ready arrival m))
+
   line-good : (t : Target) (x : Place) (w : Way) (c : Case) (d : Destination) (q : Sought) (local : Local) → Good x → GoodWay w → GoodLine (lineOf t x w c (surveyOf r d q .ready) local)
-  unfolding lineOf
-  line-good t x w c d q local g h = pick-line (eqb (c .router) 0) _ _ (host-line t local) (router-line t x w (c .arrival) d q g h)
+  unfolding lineOf plainLine
+  line-good t x w c d q local g h =
+      flood-line (c .flood) (c .arrival) d q _ (pick-line (eqb (c .router) 0) _ _ (host-line t local) (router-line t x w (c .arrival) d q g h))
 
   place-good : (t : Target) (a : Address) (arrival : ℕ) → Good (placeFor r t a arrival)
   place-good target.Here a arrival = tt

@@ -4,6 +4,7 @@ pub mod Calls
 pub mod Looks
 pub mod Outcome
 pub mod Answers
+pub mod Refused
 pub mod Tally
 pub mod Sums
 pub mod Ledger
