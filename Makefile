@@ -44,12 +44,12 @@ endif
 # Each program has a folder below host/, and takes from host/shared what is named here.
 program = $(wildcard host/$(1)/*.c) $(patsubst %,host/shared/%.c,options $(2))
 REPLAY := $(call program,replay,calls library text trace)
-GENERATE := $(call program,generate,calls datagram form settings text world)
+GENERATE := $(call program,generate,calls datagram floods form settings text world)
 COVERAGE := $(call program,coverage,answered arriving calls settings trace)
 LEDGER := $(call program,ledger,answered arriving calls trace)
 BENCH := $(call program,bench,calls library plainly trace)
 REHEARSAL := $(call program,rehearsal)
-SOAK := $(call program,soak,calls datagram form library plainly settings world)
+SOAK := $(call program,soak,calls datagram floods form library plainly settings world)
 PLAIN := $(wildcard host/plain/plain_*.c)
 HEADERS := $(wildcard $(INCLUDE)/*.h host/*/*.h host/*/*.def tests/*.h)
 
