@@ -138,7 +138,8 @@ build/readme: build/readme.c
 build/rehearsal_wrong: $(REHEARSAL) tests/wrong_relay.c
 build/soak_faulty: $(SOAK) $(PLAIN) tests/soak_faults.c
 build/rehearsal_wrong: wrapped := take receive_at
-build/soak_faulty: wrapped := class take counter waiting search set_port receive_at
+build/soak_faulty: wrapped := class take counter waiting search set_port receive_at \
+	sweep set_lifetime get_lifetime last_second pair_word
 
 LINKED := $(addprefix build/,replay rehearsal rehearsal_wrong calls relay_calls leg_calls \
 	bench flight_loop settings_batch soak soak_faulty readme)

@@ -1,6 +1,6 @@
 /*
- * flood_lists.h: what coverage counts of floods, seconds and sweeps, in the form
- * of relay_lists.h. `r` is a receipt, `w` a sweep, `v` the view before it.
+ * flood_lists.h: what coverage counts of floods, seconds and sweeps, in the
+ * form of relay_lists.h. `r` is a receipt, `w` a sweep, `v` the view before it.
  */
 #ifndef COVERAGE_FLOOD_LISTS_H
 #define COVERAGE_FLOOD_LISTS_H
@@ -11,9 +11,9 @@
 
 /* Of the pairs that are held, those that are like a flood's in part. */
 struct alike {
-    bool other_format; /* the same source and time in another format */
+    bool other_format;  /* the same source and time in another format */
     bool other_p_field; /* and of one format, with another P-field */
-    bool other_source; /* the same timestamp of another source */
+    bool other_source;  /* the same timestamp of another source */
 };
 
 /* A sweep, and what it finds. */

@@ -1,7 +1,7 @@
 /*
- * floods.c: what was reached of floods. Whether a pair is held, or was freed and
- * is kept again, is not in an answer: it is told from the view, as the lines of
- * the rules are (relay.c). The lists are in flood_lists.h.
+ * floods.c: what was reached of floods. Whether a pair is held, or was freed
+ * and is kept again, is not in an answer: it is told from the view, as the
+ * lines of the rules are (relay.c). The lists are in flood_lists.h.
  */
 #include "floods.h"
 

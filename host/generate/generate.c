@@ -8,9 +8,8 @@
  * Each part of the trace has its file: headers.c, builds.c, addresses.c,
  * checksums.c, and history.c, which has the whole relay's calls made by
  * ports.c, routes.c, entries.c, setting.c and arrivals.c, with the floods and
- * seconds of shared/floods.c. They draw from one
- * stream of numbers, so a count that is changed changes all that comes behind
- * it.
+ * seconds of shared/floods.c. They draw from one stream of numbers, so a count
+ * that is changed changes all that comes behind it.
  */
 #include "addresses.h"
 #include "builds.h"

@@ -43,7 +43,7 @@ static void any_router(struct world *world, struct random *random)
 
 void history_set_lifetime(struct world *world, struct random *random)
 {
-    world->lifetime = floods_lifetime(random);
+    world->lifetime = floods_lifetime(world, random);
     line_number(CALL_SET_LIFETIME, world->lifetime);
 }
 

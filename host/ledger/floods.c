@@ -1,7 +1,7 @@
 /*
  * floods.c: booking floods. Whether the node is a router, and what the
- * destination is, is not known here: a pair counts as kept where the onward half
- * says that ports were looked for, 11 for none included.
+ * destination is, is not known here: a pair counts as kept where the onward
+ * half says that ports were looked for, 11 for none included.
  *
  * The awkward case is the answer of a `pairs` line, which is sorted: what is
  * kept is written as that line has it, and the words are sorted as text. Their

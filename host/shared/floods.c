@@ -101,10 +101,12 @@ uint32_t floods_sweep(struct world *world, struct random *random)
     return (uint32_t)edge;
 }
 
-uint32_t floods_lifetime(struct random *random)
+uint32_t floods_lifetime(const struct world *world, struct random *random)
 {
     static const uint32_t LIFETIMES[] = {0, 0, 1, 1, 2, 3, 5, 8, 20, 1000,
                                          0xfffffffe, 0xffffffff};
 
+    if (world->pair_count == WORLD_PAIRS && !random_one_in(random, 4))
+        return 0xffffffff;
     return PICK(LIFETIMES);
 }

@@ -1,6 +1,6 @@
 /*
- * floods.h: floods and seconds to try. A history draws its floods from a pool of
- * few pairs, so that pairs come again, and its seconds from a clock of each
+ * floods.h: floods and seconds to try. A history draws its floods from a pool
+ * of few pairs, so that pairs come again, and its seconds from a clock of each
  * mission that mostly goes on.
  */
 #ifndef FLOODS_H
@@ -17,8 +17,8 @@ void floods_begin(struct world *world, uint32_t pairs, uint32_t of_100,
 /* Whether the next datagram is to be flooded. */
 bool floods_next(const struct world *world, struct random *random);
 
-/* Makes the form that of a flood: mostly of a pair of the pool, the source where
- * the form has one. */
+/* Makes the form that of a flood: mostly of a pair of the pool, the source
+ * where the form has one. */
 void floods_form(const struct world *world, struct form *form,
                  struct random *random);
 
@@ -27,7 +27,8 @@ void floods_form(const struct world *world, struct form *form,
 uint32_t floods_second(struct world *world, struct random *random);
 uint32_t floods_sweep(struct world *world, struct random *random);
 
-/* Of which some free at once, and some never. */
-uint32_t floods_lifetime(struct random *random);
+/* Of which some free at once, and some never. Where the pool has more pairs
+ * than there are places it is mostly never, so that the places fill. */
+uint32_t floods_lifetime(const struct world *world, struct random *random);
 
 #endif
