@@ -127,6 +127,7 @@ build/rehearsal: $(REHEARSAL)
 build/calls: tests/calls.c
 build/relay_calls: tests/relay_calls.c
 build/leg_calls: tests/leg_calls.c
+build/flood_calls: tests/flood_calls.c
 build/bench: $(BENCH) $(PLAIN)
 build/flight_loop: examples/flight_loop.c
 build/settings_batch: examples/settings_batch.c
@@ -142,7 +143,7 @@ build/soak_faulty: wrapped := class take counter waiting search set_port receive
 	sweep set_lifetime get_lifetime last_second pair_word
 
 LINKED := $(addprefix build/,replay rehearsal rehearsal_wrong calls relay_calls leg_calls \
-	bench flight_loop settings_batch soak soak_faulty readme)
+	flood_calls bench flight_loop settings_batch soak soak_faulty readme)
 $(LINKED): $(LIBRARY) $(HEADERS) scripts/emulated build/from | tools
 	$(link) $(wrapped:%=-Wl,--wrap=hj_%) $(filter %.c,$^) $(LIBRARY)
 	$(emulate)
@@ -198,14 +199,15 @@ readme: build/readme
 	build/readme > build/readme.output
 	cmp build/readme.output build/readme.expected
 
-host-tests: build/calls build/relay_calls build/leg_calls build/test_plain \
-	build/test_relay build/test_missions build/test_legs build/replay build/plain \
-	build/ledger build/generate build/coverage build/bench build/flight_loop \
+host-tests: build/calls build/relay_calls build/leg_calls build/flood_calls \
+	build/test_plain build/test_relay build/test_missions build/test_legs build/replay \
+	build/plain build/ledger build/generate build/coverage build/bench build/flight_loop \
 	build/settings_batch build/rehearsal build/rehearsal_wrong build/soak \
 	build/soak_faulty build/coverage-plain/plain
 	build/calls
 	build/relay_calls
 	build/leg_calls
+	build/flood_calls
 	build/test_plain
 	build/test_relay
 	build/test_missions
