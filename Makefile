@@ -199,11 +199,11 @@ readme: build/readme
 	build/readme > build/readme.output
 	cmp build/readme.output build/readme.expected
 
-host-tests: build/calls build/relay_calls build/leg_calls build/flood_calls \
-	build/test_plain build/test_relay build/test_missions build/test_legs build/replay \
-	build/plain build/ledger build/generate build/coverage build/bench build/flight_loop \
+host-tests: build/calls build/relay_calls build/leg_calls build/test_plain \
+	build/test_relay build/test_missions build/test_legs build/replay build/plain \
+	build/ledger build/generate build/coverage build/bench build/flight_loop \
 	build/settings_batch build/rehearsal build/rehearsal_wrong build/soak \
-	build/soak_faulty build/coverage-plain/plain
+	build/soak_faulty build/coverage-plain/plain build/flood_calls
 	build/calls
 	build/relay_calls
 	build/leg_calls
