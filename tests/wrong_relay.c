@@ -24,8 +24,10 @@
 #define LENT board, board_words, mission, mission_words
 #define ARRIVAL                                                                \
     const hj_record *routes, size_t route_count, uint32_t port, uint16_t slot, \
-        const uint8_t *octets, size_t length, uint8_t *output, size_t room
-#define ARRIVED routes, route_count, port, slot, octets, length, output, room
+        uint32_t second, const uint8_t *octets, size_t length,                \
+        uint8_t *output, size_t room
+#define ARRIVED(octets)                                                        \
+    routes, route_count, port, slot, second, octets, length, output, room
 
 hj_answer __real_hj_take(BOARD, MISSION, uint32_t port);
 hj_answer __wrap_hj_take(BOARD, MISSION, uint32_t port);
@@ -134,7 +136,7 @@ static void fill(BOARD, hj_verdict verdict, uint8_t *output)
 
 hj_verdict __wrap_hj_receive_at(BOARD, MISSION, ARRIVAL)
 {
-    hj_verdict verdict = __real_hj_receive_at(LENT, ARRIVED);
+    hj_verdict verdict = __real_hj_receive_at(LENT, ARRIVED(octets));
 
     if (hj_read(octets, length).fields.extended)
         return verdict;

@@ -11,5 +11,6 @@ void set_link(void);
 void set_route(void);
 void set_group(void);
 void set_path(void);
+void set_lifetime(void);
 
 #endif
