@@ -45,7 +45,8 @@ static const struct {
 } WORDS[] = {
     {"node", set_node},         {"port", set_port},   {"link", set_link},
     {"route", set_route},       {"group", set_group}, {"path", set_path},
-    {"lifetime", set_lifetime}, {"send", event_send}, {"hold", event_hold},
+    {"lifetime", set_lifetime}, {"fresh", set_fresh},
+    {"send", event_send},       {"hold", event_hold},
     {"release", event_release}, {"take", event_take}, {"sweep", event_sweep},
     {"step", event_step},       {"run", event_run},   {"wait", event_wait},
     {"scene", event_scene},     {"say", event_say},   {"quiet", event_quiet},
@@ -56,9 +57,9 @@ static const struct {
 static void perform_line(void)
 {
     static const char EXPECTED[] =
-        "node, port, link, route, group, path, lifetime, send, hold, release, "
-        "take, sweep, step, run, wait, scene, say, quiet, loud, foretell, "
-        "beside, copies or expect";
+        "node, port, link, route, group, path, lifetime, fresh, send, hold, "
+        "release, take, sweep, step, run, wait, scene, say, quiet, loud, "
+        "foretell, beside, copies or expect";
 
     for (size_t i = 0; i < sizeof WORDS / sizeof *WORDS; i++) {
         if (line_is(WORDS[i].word)) {

@@ -166,3 +166,27 @@ void set_lifetime(void)
 
     taken(hj_set_lifetime(LENT_BOARD(node), lifetime));
 }
+
+/* Forgets what was granted to the mission's ports. What waits there would be
+ * lost, so nothing may. */
+static void close_ledger(struct node *node, uint32_t mission)
+{
+    for (uint32_t port = 0; port < HJ_PORTS; port++) {
+        struct wire *wire = &node->wires[port];
+
+        if (node_mission(node, port) != mission)
+            continue;
+        if (node_waiting(node, port) > 0)
+            line_refuse("a mission for which nothing waits", node->name);
+        wire->took = wire->dropped = wire->handed_out = 0;
+    }
+}
+
+void set_fresh(void)
+{
+    struct node *node = &nodes[line_node()];
+    uint32_t mission = mission_said();
+
+    close_ledger(node, mission);
+    taken(hj_fresh_mission(LENT_MISSION(node, mission), mission));
+}

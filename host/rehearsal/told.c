@@ -163,7 +163,7 @@ void told_sweep(uint32_t node, uint32_t mission, uint32_t second,
         printf(", mission %" PRIu32, mission);
     if (refusal != HJ_DONE)
         printf(": REFUSED (%" PRIu32 "), %s", refusal, number_name(refusal));
-    printf(": %" PRIu32 " pairs held before, %" PRIu32 " after\n", before,
+    printf("; pairs held: %" PRIu32 " before, %" PRIu32 " after\n", before,
            node_pairs(&nodes[node], mission));
 }
 
