@@ -109,9 +109,9 @@ static const struct program PROGRAM = {
     "             [nets=N]\n"
     "\n"
     "Draws nets of relays of the library, 2 where no number is given, of 300\n"
-    "nodes and 450 links, floods 24 orders on each, and checks whom they reach\n"
-    "and what each relay does (docs/REHEARSAL.md). The seed, 1 where none is\n"
-    "given, begins the random numbers.\n"
+    "nodes and 450 links, floods 24 orders on each, and checks whom they\n"
+    "reach and what each relay does (docs/REHEARSAL.md). The seed, 1 where\n"
+    "none is given, begins the random numbers.\n"
     "\n"
     "Status: 0 all was as due; 1 not so; 2 bad usage, or the output failed.\n",
     true,
