@@ -45,13 +45,13 @@ endif
 # Each program has a folder below host/, and takes from host/shared what is named here.
 program = $(wildcard host/$(1)/*.c) $(patsubst %,host/shared/%.c,options $(2))
 REPLAY := $(call program,replay,calls library text trace)
-GENERATE := $(call program,generate,calls datagram form settings text world)
+GENERATE := $(call program,generate,calls datagram floods form settings text world)
 COVERAGE := $(call program,coverage,answered arriving calls settings trace)
 LEDGER := $(call program,ledger,answered arriving calls trace)
 BENCH := $(call program,bench,calls library plainly trace)
 REHEARSAL := $(call program,rehearsal)
 FLOOD := $(call program,flood,settings)
-SOAK := $(call program,soak,calls datagram form library plainly settings world)
+SOAK := $(call program,soak,calls datagram floods form library plainly settings world)
 PLAIN := $(wildcard host/plain/plain_*.c)
 HEADERS := $(wildcard $(INCLUDE)/*.h host/*/*.h host/*/*.def tests/*.h)
 
@@ -129,6 +129,7 @@ build/rehearsal: $(REHEARSAL)
 build/calls: tests/calls.c
 build/relay_calls: tests/relay_calls.c
 build/leg_calls: tests/leg_calls.c
+build/flood_calls: tests/flood_calls.c
 build/bench: $(BENCH) $(PLAIN)
 build/flight_loop: examples/flight_loop.c
 build/settings_batch: examples/settings_batch.c
@@ -142,10 +143,11 @@ build/rehearsal_wrong: $(REHEARSAL) tests/wrong_relay.c
 build/flood_wrong: $(FLOOD) tests/wrong_relay.c
 build/soak_faulty: $(SOAK) $(PLAIN) tests/soak_faults.c
 build/rehearsal_wrong build/flood_wrong: wrapped := take receive_at sweep counter
-build/soak_faulty: wrapped := class take counter waiting search set_port receive_at
+build/soak_faulty: wrapped := class take counter waiting search set_port receive_at \
+	sweep set_lifetime get_lifetime last_second pair_word
 
 LINKED := $(addprefix build/,replay rehearsal rehearsal_wrong calls relay_calls leg_calls \
-	bench flight_loop settings_batch soak soak_faulty flood flood_wrong readme)
+	flood_calls bench flight_loop settings_batch soak soak_faulty flood flood_wrong readme)
 $(LINKED): $(LIBRARY) $(HEADERS) scripts/emulated build/from | tools
 	$(link) $(wrapped:%=-Wl,--wrap=hj_%) $(filter %.c,$^) $(LIBRARY)
 	$(emulate)
@@ -205,10 +207,12 @@ host-tests: build/calls build/relay_calls build/leg_calls build/test_plain \
 	build/test_relay build/test_missions build/test_legs build/replay build/plain \
 	build/ledger build/generate build/coverage build/bench build/flight_loop \
 	build/settings_batch build/rehearsal build/rehearsal_wrong build/soak \
-	build/soak_faulty build/flood build/flood_wrong build/coverage-plain/plain
+	build/soak_faulty build/flood build/flood_wrong build/coverage-plain/plain \
+	build/flood_calls
 	build/calls
 	build/relay_calls
 	build/leg_calls
+	build/flood_calls
 	build/test_plain
 	build/test_relay
 	build/test_missions
