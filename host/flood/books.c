@@ -11,9 +11,6 @@
 #include <stdio.h>
 #include <string.h>
 
-/* No order, no node: of the net as a whole. */
-#define NONE UINT32_MAX
-
 static uint64_t seed_said;
 static uint32_t net_said;
 static struct {

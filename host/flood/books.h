@@ -18,7 +18,9 @@ bool books_close(uint64_t copies, uint64_t due_copies);
 /* The pairs that the relays hold. */
 bool books_pairs(void);
 
-/* Whatever is wrong is told with these. */
+/* What is said of a fault: the run, and then the node and the order, where it
+ * is the fault of one. */
+#define NONE UINT32_MAX
 void books_say_run(uint64_t seed, uint32_t net);
 bool books_fail(uint32_t node, uint32_t order, const char *what,
                 uint64_t found, uint64_t is_due);

@@ -70,7 +70,7 @@ static bool sweep(uint32_t at)
             hj_sweep(LENT_BOARD(node), LENT_MISSION(node), second);
 
         if (refusal != HJ_DONE)
-            return books_fail(i, NO_NODE, "a sweep is refused by", refusal, 0);
+            return books_fail(i, NONE, "a sweep is refused by", refusal, 0);
     }
     return books_pairs();
 }

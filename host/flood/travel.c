@@ -124,7 +124,7 @@ static bool hand_out(uint32_t which, uint32_t second, uint64_t *copies)
         ++*copies;
         if (hj_slot(entry) < order_count)
             return cross(from, hj_slot(entry), second);
-        return books_fail(from.node, NO_NODE, "an order that there is not",
+        return books_fail(from.node, NONE, "an order that there is not",
                           hj_slot(entry), order_count - 1);
     }
     is_busy[from.node][from.port] = false;
@@ -148,7 +148,7 @@ bool travel(struct random *random, uint32_t *second, uint64_t most,
         else
             good = hand_out(which - entering_count, *second, copies);
         if (*copies > most)
-            return books_fail(NO_NODE, NO_NODE, "copies, and no end of them",
+            return books_fail(NONE, NONE, "copies, and no end of them",
                               *copies, most);
     }
     return good;
