@@ -12,6 +12,7 @@
 #                  DESTDIR what stands before it
 #   make uninstall removes what install put there
 #   make soak      5,000,000 random calls, each looked at from outside
+#   make flood     datagrams flooded on large random nets of relays
 #   make coverage-plain   what of host/plain the generated trace reaches
 #   make costs     puts what the last `make test` cost into docs/COSTS.md
 #   make clean     removes build/ and target/
@@ -49,6 +50,7 @@ COVERAGE := $(call program,coverage,answered arriving calls settings trace)
 LEDGER := $(call program,ledger,answered arriving calls trace)
 BENCH := $(call program,bench,arriving calls library plainly trace)
 REHEARSAL := $(call program,rehearsal)
+FLOOD := $(call program,flood,settings)
 SOAK := $(call program,soak,calls datagram floods form library plainly settings world)
 PLAIN := $(wildcard host/plain/plain_*.c)
 HEADERS := $(wildcard $(INCLUDE)/*.h host/*/*.h host/*/*.def tests/*.h)
@@ -56,8 +58,8 @@ HEADERS := $(wildcard $(INCLUDE)/*.h host/*/*.h host/*/*.def tests/*.h)
 # `make test` goes through its parts in this order, whatever -j says.
 .NOTPARALLEL:
 .DELETE_ON_ERROR:
-.PHONY: test archive release replay plain rehearsal compare bench soak coverage-plain \
-	costs clean prepare tools format exports released header readme host-tests promises \
+.PHONY: test archive release replay plain rehearsal compare bench soak flood \
+	coverage-plain costs clean prepare tools format exports released header readme host-tests promises \
 	install uninstall always
 
 # What can be said without a proof comes first. The gate then proves everything, makes
@@ -132,18 +134,20 @@ build/bench: $(BENCH) $(PLAIN)
 build/flight_loop: examples/flight_loop.c
 build/settings_batch: examples/settings_batch.c
 build/soak: $(SOAK) $(PLAIN)
+build/flood: $(FLOOD)
 build/readme: build/readme.c
 
-# The rehearsal on wrong relays, which it has to find out; WRONG_RELAY says which. The
-# soak with faults put between it and the library, which it has to find.
+# The rehearsal and the flood on wrong relays, which they have to find out; WRONG_RELAY
+# says which. The soak with faults put between it and the library, which it has to find.
 build/rehearsal_wrong: $(REHEARSAL) tests/wrong_relay.c
+build/flood_wrong: $(FLOOD) tests/wrong_relay.c
 build/soak_faulty: $(SOAK) $(PLAIN) tests/soak_faults.c
-build/rehearsal_wrong: wrapped := take receive_at
+build/rehearsal_wrong build/flood_wrong: wrapped := take receive_at sweep counter
 build/soak_faulty: wrapped := class take counter waiting search set_port receive_at \
 	sweep set_lifetime get_lifetime last_second pair_word
 
 LINKED := $(addprefix build/,replay rehearsal rehearsal_wrong calls relay_calls leg_calls \
-	flood_calls bench flight_loop settings_batch soak soak_faulty readme)
+	flood_calls bench flight_loop settings_batch soak soak_faulty flood flood_wrong readme)
 $(LINKED): $(LIBRARY) $(HEADERS) scripts/emulated build/from | tools
 	$(link) $(wrapped:%=-Wl,--wrap=hj_%) $(filter %.c,$^) $(LIBRARY)
 	$(emulate)
@@ -203,7 +207,8 @@ host-tests: build/calls build/relay_calls build/leg_calls build/test_plain \
 	build/test_relay build/test_missions build/test_legs build/replay build/plain \
 	build/ledger build/generate build/coverage build/bench build/flight_loop \
 	build/settings_batch build/rehearsal build/rehearsal_wrong build/soak \
-	build/soak_faulty build/coverage-plain/plain build/flood_calls
+	build/soak_faulty build/flood build/flood_wrong build/coverage-plain/plain \
+	build/flood_calls
 	build/calls
 	build/relay_calls
 	build/leg_calls
@@ -219,6 +224,8 @@ host-tests: build/calls build/relay_calls build/leg_calls build/test_plain \
 	scripts/check-traces build/replay build/plain
 	python3 tests/test_ledger.py
 	python3 tests/test_rehearsal.py
+	build/flood seed=1
+	python3 tests/test_flood.py
 	python3 tests/test_scripts.py
 	python3 tests/test_gate.py
 	python3 tests/test_options.py
@@ -235,6 +242,10 @@ bench: build/bench
 # SOAK_ARGUMENTS: seed=N, calls=N
 soak: build/soak
 	build/soak $(SOAK_ARGUMENTS)
+
+# FLOOD_ARGUMENTS: seed=N, nodes=N, links=N, orders=N, nets=N
+flood: build/flood
+	build/flood $(FLOOD_ARGUMENTS)
 
 coverage-plain: build/generate build/coverage-plain/plain
 	scripts/coverage-plain
