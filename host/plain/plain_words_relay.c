@@ -4,9 +4,9 @@
  * library's, so that a place 700 or a port 9 reaches it and gets its refusal;
  * only a slot has 16 bits, and a mission is 0 or 1.
  *
- * The awkward cases: new, records and record have no answer, and so their lines
- * have no " = "; and pairs are answered in an order of their own, since the
- * places in which an implementation keeps them are its own affair.
+ * The awkward cases: new, records and record have no answer, and so their
+ * lines have no " = "; and pairs are answered in an order of their own, since
+ * the places in which an implementation keeps them are its own affair.
  */
 #include <stdlib.h>
 #include <string.h>

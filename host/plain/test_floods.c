@@ -3,12 +3,13 @@
  * at which calls come, the pairs by which a flooded datagram is known when it
  * comes again, and the sweeps that free them.
  *
- * Most datagrams come by port 0 from 10.10.10.4 and go to 10.4.8.2, to which no
- * route leads. Ports 1 and 2 are the mission's others, and ports 3 and 4 are of
- * mission 1 on the same board.
+ * Most datagrams come by port 0 from 10.10.10.4 and go to 10.4.8.2, to which
+ * no route leads. Ports 1 and 2 are the mission's others, and ports 3 and 4 are
+ * of mission 1 on the same board.
  *
  * The awkward case is a pair that is kept where it should not be, or lost: the
- * answer does not show it. So the pairs held are counted wherever one might be.
+ * answer does not show it. So the pairs held are counted wherever one might
+ * be.
  */
 #include <string.h>
 
@@ -751,6 +752,18 @@ static void test_freed_places(void)
     CHECK_VERDICT(arrive(0, at_time(65)), 0, 0, PLAIN_PAIRS_HELD, 0);
 }
 
+/* One sweep frees as many as are old, the last place too. */
+static void test_sweep_of_all_places(void)
+{
+    fresh_with_ports();
+    hold_pairs(PLAIN_PAIRS);
+    CHECK_EQUAL(plain_sweep(&view, 63), 0);
+    CHECK_EQUAL(held(), 1); /* the one that came at second 63 */
+    CHECK_PAIR(63, 1, SENDER, 0, 63, 63);
+    CHECK_EQUAL(plain_sweep(&view, 64), 0);
+    CHECK_EQUAL(held(), 0);
+}
+
 /* An age equal to the lifetime stays, one over it goes. */
 static void test_ages(void)
 {
@@ -911,10 +924,14 @@ static void test_destinations(void)
     CHECK_EQUAL(held(), 10);
 }
 
-/* Where there is no other port, 11 is said of broadcasts and groups too. */
+/* Where there is no other port, 11 is said of broadcasts and groups too. The
+ * other mission's port is none. */
 static void test_destinations_without_another_port(void)
 {
+    plain_port theirs = {{THEIRS}, {net24}, 8191, 1};
+
     fresh_router();
+    CHECK_EQUAL(plain_set_port(&relay.board, 3, &theirs), 0);
     CHECK_EQUAL(set_group(0, 0x0a04090f, 1, 1), 0);
     CHECK_VERDICT(arrive(0, flood(0x0a0a0aff)), 0, 1, PLAIN_NO_ROUTE, 0);
     CHECK_VERDICT(arrive(0, flood(0x0a0a0aff)), 0, 1, 0, 0);
@@ -1009,6 +1026,7 @@ int main(void)
     test_all_places_held();
     test_30_before_11();
     test_freed_places();
+    test_sweep_of_all_places();
     test_ages();
     test_long_lifetimes();
     test_seconds_of_sweeps();
