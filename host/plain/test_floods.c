@@ -4,8 +4,8 @@
  * comes again, and the sweeps that free them.
  *
  * Most datagrams come by port 0 from 10.10.10.4 and go to 10.4.8.2, to which
- * no route leads. Ports 1 and 2 are the mission's others, and ports 3 and 4 are
- * of mission 1 on the same board.
+ * no route leads. Ports 1 and 2 are the mission's others, and ports 3 and 4
+ * are of mission 1 on the same board.
  *
  * The awkward case is a pair that is kept where it should not be, or lost: the
  * answer does not show it. So the pairs held are counted wherever one might
@@ -258,6 +258,24 @@ static void test_flooded(void)
     CHECK_VERDICT(arrive(0, urgent), 0, 0, 1, OTHERS);
     CHECK_EQUAL(plain_take(&view, 2, &entry), 0);
     CHECK_EQUAL(entry.precedence, 13);
+}
+
+/* The octets between the numbers of a place are zeros too, so that missions
+ * can be compared octet by octet. */
+static void test_octets_of_a_place(void)
+{
+    plain_pair due;
+
+    fresh_with_ports();
+    now = 6;
+    arrive(0, stamped(PLAIN_STAMP_EXPLICIT, 0x08, TIME));
+    memset(&due, 0, sizeof due);
+    due.format = PLAIN_STAMP_EXPLICIT;
+    due.source.bits = SENDER;
+    due.p_field = 0x08;
+    due.time = TIME;
+    due.second = 6;
+    CHECK_EQUAL(memcmp(&relay.mission.pairs[0], &due, sizeof due), 0);
 }
 
 static void test_routing_values(void)
@@ -1006,6 +1024,7 @@ int main(void)
 {
     test_fresh();
     test_flooded();
+    test_octets_of_a_place();
     test_routing_values();
     test_unmarked();
     test_28_after_6_and_7();
