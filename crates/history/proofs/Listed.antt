@@ -211,30 +211,32 @@ line-numbered t p w c ready local =
     flood-numbered (isNo local) (c .flood) (exceptBy ready (c .arrival)) _
     (either (Numbered (isNo local)) (eqb (c .router) 0) (host-numbered t local) (router-numbered (isNo local) t p w (c .arrival) ready))
 
--- what strikes ports out leaves it so
-module _ (bare : Bool) where
-  hops-numbered : (l : Wish) (spent : ℕ) → Numbered bare l → Numbered bare (afterHops l spent)
-  hops-numbered NotAsked spent h = h
-  hops-numbered (Refused n) spent h = h
-  hops-numbered (Wanted set) spent h = either (Numbered bare) (eqb spent 0) refl (other bare HopsUsedUp refl)
+-- what strikes ports out leaves so what holds of its own obstacles and of all ports wanted
+module _ (P : Wish → Type 0) (hops : P (Refused HopsUsedUp)) (domain : P (Refused LeavesDomain)) (size : P (Refused TooBig)) (ports : (set : ℕ) → P (Wanted set)) where
+  hops-keeps : (l : Wish) (spent : ℕ) → P l → P (afterHops l spent)
+  hops-keeps NotAsked spent h = h
+  hops-keeps (Refused o) spent h = h
+  hops-keeps (Wanted set) spent h = either P (eqb spent 0) h hops
 
-  domain-numbered : (l : Wish) (bound domain : ℕ) → Numbered bare l → Numbered bare (afterDomain l bound domain)
-  domain-numbered NotAsked bound domain h = h
-  domain-numbered (Refused n) bound domain h = h
-  domain-numbered (Wanted set) bound domain h =
-      either (Numbered bare) (eqb bound 0) refl (either (Numbered bare) (eqb (bitAnd set domain) 0) (other bare LeavesDomain refl) refl)
+  domain-keeps : (l : Wish) (bound near : ℕ) → P l → P (afterDomain l bound near)
+  domain-keeps NotAsked bound near h = h
+  domain-keeps (Refused o) bound near h = h
+  domain-keeps (Wanted set) bound near h = either P (eqb bound 0) h (either P (eqb (bitAnd set near) 0) domain (ports (bitAnd set near)))
 
-  size-numbered : (l : Wish) (fitting : ℕ) → Numbered bare l → Numbered bare (afterSize l fitting)
-  size-numbered NotAsked fitting h = h
-  size-numbered (Refused n) fitting h = h
-  size-numbered (Wanted set) fitting h = either (Numbered bare) (eqb (bitAnd set fitting) 0) (other bare TooBig refl) refl
+  size-keeps : (l : Wish) (fitting : ℕ) → P l → P (afterSize l fitting)
+  size-keeps NotAsked fitting h = h
+  size-keeps (Refused o) fitting h = h
+  size-keeps (Wanted set) fitting h = either P (eqb (bitAnd set fitting) 0) size (ports (bitAnd set fitting))
 
-  granted-numbered : (l : Wish) (c : Case) (s : Survey) → Numbered bare l → Numbered bare (grantedOf l c s)
+  pub granted-keeps : (l : Wish) (c : Case) (s : Survey) → P l → P (grantedOf l c s)
   unfolding grantedOf
-  granted-numbered l c s h =
-      let hops = afterHops l (c .spent) in
-      let domain = afterDomain hops (c .bound) (s .domain) in
-      size-numbered domain (s .fitting) (domain-numbered hops (c .bound) (s .domain) (hops-numbered l (c .spent) h))
+  granted-keeps l c s h =
+      let hopped = afterHops l (c .spent) in
+      let near = afterDomain hopped (c .bound) (s .domain) in
+      size-keeps near (s .fitting) (domain-keeps hopped (c .bound) (s .domain) (hops-keeps l (c .spent) h))
+
+granted-numbered : (bare : Bool) (l : Wish) (c : Case) (s : Survey) → Numbered bare l → Numbered bare (grantedOf l c s)
+granted-numbered bare = granted-keeps (Numbered bare) (other bare HopsUsedUp refl) (other bare LeavesDomain refl) (other bare TooBig refl) (λ set. refl)
 
 -- ---- the rows of a datagram that was judged
 abbrev Judged : Ruling → Type 0

@@ -67,7 +67,7 @@ halves-case : (t : Bool) (a b : ℕ)
 halves-case true a b = inl (refl, refl)
 halves-case false a b = inr (assigned-case (isAssigned a), assigned-case (isAssigned b))
 
-ruling-local : (local : Local) (l : Wish) (full : ℕ) → rulingOf local l full .local ≡ local
+pub ruling-local : (local : Local) (l : Wish) (full : ℕ) → rulingOf local l full .local ≡ local
 unfolding rulingOf copiesOf
 ruling-local local NotAsked full = refl
 ruling-local local (Refused n) full = refl

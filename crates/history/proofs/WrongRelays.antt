@@ -27,6 +27,11 @@ use Rattle.settings.specs.Sets.{namesOther, setRefused}
 use Rattle.refusals.specs.Elsewhere.{pathElsewhere}
 use Rattle.lookup.specs.Lookup.{pathPlace}
 use Rattle.verdict.specs.Rule.{pathLine}
+use Rattle.records.specs.Held.{holdsPair}
+use Rattle.meaning.specs.Flood.{pairOf}
+use Rattle.meaning.specs.Names.{floodRouting}
+use Rattle.floods.specs.Memory.{isHeld, freePlace, soughtPair}
+use Rattle.floods.specs.Sweep.{isOld, swept, sweptMemory}
 use Rattle.state.specs.Relay.{routeIn, queueAt, counterIn}
 use Rattle.state.specs.Seen.{State, freshState}
 use Rattle.adjust.specs.Settled.{newRecord}
@@ -84,6 +89,20 @@ twoDomains =
 abbrev pub basic : Call
 basic = own (hears [] 0 (record { 0 = 1 }) 0 (32 ∷ 4 ∷ (4 * 16 + bitWeight 22) ∷ 14 ∷ []) (replicate outputRoom 0))
 
+-- a flooded datagram to 192.0.2.1 from 172.16.4.2, with a timestamp of three octets (as `datagram`), that comes in by this port in this second
+abbrev pub flooded : ℕ → ℕ → Call
+flooded at second =
+    own (hears [] at (record { 0 = 1 }) second
+    (32 ∷ 16
+    ∷ (4 * 16 + bitWeight 20 + bitWeight 22)
+    ∷ (bitWeight 25 + bitWeight 28 + bitWeight 30 + bitWeight 31)
+    ∷ 192 ∷ 0 ∷ 2 ∷ 1
+    ∷ 172 ∷ 16 ∷ 4 ∷ 2
+    ∷ (floodRouting * 4)
+    ∷ 0 ∷ 0 ∷ 9
+    ∷ [])
+    (replicate outputRoom 0))
+
 -- a route as if it were up, whatever its availability
 abbrev pub asIfUp : Route → Route
 asIfUp r =
@@ -132,9 +151,14 @@ pub record Cases : Type 0 where
   pub kept : inSet 3 (outcome (seatAfter 0 (waitingForD 31)) (forD (allRoutes 0)) .dropped) ≡ false
   -- a one-octet path does not leave its domain
   pub domain : outcome (seatAfter 0 twoDomains) basic .answer ≡ notSent 13
+  -- a flooded datagram goes to all other ports, and not when it comes again, whatever the port; a sweep, the lifetime 0, frees its pair, and accepts a second
+  pub flood : outcome (seatAfter 0 begun) (flooded 4 0) .answer ≡ ended 0 0 1 15
+  pub again : outcome (seatAfter 0 (begun ++ flooded 4 0 ∷ [])) (flooded 3 0) .answer ≡ notSent 0
+  pub freed : outcome (seatAfter 0 (begun ++ flooded 4 0 ∷ own (sweeps 1) ∷ [])) (flooded 4 1) .answer ≡ ended 0 0 1 15
+  pub past : outcome (seatAfter 0 (begun ++ own (sweeps 1) ∷ [])) (flooded 4 0) .answer ≡ ended 29 0 0 0
 
 pub cases : Cases
-unfolding opened freshState countedAt counterFor pathForm pathClassRefused setRefused namesOther pathElsewhere pathPlace pathLine
+unfolding opened freshState countedAt counterFor pathForm pathClassRefused setRefused namesOther pathElsewhere pathPlace pathLine pairOf holdsPair isHeld freePlace soughtPair isOld swept sweptMemory
 cases =
     record {
       octets = refl;
@@ -150,6 +174,10 @@ cases =
       granted = refl;
       kept = refl;
       domain = refl;
+      flood = refl;
+      again = refl;
+      freed = refl;
+      past = refl;
     }
 
 -- the ports that took an entry
@@ -303,6 +331,25 @@ module _ (does : List Call → Call → Outcome) (kept : (cs : List Call) (c : C
   -- It does not do without the domain test, and so never answer 13.
   pub leaving-the-domain : ((cs : List Call) (c : Call) (local : ℕ) → does cs c .answer ≡ ended 0 local 13 0 → ⊥) → ⊥
   leaving-the-domain wrong = wrong twoDomains basic 0 (answers twoDomains basic ∙ cases .domain)
+
+  -- It does not send on a flooded datagram whenever it comes (W-207: "not asked for a held pair"),
+  pub flooding-again : ((cs : List Call) (p q second : ℕ) → does (cs ++ flooded p second ∷ []) (flooded q second) .answer ≡ does cs (flooded p second) .answer) → ⊥
+  flooding-again wrong =
+      let same = wrong begun 4 3 0 in
+      let ports : _≡_ {A = ℕ} 0 15 =
+      ap portsOf (sym (answers (begun ++ flooded 4 0 ∷ []) (flooded 3 0) ∙ cases .again) ∙ same ∙ answers begun (flooded 4 0) ∙ cases .flood) in omega arith
+
+  -- nor never again,
+  pub freeing-nothing :
+      ((cs : List Call) (p first second : ℕ) → portsOf (does (cs ++ flooded p first ∷ own (sweeps second) ∷ []) (flooded p second) .answer) ≡ 0) → ⊥
+  freeing-nothing wrong =
+      let ports : _≡_ {A = ℕ} 0 15 =
+      sym (wrong begun 4 0 1) ∙ ap portsOf (answers (begun ++ flooded 4 0 ∷ own (sweeps 1) ∷ []) (flooded 4 1) ∙ cases .freed) in omega arith
+
+  -- and it does not take every second.
+  pub taking-any-second : ((cs : List Call) (c : Call) (local onward took : ℕ) → does cs c .answer ≡ ended 29 local onward took → ⊥) → ⊥
+  taking-any-second wrong =
+      wrong (begun ++ own (sweeps 1) ∷ []) (flooded 4 0) 0 0 0 (answers (begun ++ own (sweeps 1) ∷ []) (flooded 4 0) ∙ cases .past)
 
   -- No counter of it moves at 17,
   pub counting-at-17 : (cs : List Call) (c : Call) (i local onward took : ℕ)

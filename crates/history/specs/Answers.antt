@@ -104,7 +104,7 @@ endingRows =
     -- not delivered: refused onward, or sent on
     ∷ endings (0 ∷ []) (0 ∷ []) (9 ∷ 30 ∷ 11 ∷ 10 ∷ 13 ∷ 14 ∷ 15 ∷ []) false
     ∷ endings (0 ∷ []) (0 ∷ []) (1 ∷ []) true
-    -- not delivered and not asked: a flooded datagram whose pair is held, and nothing else
+    -- not delivered and not asked: a flooded datagram whose pair is held, and nothing else (law `unsaid-is-held`)
     ∷ endings (0 ∷ []) (0 ∷ []) (0 ∷ []) false
     -- delivered or 26: not asked or refused onward, or sent on
     ∷ endings (0 ∷ []) (1 ∷ 26 ∷ []) (0 ∷ 30 ∷ 11 ∷ 10 ∷ 13 ∷ 14 ∷ 15 ∷ []) false

@@ -10,6 +10,7 @@ pub mod Sums
 pub mod Ledger
 pub mod Line
 pub mod Foretold
+pub mod Floods
 pub mod Parts
 pub mod Reach
 pub mod Ranges
