@@ -115,7 +115,8 @@ nobody-checks-first (hj-set-router b router) = λ v γ k same.
     set-router.Reads.known v γ k _ same (set-router.Met.met (v .𝓤) (v .H) (v .𝓜) (v .𝓖) (v .𝓡))
 nobody-checks-first (hj-set-port b p address mask mtu mission) = λ v γ k same.
     set-port.Reads.known v γ k _ same (set-port.Met.met (v .𝓤) (v .H) (v .𝓜) (v .𝓖) (v .𝓡))
-nobody-checks-first (hj-set-lifetime b lifetime) = λ v γ k same. set-lifetime.Reads.known v γ k _ same (set-lifetime.Met.met (v .𝓤) (v .H) (v .𝓜) (v .𝓖) (v .𝓡))
+nobody-checks-first (hj-set-lifetime b lifetime) = λ v γ k same.
+    set-lifetime.Reads.known v γ k _ same (set-lifetime.Met.met (v .𝓤) (v .H) (v .𝓜) (v .𝓖) (v .𝓡))
 nobody-checks-first (hj-set-route b rs i prefix mask p availability capabilities mission) = λ v γ k same.
     cited (v .𝓤) (v .H) (tripleOf (v .𝓤) (v .H) (v .𝓖 .A) set-route.signature (set-route.spec (v .𝓤) (v .H) (v .𝓖 .A) (v .𝓜 .mem) (v .𝓡 .run)))
     (v .𝓜) (v .𝓡) γ k set-route.Symbol.routine same (set-route.Met.met (v .𝓤) (v .H) (v .𝓜) (v .𝓖) (v .𝓡))

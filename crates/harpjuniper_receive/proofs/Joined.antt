@@ -91,7 +91,9 @@ module _ (x : Board) (s : State) (rs : List Record) (port second : ℕ) (octets 
       ≡ pick t (s .memory) (memoryOf (seen x s rs) port second octets room)
   unfolding rememberedBy
   kept-unless-long true = refl
-  kept-unless-long false = remembered-is (seated x s) (s .number) second port octets room ∙ memory-same (seated x s) (routesSeen x (s .number) rs) second port octets room
+  kept-unless-long false =
+      remembered-is (seated x s) (s .number) second port octets room
+      ∙ memory-same (seated x s) (routesSeen x (s .number) rs) second port octets room
 
 module _ (b w : List ℕ) (rs : List Record) (port second : ℕ) (octets : List ℕ) (room : ℕ) (right-board : length b ≡ boardWords)
     (right : length w ≡ missionWords) where
@@ -102,7 +104,9 @@ module _ (b w : List ℕ) (rs : List Record) (port second : ℕ) (octets : List 
   unfolding askedOf
   asked-here =
       ap (λ (a : Asked). pick (tooLong rs) (refusedAsked 21) a)
-      (sym (both-held-told b w right-board right (λ (x : Board) (s : State). datagramAsked (seated x s) (s .number) port second octets room) (refusedAsked 16) refl))
+      (sym
+      (both-held-told b w right-board right (λ (x : Board) (s : State). datagramAsked (seated x s) (s .number) port second octets room) (refusedAsked 16)
+      refl))
 
   pub joined : endingAfter b w (askedOf b w (length rs) port second octets room) (scanOf (queryOf (askedOf b w (length rs) port second octets room)) rs)
       ≡ heardEnding (decodeBoard b) (decode w) rs port second octets room

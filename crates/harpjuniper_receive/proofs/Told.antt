@@ -65,7 +65,8 @@ module _ (b w : List ℕ) (rs : List Record) (port slot second : ℕ) (octets ou
   abbrev Promised : Ending → Type 0
   Promised e =
       (receiveNumber e ≡ receiveAnswer b w rs port second octets (length output))
-      × ((changedBoth (λ (x : Board) (s : State). receivedState x s (record { 0 = slot }) (kept (s .memory)) e) b w ≡ receiveWords b w rs port slot second octets (length output))
+      × ((changedBoth (λ (x : Board) (s : State). receivedState x s (record { 0 = slot }) (kept (s .memory)) e) b w
+      ≡ receiveWords b w rs port slot second octets (length output))
       × (sentOutput e octets output ≡ receiveOutput b w rs port second octets output))
 
   -- ---- the words hold a board and a mission's state
@@ -156,6 +157,6 @@ module _ (b w : List ℕ) (rs : List Record) (port slot second : ℕ) (octets ou
   pub received : (answer : ℕ) (words left : List ℕ) (a : Asked) (q : Query) (s : Scan) → a ≡ asked → q ≡ queryOf a → s ≡ scanOf q rs
       → Carried b w slot second octets output answer words left a s → Receives b w rs port slot second octets output answer words left
   received answer words left a q s ea eq es h =
-      let c = subst (λ (x : Asked). Carried b w slot second octets output answer words left x (scanOf (queryOf x) rs)) ea
-      (subst (λ (x : Query). Carried b w slot second octets output answer words left a (scanOf x rs)) eq (subst (Carried b w slot second octets output answer words left a) es h)) in
+      let C : Asked → Scan → Type 0 = Carried b w slot second octets output answer words left in
+      let c = subst (λ (x : Asked). C x (scanOf (queryOf x) rs)) ea (subst (λ (x : Query). C a (scanOf x rs)) eq (subst (C a) es h)) in
       (c .0 ∙ promised .0, (c .1 .0 ∙ promised .1 .0, c .1 .1 ∙ promised .1 .1))

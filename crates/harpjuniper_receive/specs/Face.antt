@@ -1,5 +1,5 @@
--- What receiving answers, leaves and sends on, of the words lent: page 01, "One received datagram, step by step"; page 02, W-208 and W-207. b is the board's words,
--- w the mission's. Assumes nothing.
+-- What receiving answers, leaves and sends on, of the words lent: page 01, "One received datagram, step by step"; page 02, W-208 and W-207. b is
+-- the board's words, w the mission's. Assumes nothing.
 use Prim.Native.Nat.{ℕ}
 use mathlib.Core.Path.{_≡_}
 use mathlib.Core.List.{List}

@@ -23,7 +23,10 @@ pub extern "C" fn hj_receive_at(
     octets: &[u8],
     output: &mut [u8],
 ) -> u64
-    ensures { λ r. ⌜ Receives (now (board .entry)) (now (mission .entry)) (now (routes .entry)) port slot second (now (octets .entry)) (now (output .entry)) r (now (mission .exit)) (now (output .exit)) ⌝ }
+    ensures { λ r. ⌜
+        Receives (now (board .entry)) (now (mission .entry)) (now (routes .entry)) port slot second (now (octets .entry)) (now (output .entry))
+        r (now (mission .exit)) (now (output .exit))
+        ⌝ }
 {
     let a = relay::before(
         board,
