@@ -15,7 +15,7 @@ use crate::Way;
 use crate::Wish;
 ghost use mathlib.Core.Path.{_≡_};
 ghost use Prim.Native.Nat.{ℕ};
-ghost use Rattle.verdict.specs.declared.Flood.the-variants.{New};
+ghost use Rattle.verdict.specs.declared.Flood.the-variants.{Plain, New};
 ghost use Rattle.verdict.specs.declared.Wish.{Wish};
 ghost use Rattle.verdict.specs.Rule.{broadcastLine, aloneBy, groupLine, pathLine, routeLine, routerLine, unheardBy, hostLine, plainLine, floodLine, lineOf};
 
@@ -145,15 +145,25 @@ fn every_other(others: u32) -> Wish
     Wish::Wanted(others)
 }
 
+// What becomes of a datagram that a router floods, or would.
+fn flood_line(f: Flood, others: u32) -> Wish
+    ensures { λ r. ⌜ ((line : Wish) → (f ≡ Plain → ⊥) → r ≡ floodLine f others line) ⌝ }
+{
+    match f {
+        Flood::Plain => Wish::NotAsked,
+        Flood::Unsent => Wish::NotAsked,
+        Flood::Full => Wish::Refused(Obstacle::PairsHeld),
+        Flood::New(_) => every_other(others),
+    }
+}
+
 // The first line of the onward half that fits.
 pub fn line_of(t: Target, p: Place, w: Way, c: Case, ready: u32, local: Local) -> Wish
     ensures { λ r. ⌜ r ≡ lineOf t p w c ready local ⌝ }
 {
     let flood = c.flood;
-    match flood {
-        Flood::Plain => plain_line(t, p, w, c, ready, local),
-        Flood::Unsent => Wish::NotAsked,
-        Flood::Full => Wish::Refused(Obstacle::PairsHeld),
-        Flood::New(_) => every_other(crate::except(ready, c.arrival)),
-    }
+    let Flood::Plain = flood else {
+        return flood_line(flood, crate::except(ready, c.arrival));
+    };
+    plain_line(t, p, w, c, ready, local)
 }

@@ -1,6 +1,6 @@
 -- The answers of the lines, over plain variables. Assumes nothing.
 use Prim.Native.Nat.{ℕ}
-use mathlib.Core.Path.{_≡_, sym, ap, _∙_}
+use mathlib.Core.Path.{_≡_, refl, ap, _∙_}
 use borrow.Author.Tests.{eq-eqb, ne-eqb}
 use Rattle.verdict.specs.Rule.{exceptBy, aloneBy, groupLine, pathLine, routerLine, hostLine, plainLine, floodLine, lineOf}
 use Rattle.verdict.specs.declared.Target.{Target}
@@ -8,7 +8,7 @@ use Rattle.verdict.specs.declared.Place.{Place}
 use Rattle.verdict.specs.declared.Place.the-variants.{Held}
 use Rattle.verdict.specs.declared.Way.{Way}
 use Rattle.verdict.specs.declared.Flood.{Flood}
-use Rattle.verdict.specs.declared.Flood.the-variants.{New}
+use Rattle.verdict.specs.declared.Flood.the-variants.{Plain}
 use Rattle.verdict.specs.declared.Case.{Case}
 use Rattle.verdict.specs.declared.Local.{Local}
 use Rattle.verdict.specs.declared.Obstacle.the-variants.{NoRoute}
@@ -55,7 +55,9 @@ module _ (t : Target) (p : Place) (w : Way) (c : Case) (ready : ℕ) (local : Lo
   unfolding lineOf
   of-flood same e = e ∙ ap (λ (f : Flood). floodLine f (exceptBy ready (c .arrival)) (plainLine t p w c ready local)) same
 
-  pub of-others : (place : ℕ) {others : ℕ} → c .flood ≡ New place → others ≡ exceptBy ready (c .arrival)
-      → ((n : ℕ) (line : Wish) → out ≡ floodLine (New n) others line) → out ≡ lineOf t p w c ready local
-  of-others place is same told =
-      of-flood (sym is) (told place (plainLine t p w c ready local) ∙ ap (λ (z : ℕ). floodLine (New place) z (plainLine t p w c ready local)) same)
+  -- by a line that holds for whatever is flooded
+  pub of-flooded : {others : ℕ} → (c .flood ≡ Plain → ⊥) → others ≡ exceptBy ready (c .arrival)
+      → ((line : Wish) → (c .flood ≡ Plain → ⊥) → out ≡ floodLine (c .flood) others line) → out ≡ lineOf t p w c ready local
+  of-flooded flooded same told =
+      of-flood refl
+      (told (plainLine t p w c ready local) flooded ∙ ap (λ (z : ℕ). floodLine (c .flood) z (plainLine t p w c ready local)) same)
