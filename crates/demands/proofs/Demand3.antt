@@ -186,7 +186,7 @@ demand-3 =
           let is = told who steps rs at slot when octets output x g .dropped in
           waiting-reads who steps p y inside k
           ∙ full-is who steps p inside
-          (fair (seatOf who steps) p inside rs at octets (length output) .full (sym (ap (inSet p) is) ∙ dropped));
+          (fair (seatOf who steps) p inside rs at when octets (length output) .full (sym (ap (inSet p) is) ∙ dropped));
       copies-told = λ who steps rs p at slot when octets output x inside g short.
           let seat = seatOf who steps in
           let page = verdict-is-the-page (relayFor who steps rs) (seen-contiguous (seat .board) rs (seat .number)) at when octets (length output) in

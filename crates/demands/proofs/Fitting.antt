@@ -182,7 +182,8 @@ order-fits b (setRouter x) p h =
 order-fits b (setPort q address mask mtu mission) p h =
     either BoardFits (eqb (firstOf (orderChecks b (setPort q address mask mtu mission))) 0)
     (set-each PortFits (b .ports) q (newPort address mask mtu mission) (one-fits, p) h) h
-order-fits b (setLifetime x) p h = h
+order-fits b (setLifetime x) p h =
+    either BoardFits (eqb (firstOf (orderChecks b (setLifetime x))) 0) {a = record { router = b .router; ports = b .ports; lifetime = x }} {b = b} h h
 order-fits b (setRoute rs i prefix mask q availability capabilities mission) p h =
     either BoardFits (eqb (firstOf (orderChecks b (setRoute rs i prefix mask q availability capabilities mission))) 0) h h
 order-fits b (clearRoute rs i) p h = either BoardFits (eqb (firstOf (orderChecks b (clearRoute rs i))) 0) h h

@@ -210,6 +210,7 @@ module _ (b m : List ℕ) (x : Seat) (l : List ℕ) (board : lentBoard b ≡ Hel
 
   -- ---- the rows
   order-row : (o : Order) → promised (madeBy b m (operator (orders o))) ≡ promisedBy x l (operator (orders o))
+  unfolding firstOf
   order-row (setRouter z) = same-promise (board-told _ _) (board-changed _) refl refl refl refl
   order-row (setPort p address mask mtu number) = same-promise (board-told _ _) (board-changed _) refl refl refl refl
   order-row (setLifetime z) = same-promise (board-told _ _) (board-changed _) refl refl refl refl

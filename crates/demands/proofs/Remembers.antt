@@ -53,8 +53,8 @@ use Rattle.demands.proofs.Told.{gives-row, before-own, counters}
 use Rattle.demands.proofs.Output.{told}
 
 by-test : {A : Type 0} (t : Bool) → (t ≡ true → A) → (t ≡ false → A) → A
-by-test true yes no = yes refl
-by-test false yes no = no refl
+by-test true holds fails = holds refl
+by-test false holds fails = fails refl
 
 -- ---- of any relay: the pairs stay, or the datagram is a new flood
 module _ (r : Relay) (at second : ℕ) (octets : List ℕ) (room : ℕ) where

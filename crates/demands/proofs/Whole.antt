@@ -162,7 +162,7 @@ module _ (b m : List ℕ) (x : Seat) (l : List ℕ) (board : lentBoard b ≡ Hel
   order-left (setRouter y) h = same-promise refl (same-board (board-old (setRouter y) h)) refl refl refl refl
   order-left (setPort p address mask mtu number) h =
       same-promise refl (same-board (board-old (setPort p address mask mtu number) h)) refl refl refl refl
-  order-left (setLifetime y) h = true-false (sym h)
+  order-left (setLifetime y) h = same-promise refl (same-board (board-old (setLifetime y) h)) refl refl refl refl
   order-left (setRoute rs i prefix mask p availability capabilities number) h =
       same-promise refl (sym board) refl (list-old (setRoute rs i prefix mask p availability capabilities number) h) refl refl
   order-left (clearRoute rs i) h = same-promise refl refl refl (list-old (clearRoute rs i) h) refl refl
