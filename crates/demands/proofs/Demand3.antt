@@ -35,7 +35,7 @@ use Rattle.history.proofs.Heard.{heard-is}
 use Rattle.history.proofs.Sums.{counted-as-written}
 use Rattle.history.proofs.Ledger as ledgers
 use Rattle.history.proofs.Line.{queue-waits, out-or-waiting, taken-in-turn, line-in-turn}
-use Rattle.history.proofs.Foretold.{seat-then, foretold-over-histories, answers-are-handed, stands-behind, refused-idle, other-take-idle, idle-counts-nothing, not-taken-idle, setting-idle, look-idle, operator-idle}
+use Rattle.history.proofs.Foretold.{seat-then, foretold-over-histories, answers-are-handed, stands-behind, refused-idle, other-take-idle, idle-counts-nothing, not-taken-idle, setting-idle, sweep-idle, look-idle, operator-idle}
 use Rattle.history.proofs.Takes.{take-is}
 use Rattle.history.proofs.Fair.{fair}
 use Rattle.demands.specs.Trace.{Customer, first, second, numberOf, Step, operates, flies, stepOf, Words, made, wordsAfter, Trace, Passes, AllPass, Begun, historyOf, seatOf, relayFor, Gives}
@@ -158,40 +158,40 @@ entries-told second p (flies second c ∷ ds) steps w v u b t all =
     (rest ∙ ap (λ (z : Seat). answeredFrom p z (historyOf second ds)) (seat-more second p steps (own c) refl))
 
 -- ---- the copies of a datagram
-module _ (who : Customer) (steps : List Step) (rs : List Record) (p at : ℕ) (slot : Slot) (octets output : List ℕ) (x : Result)
-    (g : Gives steps (flies who (hears rs at slot octets output)) x) where
+module _ (who : Customer) (steps : List Step) (rs : List Record) (p at : ℕ) (slot : Slot) (when : ℕ) (octets output : List ℕ) (x : Result)
+    (g : Gives steps (flies who (hears rs at slot when octets output)) x) where
   abbrev e : Ending
-  e = heardBy (seatOf who steps) rs at octets (length output)
+  e = heardBy (seatOf who steps) rs at when octets (length output)
 
   -- what a port took was read, and has the header's size and precedence, and the header that C finds for it
   placed-case : (t : Bool) → inSet p (e .ruling .took) ≡ t
       → pick t (copyOf p (length (historyOf who steps)) (seatOf who steps) at slot octets e ∷ []) []
       ≡ pick t (placedBy who steps p at slot octets x ∷ []) []
   placed-case true took =
-      let came = was who steps rs at slot octets output x g (takes-some who steps rs at slot octets output x g p took) in
+      let came = was who steps rs at slot when octets output x g (takes-some who steps rs at slot when octets output x g p took) in
       let is = read-good octets (came .header) .0 (came .read) .1 in
-      rw (came .size, came .precedence, is, header-found who steps rs at slot octets output x g p took)
+      rw (came .size, came .precedence, is, header-found who steps rs at slot when octets output x g p took)
   placed-case false took = refl
 
-  placed : takenOwn p (length (historyOf who steps)) (seatOf who steps) (hears rs at slot octets output)
+  placed : takenOwn p (length (historyOf who steps)) (seatOf who steps) (hears rs at slot when octets output)
       ≡ pick (inSet p (tookIn x)) (placedBy who steps p at slot octets x ∷ []) []
-  placed = placed-case (inSet p (e .ruling .took)) refl ∙ rw (told who steps rs at slot octets output x g .took)
+  placed = placed-case (inSet p (e .ruling .took)) refl ∙ rw (told who steps rs at slot when octets output x g .took)
 
 pub demand-3 : Demand3
 demand-3 =
     record {
       counters = λ who steps i x inside g. counter-reads who steps i x inside g ∙ counted-as-written i inside (numberOf who) (historyOf who steps);
       ledger = λ who steps p x inside g. rw (waiting-reads who steps p x inside g) (ledgers.ledger p inside (numberOf who) (historyOf who steps));
-      dropped-by-32 = λ who steps rs p at slot octets output x y inside g dropped k.
-          let is = told who steps rs at slot octets output x g .dropped in
+      dropped-by-32 = λ who steps rs p at slot when octets output x y inside g dropped k.
+          let is = told who steps rs at slot when octets output x g .dropped in
           waiting-reads who steps p y inside k
           ∙ full-is who steps p inside
-          (fair (seatOf who steps) p inside rs at octets (length output) .full (sym (ap (inSet p) is) ∙ dropped));
-      copies-told = λ who steps rs p at slot octets output x inside g short.
+          (fair (seatOf who steps) p inside rs at when octets (length output) .full (sym (ap (inSet p) is) ∙ dropped));
+      copies-told = λ who steps rs p at slot when octets output x inside g short.
           let seat = seatOf who steps in
-          let page = verdict-is-the-page (relayFor who steps rs) (seen-contiguous (seat .board) rs (seat .number)) at octets (length output) in
-          let parts = told who steps rs at slot octets output x g in (
-            ap (λ (z : Ending). inSet p (z .ruling .granted)) (heard-is seat rs at octets (length output) false short) ∙ page .ruling .granted p inside,
+          let page = verdict-is-the-page (relayFor who steps rs) (seen-contiguous (seat .board) rs (seat .number)) at when octets (length output) in
+          let parts = told who steps rs at slot when octets output x g in (
+            ap (λ (z : Ending). inSet p (z .ruling .granted)) (heard-is seat rs at when octets (length output) false short) ∙ page .ruling .granted p inside,
             (ap (inSet p) (sym (parts .took)), ap (inSet p) (sym (parts .dropped))),
           );
       placed = placed;
@@ -206,7 +206,7 @@ demand-3 =
       foretold-behind = λ m cs c p x inside placed. stands-behind p m cs c x placed inside;
       foretold-idle = λ m cs ds c p x idle. idle-counts-nothing p m x cs c ds idle;
       foretold-refused = λ m cs c p. refused-idle p m cs c;
-      foretold-others = λ m cs p. (other-take-idle p m cs, (not-taken-idle p m cs, (setting-idle p m cs, (look-idle p m cs, operator-idle p m cs))));
+      foretold-others = λ m cs p. (other-take-idle p m cs, (not-taken-idle p m cs, (setting-idle p m cs, (sweep-idle p m cs, (look-idle p m cs, operator-idle p m cs)))));
       handed-is-told = λ who steps later p w v u b t all.
           entries-told who p later steps w v u b t all ∙ sym (answers-are-handed p (numberOf who) (historyOf who later) (historyOf who steps));
     }

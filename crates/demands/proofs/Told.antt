@@ -17,6 +17,7 @@ use Rattle.history.specs.Calls.{
   Order,
   setRouter,
   setPort,
+  setLifetime,
   setRoute,
   clearRoute,
   orders,
@@ -134,6 +135,9 @@ module _ (who : Customer) (cs : List Step) (x : Result) where
       let o = setPort p address mask mtu mission in
       let k = gives-row who cs (operator (orders o)) x g in
       (k .answer, k .routes ∙ sym (either-way (eqb (firstOf (orderChecks (seatOf who cs .board) o)) 0) []))
+  order-seen (setLifetime y) g =
+      let k = gives-row who cs (operator (orders (setLifetime y))) x g in
+      (k .answer, k .routes ∙ sym (either-way (eqb (firstOf (orderChecks (seatOf who cs .board) (setLifetime y))) 0) []))
   order-seen (setRoute rs i prefix mask p availability capabilities mission) g =
       let k = gives-row who cs (operator (orders (setRoute rs i prefix mask p availability capabilities mission))) x g in
       (k .answer, k .routes)

@@ -80,7 +80,7 @@ abbrev ours : List Step
 ours = orders-of (routerWithPorts 0)
 
 abbrev hearing : MissionCall
-hearing = hears (allRoutes 0) 4 (record { 0 = 1 }) (datagram 10 4 9 14 0) (replicate outputRoom 0)
+hearing = hears (allRoutes 0) 4 (record { 0 = 1 }) 0 (datagram 10 4 9 14 0) (replicate outputRoom 0)
 
 abbrev heard : List Step
 heard = ours ++ (flies first hearing ∷ [])
@@ -94,7 +94,7 @@ abbrev narrow : List ℕ
 narrow = 32 ∷ 6 ∷ (4 * 16 + bitWeight 20 + bitWeight 22) ∷ bitWeight 25 ∷ 14 ∷ 16 ∷ []
 
 abbrev narrowly : MissionCall
-narrowly = hears (route 0 1 0 0 ∷ []) 0 (record { 0 = 1 }) narrow (replicate outputRoom 0)
+narrowly = hears (route 0 1 0 0 ∷ []) 0 (record { 0 = 1 }) 0 narrow (replicate outputRoom 0)
 
 -- ---- the other's ports
 -- It does not hand out, or find empty, whatever port is set up, whosever it is.
@@ -165,7 +165,7 @@ octets-pass : (l : List ℕ) → allOctets l ≡ true → Octets l
 octets-pass l h i = getD-each (λ (n : ℕ). n < 256) l i 0 (omega arith) (octets-so l h)
 
 hearing-passes : Passes (flies first hearing)
-hearing-passes = (omega arith, octets-pass (datagram 10 4 9 14 0) refl)
+hearing-passes = (omega arith, (octets-pass (datagram 10 4 9 14 0) refl, omega arith))
 
 heard-pass : AllPass heard
 heard-pass = pass-more ours (flies first hearing) ports-pass hearing-passes
@@ -202,8 +202,8 @@ domains-pass = (tt, ((omega arith, (omega arith, (omega arith, (omega arith, tt)
 
 -- It does not send one-octet addresses into another domain as they came.
 pub sending-one-octet-addresses-on :
-    ((steps : List Step) (rs : List Record) (at p : ℕ) (slot : Slot) (octets output : List ℕ) (x : Result)
-    → Gives steps (flies first (hears rs at slot octets output)) x → inSet p (tookIn x) ≡ true
+    ((steps : List Step) (rs : List Record) (at p : ℕ) (slot : Slot) (when : ℕ) (octets output : List ℕ) (x : Result)
+    → Gives steps (flies first (hears rs at slot when octets output)) x → inSet p (tookIn x) ≡ true
     → oneOctet (headerOf octets .fields .addresses) ≡ true → liesFar (relayFor first steps rs) at p ≡ true
     → headerOut x p ≡ take (dataFrom x) octets)
     → ⊥
@@ -212,11 +212,11 @@ sending-one-octet-addresses-on wrong =
     let rs = route 0 1 0 0 ∷ [] in
     let slot : Slot = record { 0 = 1 } in
     let output : List ℕ = replicate outputRoom 0 in
-    let g = given twoDomains domains-pass (flies first narrowly) (omega arith, octets-pass narrow refl) in
+    let g = given twoDomains domains-pass (flies first narrowly) (omega arith, (octets-pass narrow refl, omega arith)) in
     let x = g .0 in
-    let took : inSet 1 (tookIn x) ≡ true = ap (inSet 1) (told first twoDomains rs 0 slot narrow output x (g .1) .took) in
-    let as-it-came = wrong twoDomains rs 0 1 slot narrow output x (g .1) took refl refl in
-    let wire = demand-2 .on-the-wire first twoDomains rs 0 slot narrow output x (g .1) refl 1 (omega arith) took in
+    let took : inSet 1 (tookIn x) ≡ true = ap (inSet 1) (told first twoDomains rs 0 slot 0 narrow output x (g .1) .took) in
+    let as-it-came = wrong twoDomains rs 0 1 slot 0 narrow output x (g .1) took refl refl in
+    let wire = demand-2 .on-the-wire first twoDomains rs 0 slot 0 narrow output x (g .1) refl 1 (omega arith) took in
     let came : wireBy x narrow 1 ≡ narrow = ap (λ (l : List ℕ). l ++ drop (dataFrom x) narrow) as-it-came ∙ take-append-drop (dataFrom x) narrow in
     let same = read-good narrow (wire .goes) .0 (sym (ap readOf came) ∙ wire .reads) .1 in
     true-false (wire .domain (ap (λ (h : Header). oneOctet (h .fields .addresses)) same))
@@ -224,14 +224,14 @@ sending-one-octet-addresses-on wrong =
 -- ---- the order of tests
 -- It does not look at the words before the list: of one that is too long it says 21, not 16.
 pub words-before-the-list :
-    ((w : Words) (rs : List Record) (p : ℕ) (slot : Slot) (octets output : List ℕ) (x : Result) → NoBoard (w .board)
-    → Says (made w (flies first (hears rs p slot octets output))) x → x .answer ≡ 16)
+    ((w : Words) (rs : List Record) (p : ℕ) (slot : Slot) (when : ℕ) (octets output : List ℕ) (x : Result) → NoBoard (w .board)
+    → Says (made w (flies first (hears rs p slot when octets output))) x → x .answer ≡ 16)
     → ⊥
 words-before-the-list wrong =
     let w : Words = record { board = []; zero = []; one = [] } in
     let rs = replicate 513 emptyRecord in
-    let c = hears rs 0 (record { 0 = 0 }) [] [] in
-    let a = each-call-answers (made w (flies first c)) (passable w (flies first c) (omega arith, λ i. omega arith)) in
-    let short = wrong w rs 0 (record { 0 = 0 }) [] [] (a .0) (λ e. true-false cc) (a .1) in
+    let c = hears rs 0 (record { 0 = 0 }) 0 [] [] in
+    let a = each-call-answers (made w (flies first c)) (passable w (flies first c) (omega arith, (λ i. omega arith, omega arith))) in
+    let short = wrong w rs 0 (record { 0 = 0 }) 0 [] [] (a .0) (λ e. true-false cc) (a .1) in
     let long = demand-1 .long-lists w first (own c) (a .0) refl (a .1) .0 in
     let same : _≡_ {A = ℕ} 16 21 = sym (ap (λ (n : ℕ). partAt 0 n) short) ∙ ended-by long in omega arith
