@@ -104,7 +104,7 @@ module _ (r : Relay) (number second : ℕ) where
 
   octets-kept : (at : Arrival) (s : List ℕ) (x : Found) → foundOf s ≡ x → by (octetsAsked r number at x) ≡ octetsMemory r at second (readOf s)
   octets-kept at s (found.Good h n) e = rw (found-good s h n e .0) (header-kept at h n)
-  octets-kept at s (found.Refused n) e = 
+  octets-kept at s (found.Refused n) e =
       rw (found-refused s n e)
       (refused-kept second (r .memory) n false (λ z. never-zero s (found-refused s n e ∙ ap read.Refused z)) (read-heard s n (found-refused s n e)))
 

@@ -130,6 +130,7 @@ module _ (r : Relay) (number : ℕ) (at : Arrival) (h : Header) (k : Renewal) wh
           → e ≡ refusedAsked (pick bad (refusedLooked 6) found .refusal) → e ≡ elseAsked (lacking bad) rest
       by-bad true found rest zero z is = is
       by-bad false found rest zero z is = absurd (z zero)
+
       by-aim : (y : Aim) → (aimLooked r (at .set) y .refusal ≡ 0 → ⊥) → e ≡ refusedAsked (aimLooked r (at .set) y .refusal)
           → e ≡ elseAsked (lacking (badAim y)) (aimAsked r number at h k y)
       by-aim (aim.Node a) z is = by-bad (badClass (a .0)) (nodeLooked r (at .set) a) _ (node-free r (at .set) a) z is
@@ -144,6 +145,7 @@ module _ (r : Relay) (number : ℕ) (at : Arrival) (h : Header) (k : Renewal) wh
       by-bad : (bad : Bool) (found : Looked) (rest : Asked) → pick bad (refusedLooked 6) found .refusal ≡ 0 → e ≡ elseAsked (lacking bad) rest
       by-bad true found rest z = absurd (omega (arith, z))
       by-bad false found rest z = rw lacks told
+
       by-aim : (y : Aim) → aimLooked r (at .set) y .refusal ≡ 0 → e ≡ elseAsked (lacking (badAim y)) (aimAsked r number at h k y)
       by-aim (aim.Node a) z = by-bad (badClass (a .0)) (nodeLooked r (at .set) a) _ z
       by-aim (aim.Path p) z = by-bad (badPath (p .0)) (pathLooked r p) _ z

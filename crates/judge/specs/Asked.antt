@@ -206,7 +206,6 @@ routeSought Group router = 0
 routeSought Path router = 0
 routeSought Route router = pick (eqb router 0) 0 1
 
-
 abbrev pub searchedIn : Asked → ℕ
 searchedIn a = pick (eqb (a .refusal) 0) (unlessFlood (a .case .flood) (routeSought (a .target) (a .case .router))) 0
 
