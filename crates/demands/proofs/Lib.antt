@@ -12,6 +12,7 @@ pub mod Lasts
 pub mod Told
 pub mod Fitting
 pub mod ReadOut
+pub mod Over
 pub mod Whole
 pub mod Stretches
 pub mod Output
@@ -19,5 +20,6 @@ pub mod Remembers
 pub mod Demand1
 pub mod Demand2
 pub mod Demand3
+pub mod Floods
 pub mod Apart
 pub mod WrongRelays

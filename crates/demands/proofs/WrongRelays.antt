@@ -53,7 +53,7 @@ use Rattle.demands.proofs.Told.{gives-row, order-told}
 use Rattle.demands.proofs.Output.{told}
 use Rattle.demands.proofs.Demand1.{demand-1}
 use Rattle.demands.proofs.Demand2.{demand-2}
-use Rattle.demands.proofs.Demand3.{pass-more}
+use Rattle.demands.proofs.Over.{pass-more}
 use Rattle.demands.proofs.Apart.{apart}
 
 -- ---- steps that can be made
