@@ -19,7 +19,7 @@ use Rattle.routes.specs.declared.Record.{Record}
 use Rattle.state.specs.Relay.{Relay}
 use Rattle.state.specs.Seen.{State, freshBoard, freshState}
 use Rattle.state.specs.Layout.{decode}
-use Rattle.lent_state.specs.View.{lent, tooLong}
+use Rattle.lent_state.specs.View.{tooLong}
 use Rattle.lent_state.proofs.Same.{board-injective}
 use Rattle.verdict.specs.Numbers.{localNumber, onwardNumber}
 use Rattle.taking.specs.Taking.{takeOutcome}

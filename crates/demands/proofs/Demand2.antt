@@ -6,8 +6,8 @@ use mathlib.Core.Logic.{_⊎_, _↔_, _≢_, ⊎-elim}
 use mathlib.Core.Bool.{Bool, true, false, _&&_, _||_, not}
 use mathlib.Core.List.{List, [], _∷_, _++_}
 use lib.ListN.{length, take, drop, replicate}
-use lib.Dec.{eqb, ltb}
-use borrow.Author.Tests.{eq-eqb, ne-eqb, eqb-true, eqb-false, ltb-true, ltb-false, le-ltb}
+use lib.Dec.{eqb}
+use borrow.Author.Tests.{eq-eqb, ne-eqb, eqb-true, eqb-false, ltb-false}
 use Rattle.header.specs.declared.Read.{Read}
 use Rattle.header.proofs.Answers.{read-bounds}
 use Rattle.history.specs.SearchBack.{LongestOrNo}
@@ -16,7 +16,7 @@ use Rattle.address.specs.Class.{classOf}
 use Rattle.address.proofs.ClassTable.{class-row}
 use Rattle.checks.specs.Order.{pick, Checks, firstOf, noneHolds, firstHolds}
 use Rattle.checks.specs.Answer.{refusalNumber}
-use Rattle.checks.proofs.Bools.{true-false, and-true, or-true}
+use Rattle.checks.proofs.Bools.{true-false, refuted, and-true, or-true}
 use Rattle.refusals.proofs.Chains.{Decided, decided}
 use Rattle.sets.specs.Limits.{portCount}
 use Rattle.sets.specs.Sets.{inSet}
@@ -43,15 +43,12 @@ use Rattle.queue.specs.declared.Entry.{Entry}
 use Rattle.queue.proofs.Each.{each-so}
 use Rattle.queue.proofs.Waits.{EachOf, chosen-each, chosen-nobody}
 use Rattle.routes.specs.declared.Record.{Record}
-use Rattle.records.specs.Fresh.{freshPair}
 use Rattle.records.specs.Held.{isFree}
-use Rattle.records.specs.declared.PairPlace.{PairPlace}
 use Rattle.routes.proofs.Longest.{Contiguous}
 use Rattle.state.specs.Relay.{Memory, Relay, pairAt, portIn, portSetUp}
 use Rattle.state.specs.Seen.{Board, State}
-use Rattle.state.specs.Layout.{decode}
-use Rattle.floods.specs.Sweep.{isOld, sweptPlace, swept, sweepChecks, sweptMemory}
-use Rattle.floods.proofs.Swept.{place-swept}
+use Rattle.floods.specs.Sweep.{isOld, swept, sweepChecks, sweptMemory}
+use Rattle.floods.proofs.Swept.{old-is, young-stays, free-after}
 use Rattle.taking.specs.Taking.{takeOutcome}
 use Rattle.taking.specs.declared.Taking.{Taking}
 use Rattle.taking.specs.declared.Taking.the-variants as taking
@@ -133,11 +130,11 @@ use Rattle.demands.specs.Demand2.{ToldAs, Answered, DecidedBy, SweptAs, 
 use Rattle.demands.proofs.Promised.{nextState}
 use Rattle.demands.proofs.Held.{reading-left, reading-answer, build-answer, build-output}
 use Rattle.demands.proofs.Traced.{history-more, board-is, held-words}
-use Rattle.demands.proofs.Told.{gives-row, gives-board, before-own, counters, setting-told, order-told}
+use Rattle.demands.proofs.Told.{gives-row, gives-board, counters, setting-told, order-told}
 use Rattle.demands.proofs.Fitting.{history-passed}
 use Rattle.demands.proofs.ReadOut.{read-out}
 use Rattle.demands.proofs.Output.{told, was, takes-some, header-found, as-many, others-stay}
-use Rattle.demands.proofs.Remembers.{before-memory, page-memory}
+use Rattle.demands.proofs.Remembers.{before-memory, page-memory, sweep-memory, sweep-own}
 
 -- ---- reading
 no-slot : (s n : List ℕ) → Passable (hj-read-words s n)
@@ -587,42 +584,40 @@ module _ (who : Customer) (steps : List Step) where
 
 -- ---- a sweep
 module _ (lifetime when : ℕ) (k : Memory) where
-  abbrev n : ℕ
-  n = firstOf (sweepChecks k when)
-
-  -- of a sweep that is refused, and of one that is not
-  refused-sweep : n ≢ 0 → sweptMemory lifetime when k ≡ k
+  -- one that is refused
+  refused-sweep : firstOf (sweepChecks k when) ≢ 0 → sweptMemory lifetime when k ≡ k
   unfolding sweptMemory
-  refused-sweep some = rw (ne-eqb n 0 some)
+  refused-sweep some = rw (ne-eqb (firstOf (sweepChecks k when)) 0 some)
 
-  module _ (taken : n ≡ 0) where
+  -- and one that is not
+  module _ (taken : firstOf (sweepChecks k when) ≡ 0) where
     taken-sweep : sweptMemory lifetime when k ≡ swept lifetime when k
     unfolding sweptMemory
-    taken-sweep = rw (eq-eqb n 0 taken)
+    taken-sweep = rw (eq-eqb (firstOf (sweepChecks k when)) 0 taken)
 
     taken-last : sweptMemory lifetime when k .last ≡ when
     unfolding swept
     taken-last = ap (λ (y : Memory). y .last) taken-sweep
 
-    place-after : (i : ℕ) → pairAt (sweptMemory lifetime when k) i ≡ sweptPlace lifetime when (pairAt k i)
-    place-after i = ap (λ (y : Memory). pairAt y i) taken-sweep ∙ place-swept lifetime when k i
+    taken-frees : (i : ℕ) → isFree (pairAt k i) ≡ false
+        → (isFree (pairAt (sweptMemory lifetime when k) i) ≡ true) ↔ (lifetime < when - pairAt k i .second)
+    taken-frees i held =
+        let x = pairAt k i in
+        let old = isOld lifetime when x in
+        let is : isFree (pairAt (sweptMemory lifetime when k) i) ≡ (old || isFree x) =
+        ap (λ (y : Memory). isFree (pairAt y i)) taken-sweep ∙ free-after lifetime when k i in (
+          λ e. ⊎-elim (λ o. old-is lifetime when x .0 o .1) (λ f. true-false (sym f ∙ held)) (or-true old (isFree x) (sym is ∙ e)),
+          λ l. is ∙ ap (λ (t : Bool). t || isFree x) (old-is lifetime when x .1 (eqb-false (x .pair .format) 0 held, l)),
+        )
 
-    -- a pair is freed exactly where its age is over the lifetime
-    freed-case : (x : PairPlace) → isFree x ≡ false → (isFree (sweptPlace lifetime when x) ≡ true) ↔ (lifetime < when - x .second)
-    unfolding isOld
-    freed-case x held = rw held (by (ltb lifetime (when - x .second)) refl)
-      where
-        by : (t : Bool) → ltb lifetime (when - x .second) ≡ t → (isFree (pick t freshPair x) ≡ true) ↔ (lifetime < when - x .second)
-        by true old = (λ e. ltb-true lifetime (when - x .second) old, λ l. refl)
-        by false young = (λ e. true-false (sym e ∙ held), λ l. absurd (omega (arith, l, ltb-false lifetime (when - x .second) young)))
-
-    stays-case : (x : PairPlace) → (isFree x ≡ true) ⊎ (when - x .second ≤ lifetime) → sweptPlace lifetime when x ≡ x
-    unfolding isOld
-    stays-case x = ⊎-elim (λ free. rw free) (λ young. by (isFree x) (le-ltb lifetime (when - x .second) young))
-      where
-        by : (t : Bool) {u : Bool} → u ≡ false → pick (not t && u) freshPair x ≡ x
-        by true e = refl
-        by false e = rw e
+    taken-leaves : (i : ℕ) → (isFree (pairAt k i) ≡ true) ⊎ (when - pairAt k i .second ≤ lifetime) → pairAt (sweptMemory lifetime when k) i ≡ pairAt k i
+    taken-leaves i so =
+        let x = pairAt k i in
+        ap (λ (y : Memory). pairAt y i) taken-sweep
+        ∙ young-stays lifetime when k i
+        (refuted (isOld lifetime when x) (λ o.
+        let is = old-is lifetime when x .0 o in
+        ⊎-elim (λ free. is .0 (eqb-true (x .pair .format) 0 free)) (λ young. omega (arith, is .1, young)) so))
 
 module _ (who : Customer) (steps : List Step) (when : ℕ) (x : Result) (g : Gives steps (flies who (sweeps when)) x) where
   abbrev kept : Memory
@@ -631,39 +626,26 @@ module _ (who : Customer) (steps : List Step) (when : ℕ) (x : Result) (g : Giv
   abbrev lifetime : ℕ
   lifetime = seatOf who steps .board .lifetime
 
-  abbrev state : State
-  state = nextState (seatOf who steps) (counters who steps) (own (sweeps when))
-
   answer : x .answer ≡ firstOf (sweepChecks kept when)
   answer = gives-row who steps (own (sweeps when)) x g .answer
 
-  after : decode (x .left .mission) ≡ state
-  after = held-words (x .left .mission) state (gives-row who steps (own (sweeps when)) x g .mission) .1
-
-  sweep-left : memoryIn (x .left .mission) ≡ sweptMemory lifetime when kept
-  sweep-left = ap (λ (s : State). s .memory) after
+  left : memoryIn (x .left .mission) ≡ sweptMemory lifetime when kept
+  left = sweep-memory who steps when x g
 
   of-seat : SweptAs kept lifetime when x
   of-seat =
       record {
         decided = decided-by (sweepChecks kept when) (decided (sweepChecks kept when) refl) (x .answer) answer;
-        refused = λ some. sweep-left ∙ refused-sweep lifetime when kept (λ z. some (answer ∙ z));
-        last = λ z. ap (λ (k : Memory). k .last) sweep-left ∙ taken-last lifetime when kept (sym answer ∙ z);
-        freed = λ z i held.
-            rw (ap (λ (k : Memory). pairAt k i) sweep-left ∙ place-after lifetime when kept (sym answer ∙ z) i) (freed-case lifetime when kept (sym answer ∙ z) (pairAt kept i) held);
-        others = λ z i so.
-            ap (λ (k : Memory). pairAt k i) sweep-left
-            ∙ place-after lifetime when kept (sym answer ∙ z) i
-            ∙ stays-case lifetime when kept (sym answer ∙ z) (pairAt kept i) so;
+        refused = λ some. left ∙ refused-sweep lifetime when kept (λ z. some (answer ∙ z));
+        last = λ z. ap (λ (k : Memory). k .last) left ∙ taken-last lifetime when kept (sym answer ∙ z);
+        freed = λ z i held. rw left (taken-frees lifetime when kept (sym answer ∙ z) i held);
+        others = λ z i so. ap (λ (k : Memory). pairAt k i) left ∙ taken-leaves lifetime when kept (sym answer ∙ z) i so;
       }
 
   swept-as : SweptAs (memoryIn (missionOf who (g .before))) (boardOf steps .lifetime) when x
   swept-as =
       subst (λ (k : Memory). SweptAs k (boardOf steps .lifetime) when x) (sym (before-memory who steps (flies who (sweeps when)) x g))
       (subst (λ (b : Board). SweptAs kept (b .lifetime) when x) (board-is who steps) of-seat)
-
-  swept-own : ownIn (x .left .mission) ≡ ownIn (missionOf who (g .before))
-  swept-own = ap (λ (s : State). s .mission) after ∙ ap (λ (s : State). s .mission) (sym (before-own who steps (flies who (sweeps when)) x g))
 
 -- ---- the marked cases
 below-two : (who : Customer) → numberOf who < 2
@@ -699,7 +681,7 @@ demand-2 =
       read-then-build = read-then-build;
       verdict = verdict;
       memory = page-memory;
-      sweeps = λ who steps when x g. (swept-as who steps when x g, swept-own who steps when x g);
+      sweeps = λ who steps when x g. (swept-as who steps when x g, sweep-own who steps when x g);
       hears-no-further = λ who steps rs at slot when s t output n x y long control agree g k.
           hears-alike who steps rs at slot when output s t x y (agree-up-to-the-length s t n long control agree) g k;
       on-the-wire = λ who steps rs at slot when octets output x g short p inside took. on-the-wire who steps rs at slot when octets output x g short p inside took;

@@ -1,7 +1,7 @@
 -- What is read back fits 32 bits, so that a refusal above it is seen: after any calls that C can make, each word of a port, a group, a path and a pair does.
 -- Assumes nothing.
 use native.Mathlib.Omega.{arith}
-use Prim.Native.Nat.{ℕ, _+_, _^_, _<_}
+use Prim.Native.Nat.{ℕ, _^_, _<_}
 use mathlib.Core.Path.{_≡_, sym, subst}
 use mathlib.Core.Bool.{Bool, true, false, _&&_}
 use mathlib.Core.List.{List, [], _∷_, map}
@@ -24,7 +24,7 @@ use Rattle.meaning.specs.Names.{originOf}
 use Rattle.meaning.specs.Flood.{upperOf, lowerOf, sourceIn, pairOf}
 use Rattle.routes.specs.Records.{emptyRecord}
 use Rattle.routes.specs.declared.Record.{Record}
-use Rattle.records.specs.Fresh.{freshPort, freshOwned, freshGroup, freshPath, freshPair}
+use Rattle.records.specs.Fresh.{freshOwned, freshGroup, freshPath, freshPair}
 use Rattle.records.specs.Owned.{owns, seenPort}
 use Rattle.records.specs.declared.Port.{Port}
 use Rattle.records.specs.declared.OwnedPort.{OwnedPort}

@@ -1,27 +1,27 @@
 -- What C finds of the memory in the words after a datagram and after a sweep (page 02, W-207): the page's, and of a datagram of which no port took an entry
 -- what demand 1 lets stand. Assumes nothing.
 use native.Mathlib.Omega.{arith}
-use Prim.Native.Nat.{ℕ, _≤_}
+use Prim.Native.Nat.{ℕ}
 use mathlib.Core.Path.{_≡_, refl, sym, ap, subst, _∙_}
 use mathlib.Core.Logic.{_⊎_, inl, inr, _≢_, ⊎-elim}
 use mathlib.Core.Bool.{Bool, true, false, not, _||_}
 use mathlib.Core.List.{List, [], _∷_}
-use lib.ListN.{length, getD, set}
+use lib.ListN.{length, getD}
 use lib.Seq.{getD-set-same, getD-set-other}
 use lib.Dec.{eqb}
 use borrow.Author.Tests.{eq-eqb, eqb-true, eqb-false}
-use Rattle.checks.specs.Order.{pick, firstOf}
 use Rattle.checks.proofs.Bools.{true-false}
 use Rattle.checks.proofs.Laws.{none-zero}
 use Rattle.address.specs.declared.Slot.{Slot}
 use Rattle.header.specs.Read.{headerOf}
 use Rattle.meaning.specs.Flood.{isFlooded}
 use Rattle.records.specs.Fresh.{freshPair}
-use Rattle.records.specs.Held.{isFree}
 use Rattle.records.specs.declared.PairPlace.{PairPlace}
 use Rattle.routes.specs.declared.Record.{Record}
-use Rattle.state.specs.Relay.{Memory, pairAt, putLast, Relay}
+use Rattle.state.specs.Relay.{Memory, putLast, Relay}
 use Rattle.state.specs.Seen.{State}
+use Rattle.state.specs.Layout.{decode}
+use Rattle.floods.specs.Sweep.{sweptMemory}
 use Rattle.verdict.specs.Numbers.{onwardNumber}
 use Rattle.lent_state.specs.View.{tooLong}
 use Rattle.judge.specs.Ending.{endingOf}
@@ -35,17 +35,16 @@ use Rattle.page.proofs.Exactly.{refusal-number}
 use Rattle.page.proofs.Memory.{memory-is-the-page}
 use Rattle.page.proofs.Floods.{flood-sought, flood-new, new-kept, others-unkept, free-place}
 use Rattle.contracts.specs.Promised.{Result}
-use Rattle.history.specs.Calls.{hears, own}
+use Rattle.history.specs.Calls.{hears, sweeps, own}
 use Rattle.history.specs.Seat.{Seat, heardBy, memoryBy}
 use Rattle.history.specs.Answers.{listed}
 use Rattle.history.specs.Refused.{KeptIn}
 use Rattle.history.proofs.Heard.{heard-is}
 use Rattle.history.proofs.Reach.{kept-after}
-use Rattle.history.proofs.ReadBack.{ReadBack}
 use Rattle.history.proofs.Refusals.{heard-stands}
 use Rattle.history.proofs.Sums.{sent-where-taken}
 use Rattle.demands.specs.Trace.{Customer, numberOf, Step, flies, missionOf, historyOf, seatOf, relayFor, Gives}
-use Rattle.demands.specs.ReadOut.{memoryIn, tookIn}
+use Rattle.demands.specs.ReadOut.{ownIn, memoryIn}
 use Rattle.demands.specs.Demand1.{PairKept, HeardLeaves}
 use Rattle.demands.proofs.Promised.{nextState}
 use Rattle.demands.proofs.Traced.{held-words}
@@ -200,3 +199,17 @@ module _ (who : Customer) (steps : List Step) where
           subst (λ (k : Memory). HeardLeaves r rs at second octets room x k (memoryIn (x .left .mission)))
           (sym (before-memory (flies who (hears rs at slot second octets output)) x g))
           (subst (HeardLeaves r rs at second octets room x (seat .memory)) (sym left-memory) of-seat)
+
+  -- ---- a sweep
+  module _ (second : ℕ) (x : Result) (g : Gives steps (flies who (sweeps second)) x) where
+    after : decode (x .left .mission) ≡ nextState seat (counters who steps) (own (sweeps second))
+    after =
+        held-words (x .left .mission) (nextState seat (counters who steps) (own (sweeps second)))
+        (gives-row who steps (own (sweeps second)) x g .mission) .1
+
+    pub sweep-memory : memoryIn (x .left .mission) ≡ sweptMemory (seatOf who steps .board .lifetime) second (seatOf who steps .memory)
+    sweep-memory = ap (λ (s : State). s .memory) after
+
+    -- Settings and queues stay.
+    pub sweep-own : ownIn (x .left .mission) ≡ ownIn (missionOf who (g .before))
+    sweep-own = ap (λ (s : State). s .mission) after ∙ ap (λ (s : State). s .mission) (sym (before-own who steps (flies who (sweeps second)) x g))

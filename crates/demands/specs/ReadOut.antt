@@ -151,14 +151,18 @@ memoryIn w = decode w .memory
 abbrev pub counterAt : List ℕ → ℕ → ℕ
 counterAt w i = counterIn (decode w .counters) i
 
--- the entries that C reads out of a customer's takes of port p, one step after the other
-abbrev pub entriesBy : Customer → ℕ → Step → ℕ → List Entry
-entriesBy who p (operates c) n = []
-entriesBy who p (flies x c) n = pick (isOf who x) (answeredOwn p c (ownOut c n)) []
+-- ---- what a customer's own calls come to over a trace, one after the other: `of` is what one comes to, by the words before it and what it gives back
+module _ {A : Type 0} (who : Customer) (none : A) (join : A → A → A) (of : Words → MissionCall → Result → A) where
+  abbrev pub overOwn : (cs : List Step) (w v : Words) → Trace w cs v → A
+  overOwn [] w v t = none
+  overOwn (operates c ∷ cs) w v t = overOwn cs (wordsAfter w (operates c) (t .0)) v (t .1 .1)
+  overOwn (flies x c ∷ cs) w v t =
+      let rest = overOwn cs (wordsAfter w (flies x c) (t .0)) v (t .1 .1) in
+      pick (isOf who x) (join (of w c (t .0)) rest) rest
 
+-- the entries that C reads out of a customer's takes of port p
 abbrev pub entriesIn : (who : Customer) (p : ℕ) (cs : List Step) (w v : Words) → Trace w cs v → List Entry
-entriesIn who p [] w v t = []
-entriesIn who p (c ∷ cs) w v t = entriesBy who p c (t .0 .answer) ++ entriesIn who p cs (wordsAfter w c (t .0)) v (t .1 .1)
+entriesIn who p cs w v t = overOwn who [] _++_ (λ (y : Words) (c : MissionCall) (x : Result). answeredOwn p c (ownOut c (x .answer))) cs w v t
 
 -- ---- what is read back: the step that asks for a word of a setting, and the word as it stands, or 21
 abbrev pub asksFor : Customer → Part → ℕ → Step
