@@ -10,46 +10,12 @@
 #include <stdbool.h>
 #include <string.h>
 
-#include "expect.h"
-#include "harpjuniper.h"
+#include "router.h"
 
-#define UNTOUCHED 0xa5
-#define GUARD 64
-#define MASK_24 0xffffff00u
 #define LATEST 0xffffffffu
 
-static hj_board board;
-static hj_mission mission, before;
-static hj_record routes[4];
-static uint8_t space[GUARD + HJ_OUTPUT_ROOM + GUARD];
-static uint8_t due[sizeof space];
-static uint8_t *const output = space + GUARD;
-
-#define BOARD &board, HJ_BOARD_WORDS
-#define MISSION &mission, HJ_MISSION_WORDS
-#define ROUTES routes, sizeof routes / sizeof *routes
-
-/* ---- Setting up ---------------------------------------------------------- */
-
-static void set_port(uint32_t port, uint32_t address, uint32_t mtu)
-{
-    expect(hj_set_port(BOARD, port, address, MASK_24, mtu, 0) == HJ_DONE,
-           "set_port");
-}
-
-/* A router without routes. Ports 0 and 5 are in one domain, port 3 is in
- * another. */
-static void set_up(void)
-{
-    memset(routes, 0, sizeof routes);
-    expect(hj_fresh_board(BOARD) == HJ_DONE &&
-               hj_fresh_mission(MISSION, 0) == HJ_DONE &&
-               hj_set_router(BOARD, 1) == HJ_DONE,
-           "a router");
-    set_port(0, 0x0a0a0a02, 8191);
-    set_port(3, 0x0a0a0b02, 8191);
-    set_port(5, 0x0a0a0a06, 8191);
-}
+/* The mission as it was before a call. */
+static hj_mission before;
 
 /* ---- Floods -------------------------------------------------------------- */
 
@@ -79,8 +45,7 @@ static hj_verdict receive_by(uint32_t port, hj_fields fields, uint32_t second)
     hj_answer built = hj_build(fields, 0, octets, sizeof octets);
 
     expect(hj_refusal(built) == HJ_DONE, "a header to receive");
-    memset(space, UNTOUCHED, sizeof space);
-    memset(due, UNTOUCHED, sizeof due);
+    clear_output();
     before = mission;
     return hj_receive(BOARD, MISSION, ROUTES, arrival, octets, hj_value(built),
                       output, HJ_OUTPUT_ROOM);
