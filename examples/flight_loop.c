@@ -149,7 +149,8 @@ static uint32_t set_up(void)
 
 /* The second to hand over. The relay refuses one under the last that it
  * accepted, and one that is too late shuts out all that follow: so it is kept
- * between the last one and a leap beyond it, whatever the clock says. */
+ * between the last one and a leap beyond it. One wrong reading then does little
+ * harm; a clock that stays wrong has to be told to the ground. */
 static uint32_t bounded_second(void)
 {
     uint32_t last = hj_value(hj_last_second(MISSION));

@@ -68,7 +68,8 @@ void copies_send(uint32_t node, uint32_t port, const struct datagram *sent)
 }
 
 /* A copy has the stamp and the data of the order; its addresses may have been
- * written as four octets, and its hop count has fallen. */
+ * written as four octets, and its hop count has fallen. Two orders of one
+ * scene with the same stamp and data would be counted as one. */
 void copies_start(const struct datagram *flying)
 {
     const struct datagram *order = &flood.order;

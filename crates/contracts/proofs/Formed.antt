@@ -16,7 +16,7 @@ use Rattle.words.specs.Cut.{total, cuts, cut, joined, pieces, rows, flat}
 use Rattle.state.specs.Relay.{Mission, Memory}
 use Rattle.state.specs.Seen.{Board, State}
 use Rattle.state.specs.Layout.{boardSections, boardWords, boardOf, decodeBoard, encodeBoard, sections, missionWords, stateOf, decode, encode, entryOfWord}
-use Rattle.state.specs.Layout.{ownedOf, ownedWords, groupOf, groupWords, pathOf, pathWords, queueOf, queueWords, pairOf, pairWords}
+use Rattle.state.specs.Layout.{ownedOf, ownedWords, groupOf, groupWords, pathOf, pathWords, queueOf, queueWords, pairPlaceOf, pairWords}
 use Rattle.state.proofs.Records.{Slots, queue-record, queue-length}
 use Rattle.state.proofs.Words.{section-length}
 use Rattle.state.proofs.Sizes.{Sized, SizedBoard, many, counters-length, pairs-length, decode-sized}
@@ -133,8 +133,8 @@ module _ (s : State) (formed : Formed s) where
   queues : Kept queueOf queueWords 33 8 (m .queues)
   queues = kept queueOf queueWords 33 8 (m .queues) (many m sized 2) (queues-spelt (m .queues) (formed .mission .queues))
 
-  pairs : Kept pairOf pairWords 5 64 (s .memory .pairs)
-  pairs = kept pairOf pairWords 5 64 (s .memory .pairs) (formed .memory) (each (s .memory .pairs) (λ x. (refl, refl)))
+  pairs : Kept pairPlaceOf pairWords 5 64 (s .memory .pairs)
+  pairs = kept pairPlaceOf pairWords 5 64 (s .memory .pairs) (formed .memory) (each (s .memory .pairs) (λ x. (refl, refl)))
 
   written : List (List ℕ)
   written =

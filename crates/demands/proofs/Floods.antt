@@ -1,7 +1,7 @@
 -- Floods as C sees them over any steps: the theorems of crate `history` on pairs and seconds, of what the words hold and of what C is told. Assumes nothing.
 use native.Mathlib.Omega.{arith}
 use Prim.Native.Nat.{ℕ, _+_, _<_, _≤_}
-use mathlib.Core.Path.{_≡_, refl, sym, ap, ap₂, subst, _∙_}
+use mathlib.Core.Path.{_≡_, refl, sym, ap, ap₂, subst, subst⁻¹, _∙_}
 use mathlib.Core.Logic.{_↔_, _≢_}
 use mathlib.Core.Bool.{Bool, true, false, not, _&&_, _||_}
 use mathlib.Core.List.{List, [], _∷_, _++_}
@@ -11,12 +11,20 @@ use borrow.Author.Tests.{lt-ltb, eqb-true}
 use Rattle.checks.specs.Order.{pick, firstOf}
 use Rattle.checks.proofs.Bools.{true-false, refuted, and-true, or-false}
 use Rattle.address.specs.declared.Slot.{Slot}
-use Rattle.header.specs.Read.{headerOf}
+use Rattle.header.specs.Build.{formatOf}
+use Rattle.header.specs.Read.{readOf, headerOf}
+use Rattle.header.specs.declared.Fields.{Fields}
+use Rattle.header.specs.declared.Header.{Header}
+use Rattle.header.specs.declared.Read.the-variants.{Good}
+use Rattle.header.proofs.Answers.{read-in-range}
+use Rattle.header.proofs.Refusals.{read-good}
 use Rattle.survey.proofs.Bits.{in-none}
 use Rattle.sets.specs.Limits.{portCount, pairPlaces}
 use Rattle.sets.specs.Sets.{inSet, anyBelow}
 use Rattle.sets.proofs.Anywhere.{any-found, any-is}
-use Rattle.meaning.specs.Flood.{isFlooded, pairOf}
+use Rattle.meaning.specs.Names.{originOf}
+use Rattle.meaning.specs.Flood.{isFlooded, sourceIn, upperOf, lowerOf, pairOf}
+use Rattle.meaning.proofs.Marks.{stampHeld, stamp-held, stamp-told}
 use Rattle.queue.specs.Order.{InOrder}
 use Rattle.records.specs.Held.{samePair, holdsPair, isFree}
 use Rattle.records.specs.declared.Pair.{Pair}
@@ -46,6 +54,7 @@ use Rattle.history.specs.Seat.{Seat, heardBy}
 use Rattle.history.specs.Outcome.{ownOutcome, next}
 use Rattle.history.specs.Answers.{listed}
 use Rattle.history.specs.Ledger.{one}
+use Rattle.history.specs.Ranges.{Octets}
 use Rattle.history.specs.Floods.{pairIn, Among, HeldIn, heldAfter, acceptedOwn, acceptedFrom, acceptedSeconds, greatest, floodsOwn, floodsFrom, freesOwn, NoneFrees}
 use Rattle.history.proofs.Fair.{fair}
 use Rattle.history.proofs.Floods as histories
@@ -53,7 +62,7 @@ use Rattle.history.proofs.Listed.{each-obstacle}
 use Rattle.history.proofs.Small.{sets-small}
 use Rattle.demands.specs.Trace.{Customer, numberOf, Step, flies, Words, missionOf, Trace, AllPass, Begun, historyOf, boardOf, seatOf, Gives}
 use Rattle.demands.specs.ReadOut.{ownOut, endedBy, localIn, onwardIn, memoryIn}
-use Rattle.demands.specs.Floods.{pairOn, goesOn, timesOn, frees, someFrees, acceptedIn, GoesNowhere, Floods}
+use Rattle.demands.specs.Floods.{pairOn, sourceOn, goesOn, timesOn, frees, someFrees, acceptedIn, GoesNowhere, Floods}
 use Rattle.demands.proofs.Traced.{board-is, words-board, words-own}
 use Rattle.demands.proofs.Told.{gives-row}
 use Rattle.demands.proofs.ReadOut.{read-out}
@@ -284,9 +293,34 @@ seconds-told who steps w v b =
     (λ before c x g. ap (acceptedOwn c) (read-out who before (own c) x g)) steps [] w _ v (begin b) (b .then) (b .passed)
     ∙ seconds-are (historyOf who steps) (seatOf who [])
 
+-- ---- two pairs
+-- equal exactly where what the sources name and the timestamps are
+pair-is : (p q : ℕ) (f g : Fields) → stampHeld (f .stamp) → stampHeld (g .stamp)
+    → (pairOf p f ≡ pairOf q g) ↔ ((sourceIn (originOf p (f .addresses)) ≡ sourceIn (originOf q (g .addresses))) × (f .stamp ≡ g .stamp))
+unfolding pairOf
+pair-is p q f g hf hg = (
+  λ e. (
+    ap (λ (x : Pair). x .source .0) e,
+    stamp-told (f .stamp) (g .stamp) hf hg (ap (λ (x : Pair). x .format) e) (ap (λ (x : Pair). x .upper) e) (ap (λ (x : Pair). x .lower) e),
+  ),
+  λ e. rw (e .0, e .1),
+)
+
+alike : (who : Customer) (w : Words) (at bt : ℕ) (s t : List ℕ) (h k : Header) → Octets s → Octets t → readOf s ≡ Good h → readOf t ≡ Good k
+    → (pairOn who w at s ≡ pairOn who w bt t) ↔ ((sourceOn who w at s ≡ sourceOn who w bt t) × (h .fields .stamp ≡ k .fields .stamp))
+alike who w at bt s t h k os ot rs rt =
+    let hs : h ≡ headerOf s = read-good s h .0 rs .1 in
+    let kt : k ≡ headerOf t = read-good t k .0 rt .1 in
+    let ms = subst (λ (x : Header). stampHeld (x .fields .stamp)) hs (stamp-held _ (read-in-range s h os rs .stamp)) in
+    let mt = subst (λ (x : Header). stampHeld (x .fields .stamp)) kt (stamp-held _ (read-in-range t k ot rt .stamp)) in
+    let is = pair-is _ _ (headerOf s .fields) (headerOf t .fields) ms mt in
+    subst⁻¹ (λ (x : Header). (pairOn who w at s ≡ pairOn who w bt t) ↔ ((sourceOn who w at s ≡ sourceOn who w bt t) × (x .fields .stamp ≡ k .fields .stamp))) hs
+    (subst⁻¹ (λ (x : Header). (pairOn who w at s ≡ pairOn who w bt t) ↔ ((sourceOn who w at s ≡ sourceOn who w bt t) × (headerOf s .fields .stamp ≡ x .fields .stamp))) kt is)
+
 pub floods : Floods
 floods =
     record {
+      alike = alike;
       once = once;
       none-while-held = none-while-held;
       never-again = never-again;

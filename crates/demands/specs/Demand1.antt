@@ -261,7 +261,7 @@ pub record Demand1 : Type 2 where
       × ((length n ≡ fieldWords → ⊥) → (y .answer ≡ refusalNumber 21) × (y .left .output ≡ o))
   -- "Nobody has to check first.": the code of each function, proved to do what its contract says, asks nothing of its caller.
   pub nobody-checks-first : (c : Exported) → Unchecked (functionOf c)
-  -- "A refusal carries its number and leaves queues, settings and lent octets unchanged;": 9 to 15 of the onward half too. The board, the list and the
+  -- "A refusal carries its number and leaves queues, settings and lent octets unchanged;": 9 to 15 and 30 of the onward half too. The board, the list and the
   -- output are left whole, and of the mission all but its counters and what it remembers
   pub refusal-leaves : (who : Customer) (steps : List Step) (c : Call) (x : Result) (g : Gives steps (stepOf who c) x)
       → outcome.isRefusal (readOut c (x .answer)) ≡ true → Unchanged (lentTo (made (g .before) (stepOf who c))) (x .left)

@@ -8,9 +8,12 @@ use mathlib.Core.Bool.{Bool, true, false, not, _&&_, _||_}
 use mathlib.Core.List.{List, [], _∷_, _++_}
 use lib.ListN.{length, getD}
 use Rattle.address.specs.declared.Slot.{Slot}
-use Rattle.header.specs.Read.{headerOf}
+use Rattle.header.specs.Read.{readOf, headerOf}
+use Rattle.header.specs.declared.Header.{Header}
+use Rattle.header.specs.declared.Read.the-variants.{Good}
 use Rattle.sets.specs.Limits.{pairPlaces}
-use Rattle.meaning.specs.Flood.{isFlooded, pairOf}
+use Rattle.meaning.specs.Names.{originOf}
+use Rattle.meaning.specs.Flood.{isFlooded, sourceIn, pairOf}
 use Rattle.queue.specs.Order.{InOrder}
 use Rattle.records.specs.Held.{samePair, isFree}
 use Rattle.records.specs.declared.Pair.{Pair}
@@ -23,6 +26,7 @@ use Rattle.floods.specs.Memory.{isHeld}
 use Rattle.contracts.specs.Promised.{Result}
 use Rattle.history.specs.Calls.{pairWord, lastSecond, MissionCall, sets, hears, takes, sweeps, looks}
 use Rattle.history.specs.Answers.{listed}
+use Rattle.history.specs.Ranges.{Octets}
 use Rattle.history.specs.Floods.{Among, HeldIn, heldAfter, acceptedOwn, greatest}
 use Rattle.history.specs.Ledger.{one}
 use Rattle.demands.specs.Trace.{Customer, numberOf, Step, flies, Words, missionOf, Trace, AllPass, Begun, historyOf, boardOf, Gives}
@@ -31,6 +35,11 @@ use Rattle.demands.specs.ReadOut.{ownOut, endedBy, localIn, onwardIn, to
 -- the pair of these octets, come in by port `at` where the words are w: "source and timestamp, format included", the source as that port fills it in
 abbrev pub pairOn : Customer → Words → ℕ → List ℕ → Pair
 pairOn who w at octets = pairOf (portIn (seated (decodeBoard (w .board)) (decode (missionOf who w))) at .address .0) (headerOf octets .fields)
+
+-- what their source names there
+abbrev pub sourceOn : Customer → Words → ℕ → List ℕ → ℕ
+sourceOn who w at octets =
+    sourceIn (originOf (portIn (seated (decodeBoard (w .board)) (decode (missionOf who w))) at .address .0) (headerOf octets .fields .addresses))
 
 -- the words hold it
 abbrev pub holdsIn : Customer → Words → Pair → Bool
@@ -72,6 +81,10 @@ pub record GoesNowhere (x : Result) : Type 0 where
   pub dropped : droppedIn x ≡ 0
 
 pub record Floods : Type 0 where
+  -- "pairs of source and timestamp, format included": octets that read as headers have the same pair exactly where their sources name the same system, each
+  -- at the port that it came in by, and their timestamps are the same, format, P-field and time; so both forms of one source are one pair
+  pub alike : (who : Customer) (w : Words) (at bt : ℕ) (s t : List ℕ) (h k : Header) → Octets s → Octets t → readOf s ≡ Good h → readOf t ≡ Good k
+      → (pairOn who w at s ≡ pairOn who w bt t) ↔ ((sourceOn who w at s ≡ sourceOn who w bt t) × (h .fields .stamp ≡ k .fields .stamp))
   -- "not asked for a held pair", which is kept with the first: of the datagrams with one pair that are heard in steps in which no sweep frees it, one at the
   -- most goes on, whatever ports they come by; and none where the words held it before
   pub once : (who : Customer) (q : Pair) (steps later : List Step) (w v u : Words) → Begun w steps v → (t : Trace v later u) → AllPass later
@@ -89,7 +102,7 @@ pub record Floods : Type 0 where
       → (boardOf steps .router ≢ 0)
       × ((isFlooded (headerOf octets .fields) ≡ true) × (holdsIn who (g .before) (pairOn who (g .before) at octets) ≡ true))
   -- "The relay keeps 64 pairs of source and timestamp ..": a pair with its second stands in a place of the words exactly where the rules keep it, by the
-  -- calls of the history, each in one place, and they keep 64 at the most;
+  -- calls of the history (which sweeps are refused, the field `last` says by the calls too), each in one place, and they keep 64 at the most;
   pub held : (who : Customer) (steps : List Step) (w v : Words) → Begun w steps v → (x : PairPlace)
       → Among x (heldAfter (numberOf who) (historyOf who steps)) ↔ HeldIn x (memoryIn (missionOf who v))
   pub held-once : (who : Customer) (steps : List Step) (w v : Words) → Begun w steps v → (i j : ℕ) → i < pairPlaces → j < pairPlaces

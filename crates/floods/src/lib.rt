@@ -1,7 +1,7 @@
-// What a mission remembers of flooded datagrams: which of them it has sent on.
+// What a mission remembers of flooded datagrams: which of them it has sent on, or tried to.
 //
 // A flooded datagram goes out by every other port, so that copies of it come back by many ways. A router keeps the pair of source and timestamp of each
-// that it sends on, in one of 64 places, and sends none on whose pair it holds: so a flood dies out. A sweep frees the places of pairs that are older than
+// that it would send on, in one of 64 places, whatever becomes of its copies, and sends none on whose pair it holds: so a flood dies out. A sweep frees the places of pairs that are older than
 // the lifetime that the operator has set; nothing else does. Each pair is kept with the second in which it came, which the caller gives, and seconds never
 // fall.
 //
@@ -49,7 +49,7 @@ fn seek(mission: &[u32], q: Pair) -> Flood
     let mut free = 0;
     let mut i = 0;
     while i < PAIRS {
-        let x = state_pairs::pair_of(mission, i);
+        let x = state_pairs::place_of(mission, i);
         if records::holds_pair(x, q) {
             return Flood::Unsent;
         }
@@ -128,7 +128,7 @@ fn sweep_at(mission: &mut [u32], i: usize, lifetime: u32, second: u32)
     requires { ⌜ (length (now mission) ≡ missionWords) × (i < pairPlaces) ⌝ }
     ensures { λ _. ⌜ decode (now (mission .exit)) ≡ onMemory (λ k. sweptAt lifetime second k i) (decode (now (mission .entry))) ⌝ }
 {
-    let x = state_pairs::pair_of(mission, i);
+    let x = state_pairs::place_of(mission, i);
     if !is_old(x, lifetime, second) {
         return;
     }

@@ -10,7 +10,7 @@ use Rattle.checks.specs.Order.{pick}
 use Rattle.checks.specs.Answer.{refusalNumber}
 use Rattle.state.specs.Relay.{Mission, Memory, groupAt, pathAt, pairAt}
 use Rattle.state.specs.Seen.{Board, ownedAt}
-use Rattle.state.specs.Layout.{ownedOf, ownedWords, groupOf, groupWords, pathOf, pathWords, pairOf, pairWords}
+use Rattle.state.specs.Layout.{ownedOf, ownedWords, groupOf, groupWords, pathOf, pathWords, pairPlaceOf, pairWords}
 use Rattle.lent_state.specs.Read.{wordAnswer, placeAnswer}
 use Rattle.lent_state.proofs.Read.{no-word}
 use Rattle.harpjuniper_reads.specs.Back.{portAnswer, groupAnswer, pathAnswer, pairAnswer}
@@ -31,7 +31,7 @@ module _ (m : Mission) (i : ℕ) (h : i < 16) where
   path-read = simp (lt-ltb i 16 h)
 
 pub pair-read : (k : Memory) (i : ℕ) → i < 64
-    → pairOf (pairAnswer k i 0 ∷ pairAnswer k i 1 ∷ pairAnswer k i 2 ∷ pairAnswer k i 3 ∷ pairAnswer k i 4 ∷ []) ≡ pairAt k i
+    → pairPlaceOf (pairAnswer k i 0 ∷ pairAnswer k i 1 ∷ pairAnswer k i 2 ∷ pairAnswer k i 3 ∷ pairAnswer k i 4 ∷ []) ≡ pairAt k i
 unfolding pairAnswer wordAnswer
 pair-read k i h = simp (lt-ltb i 64 h)
 

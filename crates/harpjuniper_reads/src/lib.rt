@@ -183,5 +183,5 @@ pub extern "C" fn hj_pair_word(mission: &[u32], place: u32, word: u32) -> u64
     if sets::PAIRS <= place {
         return checks::refusal_number(21);
     }
-    pair_word(state_pairs::pair_of(mission, place as usize), word)
+    pair_word(state_pairs::place_of(mission, place as usize), word)
 }

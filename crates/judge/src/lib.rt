@@ -1,6 +1,6 @@
 // The verdict on a received datagram, from its octets to an ending, in two steps with the search of the routes between them.
 //
-// The stages stand in page 01's order: the port and the output's room (16, 17), the second (29), the reader (1 to 5), what is carried (8), the domain (7),
+// The stages stand in page 01's order, with page 02's 29 and 28 among them: the port and the output's room (16, 17), the second (29), the reader (1 to 5), what is carried (8), the domain (7),
 // the addresses (6), what a flood needs (28). The first refusal ends the call. Else the destination's target and the place of its group or path are looked up, and all
 // that the rest needs is handed on by value, `Asked`: which route is to be searched too, if any. The list of routes is lent to another step.
 // With its answer module `finishing` gives the ruling. Nothing is written here: an ending says all that becomes of the datagram, and another

@@ -12,7 +12,7 @@ use Rattle.records.specs.declared.PairPlace.{PairPlace}
 use Rattle.words.proofs.Sections.{record-read, word-read}
 use Rattle.state.specs.Relay.{groupAt, pathAt, queueAt, counterIn, pairAt}
 use Rattle.state.specs.Seen.{ownedAt}
-use Rattle.state.specs.Layout.{boardSections, boardOf, decodeBoard, ownedOf, sections, stateOf, decode, groupOf, pathOf, queueOf, pairOf}
+use Rattle.state.specs.Layout.{boardSections, boardOf, decodeBoard, ownedOf, sections, stateOf, decode, groupOf, pathOf, queueOf, pairPlaceOf}
 
 -- the k words of record i, in records that begin at word a, as the code takes them
 abbrev pub taken : ℕ → ℕ → ℕ → List ℕ → List ℕ
@@ -57,6 +57,6 @@ module _ (w : List ℕ) where
   unfolding decode stateOf
   last-read = word-read sections w 5 (omega arith) 0 (omega arith)
 
-  pub pair-read : (i : ℕ) (x : PairPlace) → i < 64 → x ≡ pairOf (taken 411 5 i w) → x ≡ pairAt (decode w .memory) i
+  pub pair-read : (i : ℕ) (x : PairPlace) → i < 64 → x ≡ pairPlaceOf (taken 411 5 i w) → x ≡ pairAt (decode w .memory) i
   unfolding decode stateOf
-  pair-read i x h e = record-read sections w 6 (omega arith) pairOf 5 64 refl i _ x h e
+  pair-read i x h e = record-read sections w 6 (omega arith) pairPlaceOf 5 64 refl i _ x h e

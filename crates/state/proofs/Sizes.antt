@@ -14,7 +14,7 @@ use Rattle.words.proofs.Pieces.{rows-length}
 use Rattle.state.specs.Relay.{Mission, putGroup, putPath, putQueue, withCounter}
 use Rattle.state.specs.Seen.{Board, putRouter, putOwned, putLifetime, portsSeen, allPorts}
 use Rattle.state.specs.Layout.{boardSections, boardOf, decodeBoard, ownedOf}
-use Rattle.state.specs.Layout.{sections, missionWords, stateOf, decode, groupOf, pathOf, queueOf, pairOf}
+use Rattle.state.specs.Layout.{sections, missionWords, stateOf, decode, groupOf, pathOf, queueOf, pairPlaceOf}
 use Rattle.state.proofs.Words.{section-length}
 
 -- groups, paths, queues
@@ -47,7 +47,7 @@ module _ (w : List ℕ) where
 
   pub pairs-length : length (decode w .memory .pairs) ≡ 64
   unfolding decode stateOf
-  pairs-length = rows-length pairOf 5 64 (cut sections w 6)
+  pairs-length = rows-length pairPlaceOf 5 64 (cut sections w 6)
 
   pub decode-sized : Sized (decode w .mission)
   unfolding decode stateOf

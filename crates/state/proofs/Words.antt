@@ -11,7 +11,7 @@ use Rattle.words.proofs.Pieces.{flat-rows}
 use Rattle.words.proofs.Cuts.{cuts-joined, cut-length}
 use Rattle.state.specs.Layout.{boardSections, boardWords, boardOf, decodeBoard, encodeBoard, ownedOf, ownedWords}
 use Rattle.state.specs.Layout.{sections, missionWords, stateOf, decode, encode}
-use Rattle.state.specs.Layout.{groupOf, groupWords, pathOf, pathWords, pairOf, pairWords, queueOf, queueWords}
+use Rattle.state.specs.Layout.{groupOf, groupWords, pathOf, pathWords, pairPlaceOf, pairWords, queueOf, queueWords}
 use Rattle.state.proofs.Records.{owned-words, group-words, path-words, pair-words, queue-words}
 
 -- ---- the board
@@ -55,7 +55,7 @@ encode-decode w h =
     (flat-rows pathOf pathWords 4 path-words 16 (cut sections w 2) (long 2 (omega arith) (omega arith)))
     (flat-rows queueOf queueWords 33 queue-words 8 (cut sections w 3) (long 3 (omega arith) (omega arith)))
     (spelled-whole 1 (cut sections w 5) (long 5 (omega arith) (omega arith)))
-    (flat-rows pairOf pairWords 5 pair-words 64 (cut sections w 6) (long 6 (omega arith) (omega arith)))
+    (flat-rows pairPlaceOf pairWords 5 pair-words 64 (cut sections w 6) (long 6 (omega arith) (omega arith)))
     ∙ cuts-joined sections w h
 
 pub decode-injective : (v w : List ℕ) → length v ≡ missionWords → length w ≡ missionWords → decode v ≡ decode w → v ≡ w

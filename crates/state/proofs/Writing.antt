@@ -15,7 +15,7 @@ use Rattle.words.proofs.Sections.{record-written, word-written}
 use Rattle.state.specs.Relay.{counterIn, allGroups, allPaths, allQueues, putGroup, putPath, putQueue, putLast, putPair, withCounter, added}
 use Rattle.state.specs.Seen.{Board, putRouter, putOwned, putLifetime, onMission, onMemory, onCounters}
 use Rattle.state.specs.Layout.{boardSections, boardWords, boardOf, decodeBoard, ownedOf, ownedWords}
-use Rattle.state.specs.Layout.{sections, missionWords, stateOf, decode, groupOf, groupWords, pathOf, pathWords, pairOf, pairWords, queueOf, queueWords}
+use Rattle.state.specs.Layout.{sections, missionWords, stateOf, decode, groupOf, groupWords, pathOf, pathWords, pairPlaceOf, pairWords, queueOf, queueWords}
 use Rattle.state.proofs.Records.{Slots, owned-record, owned-length, group-record, group-length, path-record, path-length}
 use Rattle.state.proofs.Records.{pair-record, pair-length, queue-record, queue-length}
 use Rattle.state.proofs.Words.{board-section-length, section-length}
@@ -91,6 +91,6 @@ module _ (w : List ℕ) (l : length w ≡ missionWords) where
       → decode (left 411 5 i w vs) ≡ onMemory (λ k. putPair k i x) (decode w)
   unfolding decode stateOf
   pair-written i x vs h e =
-      record-written sections w 6 (omega arith) pairOf 5 64 refl stateOf
+      record-written sections w 6 (omega arith) pairPlaceOf 5 64 refl stateOf
       (λ ps. onMemory (λ k. record { last = k .last; pairs = ps }) (decode w)) (λ s. refl) (omega arith)
-      i x vs h (ap length e ∙ pair-length x) (ap pairOf e ∙ pair-record x)
+      i x vs h (ap length e ∙ pair-length x) (ap pairPlaceOf e ∙ pair-record x)

@@ -37,8 +37,8 @@ pathOf l = record { filled = getD l 0 0; path = record { 0 = getD l 1 0 }; send 
 abbrev pub pathWords : PathPlace → List ℕ
 pathWords x = x .filled ∷ x .path .0 ∷ x .send ∷ x .here ∷ []
 
-abbrev pub pairOf : List ℕ → PairPlace
-pairOf l =
+abbrev pub pairPlaceOf : List ℕ → PairPlace
+pairPlaceOf l =
     record {
       pair = record { format = getD l 0 0; source = record { 0 = getD l 1 0 }; upper = getD l 2 0; lower = getD l 3 0 };
       second = getD l 4 0;
@@ -100,7 +100,7 @@ stateOf s =
             paths = rows pathOf 4 pathPlaces (getD s 2 []);
             queues = rows queueOf 33 portCount (getD s 3 []);
           };
-      memory = record { last = getD (getD s 5 []) 0 0; pairs = rows pairOf 5 pairPlaces (getD s 6 []) };
+      memory = record { last = getD (getD s 5 []) 0 0; pairs = rows pairPlaceOf 5 pairPlaces (getD s 6 []) };
       counters = getD s 4 [];
     }
 

@@ -7,7 +7,7 @@ ghost use mathlib.Core.Path.{_≡_};
 ghost use Prim.Native.Nat.{_<_};
 ghost use lib.ListN.{length};
 ghost use Rattle.sets.specs.Limits.{pairPlaces};
-ghost use Rattle.state.specs.Layout.{missionWords, decode, pairOf, pairWords};
+ghost use Rattle.state.specs.Layout.{missionWords, decode, pairPlaceOf, pairWords};
 ghost use Rattle.state.specs.Relay.{pairAt, putLast, putPair};
 ghost use Rattle.state.specs.Seen.{onMemory};
 use address::Address;
@@ -39,7 +39,7 @@ pub fn put_last(mission: &mut [u32], second: u32)
 
 fn read_pair(s: &[u32]) -> PairPlace
     requires { ⌜ length (now s) ≡ 5 ⌝ }
-    ensures { λ r. ⌜ r ≡ pairOf (now (s .entry)) ⌝ }
+    ensures { λ r. ⌜ r ≡ pairPlaceOf (now (s .entry)) ⌝ }
 {
     PairPlace {
         pair: Pair {
@@ -63,7 +63,7 @@ fn write_pair(s: &mut [u32], x: PairPlace)
     s[4] = x.second;
 }
 
-pub fn pair_of(mission: &[u32], i: usize) -> PairPlace
+pub fn place_of(mission: &[u32], i: usize) -> PairPlace
     requires { ⌜ (length (now mission) ≡ missionWords) × (i < pairPlaces) ⌝ }
     ensures { λ r. ⌜ r ≡ pairAt (decode (now (mission .entry)) .memory) i ⌝ }
 {

@@ -145,7 +145,7 @@ fn every_other(others: u32) -> Wish
     Wish::Wanted(others)
 }
 
-// What becomes of a datagram that a router floods, or would.
+// What becomes of a datagram that a router floods, or would. One that is plain does not come here: the caller tells it apart by one test, since most are.
 fn flood_line(f: Flood, others: u32) -> Wish
     ensures { λ r. ⌜ ((line : Wish) → (f ≡ Plain → ⊥) → r ≡ floodLine f others line) ⌝ }
 {

@@ -21,14 +21,14 @@ abbrev μ-loop : tie.MeasureT-loop
 loop-holds : tie.Need-loop-holds Inv-loop μ-loop
 loop-holds c = (omega arith, (refl, refl))
 
-pair-of-requires : tie.Need-pair-of-requires Inv-loop μ-loop
-pair-of-requires c κs = search needs
+place-of-requires : tie.Need-place-of-requires Inv-loop μ-loop
+place-of-requires c κs = search needs
 
 holds-pair-requires : tie.Need-holds-pair-requires Inv-loop μ-loop
 holds-pair-requires c κs = search needs
 
 returns : tie.Need-returns Inv-loop μ-loop
-returns c = held-there (decode (c .before .before .before .before .before .before .args .mission .now) .memory) (c .before .before .before .before .before .before .args .q) (c .before .before .before .before .loop .i) (c .before .before .pair-of .ensures)
+returns c = held-there (decode (c .before .before .before .before .before .before .args .mission .now) .memory) (c .before .before .before .before .before .before .args .q) (c .before .before .before .before .loop .i) (c .before .before .place-of .ensures)
     (c .before .before .before .loop-test .taken) (c .before .holds-pair .ensures) (c .if1 .taken)
 
 free-next-requires : tie.Need-free-next-requires Inv-loop μ-loop
@@ -46,8 +46,8 @@ loop-again c = let start = c .before .before .before .before .before .before .be
     let k = decode (start .args .mission .now) .memory in (
       omega arith,
       (
-        not-there k (start .args .q) (at .i) (c .before .before .before .pair-of .ensures) (at .inv .1 .0) (c .before .before .holds-pair .ensures) (c .before .if1 .left),
-        free-further k (at .i) (c .before .before .before .pair-of .ensures) (at .inv .1 .1) (c .free-next .ensures),
+        not-there k (start .args .q) (at .i) (c .before .before .before .place-of .ensures) (at .inv .1 .0) (c .before .before .holds-pair .ensures) (c .before .if1 .left),
+        free-further k (at .i) (c .before .before .before .place-of .ensures) (at .inv .1 .1) (c .free-next .ensures),
       ),
     )
 
@@ -71,7 +71,7 @@ seek-spec =
     Inv-loop
     μ-loop
     loop-holds
-    pair-of-requires
+    place-of-requires
     holds-pair-requires
     returns
     free-next-requires

@@ -22,8 +22,8 @@ returns-2 : tie.Need-returns-2
 unfolding pairAnswer
 returns-2 c = held-told _ (c .before .before .if1 .left) _ _ (no-place _ _ _ (c .before .if2 .taken) (c .refusal-number2 .ensures))
 
-pair-of-requires : tie.Need-pair-of-requires
-pair-of-requires c κs = search needs
+place-of-requires : tie.Need-place-of-requires
+place-of-requires c κs = search needs
 
 pair-word-requires : tie.Need-pair-word-requires
 pair-word-requires c κs = search needs
@@ -33,9 +33,9 @@ unfolding pairAnswer
 returns-3 c =
     let read = c .before in
     held-told _ (read .before .before .if1 .left) _ _
-    (read-here pairWords _ _ _ (read .before .if2 .left) (c .pair-word .ensures) (read .pair-of .ensures))
+    (read-here pairWords _ _ _ (read .before .if2 .left) (c .pair-word .ensures) (read .place-of .ensures))
 
 pub hj-pair-word-spec : {M : Type 1} → statement M
 hj-pair-word-spec =
     tie.close
-    (tie.spec refusal-number-requires returns refusal-number-requires-2 returns-2 pair-of-requires pair-word-requires returns-3)
+    (tie.spec refusal-number-requires returns refusal-number-requires-2 returns-2 place-of-requires pair-word-requires returns-3)

@@ -1,8 +1,8 @@
--- `state_pairs::pair_of` reads its part of the state. Assumes nothing.
+-- `state_pairs::place_of` reads its part of the state. Assumes nothing.
 use Rattle.state.proofs.Reading.{pair-read}
 use borrow.Author.Needs.{needs}
-use Rattle.state_pairs.proofs.pair_of.Statement.{statement}
-use Rattle.state_pairs.proofs.pair_of.Tie as tie
+use Rattle.state_pairs.proofs.place_of.Statement.{statement}
+use Rattle.state_pairs.proofs.place_of.Tie as tie
 
 mul-from : tie.Need-mul-from
 mul-from c = search needs
@@ -31,8 +31,8 @@ read-pair-requires c κs = search needs
 returns : tie.Need-returns
 returns c = let start = c .before .before .before in pair-read _ _ _ (start .pre .1) (c .read-pair .ensures)
 
-pub pair-of-spec : {M : Type 1} → statement M
-pair-of-spec =
+pub place-of-spec : {M : Type 1} → statement M
+place-of-spec =
     tie.close
     (tie.spec
     mul-from
