@@ -1071,12 +1071,13 @@ static inline hj_answer hj_build(hj_fields fields, size_t data, uint8_t *output,
  *   HJ_PAIRS_HELD (30)     a flood with a new pair, and all HJ_PAIRS places are
  *                          held.
  * HJ_NOT_ASKED is given for a port's own address and the limited broadcast; on
- * a host, where hj_local is not HJ_LOCAL_NO; for a broadcast of a port's
- * network, or a group subscribed on the arrival port, where no other port is
- * set up; for a path that is delivered here and has no port in its set but the
- * arrival port; and on a router for a flood whose pair is held. HJ_LOCAL_NO and
- * HJ_NOT_ASKED together are given for a held pair alone. Ports, groups, paths
- * and routes are those of the mission throughout.
+ * a host, where hj_local is not HJ_LOCAL_NO; on a router for a flood whose pair
+ * is held; and for what is not flooded where it is a broadcast of a port's
+ * network, or for a group subscribed on the arrival port, and no other port is
+ * set up, or where it goes by a path that is delivered here and has no port in
+ * its set but the arrival port. HJ_LOCAL_NO and HJ_NOT_ASKED together are given
+ * for a held pair alone. Ports, groups, paths and routes are those of the
+ * mission throughout.
  *
  * A flooded datagram (routing requirements 3) has the local half of any other,
  * a repeat too. Onward, on a router, it has a rule of its own:

@@ -11,7 +11,6 @@ use borrow.Author.Tests.{lt-ltb, eqb-true}
 use Rattle.checks.specs.Order.{pick, firstOf}
 use Rattle.checks.proofs.Bools.{true-false, refuted, and-true, or-false}
 use Rattle.address.specs.declared.Slot.{Slot}
-use Rattle.header.specs.Build.{formatOf}
 use Rattle.header.specs.Read.{readOf, headerOf}
 use Rattle.header.specs.declared.Fields.{Fields}
 use Rattle.header.specs.declared.Header.{Header}
@@ -23,7 +22,7 @@ use Rattle.sets.specs.Limits.{portCount, pairPlaces}
 use Rattle.sets.specs.Sets.{inSet, anyBelow}
 use Rattle.sets.proofs.Anywhere.{any-found, any-is}
 use Rattle.meaning.specs.Names.{originOf}
-use Rattle.meaning.specs.Flood.{isFlooded, sourceIn, upperOf, lowerOf, pairOf}
+use Rattle.meaning.specs.Flood.{isFlooded, sourceIn, pairOf}
 use Rattle.meaning.proofs.Marks.{stampHeld, stamp-held, stamp-told}
 use Rattle.queue.specs.Order.{InOrder}
 use Rattle.records.specs.Held.{samePair, holdsPair, isFree}
@@ -33,7 +32,7 @@ use Rattle.records.proofs.Pairs.{holds-is}
 use Rattle.routes.specs.declared.Record.{Record}
 use Rattle.state.specs.Relay.{Memory, pairAt, portIn}
 use Rattle.state.specs.Seen.{Board, State, seated}
-use Rattle.state.specs.Layout.{pairWords}
+use Rattle.state.specs.Layout.{decodeBoard, decode, pairWords}
 use Rattle.lent_state.specs.Read.{wordAnswer}
 use Rattle.verdict.specs.Numbers.{localNumber, onwardNumber}
 use Rattle.verdict.specs.declared.Local.{Local}
@@ -311,9 +310,10 @@ alike : (who : Customer) (w : Words) (at bt : ℕ) (s t : List ℕ) (h k : Heade
 alike who w at bt s t h k os ot rs rt =
     let hs : h ≡ headerOf s = read-good s h .0 rs .1 in
     let kt : k ≡ headerOf t = read-good t k .0 rt .1 in
-    let ms = subst (λ (x : Header). stampHeld (x .fields .stamp)) hs (stamp-held _ (read-in-range s h os rs .stamp)) in
-    let mt = subst (λ (x : Header). stampHeld (x .fields .stamp)) kt (stamp-held _ (read-in-range t k ot rt .stamp)) in
-    let is = pair-is _ _ (headerOf s .fields) (headerOf t .fields) ms mt in
+    let ms = subst (λ (x : Header). stampHeld (x .fields .stamp)) hs (stamp-held (h .fields .stamp) (read-in-range s h os rs .stamp)) in
+    let mt = subst (λ (x : Header). stampHeld (x .fields .stamp)) kt (stamp-held (k .fields .stamp) (read-in-range t k ot rt .stamp)) in
+    let r = seated (decodeBoard (w .board)) (decode (missionOf who w)) in
+    let is = pair-is (portIn r at .address .0) (portIn r bt .address .0) (headerOf s .fields) (headerOf t .fields) ms mt in
     subst⁻¹ (λ (x : Header). (pairOn who w at s ≡ pairOn who w bt t) ↔ ((sourceOn who w at s ≡ sourceOn who w bt t) × (x .fields .stamp ≡ k .fields .stamp))) hs
     (subst⁻¹ (λ (x : Header). (pairOn who w at s ≡ pairOn who w bt t) ↔ ((sourceOn who w at s ≡ sourceOn who w bt t) × (headerOf s .fields .stamp ≡ x .fields .stamp))) kt is)
 

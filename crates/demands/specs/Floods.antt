@@ -102,7 +102,7 @@ pub record Floods : Type 0 where
       → (boardOf steps .router ≢ 0)
       × ((isFlooded (headerOf octets .fields) ≡ true) × (holdsIn who (g .before) (pairOn who (g .before) at octets) ≡ true))
   -- "The relay keeps 64 pairs of source and timestamp ..": a pair with its second stands in a place of the words exactly where the rules keep it, by the
-  -- calls of the history (which sweeps are refused, the field `last` says by the calls too), each in one place, and they keep 64 at the most;
+  -- calls of the history (which sweeps are refused, the field last says by the calls too), each in one place, and they keep 64 at the most;
   pub held : (who : Customer) (steps : List Step) (w v : Words) → Begun w steps v → (x : PairPlace)
       → Among x (heldAfter (numberOf who) (historyOf who steps)) ↔ HeldIn x (memoryIn (missionOf who v))
   pub held-once : (who : Customer) (steps : List Step) (w v : Words) → Begun w steps v → (i j : ℕ) → i < pairPlaces → j < pairPlaces
