@@ -12,6 +12,7 @@
 #                  DESTDIR what stands before it
 #   make uninstall removes what install put there
 #   make soak      5,000,000 random calls, each looked at from outside
+#   make flood     datagrams flooded on large random nets of relays
 #   make coverage-plain   what of host/plain the generated trace reaches
 #   make costs     puts what the last `make test` cost into docs/COSTS.md
 #   make clean     removes build/ and target/
@@ -44,20 +45,21 @@ endif
 # Each program has a folder below host/, and takes from host/shared what is named here.
 program = $(wildcard host/$(1)/*.c) $(patsubst %,host/shared/%.c,options $(2))
 REPLAY := $(call program,replay,calls library text trace)
-GENERATE := $(call program,generate,calls datagram form settings text world)
+GENERATE := $(call program,generate,calls datagram floods form settings text world)
 COVERAGE := $(call program,coverage,answered arriving calls settings trace)
 LEDGER := $(call program,ledger,answered arriving calls trace)
-BENCH := $(call program,bench,calls library plainly trace)
+BENCH := $(call program,bench,arriving calls library plainly trace)
 REHEARSAL := $(call program,rehearsal)
-SOAK := $(call program,soak,calls datagram form library plainly settings world)
+FLOOD := $(call program,flood,settings)
+SOAK := $(call program,soak,calls datagram floods form library plainly settings world)
 PLAIN := $(wildcard host/plain/plain_*.c)
 HEADERS := $(wildcard $(INCLUDE)/*.h host/*/*.h host/*/*.def tests/*.h)
 
 # `make test` goes through its parts in this order, whatever -j says.
 .NOTPARALLEL:
 .DELETE_ON_ERROR:
-.PHONY: test archive release replay plain rehearsal compare bench soak coverage-plain \
-	costs clean prepare tools format exports released header readme host-tests promises \
+.PHONY: test archive release replay plain rehearsal compare bench soak flood \
+	coverage-plain costs clean prepare tools format exports released header readme host-tests promises \
 	install uninstall always
 
 # What can be said without a proof comes first. The gate then proves everything, makes
@@ -127,21 +129,25 @@ build/rehearsal: $(REHEARSAL)
 build/calls: tests/calls.c
 build/relay_calls: tests/relay_calls.c
 build/leg_calls: tests/leg_calls.c
+build/flood_calls: tests/flood_calls.c
 build/bench: $(BENCH) $(PLAIN)
 build/flight_loop: examples/flight_loop.c
 build/settings_batch: examples/settings_batch.c
 build/soak: $(SOAK) $(PLAIN)
+build/flood: $(FLOOD)
 build/readme: build/readme.c
 
-# The rehearsal on wrong relays, which it has to find out; WRONG_RELAY says which. The
-# soak with faults put between it and the library, which it has to find.
+# The rehearsal and the flood on wrong relays, which they have to find out; WRONG_RELAY
+# says which. The soak with faults put between it and the library, which it has to find.
 build/rehearsal_wrong: $(REHEARSAL) tests/wrong_relay.c
+build/flood_wrong: $(FLOOD) tests/wrong_relay.c
 build/soak_faulty: $(SOAK) $(PLAIN) tests/soak_faults.c
-build/rehearsal_wrong: wrapped := take receive_at
-build/soak_faulty: wrapped := class take counter waiting search set_port receive_at
+build/rehearsal_wrong build/flood_wrong: wrapped := take receive_at sweep counter
+build/soak_faulty: wrapped := class take counter waiting search set_port receive_at \
+	sweep set_lifetime get_lifetime last_second pair_word
 
 LINKED := $(addprefix build/,replay rehearsal rehearsal_wrong calls relay_calls leg_calls \
-	bench flight_loop settings_batch soak soak_faulty readme)
+	flood_calls bench flight_loop settings_batch soak soak_faulty flood flood_wrong readme)
 $(LINKED): $(LIBRARY) $(HEADERS) scripts/emulated build/from | tools
 	$(link) $(wrapped:%=-Wl,--wrap=hj_%) $(filter %.c,$^) $(LIBRARY)
 	$(emulate)
@@ -199,16 +205,20 @@ readme: build/readme
 
 host-tests: build/calls build/relay_calls build/leg_calls build/test_plain \
 	build/test_relay build/test_missions build/test_legs build/replay build/plain \
+	build/test_floods \
 	build/ledger build/generate build/coverage build/bench build/flight_loop \
 	build/settings_batch build/rehearsal build/rehearsal_wrong build/soak \
-	build/soak_faulty build/coverage-plain/plain
+	build/soak_faulty build/flood build/flood_wrong build/coverage-plain/plain \
+	build/flood_calls
 	build/calls
 	build/relay_calls
 	build/leg_calls
+	build/flood_calls
 	build/test_plain
 	build/test_relay
 	build/test_missions
 	build/test_legs
+	build/test_floods
 	build/flight_loop > build/flight_loop.output
 	diff examples/flight_loop.expected build/flight_loop.output
 	build/settings_batch > build/settings_batch.output
@@ -216,6 +226,8 @@ host-tests: build/calls build/relay_calls build/leg_calls build/test_plain \
 	scripts/check-traces build/replay build/plain
 	python3 tests/test_ledger.py
 	python3 tests/test_rehearsal.py
+	build/flood seed=1
+	python3 tests/test_flood.py
 	python3 tests/test_scripts.py
 	python3 tests/test_gate.py
 	python3 tests/test_options.py
@@ -232,6 +244,10 @@ bench: build/bench
 # SOAK_ARGUMENTS: seed=N, calls=N
 soak: build/soak
 	build/soak $(SOAK_ARGUMENTS)
+
+# FLOOD_ARGUMENTS: seed=N, nodes=N, links=N, orders=N, nets=N
+flood: build/flood
+	build/flood $(FLOOD_ARGUMENTS)
 
 coverage-plain: build/generate build/coverage-plain/plain
 	scripts/coverage-plain

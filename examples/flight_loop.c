@@ -2,11 +2,13 @@
  * flight_loop: the smallest loop that relays, for one mission. It sets up three
  * ports and two routes, hears datagrams, lets the relay judge each, and sends on
  * what the relay says: the header that the relay wrote for the port, then the
- * data that the loop kept. A second mission would have a state and a store of
- * its own, and be lent the same board and routes.
+ * data that the loop kept. At the end it sweeps once, so that the relay forgets
+ * the floods that have died out. A second mission would have a state and a store
+ * of its own, and be lent the same board and routes.
  *
- * The links are stood in for: `heard` hands out datagrams built here, and
- * `send_on` prints. In flight both would be drivers, and the rest would stay.
+ * The links and the clock are stood in for: `heard` hands out datagrams built
+ * here, `send_on` prints, and `clock_second` is a number. In flight these would
+ * be drivers, and the rest would stay.
  *
  * The relay keeps a slot number and no octets, so the loop has a store of slots:
  * the datagram, the headers that the relay wrote, and the verdict, which says
@@ -21,6 +23,8 @@
 
 #define SLOTS 64
 #define NO_SLOT SLOTS
+#define LIFETIME 60 /* seconds that a flood lives in the net, at most */
+#define LEAP 3600   /* seconds that the relay's clock may go on at once */
 
 static hj_board board;
 static hj_mission mission;
@@ -48,14 +52,19 @@ static struct slot {
 #define UNIT 0x0e         /* 10.10.10.14 in one octet, behind port 1 too */
 #define ALL 0xff          /* the broadcast of 10.10.10 in one octet */
 
-/* Under 256 a destination has one octet. A hop count of 0 is none. */
+/* Under 256 a destination has one octet. A hop count of 0 is none. One with a
+ * timestamp is flooded, and comes by two ways. */
 static const struct {
-    uint32_t destination, precedence, hop_count;
+    uint32_t destination, precedence, hop_count, stamp;
     const char *data;
-} HEARD[] = {{FAR, 0, 64, "temperature"}, {FAR, 9, 64, "alarm"},
-             {HERE, 0, 64, "command"},    {OTHER, 0, 64, "stray"},
-             {FAR, 0, 1, "tired"},        {UNIT, 3, 0, "dose"},
-             {ALL, 5, 0, "time"}};
+} HEARD[] = {{FAR, 0, 64, 0, "temperature"}, {FAR, 9, 64, 0, "alarm"},
+             {HERE, 0, 64, 0, "command"},    {OTHER, 0, 64, 0, "stray"},
+             {FAR, 0, 1, 0, "tired"},        {UNIT, 3, 0, 0, "dose"},
+             {ALL, 5, 0, 0, "time"},         {OTHER, 1, 64, 8001, "search"},
+             {OTHER, 1, 63, 8001, "search"}};
+
+/* Of the node's own clock, which began when the relay was made. */
+static uint32_t clock_second;
 
 /* The next datagram that port 0 hears, or 0 octets where there is none. */
 static uint32_t heard(uint8_t *octets)
@@ -77,10 +86,16 @@ static uint32_t heard(uint8_t *octets)
     fields.precedence = HEARD[next].precedence;
     fields.has_hop_count = HEARD[next].hop_count != 0;
     fields.hop_count = HEARD[next].hop_count;
+    if (HEARD[next].stamp != 0) {
+        fields.routing = 3;
+        fields.stamp_format = HJ_STAMP_IMPLICIT;
+        fields.time = HEARD[next].stamp;
+    }
     fields.has_checksum = 1;
     built = hj_build(fields, data, octets, HJ_HEADER_ROOM);
     memcpy(octets + hj_value(built), HEARD[next].data, data);
     next++;
+    clock_second++;
     return hj_value(built) + (uint32_t)data;
 }
 
@@ -116,6 +131,8 @@ static uint32_t set_up(void)
     if (refusal == HJ_DONE)
         refusal = hj_set_router(BOARD, 1);
     if (refusal == HJ_DONE)
+        refusal = hj_set_lifetime(BOARD, LIFETIME);
+    if (refusal == HJ_DONE)
         refusal = hj_set_port(BOARD, 0, HERE, 0xffffff00, 8191, 0);
     if (refusal == HJ_DONE)
         refusal = hj_set_port(BOARD, 1, 0x0a0a0b02, 0xffffff00, 1500, 0);
@@ -128,6 +145,19 @@ static uint32_t set_up(void)
         refusal = hj_set_route(BOARD, ROUTES, 1, 0x0a0a0a0e, 0xffffffff, 1,
                                HJ_UP, HJ_CAPABLE_HOP_COUNT, 0);
     return refusal;
+}
+
+/* The second to hand over. The relay refuses one under the last that it
+ * accepted, and one that is too late shuts out all that follow: so it is kept
+ * between the last one and a leap beyond it. One wrong reading then does little
+ * harm; a clock that stays wrong has to be told to the ground. */
+static uint32_t bounded_second(void)
+{
+    uint32_t last = hj_value(hj_last_second(MISSION));
+
+    if (clock_second < last)
+        return last;
+    return clock_second - last > LEAP ? last + LEAP : clock_second;
 }
 
 static uint16_t free_slot(void)
@@ -153,7 +183,7 @@ static uint32_t size_of_set(uint32_t ports)
 static void judge(uint32_t port, uint16_t number, uint32_t count)
 {
     struct slot *slot = &slots[number];
-    hj_arrival arrival = {port, number, 0};
+    hj_arrival arrival = {port, number, bounded_second()};
     hj_verdict verdict =
         hj_receive(BOARD, MISSION, ROUTES, arrival, slot->octets, count,
                    slot->headers, sizeof slot->headers);
@@ -190,6 +220,27 @@ static int hear(uint32_t port)
     return count > 0;
 }
 
+static uint32_t pairs_held(void)
+{
+    uint32_t held = 0;
+
+    for (uint32_t place = 0; place < HJ_PAIRS; place++)
+        held += hj_get_pair(MISSION, place).format != HJ_STAMP_NONE;
+    return held;
+}
+
+/* In flight, every minute or so: else the places of the pairs fill up. */
+static void sweep(void)
+{
+    uint32_t second = bounded_second();
+    uint32_t held = pairs_held();
+    uint32_t refusal = hj_sweep(BOARD, MISSION, second);
+
+    printf("swept at second %u: ended by %u, %u of %u pairs left\n",
+           (unsigned)second, (unsigned)refusal, (unsigned)pairs_held(),
+           (unsigned)held);
+}
+
 int main(void)
 {
     uint32_t refusal = set_up();
@@ -202,6 +253,8 @@ int main(void)
         continue; /* in flight, the ports would be served in turn */
     for (uint32_t port = 0; port < 3; port++)
         send_waiting(port);
+    clock_second += 2 * LIFETIME; /* in which nothing is heard */
+    sweep();
     printf("received %u, sent on %u\n",
            (unsigned)hj_value(hj_counter(MISSION, HJ_IN_RECEIVES)),
            (unsigned)hj_value(hj_counter(MISSION, HJ_FORW_DATAGRAMS)));

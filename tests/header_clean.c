@@ -42,24 +42,28 @@ int relay_calls(void)
                           size_t) = hj_receive;
     hj_verdict (*receive_at)(const hj_board *, size_t, hj_mission *, size_t,
                              const hj_record *, size_t, uint32_t, uint16_t,
-                             const uint8_t *, size_t, uint8_t *,
+                             uint32_t, const uint8_t *, size_t, uint8_t *,
                              size_t) = hj_receive_at;
+    uint32_t (*sweep)(const hj_board *, size_t, hj_mission *, size_t,
+                      uint32_t) = hj_sweep;
     hj_answer (*take)(const hj_board *, size_t, hj_mission *, size_t,
                       uint32_t) = hj_take;
     hj_found (*search)(const hj_board *, size_t, const hj_mission *, size_t,
                        const hj_record *, size_t, uint32_t) = hj_search;
 
-    return words[0] && board && mission && receive && receive_at && take &&
-           search;
+    return words[0] && board && mission && receive && receive_at && sweep &&
+           take && search;
 }
 
 int read_calls(void)
 {
+    typedef hj_answer of_board(const hj_board *, size_t);
     typedef hj_answer of_mission(const hj_mission *, size_t, uint32_t);
     typedef hj_answer word(const hj_mission *, size_t, uint32_t, uint32_t);
     of_mission *const looks[] = {hj_counter, hj_waiting};
-    word *const words[] = {hj_group_word, hj_path_word};
-    hj_answer (*router)(const hj_board *, size_t) = hj_get_router;
+    word *const words[] = {hj_group_word, hj_path_word, hj_pair_word};
+    of_board *const boards[] = {hj_get_router, hj_get_lifetime};
+    hj_answer (*second)(const hj_mission *, size_t) = hj_last_second;
     hj_answer (*port_word)(const hj_board *, size_t, uint32_t,
                            uint32_t) = hj_port_word;
     hj_answer (*route_word)(const hj_record *, size_t, uint32_t,
@@ -68,19 +72,21 @@ int read_calls(void)
     hj_route (*route)(const hj_record *, size_t, uint32_t) = hj_get_route;
     hj_group (*group)(const hj_mission *, size_t, uint32_t) = hj_get_group;
     hj_path_place (*path)(const hj_mission *, size_t, uint32_t) = hj_get_path;
+    hj_pair (*pair)(const hj_mission *, size_t, uint32_t) = hj_get_pair;
 
-    return looks[0] && words[0] && router && port_word && route_word && port &&
-           route && group && path;
+    return looks[0] && words[0] && boards[0] && second && port_word &&
+           route_word && port && route && group && path && pair;
 }
 
 int setting_calls(void)
 {
     typedef uint32_t place(const hj_board *, size_t, hj_mission *, size_t,
                            uint32_t, uint32_t, uint32_t, uint32_t);
+    typedef uint32_t of_board(hj_board *, size_t, uint32_t);
     typedef uint32_t clear(hj_mission *, size_t, uint32_t);
     place *const places[] = {hj_set_group, hj_set_path};
     clear *const clears[] = {hj_clear_group, hj_clear_path};
-    uint32_t (*router)(hj_board *, size_t, uint32_t) = hj_set_router;
+    of_board *const boards[] = {hj_set_router, hj_set_lifetime};
     uint32_t (*port)(hj_board *, size_t, uint32_t, uint32_t, uint32_t,
                      uint32_t, uint32_t) = hj_set_port;
     uint32_t (*route)(const hj_board *, size_t, hj_record *, size_t, uint32_t,
@@ -88,7 +94,7 @@ int setting_calls(void)
                       uint32_t) = hj_set_route;
     uint32_t (*clear_route)(hj_record *, size_t, uint32_t) = hj_clear_route;
 
-    return places[0] && clears[0] && router && port && route && clear_route;
+    return places[0] && clears[0] && boards[0] && port && route && clear_route;
 }
 
 int accessors(void)
@@ -122,7 +128,8 @@ int constants(void)
                           HJ_ROUTES,        HJ_GROUPS,
                           HJ_PATHS,         HJ_QUEUE,
                           HJ_PORT_NUMBERS,  HJ_ROUTE_NUMBERS,
-                          HJ_GROUP_NUMBERS, HJ_PATH_NUMBERS};
+                          HJ_GROUP_NUMBERS, HJ_PATH_NUMBERS,
+                          HJ_PAIR_NUMBERS,  HJ_PAIRS};
     const int classes[] = {HJ_INVALID,        HJ_UNICAST,
                            HJ_MULTICAST,      HJ_NET_BROADCAST,
                            HJ_DOMAIN_BROADCAST, HJ_SCPS_BROADCAST,
@@ -151,13 +158,15 @@ int numbers(void)
         HJ_NOTHING_WAITING, HJ_FIELD_RANGE, HJ_DATA_TOO_LONG,
         HJ_BAD_NUMBER,    HJ_BAD_MASK,      HJ_SAME_ENTRY,
         HJ_BAD_CODE,      HJ_WRONG_CLASS,   HJ_UNKNOWN_TP_ID,
+        HJ_FLOOD_UNMARKED, HJ_SECOND_PAST,  HJ_PAIRS_HELD,
         HJ_PORT_SET_UP};
     const int counters[HJ_COUNTERS] = {
         HJ_IN_RECEIVES,       HJ_IN_BAD_LENGTH,  HJ_IN_BAD_VERSION,
         HJ_IN_BAD_ADDRESS,    HJ_IN_BAD_CHECKSUM, HJ_UNSUPPORTED,
         HJ_IN_ADDR_ERRORS,    HJ_IN_UNKNOWN_PROTOS, HJ_IN_DELIVERS,
         HJ_FORW_HOP_DISCARD,  HJ_FORW_DATAGRAMS, HJ_OUT_NO_ROUTES,
-        HJ_OUT_DISCARDS,      HJ_LEFT_DOMAIN,    HJ_TOO_BIG_COUNT};
+        HJ_OUT_DISCARDS,      HJ_LEFT_DOMAIN,    HJ_TOO_BIG_COUNT,
+        HJ_FLOOD_UNMARKED_COUNT, HJ_PAIRS_HELD_COUNT};
 
-    return refusals[0] + counters[14];
+    return refusals[0] + counters[16];
 }

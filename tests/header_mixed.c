@@ -5,7 +5,7 @@
  */
 #include "harpjuniper.h"
 
-#define MIXED_LAST 8
+#define MIXED_LAST 11
 
 #ifndef MIXED
 #define MIXED 0
@@ -49,5 +49,11 @@ int mixed(void)
 #elif MIXED == 8 /* a port and a slot for the arrival */
     return hj_ended_by(hj_receive(BOARD, MISSION, ROUTES, 0, octets, 0, octets,
                                   0)) != 0;
+#elif MIXED == 9 /* the two words of a sweep swapped */
+    return hj_sweep(MISSION, BOARD, 0) != 0;
+#elif MIXED == 10 /* the lifetime is the board's */
+    return hj_set_lifetime(MISSION, 0) != 0;
+#elif MIXED == 11 /* and the last second the mission's */
+    return hj_refusal(hj_last_second(BOARD)) != 0;
 #endif
 }

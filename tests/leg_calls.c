@@ -9,23 +9,7 @@
 #include <stdbool.h>
 #include <string.h>
 
-#include "expect.h"
-#include "harpjuniper.h"
-
-#define UNTOUCHED 0xa5
-#define GUARD 64
-#define MASK_24 0xffffff00u
-
-static hj_board board;
-static hj_mission mission;
-static hj_record routes[16];
-static uint8_t space[GUARD + HJ_OUTPUT_ROOM + 100 + GUARD];
-static uint8_t due[sizeof space];
-static uint8_t *const output = space + GUARD;
-
-#define BOARD &board, HJ_BOARD_WORDS
-#define MISSION &mission, HJ_MISSION_WORDS
-#define ROUTES routes, sizeof routes / sizeof *routes
+#include "router.h"
 
 /* The datagram at hand. */
 static struct {
@@ -35,32 +19,12 @@ static struct {
 
 /* ---- Setting up ---------------------------------------------------------- */
 
-static void set_port(uint32_t port, uint32_t address, uint32_t mtu)
-{
-    expect(hj_set_port(BOARD, port, address, MASK_24, mtu, 0) == HJ_DONE,
-           "set_port");
-}
-
 static void set_route(uint32_t place, uint32_t prefix, uint32_t port,
                       uint32_t capabilities)
 {
     expect(hj_set_route(BOARD, ROUTES, place, prefix, 0xffffffff, port, HJ_UP,
                         capabilities, 0) == HJ_DONE,
            "set_route");
-}
-
-/* A router without routes. Ports 0 and 5 are in one domain, port 3 is in
- * another. */
-static void set_up(void)
-{
-    memset(routes, 0, sizeof routes);
-    expect(hj_fresh_board(BOARD) == HJ_DONE &&
-               hj_fresh_mission(MISSION, 0) == HJ_DONE &&
-               hj_set_router(BOARD, 1) == HJ_DONE,
-           "a router");
-    set_port(0, 0x0a0a0a02, 8191);
-    set_port(3, 0x0a0a0b02, 8191);
-    set_port(5, 0x0a0a0a06, 8191);
 }
 
 static uint8_t digit(char character)
@@ -95,8 +59,7 @@ static hj_verdict receive_with(size_t room)
 {
     hj_arrival arrival = {0, 7, 0};
 
-    memset(space, UNTOUCHED, sizeof space);
-    memset(due, UNTOUCHED, sizeof due);
+    clear_output();
     return hj_receive(BOARD, MISSION, ROUTES, arrival, came.octets, came.count,
                       output, room);
 }

@@ -92,11 +92,14 @@ static void refuse_board(hj_board *board, size_t words)
     expect(hj_fresh_board(board, words) == 21, "fresh_board");
     expect(hj_set_router(board, words, 1) == 21, "set_router");
     expect(hj_set_router(board, words, 2) == 21, "set_router, 21 before 24");
+    expect(hj_set_lifetime(board, words, 1) == 21, "set_lifetime");
     expect(hj_set_port(board, words, 2, 0x0a0a0002, MASK_24, 1, 0) == 21,
            "set_port");
     expect(hj_set_route(board, words, ROUTES, 0, 0, 0, 0, 1, 0, 0) == 21,
            "set_route");
     expect(hj_get_router(board, words) == (hj_answer)21 << 32, "get_router");
+    expect(hj_get_lifetime(board, words) == (hj_answer)21 << 32,
+           "get_lifetime");
     expect(hj_port_word(board, words, 0, 0) == (hj_answer)21 << 32,
            "port_word");
     expect(hj_get_port(board, words, 0).refusal == 21, "get_port");
@@ -108,6 +111,7 @@ static void refuse_mission(hj_mission *mission, size_t words)
     const hj_answer refused = (hj_answer)21 << 32;
     hj_group group = hj_get_group(mission, words, 0);
     hj_path_place path = hj_get_path(mission, words, 0);
+    hj_pair pair = hj_get_pair(mission, words, 0);
 
     expect(hj_fresh_mission(mission, words, 0) == 21, "fresh_mission");
     expect(hj_fresh_mission(mission, words, 2) == 21, "21 before 24");
@@ -117,6 +121,10 @@ static void refuse_mission(hj_mission *mission, size_t words)
     expect(hj_waiting(mission, words, 0) == refused, "waiting");
     expect(hj_group_word(mission, words, 0, 0) == refused, "group_word");
     expect(hj_path_word(mission, words, 0, 0) == refused, "path_word");
+    expect(hj_last_second(mission, words) == refused, "last_second");
+    expect(hj_pair_word(mission, words, 0, 0) == refused, "pair_word");
+    expect(pair.refusal == 21 && all_zero(&pair.format, sizeof pair - 4),
+           "get_pair");
     expect(group.refusal == 21 && all_zero(&group.filled, sizeof group - 4),
            "get_group");
     expect(path.refusal == 21 && all_zero(&path.filled, sizeof path - 4),
@@ -136,11 +144,12 @@ static void refuse_both(hj_board *board, size_t board_words,
     expect(hj_receive(LENT, ROUTES, arrival, routed, sizeof routed, output,
                       sizeof output) == 16,
            "receive");
-    expect(hj_receive_at(LENT, NULL, 0, 0, 1, NULL, 0, NULL, 0) == 16,
+    expect(hj_receive_at(LENT, NULL, 0, 0, 1, 0, NULL, 0, NULL, 0) == 16,
            "receive, 16 before 17");
-    expect(hj_receive_at(LENT, relay.routes, HJ_ROUTES + 1, 0, 1, NULL, 0,
+    expect(hj_receive_at(LENT, relay.routes, HJ_ROUTES + 1, 0, 1, 0, NULL, 0,
                          NULL, 0) == 21,
            "receive, 21 of the list before 16");
+    expect(hj_sweep(LENT, UINT32_MAX) == 21, "sweep");
     expect(hj_take(LENT, 0) == (hj_answer)16 << 32, "take");
 }
 
@@ -236,6 +245,13 @@ static void check_fresh(void)
     for (uint32_t i = 0; i < HJ_PORTS; i++)
         expect(hj_waiting(MISSION, i) == 0, "a fresh queue");
     expect(hj_get_router(BOARD) == 0, "a host at first");
+    expect(hj_get_lifetime(BOARD) == 0 && hj_last_second(MISSION) == 0,
+           "lifetime and last second 0");
+    for (uint32_t i = 0; i < HJ_PAIRS; i++) {
+        hj_pair pair = hj_get_pair(MISSION, i);
+
+        expect(all_zero(&pair, sizeof pair), "a free place");
+    }
 }
 
 static void check_cleared(void)
@@ -343,7 +359,7 @@ static void check_empty_places(void)
     expect(hj_get_group(MISSION, 16).refusal == 21, "get_group 16");
     expect(hj_get_path(MISSION, 16).refusal == 21, "get_path 16");
     expect(hj_get_router(BOARD) == 1, "get_router");
-    expect(hj_refusal(hj_counter(MISSION, HJ_COUNTERS)) == 21, "counter 15");
+    expect(hj_refusal(hj_counter(MISSION, HJ_COUNTERS)) == 21, "counter 17");
     expect(hj_refusal(hj_waiting(MISSION, HJ_PORTS)) == 21, "waiting 8");
 }
 
@@ -472,19 +488,42 @@ static void check_null(void)
            "no octets count one receipt");
 }
 
-/* The second is not read, whatever it is. */
+static void check_pair_words(void)
+{
+    set_up();
+    expect(hj_pair_word(MISSION, HJ_PAIRS - 1, HJ_PAIR_NUMBERS - 1) == 0,
+           "the last word of the last place");
+    expect(hj_refusal(hj_pair_word(MISSION, HJ_PAIRS, 0)) == 21 &&
+               hj_refusal(hj_pair_word(MISSION, UINT32_MAX, 0)) == 21,
+           "pair_word, place 64");
+    expect(hj_refusal(hj_pair_word(MISSION, 0, HJ_PAIR_NUMBERS)) == 21 &&
+               hj_refusal(hj_pair_word(MISSION, 0, UINT32_MAX)) == 21,
+           "pair_word, word 5");
+    expect(hj_get_pair(MISSION, HJ_PAIRS).refusal == 21, "get_pair 64");
+}
+
+/* Of a datagram that is not flooded only the second is remembered. */
 static void check_second(void)
 {
-    hj_arrival arrival = {0, 9, UINT32_MAX};
+    hj_arrival arrival = {0, 9, 5};
 
     set_up();
     expect(hj_took(hj_receive(BOARD, MISSION, ROUTES, arrival, routed,
-                              sizeof routed, output, sizeof output)) == 2,
-           "any second");
+                              sizeof routed, output, sizeof output)) == 2 &&
+               hj_last_second(MISSION) == 5,
+           "a second is accepted");
     other = relay;
+    arrival.second = 4;
+    expect(hj_receive(BOARD, MISSION, ROUTES, arrival, routed, sizeof routed,
+                      output, sizeof output) == HJ_SECOND_PAST &&
+               hj_sweep(BOARD, MISSION, 4) == HJ_SECOND_PAST && unchanged(),
+           "an earlier one changes nothing");
+    expect(hj_sweep(BOARD, MISSION, 5) == HJ_DONE && unchanged(),
+           "nor does a sweep at the same, where no pair is held");
     set_up();
     receive(routed, 9);
-    expect(unchanged(), "and nothing of it is kept");
+    expect(hj_sweep(BOARD, MISSION, 5) == HJ_DONE && unchanged(),
+           "a sweep accepts it likewise");
 }
 
 /* The group has ports 1 and 7; port 1 is filled by route first. */
@@ -554,6 +593,7 @@ int main(void)
     check_search_not_up();
     check_none_up();
     check_null();
+    check_pair_words();
     check_second();
     check_dropped();
     check_taken();

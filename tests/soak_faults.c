@@ -42,11 +42,21 @@ WRAPPED(uint32_t, hj_set_port, hj_board *board, size_t board_words,
         uint32_t port, uint32_t address, uint32_t mask, uint32_t mtu,
         uint32_t mission);
 WRAPPED(hj_verdict, hj_receive_at, BOARD, MISSION, ROUTES, uint32_t port,
-        uint16_t slot, const uint8_t *octets, size_t length, uint8_t *output,
-        size_t room);
+        uint16_t slot, uint32_t second, const uint8_t *octets, size_t length,
+        uint8_t *output, size_t room);
+WRAPPED(uint32_t, hj_sweep, BOARD, MISSION, uint32_t second);
+WRAPPED(uint32_t, hj_set_lifetime, hj_board *board, size_t board_words,
+        uint32_t lifetime);
+WRAPPED(hj_answer, hj_get_lifetime, BOARD);
+WRAPPED(hj_answer, hj_last_second, SEEN);
+WRAPPED(hj_answer, hj_pair_word, SEEN, uint32_t place, uint32_t word);
 
-/* Where the counters of a mission's state begin. */
+/* Where the counters of a mission's state begin, its last second stands and its
+ * pairs begin; and the lifetime on the board. */
 #define COUNTERS_AT 393
+#define LAST_SECOND_AT 410
+#define PAIRS_AT 411
+#define LIFETIME_AT 41
 
 uint32_t __wrap_hj_class(uint32_t address)
 {
@@ -201,16 +211,44 @@ static void touch(hj_verdict verdict, hj_mission *mission,
     (void)beyond;
 }
 
+/* What a wrong hj_receive may do to the last second and the pairs. */
+static void touch_memory(hj_verdict verdict, MISSION, uint32_t second)
+{
+    uint32_t ended = hj_ended_by(verdict);
+    uint32_t *first = mission->words + PAIRS_AT;
+
+    if (mission_words != HJ_MISSION_WORDS)
+        return;
+    if (fault() == 30 && ended == HJ_SECOND_PAST)
+        mission->words[COUNTERS_AT]++;
+    if (fault() == 31 && ended == HJ_SHORT_OUTPUT)
+        mission->words[LAST_SECOND_AT] = second + 1;
+    if (fault() == 32 && ended == HJ_FLOOD_UNMARKED)
+        mission->words[COUNTERS_AT + HJ_PAIRS_HELD_COUNT]++;
+    if (fault() == 33 && ended == HJ_DONE && first[0] != 0)
+        first[4] = second; /* a pair made younger */
+    if (fault() == 34 && hj_onward(verdict) == HJ_HOPS_USED_UP)
+        first[0] = 0; /* not kept, or freed */
+    if (fault() == 35 && hj_onward(verdict) == HJ_PAIRS_HELD)
+        first[3]++; /* kept in the place of another */
+}
+
 hj_verdict __wrap_hj_receive_at(BOARD, MISSION, ROUTES, uint32_t port,
-                                uint16_t slot, const uint8_t *octets,
-                                size_t length, uint8_t *output, size_t room)
+                                uint16_t slot, uint32_t second,
+                                const uint8_t *octets, size_t length,
+                                uint8_t *output, size_t room)
 {
     hj_verdict verdict =
         __real_hj_receive_at(LENT_BOARD, LENT_MISSION, LENT_ROUTES, port, slot,
-                             octets, length, output, room);
+                             second, octets, length, output, room);
 
     touch(verdict, mission, octets, length, output);
     touch_headers(verdict, output);
+    touch_memory(verdict, LENT_MISSION, second);
+    if (fault() == 36 && hj_ended_by(verdict) == HJ_SECOND_PAST)
+        return HJ_NO_PORT; /* 16 for 29 */
+    if (fault() == 37 && hj_onward(verdict) == HJ_PAIRS_HELD)
+        return verdict - ((hj_verdict)HJ_PAIRS_HELD << 16); /* not asked */
     if (fault() == 15 && hj_onward(verdict) == HJ_NO_ROUTE)
         return verdict + (1u << 16); /* 12, which is no longer given */
     if (fault() == 16 && hj_dropped(verdict) != 0)
@@ -218,4 +256,57 @@ hj_verdict __wrap_hj_receive_at(BOARD, MISSION, ROUTES, uint32_t port,
     if (fault() == 23 && hj_ended_by(verdict) == HJ_BAD_NUMBER)
         return HJ_NO_PORT; /* a list over 512 records: 16 for 21 */
     return mistold(verdict);
+}
+
+/* Of a pair as old as the lifetime, freed too early; and others. */
+uint32_t __wrap_hj_sweep(BOARD, MISSION, uint32_t second)
+{
+    hj_board early;
+    uint32_t refusal;
+
+    if (fault() == 38 && board_words == HJ_BOARD_WORDS &&
+        board->words[LIFETIME_AT] > 0) {
+        early = *board;
+        early.words[LIFETIME_AT]--;
+        return __real_hj_sweep(&early, board_words, LENT_MISSION, second);
+    }
+    refusal = __real_hj_sweep(LENT_BOARD, LENT_MISSION, second);
+    if (fault() == 39 && refusal == HJ_SECOND_PAST)
+        mission->words[LAST_SECOND_AT] = second;
+    if (fault() == 40 && refusal == HJ_BAD_NUMBER)
+        return HJ_NO_PORT;
+    if (fault() == 41 && refusal == HJ_DONE)
+        mission->words[COUNTERS_AT]++;
+    return refusal;
+}
+
+uint32_t __wrap_hj_set_lifetime(hj_board *board, size_t board_words,
+                                uint32_t lifetime)
+{
+    if (fault() == 42 && lifetime == 0xffffffff)
+        lifetime--;
+    return __real_hj_set_lifetime(board, board_words, lifetime);
+}
+
+hj_answer __wrap_hj_get_lifetime(BOARD)
+{
+    hj_answer answer = __real_hj_get_lifetime(LENT_BOARD);
+
+    return fault() == 43 ? answer & ~(hj_answer)1 : answer;
+}
+
+hj_answer __wrap_hj_last_second(SEEN)
+{
+    hj_answer answer = __real_hj_last_second(LENT_MISSION);
+
+    return fault() == 44 && hj_value(answer) > 0 ? answer - 1 : answer;
+}
+
+hj_answer __wrap_hj_pair_word(SEEN, uint32_t place, uint32_t word)
+{
+    if (fault() == 45 && (word == 2 || word == 3))
+        word = 5 - word; /* the halves of the time exchanged */
+    if (fault() == 46 && place == HJ_PAIRS)
+        place--;
+    return __real_hj_pair_word(LENT_MISSION, place, word);
 }

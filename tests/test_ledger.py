@@ -52,19 +52,19 @@ class Ledger(unittest.TestCase):
         self.refused("relay-queues.trace", "take 1 0 = 0 2 5", "take 1 0 = 18 0 0", "an entry exactly where one waits")
 
     def test_a_header_is_lacking(self):
-        line = "receive 0 1 400 20061a402104 0 = 0 0 1 6 20061a402104,200c1a410a0a0a210a0a0a04"
+        line = "receive 0 1 400 20061a402104 0 0 = 0 0 1 6 20061a402104,200c1a410a0a0a210a0a0a04"
         self.refused("relay-rewrite.trace", line, line[:line.index(",")],
                      "a header for each port that took: due 2, found 1")
 
     def test_another_header(self):
-        line = "receive 0 1 400 20061a401604 0 = 0 0 1 4 200f1b610a0a0a160a0a0a04405c61"
+        line = "receive 0 1 400 20061a401604 0 0 = 0 0 1 4 200f1b610a0a0a160a0a0a04405c61"
         for old, new, says in (("0a0a0a16", "0a0a0b16", "a header names another system"),  # the port's own domain
                                ("0a0a0a04", "0a0a0b04", "a header names another system"),
                                ("405c61", "3f5d61", "another hop count"),
                                ("200f1b", "20061b", "a length field that is not header and data"),
                                ("200f1b", "200f2b", "a header says something else")):
             self.refused("relay-rewrite.trace", line, line[:20] + line[20:].replace(old, new), says)
-        line = "receive 0 1 400 20061a40ff04 0 = 0 1 1 6 20061a40ff04,200c1a410a0a0aff0a0a0a04"
+        line = "receive 0 1 400 20061a40ff04 0 0 = 0 1 1 6 20061a40ff04,200c1a410a0a0aff0a0a0a04"
         self.refused("relay-rewrite.trace", line, line.replace("200c1a410a0a0aff0a0a0a04", "20061a40ff04"),
                      "a header names another system")  # one octet in another domain
 
@@ -72,27 +72,82 @@ class Ledger(unittest.TestCase):
         self.refused("relay-queues.trace", "waiting 1 0 = 32", "waiting 1 0 = 31", "took = handed out + waiting")
 
     def test_each_counter(self):
-        counters = "counters 0 = 24 6 2 12 1 2 0 0 1 0 0 0 0 0 0"
-        for at in range(3, 18):
+        counters = "counters 0 = 24 6 2 12 1 2 0 0 1 0 0 0 0 0 0 0 0"
+        for at in range(3, 20):
             words = counters.split()
             words[at] = str(int(words[at]) + 1)
             self.refused("relay-refusals.trace", counters, " ".join(words), "FAILED")
 
     def test_a_full_port_that_takes_an_entry(self):
-        line = "receive 0 33 400 200c1a41c00002010a0a0004 0 = 0 0 15 0 -"
-        other = "receive 0 33 400 200c1a41c00002010a0a0004 0 = 0 0 1 2 200c1a41c00002010a0a0004"
+        line = "receive 0 33 400 200c1a41c00002010a0a0004 0 0 = 0 0 15 0 -"
+        other = "receive 0 33 400 200c1a41c00002010a0a0004 0 0 = 0 0 1 2 200c1a41c00002010a0a0004"
         self.refused("relay-queues.trace", line, other, "a full port took an entry")
 
     def test_15_without_a_full_port(self):
-        line = "receive 0 1 400 200d1a43c00002010a0a000430 0 = 0 0 1 2 200d1a43c00002010a0a000430"
-        other = "receive 0 1 400 200d1a43c00002010a0a000430 0 = 0 0 15 0 -"
+        line = "receive 0 1 400 200d1a43c00002010a0a000430 0 0 = 0 0 1 2 200d1a43c00002010a0a000430"
+        other = "receive 0 1 400 200d1a43c00002010a0a000430 0 0 = 0 0 15 0 -"
         self.refused("relay-queues.trace", line, other, "15 without a full port")
 
     def test_discards_beyond_their_bounds(self):
-        line = "counters 0 = 34 0 0 0 0 0 0 0 0 0 33 0 2 0 0"
+        line = "counters 0 = 34 0 0 0 0 0 0 0 0 0 33 0 2 0 0 0 0"
         for discards in (0, 3):
-            other = f"counters 0 = 34 0 0 0 0 0 0 0 0 0 33 0 {discards} 0 0"
+            other = f"counters 0 = 34 0 0 0 0 0 0 0 0 0 33 0 {discards} 0 0 0 0"
             self.refused("relay-queues.trace", line, other, "npOutDiscards within its bounds")
+
+    FLOOD = "20106a4b0a0408020a0a0a043c010203"
+
+    def test_a_pair_kept_twice(self):
+        line = f"receive 0 9 400 {self.FLOOD} 6 0 = 0 0 0 0 -"
+        for answer in (f"0 0 1 8 {self.FLOOD}", "0 0 10 0 -", "0 0 11 0 -", "0 0 14 0 -"):
+            self.refused("relay-floods.trace", line, line.replace("0 0 0 0 -", answer),
+                         "ports wanted twice for a pair, and no free between")
+
+    def test_a_pair_freed_and_not(self):
+        self.refused("relay-floods.trace", "sweep 16 0 = 0", "sweep 15 0 = 0", "the pairs that are kept")
+        self.refused("relay-floods.trace", "sweep 15 0 = 0", "sweep 16 0 = 0", "the pairs that are kept")
+        self.refused("relay-floods.trace", "set_lifetime 5 = 0", "set_lifetime 4 = 0", "the pairs that are kept")
+
+    def test_other_pairs(self):
+        line = "pairs 0 = 0a0a0a04:1:010203:6"
+        for other in ("0a0a0a04:1:010203:5", "0a0a0a05:1:010203:6", "0a0a0a04:2:010203:6", "0a0a0a04:1:010204:6",
+                      "0a0a0a04:1:010203:6,", "0a0a0a04:1:010203:6,0a0a0a04:1:010203:6", "0a0a0a04:1:010203", "-"):
+            self.refused("relay-floods.trace", line, f"pairs 0 = {other}", "the pairs that are kept")
+        line = "pairs 0 = 0a0a0a04:1:000002:11,0a0a0a04:1:000003:12"
+        self.refused("relay-floods.trace", line, "pairs 0 = 0a0a0a04:1:000003:12,0a0a0a04:1:000002:11",
+                     "the pairs that are kept")
+
+    def test_30_with_a_free_place(self):
+        line = "receive 0 9 400 20106a4b0a0408020a0a0a043c000009 1 0 = 0 0 1 2 20106a4b0a0408020a0a0a043c000009"
+        self.refused("relay-floods.trace", line, line[:line.index("=")] + "= 0 0 30 0 -", "30 with a free place")
+
+    def test_kept_with_all_places_held(self):
+        line = "receive 0 9 400 20106a4b0a0408020a0a0a043c000040 8 0 = 0 0 30 0 -"
+        other = line.replace("0 0 30 0 -", "0 0 1 2 20106a4b0a0408020a0a0a043c000040")
+        self.refused("relay-floods.trace", line, other, "a pair kept with all places held")
+
+    def test_no_and_not_asked(self):
+        line = f"receive 0 9 400 {self.FLOOD} 6 0 = 0 0 1 8 {self.FLOOD}"
+        self.refused("relay-floods.trace", line, line[:line.index("=")] + "= 0 0 0 0 -",
+                     "no, and not asked, for a pair that is not held")
+        line = "receive 0 1 400 200d1a43c00002010a0a000430 0 0 = 0 0 1 2 200d1a43c00002010a0a000430"
+        for answer in ("0 0 0 0 -", "0 0 30 0 -"):
+            self.refused("relay-queues.trace", line, line[:line.index("=")] + "= " + answer,
+                         "30, or no and not asked, without a flood")
+
+    def test_28_and_29(self):
+        line = f"receive 0 9 400 {self.FLOOD} 5 0 = 29 0 0 0 -"
+        self.refused("relay-floods.trace", line, line.replace("29", "1"), "29 exactly where the second is past")
+        self.refused("relay-floods.trace", "sweep 13 0 = 29", "sweep 13 0 = 0", "29 exactly where the second is past")
+        self.refused("relay-floods.trace", "sweep 14 0 = 0", "sweep 14 0 = 29", "29 exactly where the second is past")
+        line = "receive 0 9 400 200d6a430a0408020a0a0a043c 0 0 = 28 0 0 0 -"
+        self.refused("relay-floods.trace", line, line.replace("28 0 0", "0 0 11"), "28 exactly where a flood lacks")
+        line = f"receive 0 9 400 {self.FLOOD} 6 0 = 0 0 0 0 -"
+        self.refused("relay-floods.trace", line, line.replace("0 0 0 0 -", "28 0 0 0 -"),
+                     "28 exactly where a flood lacks")
+
+    def test_a_timestamp_is_carried(self):
+        line = f"receive 0 9 400 {self.FLOOD} 6 0 = 0 0 1 8 {self.FLOOD}"
+        self.refused("relay-floods.trace", line, line[:-1] + "4", "a header says something else")
 
     def test_a_mark(self):
         self.refused("relay-queues.trace", "waiting 1 0 = 32", "waiting 1 0 = 32 !", "no good answer")
@@ -106,9 +161,10 @@ class Whole(unittest.TestCase):
              "build 0 49 5 0a04090e 0a0a0a04 1 0 - - - 64 0 - - 1 0 = 17 -",
              "set_router 1 = 0", "set_port 0 0a0a0a02 ffffff00 8191 0 = 0", "set_route 0 0a040900 ffffff00 0 1 0 0 = 0",
              "set_group 0 e0000105 1 1 0 = 0", "set_path 0 0a000007 1 1 0 = 0",
-             "receive 0 7 400 - 0 = 1 0 0 0 -", "take 0 0 = 18 0 0", "waiting 0 0 = 0",
+             "receive 0 7 400 - 0 0 = 1 0 0 0 -", "take 0 0 = 18 0 0", "waiting 0 0 = 0",
              "search 0a04090e 0 = 0 24 0", "search 0a04080e 0 = -",
-             "counters 0 = 1 1 0 0 0 0 0 0 0 0 0 0 0 0 0", "clear_route 0 = 0", "clear_group 0 0 = 0", "clear_path 0 0 = 0"]
+             "counters 0 = 1 1 0 0 0 0 0 0 0 0 0 0 0 0 0 0 0", "set_lifetime 5 = 0", "sweep 5 0 = 0",
+             "pairs 0 = -", "clear_route 0 = 0", "clear_group 0 0 = 0", "clear_path 0 0 = 0"]
     COVERAGE = ("build/coverage", "headers=0", "builds=0", "addresses=0", "checksums=0", "histories=0")
 
     def test_whole_lines(self):

@@ -12,7 +12,7 @@ import unittest
 
 ROOT = os.path.dirname(os.path.dirname(os.path.abspath(__file__)))
 PROGRAMS = [f"build/{name}" for name in ("replay", "plain", "generate", "coverage", "ledger", "bench", "soak",
-                                         "rehearsal")]
+                                         "flood", "rehearsal")]
 PROGRAMS.append("scripts/bench")
 # Those that take no argument but the options.
 WITHOUT_ARGUMENTS = ("build/replay", "build/plain", "build/ledger")
@@ -59,7 +59,7 @@ class Options(unittest.TestCase):
             self.assertEqual(run(program, "trace"), (2, "", says))
 
     def test_a_setting_that_is_not_understood(self):
-        for name in ("generate", "coverage", "soak"):
+        for name in ("generate", "coverage", "soak", "flood"):
             for word in ("trace", "seeds=1", "seed=", "seed=x", "seed=-1", "seed=18446744073709551616"):
                 says = f"{name}: not understood: {word}\n{name}: try --help\n"
                 self.assertEqual(run("build/" + name, word), (2, "", says))
@@ -67,7 +67,7 @@ class Options(unittest.TestCase):
     def test_output_that_fails(self):
         runs = [(program, "--help") for program in PROGRAMS[:-1]]
         runs += [("build/replay",), ("build/plain",), ("build/ledger",), ("build/bench", "stack"),
-                 ("build/rehearsal", "scenarios/biocide.txt"),
+                 ("build/flood", "nodes=2", "links=1"), ("build/rehearsal", "scenarios/biocide.txt"),
                  ("build/generate", "headers=1", "builds=0", "addresses=0", "checksums=0", "histories=0"),
                  ("build/coverage", "headers=0", "builds=0", "addresses=0", "checksums=0", "histories=0")]
         for program, *words in runs:
@@ -104,7 +104,7 @@ class Calls(unittest.TestCase):
     def test_each_word_is_told(self):
         places = {"replay --help": run("build/replay", "--help")[1], "man/replay.1": text_of("man/replay.1"),
                   "docs/TRACE.md": text_of("docs/TRACE.md")}
-        self.assertEqual(len(self.WORDS), 21)
+        self.assertEqual(len(self.WORDS), 24)
         for place, text in places.items():
             for word in self.WORDS:
                 self.assertRegex(text, rf"\b{word}\b", place)

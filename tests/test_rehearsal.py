@@ -1,7 +1,7 @@
 #!/usr/bin/env python3
 """build/rehearsal: the customer's story goes as it should; a bad line, a failed
-expectation, relays that lose, swap or repeat entries, and relays whose headers name
-another unit are each found out.
+expectation, relays that lose, swap or repeat entries, relays whose headers name another
+unit, and relays that do not know a flooded order again are each found out.
 """
 import os
 import re
@@ -57,6 +57,36 @@ quiet
 send Left 0 to 10.7.7.14 from 10.1.1.4 %sdata "x"
 run
 """
+
+
+# Left, and three routers in a ring, each with a leg to each other.
+FLOOD = """\
+node Left host
+port Left 0 10.1.1.4 255.255.255.0 1500
+node One router
+port One 0 10.1.1.2 255.255.255.0 1500
+port One 1 10.2.2.2 255.255.255.0 1500
+port One 2 10.3.3.2 255.255.255.0 1500
+node Two router
+port Two 1 10.2.2.4 255.255.255.0 1500
+port Two 2 10.4.4.2 255.255.255.0 1500
+node Three router
+port Three 1 10.3.3.4 255.255.255.0 1500
+port Three 2 10.4.4.4 255.255.255.0 1500
+link Left 0 One 0 9600
+link One 1 Two 1 9600
+link One 2 Three 1 9600
+link Two 2 Three 2 9600
+"""
+ORDER = "send Left 0 to 10.255.255.255 from 10.1.1.4 %sflood stamp 7 data \"close\"\nrun\n"
+
+
+def scenes(first, last):
+    """These scenes of the story, without what other nodes expect."""
+    with open(STORY, encoding="ascii") as file:
+        parts = re.split(r"^(?=scene )", file.read(), flags=re.M)
+    text = "".join(parts[first:last + 1])
+    return re.sub(r"^expect (?:ControlRoom|South) .*\n", "", text, flags=re.M)
 
 
 def fly(*arguments, program="rehearsal", **environment):
@@ -240,6 +270,49 @@ class Story(unittest.TestCase):
         last = re.findall(r"\n +([\d.]+) s  Buoy receives", self.scenes["20"])[-1]
         self.assertAlmostEqual(float(last) - float(first), 64 * 35 * 8 / 2400, places=3)
 
+    def sent_once(self, scene, *wells):
+        for well in wells:
+            answers = re.findall(rf" {well} receives .*\n.*\n +onward: (.*?) \(", self.scenes[scene])
+            self.assertEqual((answers[0], answers.count("sent on")), ("sent on", 1), well)
+
+    def test_a_flood_ends_at_the_one_that_it_is_for(self):
+        self.has("21", ", hop count 16, flooded, stamp 1\n", "Well1 receives \"Well3: close valve 1\"",
+                 "taken by port 0,1\n", "Well3 receives", "here: DELIVERED (1)", "onward: not asked (0)",
+                 "Well3 receives", "here: DELIVERED (1)", "onward: not asked (0)",
+                 "REFUSED (28), flooded without a source or a timestamp; no port took it\n",
+                 "npInReceives 2 (+1), flood-unmarked 1 (+1)")
+        self.sent_once("21", "Well1", "Well2", "Well4", "Well5")
+
+    def test_a_flood_round_a_ring(self):
+        self.has("22", "Well3 receives", "sent on (1)", "Well4 receives", "sent on (1)", "Well4 receives",
+                 "not asked (0)", "Well3 receives", "not asked (0)", "8 as the relays sent it on,\n",
+                 "41 by the same links without the pairs, bounded by hop count 16\n", "from 4 to 255 by port 0\n",
+                 "Well1 receives", "onward: not asked (0)", "Well1 receives", "onward: not asked (0)")
+        self.sent_once("22", "Well1", "Well2", "Well3", "Well4", "Well5")
+
+    def test_a_flood_on_a_full_mesh(self):
+        self.has("23", "18 as the relays sent it on,\n",
+                 "4953 by the same links without the pairs, bounded by hop count 8\n")
+        self.assertEqual(len(re.findall(r" port \d to \w+ port \d: \"all: open valve 1\"", self.scenes["23"])), 18)
+        self.sent_once("23", "Well1", "Well2", "Well3", "Well4", "Well5")
+
+    def test_late_copies_and_the_lifetime(self):
+        self.has("24", "(2 s pass)\n", "Well1 sweeps at second ", "; pairs held: 4 before, 0 after\n",
+                 "Well2 receives \"all: flush\" by port 1\n", "onward: sent on (1); taken by port 0,2,3\n",
+                 "(2 s pass)\n", "; pairs held: 1 before, 1 after\n")
+
+    def test_64_pairs(self):
+        self.has("25", "64 sent, ", "as expected: Well1 pairs 64\n", "REFUSED (30), all places for pairs are held; no "
+                 "port took it\n", "pairs-held 1 (+1)", "onward: not asked (0)", "pairs held: 64 before, 64 after\n",
+                 "REFUSED (30)", "pairs held: 64 before, 0 after\n")
+
+    def test_a_second_that_is_too_late(self):
+        self.has("26", "Stormy sweeps at second 4294967295, mission 1; pairs held: 0 before, 0 after\n",
+                 "Stormy receives \"STORM\"", "REFUSED (29), a second before the last one accepted; no port took it\n",
+                 "counters: none moved\n", ", mission 1: REFUSED (29), a second before the last one accepted; pairs "
+                 "held: 0 before, 0 after\n", "pairs held: 1 ", "| pairs held: 1\n",
+                 "as expected: mission 0 is told the same by both", "Stormy receives \"STORM\"", "taken by port 3\n")
+
     def test_counters_and_ledger(self):
         self.assertIn(
             "\nNorth\n   counters: npInReceives 63, npInUnknownProtos 1, npInDelivers 1, npForwDatagrams 61, "
@@ -250,15 +323,15 @@ class Story(unittest.TestCase):
             "   port 3: granted 1 = handed out 1 + waiting 0 + dropped 0\n"
             "   port 4: granted 0 = handed out 0 + waiting 0 + dropped 0\n", self.output)
         self.assertIn(
-            "\nStormy\n   counters: npInReceives 5, npForwDatagrams 5; all others 0\n"
+            "\nStormy\n   counters: npInReceives 8, npForwDatagrams 7; all others 0\n"
             "   port 0: granted 0 = handed out 0 + waiting 0 + dropped 0\n"
-            "   port 1: granted 5 = handed out 5 + waiting 0 + dropped 0\n"
-            "   counters of mission 1: npInReceives 42, npForwDatagrams 32, npOutNoRoutes 2, npOutDiscards 8; "
-            "all others 0\n"
+            "   port 1: granted 7 = handed out 7 + waiting 0 + dropped 0\n"
+            "   counters of mission 1: npInReceives 1, npForwDatagrams 1; all others 0\n"
             "   port 2: granted 0 = handed out 0 + waiting 0 + dropped 0\n"
-            "   port 3: granted 40 = handed out 0 + waiting 32 + dropped 8\n", self.output)
+            "   port 3: granted 1 = handed out 1 + waiting 0 + dropped 0\n", self.output)
         for relay in ("ControlRoom", "NorthUnit", "Buoy", "South", "SouthUnit", "East", "West", "Office",
-                      "Satellite", "Station", "Ship", "Calm", "Works", "Works2", "Tank", "Tank2", "Harbour"):
+                      "Satellite", "Station", "Ship", "Calm", "Works", "Works2", "Tank", "Tank2", "Harbour",
+                      "Shore", "Well1", "Well2", "Well3", "Well4", "Well5", "Valves", "Pier"):
             self.assertRegex(self.output, f"\n{relay}\n   counters: .*\n   port 0: granted ")
 
 
@@ -311,6 +384,89 @@ class Small(unittest.TestCase):
             self.assertEqual(ended, status, output)
             self.assertEqual("  NOT EQUAL\n" in output, status == 1)
             self.assertEqual("NOT AS EXPECTED: mission 0 is told the same by both" in output, status == 1)
+
+    def test_a_failed_expectation_of_a_flood(self):
+        for wrong in ("expect One sent 2", "expect Two sent 0", "expect One pairs 0", "expect One refused 30",
+                      "expect One pairs 1 mission 1", "copies 6 without 7", "copies 5 without 8"):
+            text = FLOOD + "scene x\n" + ORDER % "hops 4 " + f"{wrong}\nexpect One sent 1\ncopies 5 without 7\n"
+            status, output, complaints = fly_text(text)
+            self.assertEqual((status, complaints), (1, ""), wrong)
+            self.assertIn("NOT AS EXPECTED: " + wrong.replace("expect ", "") + "\n", output)
+            self.assertIn("2 of 3 expectations held", output)
+
+    def test_a_sweep_frees_what_is_older_than_the_lifetime(self):
+        """The order comes in second 0. An age that is the lifetime is not over it."""
+        for lifetime, second, left in ((0, 0, 1), (0, 1, 0), (5, 5, 1), (5, 6, 0), (4294967295, 4294967295, 1),
+                                       (4294967294, 4294967295, 0)):
+            status, output, _ = fly_text(FLOOD + ORDER % "" + f"lifetime One {lifetime}\nsweep One at {second}\n"
+                                         f"expect One pairs {left}\nexpect Two pairs 1\n")
+            self.assertEqual(status, 0, output)
+            self.assertIn(f"One sweeps at second {second}; pairs held: 1 before, {left} after\n", output)
+
+    def test_the_second_is_that_of_the_clock(self):
+        """A sweep in the second of the last arrival is good, and one in the second before is not."""
+        text = FLOOD + "wait 9\n" + ORDER % "" + "sweep One at %u\nsweep One\n"
+        self.assertNotIn("REFUSED", fly_text(text % 9)[1])
+        self.assertEqual(fly_text(text % 8)[1].count("REFUSED (29)"), 1)
+        self.assertEqual(fly_text(text % 10)[1].count("REFUSED (29)"), 1)
+
+    def test_what_is_on_a_wire_arrives_while_time_passes(self):
+        order = ORDER.replace("run\n", "") % ""
+        status, output, _ = fly_text(FLOOD + order + "wait 1\nexpect Three arrivals 2\n" + order + "run\n"
+                                     "expect One arrivals 2\n")
+        self.assertEqual(status, 0, output)
+        self.assertRegex(output, r"\n    1\.0000 s  Left sends ")
+
+    def test_a_stamp_for_each(self):
+        for word, held in ("stamp", 1), ("stamps", 5):
+            status, output, _ = fly_text(FLOOD + ORDER.replace("stamp 7", f"{word} 7 times 5") % ""
+                                         + f"expect One arrivals 5\nexpect One pairs {held}\n")
+            self.assertEqual(status, 0, output)
+
+    def test_a_mission_that_begins_anew(self):
+        """What it held is gone, and so is what was granted to its ports."""
+        status, output, _ = fly_text(FLOOD + ORDER % "" + "fresh One\nexpect One pairs 0\nexpect One counter "
+                                     "npInReceives 0\n" + ORDER % "" + "expect One took 1,2\nexpect Two took -\n")
+        self.assertEqual(status, 0, output)
+        self.assertIn("\nOne\n   counters: npInReceives 1, npInDelivers 1, npForwDatagrams 1; all others 0\n"
+                      "   port 0: granted 0 = handed out 0 + waiting 0 + dropped 0\n"
+                      "   port 1: granted 1 = handed out 1 + waiting 0 + dropped 0\n", output)
+
+    def test_what_waits_is_not_lost(self):
+        status, _, complaints = fly_text(FLOOD + "hold One 1\n" + ORDER % "" + "fresh One\n")
+        self.assertEqual(status, 2)
+        self.assertIn("expected a mission for which nothing waits, found 'One'", complaints)
+
+    def test_the_walk_counts_what_a_relay_without_pairs_sends(self):
+        """The relay that forgets really sends so many, on the ring and on the mesh, as long as the hop count lasts."""
+        for text, hops in ((FLOOD + "scene x\n" + ORDER % "hops 9 ", 9), (scenes(21, 22), 16),
+                           (scenes(21, 23).replace("hops 8", "hops 5"), 5)):
+            text = text.split("\nsay Shore repeats")[0] if hops == 16 else text
+            status, output, _ = fly_text(text + "\ncopies 0 without 0\n", program="rehearsal_wrong",
+                                         WRONG_RELAY="forget")
+            self.assertEqual(status, 1)
+            told = re.findall(r" on all wires: (\d+) as .*\n +(\d+) by the same .* hop count (\d+)\n", output)[-1]
+            self.assertEqual((told[0], told[2]), (told[1], str(hops)))
+            self.assertNotIn("(30)", output)
+
+    def test_relays_that_do_not_know_an_order_again(self):
+        """One that forgets the pairs sends it on again; one that keeps the source alone does not send the next."""
+        for wrong, says in (("forget", ("Well1 sent 1", "Well3 took -", "copies 8 without 41", "Well1 pairs 2")),
+                            ("source", ("Well1 sent 1", "Valves delivered \"all: close valve 1\"",
+                                        "copies 8 without 41"))):
+            status, output, complaints = fly_text(scenes(21, 22), program="rehearsal_wrong", WRONG_RELAY=wrong)
+            self.assertEqual((status, complaints), (1, ""))
+            for line in says:
+                self.assertIn(f"NOT AS EXPECTED: {line}\n", output)
+            self.assertIn("the ledger closes on every port.\n", output)
+
+    def test_relays_that_sweep_too_little_or_too_much(self):
+        for wrong, says in (("idle", ("Well2 pairs 0", "Well2 took 0,2,3")),
+                            ("eager", ("Well3 pairs 1", "Well3 sent 2"))):
+            status, output, complaints = fly_text(scenes(21, 24), program="rehearsal_wrong", WRONG_RELAY=wrong)
+            self.assertEqual((status, complaints), (1, ""))
+            for line in says:
+                self.assertIn(f"NOT AS EXPECTED: {line}\n", output)
 
     def test_a_take_foretold(self):
         status, output, _ = fly_text(WAITS)
@@ -382,6 +538,25 @@ class Small(unittest.TestCase):
                            ("send Left 0 to 14 from 4 data \"x", "a quote that ends the text"),
                            ("send Left 0 to 14 from 4 data x", "the data as \"text\", found 'x'"),
                            ("send Left 0 to 14 from 4", "times or data, found the end of the line"),
+                           ("send Left 0 to 14 from 4 stamp data \"x\"", "a stamp, 0 to 4294967295, found 'data'"),
+                           ("send Left 0 to 14 from 4 stamp 4294967296 data \"x\"", "found '4294967296'"),
+                           ("send Left 0 to 14 from 4 stamps 4294967295 times 2 data \"x\"",
+                            "fields that hj_build takes, found 'a field out of range'"),
+                           ("lifetime Left", "a lifetime in seconds, 0 to 4294967295, found the end of the line"),
+                           ("lifetime Left 4294967296", "a lifetime in seconds, 0 to 4294967295, found '4294967296'"),
+                           ("lifetime Left 1 mission 1", "the end of the line, found 'mission 1'"),
+                           ("fresh Left mission 2", "a mission, 0 or 1, found '2'"),
+                           ("fresh Left now", "the end of the line, found 'now'"),
+                           ("sweep Other", "the name of a node, found 'Other'"),
+                           ("sweep Left 7", "the end of the line, found '7'"),
+                           ("sweep Left at x", "a second, 0 to 4294967295, found 'x'"),
+                           ("sweep Left mission 0 at 7", "the end of the line, found 'at 7'"),
+                           ("wait 0", "how many seconds, 1 to 1000000, found '0'"),
+                           ("wait", "how many seconds, 1 to 1000000, found the end of the line"),
+                           ("copies 1 without 1", "an order that was flooded in this scene, found 'copies'"),
+                           ("expect Left sent", "how many were sent on, found the end of the line"),
+                           ("expect Left pairs 65", "how many pairs, 0 to 64, found '65'"),
+                           ("expect Left refused 31", "a number, 1 to 30, found '31'"),
                            ("send Left 1 to 14 from 4 data \"x\"", "a port with a link"),
                            ("take Left 8", "a port, 0 to 7, found '8'"),
                            ("foretell Middle 1 \"dose\"", "the data of an entry that waits on the port, found 'dose'"),
@@ -400,6 +575,17 @@ class Small(unittest.TestCase):
             self.assertEqual(status, 2, line)
             self.assertIn(f", line {at}: expected ", complaints, line)
             self.assertIn(says, complaints, line)
+
+    def test_copies_that_cannot_be_counted(self):
+        for hops, line, says in (("", "copies 1 without 1", "a hop count of at most 20, found 'copies'"),
+                                 ("hops 21 ", "copies 1 without 1", "a hop count of at most 20, found 'copies'"),
+                                 ("hops 9 ", "copies", "how many copies, found the end of the line"),
+                                 ("hops 9 ", "copies 5", "'without', and how many without the pairs, found the end"),
+                                 ("hops 9 ", "copies 5 with 9", "how many without the pairs, found 'with'"),
+                                 ("hops 9 ", "scene y\ncopies 5 without 9", "an order that was flooded in this scene")):
+            status, _, complaints = fly_text(FLOOD + "scene x\n" + ORDER % hops + line + "\n")
+            self.assertEqual(status, 2, line)
+            self.assertIn(says, complaints)
 
     def endless(self, text):
         status, _, complaints = fly_text(text)

@@ -637,6 +637,12 @@ esac
         self.assertIn(["a", "record", "of", "the", "list,", "octets", "3", "2"], rows)
         self.assertIn("stack of the deepest call, octets 60 40 (take; take)".split(), rows)
 
+    def test_floods_have_rows_of_their_own(self):
+        status, output = self.bench("b1eb1234eb123456789e", self.CALLS.replace("take", "sweep, all freed"))
+        self.assertEqual(status, 0, output)
+        self.assertIn("sweep, all freed 1 8 3 2.67 1.00 1.00".split(), [line.split() for line in output.splitlines()])
+        self.assertNotIn("receive, sent by route", output)
+
     def test_a_measure_is_missing(self):
         status, output = self.bench("b1eb1234e")
         self.assertEqual(status, 1, output)

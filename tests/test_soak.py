@@ -36,7 +36,25 @@ FAULTS = [
     "the output's octets",                 # 63 for the first hop count
     # rewritten, and not told as such
     "plain answers otherwise|a one-octet address that left its domain|the output's octets",
-    "a header rewritten for nothing",      # kept, and told as rewritten
+    # kept, and told as rewritten; its control field may be longer than it need be
+    "a header rewritten for nothing|a header longer than is due",
+    MISSION,                               # 29 counted
+    MISSION,                               # 17, its second accepted
+    MISSION,                               # 28 in the counter of 30
+    MISSION,                               # a pair made younger
+    MISSION,                               # 10, and a pair not kept
+    MISSION,                               # 30, and a pair written over
+    "not the refusal that is due",         # 16 for 29
+    "not the onward half that is due of a flood",  # not asked for 30
+    MISSION,                               # a pair freed a second early
+    MISSION,                               # 29, its second accepted
+    "not the refusal that is due",         # a sweep of wrong words, 16 for 21
+    MISSION,                               # a sweep counted
+    BOARD,                                 # the greatest lifetime, one less
+    "not what the words say",              # a lifetime, told even
+    "not what the words say",              # the last second, one less
+    "not what the words say",              # the halves of a time exchanged
+    "not what the words say",              # a place beyond the last
 ]
 
 

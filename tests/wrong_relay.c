@@ -1,8 +1,9 @@
 /*
- * wrong_relay.c: wrong relays, to show that the rehearsal finds them out. They
- * stand in for hj_take and hj_receive_at (by the linker's --wrap) in
- * build/rehearsal_wrong; the variable WRONG_RELAY says which one. Where it is
- * not set, or is another word, the relay is the right one.
+ * wrong_relay.c: wrong relays, to show that the rehearsal and the flood find
+ * them out. They stand in for hj_take, hj_receive_at, hj_sweep and hj_counter
+ * (by the linker's --wrap) in build/rehearsal_wrong and build/flood_wrong; the
+ * variable WRONG_RELAY says which one. Where it is not set, or is another word,
+ * the relay is the right one.
  *
  *   lose      loses the first entry where two or more wait: its ledger does
  *             not close
@@ -12,6 +13,13 @@
  *   keep      sends one-octet addresses into another domain as they came
  *   fill      writes them as four octets, and fills them in from the port by
  *             which they go
+ *   forget    knows no flooded datagram again
+ *   source    knows it by its source alone, and takes the next one of the same
+ *             source for a repeat
+ *   idle      frees no pair in a sweep
+ *   eager     frees in a sweep each pair that is a second old, whatever the
+ *             lifetime
+ *   miscount  counts one datagram too many as sent on
  */
 #include <stdbool.h>
 #include <stdlib.h>
@@ -24,13 +32,21 @@
 #define LENT board, board_words, mission, mission_words
 #define ARRIVAL                                                                \
     const hj_record *routes, size_t route_count, uint32_t port, uint16_t slot, \
-        const uint8_t *octets, size_t length, uint8_t *output, size_t room
-#define ARRIVED routes, route_count, port, slot, octets, length, output, room
+        uint32_t second, const uint8_t *octets, size_t length,                \
+        uint8_t *output, size_t room
+#define ARRIVED(octets)                                                        \
+    routes, route_count, port, slot, second, octets, length, output, room
 
 hj_answer __real_hj_take(BOARD, MISSION, uint32_t port);
 hj_answer __wrap_hj_take(BOARD, MISSION, uint32_t port);
 hj_verdict __real_hj_receive_at(BOARD, MISSION, ARRIVAL);
 hj_verdict __wrap_hj_receive_at(BOARD, MISSION, ARRIVAL);
+uint32_t __real_hj_sweep(BOARD, MISSION, uint32_t second);
+uint32_t __wrap_hj_sweep(BOARD, MISSION, uint32_t second);
+hj_answer __real_hj_counter(const hj_mission *mission, size_t mission_words,
+                            uint32_t counter);
+hj_answer __wrap_hj_counter(const hj_mission *mission, size_t mission_words,
+                            uint32_t counter);
 
 static bool wrong(const char *kind)
 {
@@ -107,20 +123,31 @@ static hj_verdict keep(hj_verdict verdict, const uint8_t *octets,
     return verdict & UINT64_C(0xffffffffffff);
 }
 
+/* A header of so many octets, read without the data behind it. */
+static hj_reading read_alone(const uint8_t *header, uint32_t octets)
+{
+    static uint8_t copy[HJ_MOST_LENGTH];
+
+    memcpy(copy, header, octets);
+    return hj_read(copy, sizeof copy);
+}
+
+static void write_again(const hj_reading *reading, uint8_t *header)
+{
+    (void)hj_build(reading->fields, reading->length - reading->header, header,
+                   HJ_HEADER_ROOM);
+}
+
 /* A rewritten header, its addresses moved into the domain of an address. */
 static void move(uint8_t *header, uint32_t octets, uint32_t address)
 {
-    static uint8_t copy[HJ_MOST_LENGTH];
-    hj_reading reading;
+    hj_reading reading = read_alone(header, octets);
     uint32_t domain = address & 0xffffff00;
 
-    memcpy(copy, header, octets);
-    reading = hj_read(copy, sizeof copy);
     reading.fields.destination_low =
         domain | (reading.fields.destination_low & 0xff);
     reading.fields.source_low = domain | (reading.fields.source_low & 0xff);
-    (void)hj_build(reading.fields, reading.length - reading.header, header,
-                   HJ_HEADER_ROOM);
+    write_again(&reading, header);
 }
 
 static void fill(BOARD, hj_verdict verdict, uint8_t *output)
@@ -132,11 +159,77 @@ static void fill(BOARD, hj_verdict verdict, uint8_t *output)
     }
 }
 
+/* ---- Pairs ------------------------------------------------------------- */
+
+/* The relay is shown another stamp than the one that came, and the headers that
+ * it writes get back the one that came. */
+static hj_verdict receive_restamped(BOARD, MISSION, ARRIVAL, uint64_t shown)
+{
+    static uint8_t lent[HJ_MOST_LENGTH];
+    hj_reading reading = hj_read(octets, length);
+    uint64_t came = reading.fields.time;
+    hj_verdict verdict;
+
+    memcpy(lent, octets, length);
+    reading.fields.time = shown;
+    write_again(&reading, lent);
+    verdict = __real_hj_receive_at(LENT, ARRIVED(lent));
+    for (uint32_t taker = 0; taker < HJ_PORTS; taker++) {
+        uint8_t *header = output + HJ_HEADER_ROOM * taker;
+
+        if ((hj_took(verdict) >> taker & 1) == 0)
+            continue;
+        reading = read_alone(header, hj_header_octets(verdict, taker));
+        reading.fields.time = came;
+        write_again(&reading, header);
+    }
+    return verdict;
+}
+
+/* A stamp that is never the same; three octets hold it. */
+static uint64_t new_stamp(void)
+{
+    static uint64_t stamp;
+
+    return ++stamp & 0xffffff;
+}
+
+uint32_t __wrap_hj_sweep(BOARD, MISSION, uint32_t second)
+{
+    hj_board impatient = *board;
+
+    if (wrong("idle"))
+        return HJ_DONE;
+    if (!wrong("eager"))
+        return __real_hj_sweep(LENT, second);
+    (void)hj_set_lifetime(&impatient, board_words, 0);
+    return __real_hj_sweep(&impatient, board_words, mission, mission_words,
+                           second);
+}
+
+/* ---- What is wrapped besides ------------------------------------------- */
+
+hj_answer __wrap_hj_counter(const hj_mission *mission, size_t mission_words,
+                            uint32_t counter)
+{
+    hj_answer answer = __real_hj_counter(mission, mission_words, counter);
+
+    return answer + (wrong("miscount") && counter == HJ_FORW_DATAGRAMS &&
+                     hj_value(answer) > 0);
+}
+
 hj_verdict __wrap_hj_receive_at(BOARD, MISSION, ARRIVAL)
 {
-    hj_verdict verdict = __real_hj_receive_at(LENT, ARRIVED);
+    hj_fields fields = hj_read(octets, length).fields;
+    bool flooded = fields.routing == 3 && fields.stamp_format != HJ_STAMP_NONE;
+    hj_verdict verdict;
 
-    if (hj_read(octets, length).fields.extended)
+    if (flooded && wrong("forget"))
+        return receive_restamped(LENT, ARRIVED(octets), new_stamp());
+    if (flooded && wrong("source"))
+        return receive_restamped(LENT, ARRIVED(octets), 0);
+    verdict = __real_hj_receive_at(LENT, ARRIVED(octets));
+    if (fields.extended)
         return verdict;
     if (wrong("fill"))
         fill(board, board_words, verdict, output);

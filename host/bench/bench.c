@@ -11,7 +11,7 @@
  * lines, as those between bench_begin and bench_end (scripts/bench). Its first
  * line is a measure of nothing, the cost of the marks. `stack` prints the lines
  * with the octets of stack that the call has written to. Measured are receive,
- * take and read.
+ * sweep, take and read.
  *
  * The awkward case is a call that differs on the two sides: what is measured is
  * then not the same, and the program fails.
@@ -27,6 +27,7 @@
 #include "ours.h"
 #include "painted.h"
 #include "plain.h"
+#include "shared/arriving.h"
 #include "shared/options.h"
 #include "shared/trace.h"
 
@@ -65,10 +66,23 @@ static const char *kind_of_sent(const struct bench_answer *answer)
                : "receive, broadcast, two forms";
 }
 
+/* As the trace of floods has them. */
+static const char *kind_of_flood(const struct bench_answer *answer)
+{
+    if (answer->onward == 1)
+        return "receive, flood kept, to three ports";
+    return answer->onward == 0 ? "receive, flood held" : "receive, other";
+}
+
 static const char *kind_of_receive(const struct bench_answer *answer)
 {
+    struct arriving came =
+        arriving_read(bench_call.octets, bench_call.count);
+
     if (answer->refusal != 0)
         return "receive, refused";
+    if (came.routing == ARRIVING_FLOODED)
+        return kind_of_flood(answer);
     if (answer->onward == 1)
         return kind_of_sent(answer);
     return answer->local == 1 ? "receive, delivered" : "receive, other";
@@ -81,6 +95,8 @@ static const char *kind_of(const struct bench_answer *answer)
         return kind_of_receive(answer);
     case CALL_TAKE:
         return answer->refusal == 0 ? "take" : "take, nothing waiting";
+    case CALL_SWEEP:
+        return answer->pairs == 0 ? "sweep, all freed" : "sweep, none freed";
     default:
         return "read";
     }
@@ -102,18 +118,27 @@ static bool measure(enum mode mode)
 
 /* ---- Lines --------------------------------------------------------------- */
 
-/* Numbers, and behind them octets and the mission where there are such. */
+/* Octets, and the numbers behind them. */
+static bool take_octets(const char *forms, const struct trace_word *words,
+                        uint32_t *numbers)
+{
+    return trace_octets(words[0], bench_call.octets, &bench_call.count) &&
+           trace_numbers(words + 1, forms + 1, numbers);
+}
+
+/* Numbers, and octets and the mission where there are such. */
 static bool take_arguments(const char *forms, const struct trace_call *call)
 {
     const char *octets = strchr(forms, 'o');
     const char *mission = strchr(forms, 'M');
+    uint32_t *numbers = bench_call.numbers;
 
     bench_call.mission = 0;
     if (call->count != 1 + strlen(forms) ||
-        !trace_numbers(call->words + 1, forms, bench_call.numbers) ||
+        !trace_numbers(call->words + 1, forms, numbers) ||
         (octets != NULL &&
-         !trace_octets(call->words[1 + (octets - forms)], bench_call.octets,
-                       &bench_call.count)))
+         !take_octets(octets, call->words + 1 + (octets - forms),
+                      numbers + (octets - forms))))
         return false;
     return mission == NULL || trace_mission(call->words[1 + (mission - forms)],
                                             &bench_call.mission);

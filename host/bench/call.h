@@ -20,13 +20,14 @@ struct bench_answer {
     uint32_t header; /* octets of the header that came, so of the one read */
     uint32_t rewritten, rewritten_octets;
     uint32_t slot, precedence;
+    uint32_t pairs; /* held after a sweep */
     uint32_t length;
     uint8_t output[400];
 };
 
 struct bench_call {
     enum call which;
-    uint32_t numbers[CALL_MOST_NUMBERS];
+    uint32_t numbers[CALL_MOST_NUMBERS]; /* in their order, octets left out */
     uint32_t mission; /* whose call it is */
     size_t records;   /* of the list */
     size_t count;

@@ -26,7 +26,7 @@ size_t bench_our_record(void)
 static void receive(void)
 {
     const uint32_t *n = bench_call.numbers;
-    hj_arrival arrival = {n[0], (uint16_t)n[1], 0};
+    hj_arrival arrival = {n[0], (uint16_t)n[1], n[3]};
     hj_mission *mission = &missions[bench_call.mission];
     struct bench_answer *answer = &bench_call.answer;
     hj_verdict verdict;
@@ -46,6 +46,21 @@ static void receive(void)
     answer->header = hj_data_from(verdict);
     answer->rewritten = hj_rewritten(verdict);
     answer->rewritten_octets = hj_rewritten_octets(verdict);
+}
+
+static void sweep(void)
+{
+    hj_mission *mission = &missions[bench_call.mission];
+    struct bench_answer *answer = &bench_call.answer;
+
+    memset(answer, 0, sizeof *answer);
+    bench_begin();
+    answer->refusal = hj_sweep(&board, HJ_BOARD_WORDS, mission,
+                               HJ_MISSION_WORDS, bench_call.numbers[0]);
+    bench_end();
+    for (uint32_t i = 0; i < HJ_PAIRS; i++)
+        answer->pairs +=
+            hj_get_pair(mission, HJ_MISSION_WORDS, i).format != 0;
 }
 
 static void take(void)
@@ -80,6 +95,7 @@ static void read_header(void)
 
 void (*const bench_ours[CALLS])(void) = {
     [CALL_RECEIVE] = receive,
+    [CALL_SWEEP] = sweep,
     [CALL_TAKE] = take,
     [CALL_READ] = read_header,
 };

@@ -41,7 +41,7 @@ static void receive(void)
 
     memset(answer, 0, sizeof *answer);
     bench_begin();
-    verdict = plain_receive(&view, n[0], slot, bench_call.octets,
+    verdict = plain_receive(&view, n[0], slot, n[3], bench_call.octets,
                             bench_call.count, answer->output,
                             sizeof answer->output);
     bench_end();
@@ -53,6 +53,19 @@ static void receive(void)
     answer->header = verdict.arriving_octets;
     answer->rewritten = verdict.rewritten.bits;
     answer->rewritten_octets = verdict.rewritten_octets;
+}
+
+static void sweep(void)
+{
+    struct bench_answer *answer = &bench_call.answer;
+    plain_view view = plainly_view(&relay, bench_call.mission, list());
+
+    memset(answer, 0, sizeof *answer);
+    bench_begin();
+    answer->refusal = plain_sweep(&view, bench_call.numbers[0]);
+    bench_end();
+    for (uint32_t i = 0; i < PLAIN_PAIRS; i++)
+        answer->pairs += view.mission->pairs[i].format != 0;
 }
 
 static void take(void)
@@ -89,6 +102,7 @@ static void read_header(void)
 
 void (*const bench_plain[CALLS])(void) = {
     [CALL_RECEIVE] = receive,
+    [CALL_SWEEP] = sweep,
     [CALL_TAKE] = take,
     [CALL_READ] = read_header,
 };

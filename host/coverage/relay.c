@@ -13,10 +13,11 @@
 #include <stdio.h>
 #include <string.h>
 
+#include "floods.h"
 #include "relay_lists.h"
 #include "table.h"
 
-#define COUNTERS 15
+#define COUNTERS 17
 
 static struct view view = {.places = TRACE_RECORDS};
 
@@ -116,12 +117,14 @@ static uint32_t counters[TRACE_MISSIONS][COUNTERS];
 
 /* ---- Receipts ------------------------------------------------------------ */
 
-static const char *deciding_line(const struct naming *named)
+static const char *deciding_line(const struct naming *named, bool flooded)
 {
     if (named->own || named->limited)
         return "own";
     if (!view.router)
         return "host";
+    if (flooded)
+        return "flood";
     if (view_ours(named))
         return "broadcast";
     if (named->multicast)
@@ -131,7 +134,8 @@ static const char *deciding_line(const struct naming *named)
 
 static uint32_t wanted_ports(const struct receipt *r)
 {
-    if (strcmp(r->line, "broadcast") == 0)
+    if (strcmp(r->line, "broadcast") == 0 ||
+        (strcmp(r->line, "flood") == 0 && view_keeps(r->onward)))
         return r->named.others;
     if (strcmp(r->line, "multicast") == 0 && r->named.group != NULL)
         return r->named.group->send & r->named.others;
@@ -206,8 +210,21 @@ static void count_receipt(const struct receipt *r)
     uint64_t *reached = tally.of_refused;
 
     REFUSED_RECEIPT_LIST(COUNT)
-    if (r->refusal == 0 && r->arrival < VIEW_PORTS)
-        count_halves(r);
+    count_second(v, r);
+    if (r->refusal != 0 || r->arrival >= VIEW_PORTS)
+        return;
+    count_halves(r);
+    if (r->flooded)
+        count_flood(v, r);
+}
+
+static void look_at_pair(struct receipt *r)
+{
+    struct view_pair pair = view_pair_of(&view, r->arrival, &r->datagram);
+
+    r->flooded = r->datagram.routing == ARRIVING_FLOODED;
+    if (r->flooded)
+        r->pair = view_pair_find(&view, &pair);
 }
 
 static bool read_receipt(const struct trace_call *call,
@@ -220,13 +237,15 @@ static bool read_receipt(const struct trace_call *call,
         return false;
     r.arrival = number(call->words[1]);
     r.room = number(call->words[3]);
+    r.second = number(call->words[5]);
     r.refusal = number(answer->words[0]);
     r.local = number(answer->words[1]);
     r.onward = number(answer->words[2]);
     r.took = number(answer->words[3]);
     r.datagram = arriving_read(octets, r.lent);
     r.named = view_name(&view, r.arrival, &r.datagram);
-    r.line = deciding_line(&r.named);
+    look_at_pair(&r);
+    r.line = deciding_line(&r.named, r.flooded);
     r.wanted = wanted_ports(&r);
     look_at_elements(&r);
     look_at_ports(&r);
@@ -313,6 +332,8 @@ static bool count_number(enum call of, const struct trace_call *call,
         return false;
     tally.numbers[of][asked.number % CALL_NUMBERS]++;
     count_setting(of, &asked);
+    if (of == CALL_SWEEP)
+        count_sweep(&view, asked.n[0], asked.number);
     if (of == CALL_TAKE && asked.number == 0)
         tally.precedence[number(answer->words[2]) % 16]++;
     return of != CALL_RECEIVE || read_receipt(call, answer);
@@ -379,6 +400,8 @@ static bool count_call(enum call of, const struct trace_call *call,
         return count_counters(answer);
     case CALL_SEARCH:
         return count_search(call, answer);
+    case CALL_PAIR_WORD:
+        return count_pairs(&view, answer);
     default:
         return count_number(of, call, answer);
     }
@@ -440,7 +463,8 @@ static void say_halves(void)
         [0] = "onward: 0, not asked", [1] = "onward: 1, sent on",
         [9] = "onward: 9",            [10] = "onward: 10",
         [11] = "onward: 11",          [13] = "onward: 13",
-        [14] = "onward: 14",          [15] = "onward: 15"};
+        [14] = "onward: 14",          [15] = "onward: 15",
+        [30] = "onward: 30"};
 
     say_answers(LOCAL, tally.local, CALL_NUMBERS);
     say_answers(ONWARD, tally.onward, CALL_NUMBERS);
@@ -495,7 +519,8 @@ static void say_counters(void)
         "npInDelivers moved",    "npForwHopDiscard moved",
         "npForwDatagrams moved", "npOutNoRoutes moved",
         "npOutDiscards moved",   "left domain moved",
-        "too big moved"};
+        "too big moved",         "flood unmarked moved",
+        "pairs held moved"};
 
     puts("Counters:");
     say_list(MOVED, tally.moved, COUNTERS);
@@ -507,6 +532,7 @@ void say_relay(void)
     puts("Refused receipts:");
     say_list(REFUSED_NAMES, tally.of_refused, LENGTH(REFUSED_NAMES));
     say_halves();
+    say_floods();
     say_settings();
     say_searches();
     say_queues();

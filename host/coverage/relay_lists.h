@@ -14,8 +14,10 @@
 enum { HOP_COUNT = 1, CHECKSUM = 2 };
 
 struct receipt {
-    uint32_t arrival, room, refusal, local, onward, took;
+    uint32_t arrival, room, second, refusal, local, onward, took;
     size_t lent;
+    bool flooded;
+    const struct view_pair *pair; /* a flood's, held or freed; null if new */
     struct arriving datagram;
     struct naming named;
     const char *line; /* of the onward half: what decided the wanted ports */
@@ -132,7 +134,10 @@ static inline bool set_up_port(const struct view *v, uint32_t port)
     ROW("6, one octet", r->refusal == 6 && !r->datagram.extended)             \
     ROW("7, path", r->refusal == 7 && r->named.by_path)                       \
     ROW("7, end system", r->refusal == 7 && !r->named.by_path)                \
-    ROW("8, routing requirements", r->refusal == 8 && r->datagram.routing)    \
+    ROW("8, routing requirements 1",                                          \
+        r->refusal == 8 && r->datagram.routing == 1)                          \
+    ROW("8, routing requirements 2",                                          \
+        r->refusal == 8 && r->datagram.routing == 2)                          \
     ROW("8, IPv6", r->refusal == 8 && r->datagram.ipv6)                       \
     ROW("16, port over 7", r->refusal == 16 && r->arrival >= VIEW_PORTS)      \
     ROW("16, port not set up", r->refusal == 16 && r->arrival < VIEW_PORTS && \
@@ -147,7 +152,20 @@ static inline bool set_up_port(const struct view *v, uint32_t port)
     ROW("21 before 16",                                                       \
         r->refusal == 21 && (r->arrival >= VIEW_PORTS ||                      \
                              (view_own(v) >> r->arrival & 1) == 0))           \
-    ROW("21 before 17", r->refusal == 21 && r->room < 400)
+    ROW("21 before 17", r->refusal == 21 && r->room < 400)                    \
+    ROW("8, IPv6, flooded",                                                   \
+        r->refusal == 8 && r->datagram.ipv6 && r->flooded)                    \
+    ROW("6 before 28",                                                        \
+        r->refusal == 6 && r->flooded &&                                      \
+            (r->named.by_path || r->datagram.stamp_format == 0))              \
+    ROW("28, no source, a timestamp",                                         \
+        r->refusal == 28 && r->named.by_path && r->datagram.stamp_format)     \
+    ROW("28, no timestamp, a source",                                         \
+        r->refusal == 28 && !r->named.by_path)                                \
+    ROW("28, neither",                                                        \
+        r->refusal == 28 && r->named.by_path && !r->datagram.stamp_format)    \
+    ROW("28, one octet", r->refusal == 28 && !r->datagram.extended)           \
+    ROW("28, on a host", r->refusal == 28 && !v->router)
 
 /* The reasons to deliver, and that the datagram is delivered. */
 #define DELIVERED (r->local == 1)

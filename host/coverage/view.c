@@ -1,7 +1,7 @@
 /*
- * view.c: noting answered calls, and what a destination names. A setting or a
- * take counts where its answer is 0; a receipt, by the ports that took; a line
- * of the list always.
+ * view.c: noting answered calls, and what a destination names. A setting, a
+ * take or a sweep counts where its answer is 0; a receipt, by its second, its
+ * onward half and the ports that took; a line of the list always.
  */
 #include "view.h"
 
@@ -27,6 +27,11 @@ static uint32_t address(struct trace_word word)
 static void note_router(struct view *view, const struct trace_word *words)
 {
     view->router = number(words[0]);
+}
+
+static void note_lifetime(struct view *view, const struct trace_word *words)
+{
+    view->lifetime = number(words[0]);
 }
 
 static void note_port(struct view *view, const struct trace_word *words)
@@ -128,6 +133,60 @@ static void note_taken(struct view *view, uint32_t took)
         view->missions[view->mission].waits[port] += took >> port & 1;
 }
 
+static void note_sweep(struct view *view, const struct trace_word *words)
+{
+    struct view_mission *mission = &view->missions[view->mission];
+    uint32_t second = number(words[0]);
+
+    mission->last_second = second;
+    for (uint32_t i = 0; i < mission->kept; i++) {
+        if (view_frees(view, &mission->pairs[i], second))
+            mission->pairs[i].held = false;
+    }
+}
+
+/* In the place that it had, or as one more. */
+static void keep_pair(struct view *view, struct view_pair pair)
+{
+    struct view_mission *mission = &view->missions[view->mission];
+    const struct view_pair *had = view_pair_find(view, &pair);
+    size_t at = had != NULL ? (size_t)(had - mission->pairs) : mission->kept;
+
+    if (at == VIEW_KEPT)
+        return;
+    pair.held = true;
+    mission->pairs[at] = pair;
+    mission->kept += had == NULL;
+}
+
+/* The words of a receipt and of its answer, where it accepted its second. */
+static void note_receipt(struct view *view, const struct trace_word *words,
+                         const struct trace_word *told)
+{
+    static uint8_t octets[TRACE_MOST_OCTETS];
+    uint32_t second = number(words[4]);
+    struct arriving datagram;
+    struct view_pair pair;
+    size_t lent = 0;
+
+    view->missions[view->mission].last_second = second;
+    note_taken(view, number(told[3]));
+    trace_octets(words[3], octets, &lent);
+    datagram = arriving_read(octets, lent);
+    if (number(told[0]) != 0 || datagram.routing != ARRIVING_FLOODED ||
+        !view_keeps(number(told[2])))
+        return;
+    pair = view_pair_of(view, number(words[0]), &datagram);
+    pair.second = second;
+    keep_pair(view, pair);
+}
+
+/* Whether the number that ended a receipt left its second accepted. */
+static bool accepts(uint32_t refusal)
+{
+    return refusal != 16 && refusal != 17 && refusal != 21 && refusal != 29;
+}
+
 void view_begin(struct view *view, enum call of,
                 const struct trace_call *call)
 {
@@ -144,7 +203,9 @@ void view_note(struct view *view, enum call of, const struct trace_call *call,
     static void (*const NOTES[LINES])(struct view *,
                                       const struct trace_word *) = {
         [CALL_TAKE] = note_take,
+        [CALL_SWEEP] = note_sweep,
         [CALL_SET_ROUTER] = note_router,
+        [CALL_SET_LIFETIME] = note_lifetime,
         [CALL_SET_PORT] = note_port,
         [CALL_SET_ROUTE] = note_route,
         [CALL_SET_GROUP] = note_group,
@@ -156,13 +217,66 @@ void view_note(struct view *view, enum call of, const struct trace_call *call,
         [LINE_RECORDS] = note_records,
         [LINE_RECORD] = note_record};
 
+    if (of == CALL_RECEIVE && accepts(number(answer->words[0])))
+        note_receipt(view, call->words + 1, answer->words);
     if (of < CALLS &&
         (answer->count == 0 || !trace_is(answer->words[0], "0")))
         return;
-    if (of == CALL_RECEIVE)
-        note_taken(view, number(answer->words[3]));
     if (NOTES[of] != NULL)
         NOTES[of](view, call->words + 1);
+}
+
+/* ---- Pairs --------------------------------------------------------------- */
+
+struct view_pair view_pair_of(const struct view *view, uint32_t arrival,
+                              const struct arriving *datagram)
+{
+    uint32_t domain = view->ports[arrival % VIEW_PORTS].address & 0xffffff00;
+    struct view_pair pair = {.source = datagram->source,
+                             .format = datagram->stamp_format,
+                             .p_field = datagram->p_field,
+                             .time = datagram->time,
+                             .extended = datagram->extended};
+
+    if (!datagram->extended)
+        pair.source |= domain;
+    return pair;
+}
+
+const struct view_pair *view_pair_find(const struct view *view,
+                                       const struct view_pair *pair)
+{
+    const struct view_mission *mission = view_now(view);
+
+    for (uint32_t i = 0; i < mission->kept; i++) {
+        const struct view_pair *other = &mission->pairs[i];
+
+        if (other->source == pair->source && other->format == pair->format &&
+            other->p_field == pair->p_field && other->time == pair->time)
+            return other;
+    }
+    return NULL;
+}
+
+uint32_t view_held(const struct view *view)
+{
+    uint32_t held = 0;
+
+    for (uint32_t i = 0; i < view_now(view)->kept; i++)
+        held += view_now(view)->pairs[i].held;
+    return held;
+}
+
+bool view_frees(const struct view *view, const struct view_pair *pair,
+                uint32_t second)
+{
+    return pair->held && second - pair->second > view->lifetime;
+}
+
+bool view_keeps(uint32_t onward)
+{
+    return onward == 1 || onward == 10 || onward == 11 || onward == 13 ||
+           onward == 14 || onward == 15;
 }
 
 /* ---- Naming -------------------------------------------------------------- */

@@ -1,8 +1,8 @@
 /*
  * view.h: the relay as an answered trace shows it: the settings that were
- * taken, the list as it stands, and how many entries of each mission wait on
- * each port. It believes every answer; what it is for is to say which line of
- * the rules a datagram came to.
+ * taken, the list as it stands, how many entries of each mission wait on each
+ * port, its last second and the pairs that it keeps. It believes every answer;
+ * what it is for is to say which line of the rules a datagram came to.
  */
 #ifndef VIEW_H
 #define VIEW_H
@@ -17,6 +17,9 @@
 #define VIEW_GROUPS 16
 #define VIEW_PATHS 16
 #define VIEW_QUEUE 32
+#define VIEW_PAIRS 64
+/* Pairs that a mission ever kept in a history; further ones are not seen. */
+#define VIEW_KEPT 512
 
 struct view_port {
     uint32_t address, mask, mtu;
@@ -36,16 +39,29 @@ struct view_path {
     uint32_t path, send, here;
 };
 
+/* A pair, once kept. */
+struct view_pair {
+    uint32_t source, format, p_field;
+    uint64_t time;
+    bool held;     /* else it was freed */
+    bool extended; /* the datagram that it was kept of, so below */
+    uint32_t second;
+};
+
 /* What is a mission's own. */
 struct view_mission {
     uint32_t ports; /* a set */
     uint32_t waits[VIEW_PORTS];
     struct view_group groups[VIEW_GROUPS];
     struct view_path paths[VIEW_PATHS];
+    uint32_t last_second;
+    struct view_pair pairs[VIEW_KEPT];
+    uint32_t kept; /* how many of these there are */
 };
 
 struct view {
     uint32_t router;
+    uint32_t lifetime;
     struct view_port ports[VIEW_PORTS];
     struct view_mission missions[TRACE_MISSIONS];
     uint32_t mission; /* whose call is looked at */
@@ -99,6 +115,25 @@ uint32_t list_refusal(const struct view *view, const struct view_route *route);
 /* The lowest place that holds the entry and is not refused; the list's places
  * where none does. */
 uint32_t list_holder(const struct view *view, const struct view_route *route);
+
+/* The pair of a flooded datagram, as yet kept by nobody. */
+struct view_pair view_pair_of(const struct view *view, uint32_t arrival,
+                              const struct arriving *datagram);
+
+/* The mission's pair that is the same, held or freed; null where it never had
+ * it. */
+const struct view_pair *view_pair_find(const struct view *view,
+                                       const struct view_pair *pair);
+
+/* How many pairs the mission holds. */
+uint32_t view_held(const struct view *view);
+
+/* Whether a sweep of the mission at the second frees the pair. */
+bool view_frees(const struct view *view, const struct view_pair *pair,
+                uint32_t second);
+
+/* Whether the pair of a flooded datagram was kept, by its onward half. */
+bool view_keeps(uint32_t onward);
 
 /* What a datagram that no check refused names, arriving by a port. */
 struct naming {

@@ -16,6 +16,7 @@
 
 #include "line.h"
 #include "shared/datagram.h"
+#include "shared/floods.h"
 
 /* ---- What a datagram is aimed at ----------------------------------------- */
 
@@ -133,8 +134,9 @@ static uint32_t choose_source(const struct world *world, struct random *random)
 
 /* ---- Its header ---------------------------------------------------------- */
 
+/* A path, which is a header without a source, is seldom flooded. */
 static void aim_form(const struct world *world, struct form *form,
-                     struct random *random)
+                     bool flooded, struct random *random)
 {
     static const unsigned OCTETS[] = {4, 4, 4, 4, 4, 1, 1, 1};
     uint32_t destination;
@@ -143,7 +145,7 @@ static void aim_form(const struct world *world, struct form *form,
         form->address_octets = 4;
     if (form->address_octets != 16) {
         form->address_octets = PICK(OCTETS);
-        form->has_source = !random_one_in(random, 6);
+        form->has_source = !random_one_in(random, flooded ? 24 : 6);
     }
     destination = form->has_source ? choose_destination(world, random)
                                    : choose_path(world, random);
@@ -156,13 +158,16 @@ static void choose_form(const struct world *world, struct form *form,
 {
     static const unsigned ASSIGNED[] = {1, 4, 5, 6, 8, 10, 11};
     static const uint8_t HOPS[] = {0, 1, 2, 2, 2, 3, 64, 255};
+    bool flooded = floods_next(world, random);
 
     form_choose(form, random);
-    aim_form(world, form, random);
+    aim_form(world, form, flooded, random);
     if (!random_one_in(random, 4))
         form->tp_id = PICK(ASSIGNED);
     if (!random_one_in(random, 24))
         form->routing = 0;
+    if (flooded)
+        floods_form(world, form, random);
     if (!random_one_in(random, 4))
         form->hop_count = PICK(HOPS);
     form->intermediate = random_one_in(random, 10);
@@ -222,9 +227,11 @@ static size_t header_octets(const struct form *form)
 static size_t choose_data(const struct world *world, const struct form *form,
                           uint32_t arrival, struct random *random)
 {
+    bool flooded = form->has_qos && form->routing == 3;
     const struct world_route *route =
-        form->has_source ? world_route(world, named(world, form, arrival))
-                         : NULL;
+        form->has_source && !flooded
+            ? world_route(world, named(world, form, arrival))
+            : NULL;
     uint32_t port = route != NULL ? route->port : world_port(world, random);
     struct form sent = sent_form(world, form, arrival, port, route);
     size_t came = header_octets(form);
@@ -259,17 +266,18 @@ static uint32_t choose_room(struct random *random)
     return random_one_in(random, 24) ? PICK(OTHER) : 400;
 }
 
-void history_receive(const struct world *world, struct random *random)
+void history_receive(struct world *world, struct random *random)
 {
     static struct datagram datagram;
-    uint32_t numbers[4]; /* arrival port, slot, room, mission */
+    uint32_t numbers[5]; /* arrival port, slot, room, second, mission */
     uint32_t slots;
 
     numbers[0] = choose_arrival(world, random);
     slots = random_one_in(random, 2) ? 16 : 65536;
     numbers[1] = random_below(random, slots);
     numbers[2] = choose_room(random);
-    numbers[3] = world->mission;
+    numbers[3] = floods_second(world, random);
+    numbers[4] = world->mission;
     choose_form(world, &datagram.form, random);
     datagram_write(
         &datagram, choose_data(world, &datagram.form, numbers[0], random),

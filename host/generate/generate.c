@@ -7,9 +7,9 @@
  *
  * Each part of the trace has its file: headers.c, builds.c, addresses.c,
  * checksums.c, and history.c, which has the whole relay's calls made by
- * ports.c, routes.c, entries.c, setting.c and arrivals.c. They draw from one
- * stream of numbers, so a count that is changed changes all that comes behind
- * it.
+ * ports.c, routes.c, entries.c, setting.c and arrivals.c, with the floods and
+ * seconds of shared/floods.c. They draw from one stream of numbers, so a count
+ * that is changed changes all that comes behind it.
  */
 #include "addresses.h"
 #include "builds.h"
@@ -33,7 +33,7 @@ static const char HELP[] =
     "    builds     100000   build lines\n"
     "    addresses  200000   class lines, and as many path lines\n"
     "    checksums  30000    checksum lines\n"
-    "    histories  3600     histories of a whole relay\n"
+    "    histories  4320     histories of a whole relay\n"
     "\n"
     "Status: 0 written; 2 bad usage, or the output failed.\n";
 
@@ -45,7 +45,7 @@ int main(int count, char **arguments)
         [BUILDS] = {"builds", 100000},
         [ADDRESSES] = {"addresses", 200000},
         [CHECKSUMS] = {"checksums", 30000},
-        [HISTORIES] = {"histories", 3600},
+        [HISTORIES] = {"histories", 4320},
     };
     static const struct program PROGRAM = {"generate", HELP, true};
     int status = options_status(&PROGRAM, arguments + (count > 0));

@@ -1,15 +1,16 @@
 /*
  * history.c: histories of the whole relay. A history is `new`, the settings of
- * a node of some shape, and then datagrams, takes and changes of settings, with
- * the counters and the queues looked at, and routes searched for, now and then
- * and at its end.
+ * a node of some shape, and then datagrams, takes, sweeps and changes of
+ * settings, with the counters, the queues and the pairs looked at, and routes
+ * searched for, now and then and at its end.
  *
  * Two missions share the node, and their calls come in any order. The shapes
  * say how many of the ports are the second one's; where it has none, its calls
  * still come now and then.
  *
  * The awkward cases need a history to lean their way for long: a queue is full
- * only where few entries are taken, which the shapes see to. A list that is
+ * only where few entries are taken, and the places of pairs only where many
+ * pairs come and are hardly swept, which the shapes see to. A list that is
  * short is made at the start, one that is too long in the midst of a history,
  * which writes its routes anew afterwards.
  */
@@ -21,6 +22,7 @@
 #include "ports.h"
 #include "routes.h"
 #include "setting.h"
+#include "shared/floods.h"
 #include "shared/world.h"
 
 #define QUEUE 32
@@ -35,21 +37,38 @@ struct shape {
     uint32_t routes;   /* written at first, so for groups and paths */
     uint32_t groups;
     uint32_t paths;
-    uint32_t takes;    /* of 100 calls, so for settings */
+    uint32_t takes;    /* of 100 calls, so for settings and sweeps */
     uint32_t settings;
+    uint32_t sweeps;
+    uint32_t floods; /* of 100 datagrams */
+    uint32_t pairs;  /* that they are drawn from */
 };
 
 static const struct shape SHAPES[] = {
-    {1, ALL_NETS, 6, 2, 16, 8, 8, 20, 4},   /* a router in all networks */
-    {1, ONE_DOMAIN, 6, 3, 16, 8, 8, 20, 3}, /* in one domain */
-    {1, DOMAINS, 7, 3, 16, 8, 8, 20, 3},    /* between domains */
-    {1, INTERNET, 4, 0, 12, 6, 4, 20, 3},   /* outside net 10 */
-    {1, ONE_DOMAIN, 3, 0, 12, 8, 8, 2, 1},  /* hardly emptied: queues fill */
-    {1, DOMAINS, 8, 4, 64, 16, 16, 6, 1},   /* every place written */
-    {1, ALL_NETS, 2, 1, 8, 8, 6, 20, 0},    /* one port alone for each */
-    {0, ALL_NETS, 4, 1, 6, 6, 6, 10, 3},    /* a host */
-    {1, ALL_NETS, 4, 2, 6, 6, 6, 10, 60},   /* settings above all */
-    {1, DOMAINS, 4, 2, 8, 8, 8, 1, 1},      /* two ports, hardly emptied */
+    /* a router in all networks */
+    {1, ALL_NETS, 6, 2, 16, 8, 8, 20, 4, 2, 6, 12},
+    /* in one domain */
+    {1, ONE_DOMAIN, 6, 3, 16, 8, 8, 20, 3, 2, 6, 12},
+    /* between domains */
+    {1, DOMAINS, 7, 3, 16, 8, 8, 20, 3, 2, 6, 12},
+    /* outside net 10 */
+    {1, INTERNET, 4, 0, 12, 6, 4, 20, 3, 1, 6, 12},
+    /* hardly emptied: queues fill */
+    {1, ONE_DOMAIN, 3, 0, 12, 8, 8, 2, 1, 2, 10, 12},
+    /* every place written */
+    {1, DOMAINS, 8, 4, 64, 16, 16, 6, 1, 1, 4, 12},
+    /* one port alone for each */
+    {1, ALL_NETS, 2, 1, 8, 8, 6, 20, 0, 2, 6, 12},
+    /* a host */
+    {0, ALL_NETS, 4, 1, 6, 6, 6, 10, 3, 1, 8, 12},
+    /* settings above all */
+    {1, ALL_NETS, 4, 2, 6, 6, 6, 10, 60, 1, 6, 12},
+    /* two ports, hardly emptied */
+    {1, DOMAINS, 4, 2, 8, 8, 8, 1, 1, 1, 4, 12},
+    /* floods above all, swept */
+    {1, ONE_DOMAIN, 5, 2, 6, 4, 4, 25, 2, 10, 70, 24},
+    /* more pairs than places, hardly swept */
+    {1, DOMAINS, 4, 0, 4, 4, 4, 25, 0, 0, 95, WORLD_PAIRS},
 };
 
 /* Whose call comes next. */
@@ -84,15 +103,28 @@ static uint32_t searched_address(const struct world *world,
     }
 }
 
+static void sweep(struct world *world, struct random *random)
+{
+    line_asked(CALL_SWEEP, floods_sweep(world, random), world->mission);
+}
+
+/* Counters, queues and pairs, which are then swept. */
+static void look_at_mission(struct world *world, struct random *random)
+{
+    line_number(CALL_COUNTER, world->mission);
+    for (uint32_t port = 0; port <= WORLD_PORTS; port++)
+        line_asked(CALL_WAITING, port, world->mission);
+    line_number(CALL_PAIR_WORD, world->mission);
+    sweep(world, random);
+    line_number(CALL_PAIR_WORD, world->mission);
+}
+
 static void look_at_all(const struct shape *shape, struct world *world,
                         struct random *random)
 {
     for (world->mission = 0; world->mission < WORLD_MISSIONS;
-         world->mission++) {
-        line_number(CALL_COUNTER, world->mission);
-        for (uint32_t port = 0; port <= WORLD_PORTS; port++)
-            line_asked(CALL_WAITING, port, world->mission);
-    }
+         world->mission++)
+        look_at_mission(world, random);
     for (uint32_t i = 0; i < SEARCHES; i++) {
         draw_mission(shape, world, random);
         line_asked(CALL_SEARCH, searched_address(world, random),
@@ -120,6 +152,8 @@ static void set_up(const struct shape *shape, struct world *world,
     if (world->places != WORLD_PLACES)
         history_records(world, world->places, random);
     line_number(CALL_SET_ROUTER, shape->router);
+    if (!random_one_in(random, 4))
+        history_set_lifetime(world, random);
     for (uint32_t i = 0; i < shape->ports; i++) {
         world->mission = i >= shape->ports - shape->second;
         history_set_port(world, i, random);
@@ -151,8 +185,11 @@ static void look_or_take(const struct shape *shape, struct world *world,
 
     if (random_one_in(random, 16) && shape->takes > 2)
         drain(world, random);
+    else if (random_one_in(random, 8))
+        sweep(world, random);
     else if (random_one_in(random, 4))
-        line_number(CALL_COUNTER, world->mission);
+        line_number(random_one_in(random, 2) ? CALL_COUNTER : CALL_PAIR_WORD,
+                    world->mission);
     else if (random_one_in(random, 2))
         line_asked(CALL_WAITING, some, world->mission);
     else
@@ -174,6 +211,8 @@ static void write_call(const struct shape *shape, struct world *world,
         line_asked(CALL_TAKE, world_port(world, random), world->mission);
     else if (draw < shape->takes + shape->settings)
         history_setting(world, random);
+    else if (draw < shape->takes + shape->settings + shape->sweeps)
+        sweep(world, random);
     else
         history_receive(world, random);
 }
@@ -208,6 +247,7 @@ static void write_history(const struct shape *shape, struct random *random)
 
     world_begin(&world, shape->nets, is_short ? PICK(SHORT) : WORLD_PLACES,
                 random);
+    floods_begin(&world, shape->pairs, shape->floods, random);
     set_up(shape, &world, random);
     for (uint32_t i = 0; i < CALLS; i++) {
         if (i == at)

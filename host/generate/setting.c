@@ -9,6 +9,7 @@
 #include "line.h"
 #include "ports.h"
 #include "routes.h"
+#include "shared/floods.h"
 
 static void clear_route(struct world *world, struct random *random)
 {
@@ -38,6 +39,12 @@ static void any_router(struct world *world, struct random *random)
 
     (void)world;
     line_number(CALL_SET_ROUTER, PICK(ROUTER));
+}
+
+void history_set_lifetime(struct world *world, struct random *random)
+{
+    world->lifetime = floods_lifetime(world, random);
+    line_number(CALL_SET_LIFETIME, world->lifetime);
 }
 
 static void any_port(struct world *world, struct random *random)
@@ -102,7 +109,7 @@ void history_setting(struct world *world, struct random *random)
     static any_setting *const KINDS[] = {
         any_router, any_port, any_port, any_port,  any_route,
         any_route,  any_group, any_path, any_clear, history_record,
-        history_record};
+        history_record, history_set_lifetime};
 
     PICK(KINDS)(world, random);
 }

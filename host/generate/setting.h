@@ -1,4 +1,4 @@
-/* setting.h: a setting of any kind. */
+/* setting.h: a setting of any kind, and that of the lifetime. */
 #ifndef SETTING_H
 #define SETTING_H
 
@@ -7,5 +7,8 @@
 
 /* Any setting or clearing, often one that is to be refused. */
 void history_setting(struct world *world, struct random *random);
+
+/* Any lifetime is taken. */
+void history_set_lifetime(struct world *world, struct random *random);
 
 #endif

@@ -27,9 +27,8 @@ void headers_note_port(uint32_t port, uint32_t address)
     addresses[port % PORTS] = address;
 }
 
-/* An address of a header, as it is read by a port. */
-static uint32_t named(const struct arriving *header, uint32_t address,
-                      uint32_t port)
+uint32_t headers_named(const struct arriving *header, uint32_t address,
+                       uint32_t port)
 {
     return header->extended ? address
                             : (addresses[port % PORTS] & 0xffffff00) | address;
@@ -39,19 +38,22 @@ static bool names_alike(const struct arriving *came, uint32_t arrival,
                         const struct arriving *sent, uint32_t port)
 {
     return came->has_source == sent->has_source &&
-           named(came, came->destination, arrival) ==
-               named(sent, sent->destination, port) &&
-           (!came->has_source || named(came, came->source, arrival) ==
-                                     named(sent, sent->source, port));
+           headers_named(came, came->destination, arrival) ==
+               headers_named(sent, sent->destination, port) &&
+           (!came->has_source ||
+            headers_named(came, came->source, arrival) ==
+                headers_named(sent, sent->source, port));
 }
 
-/* What stands in a timestamp or an expanded QOS is not looked at. */
+/* What stands in an expanded QOS is not looked at. */
 static bool says_alike(const struct arriving *came,
                        const struct arriving *sent)
 {
     return came->tp_id == sent->tp_id && came->has_qos == sent->has_qos &&
            came->precedence == sent->precedence &&
+           came->routing == sent->routing &&
            came->stamp_format == sent->stamp_format &&
+           came->p_field == sent->p_field && came->time == sent->time &&
            came->has_expanded == sent->has_expanded &&
            came->intermediate == sent->intermediate &&
            (sent->has_checksum || !came->has_checksum);

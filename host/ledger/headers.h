@@ -15,6 +15,10 @@
 void headers_begin(void);
 void headers_note_port(uint32_t port, uint32_t address);
 
+/* An address of a header, as it is read by a port. */
+uint32_t headers_named(const struct arriving *header, uint32_t address,
+                       uint32_t port);
+
 /* What is wrong with one of the headers, each read as it is read behind its
  * port; null for nothing. There is one for each port of the set. */
 const char *headers_wrong(uint32_t arrival, const struct arriving *came,

@@ -8,8 +8,9 @@
  * per port and receipt and each with a header, is what was handed out by takes
  * and what waits (`waiting` lines). Each entry handed out is the oldest of the
  * highest precedence that waits, by a plain list. Each header says what the
- * octets that came said (headers.c). Each counter of a `counters` line is what
- * the answers since `new` add up to.
+ * octets that came said (headers.c). Between two frees of a pair at most one of
+ * its floods goes on, and what is kept is what a `pairs` line says (floods.c).
+ * Each counter of a `counters` line is what the answers since `new` add up to.
  *
  * The awkward counter is npOutDiscards: an answer gives the ports that took an
  * entry, not those that dropped theirs. Only a port with 32 waiting drops one,
@@ -21,6 +22,7 @@
 #include <stdlib.h>
 #include <string.h>
 
+#include "floods.h"
 #include "headers.h"
 #include "shared/answered.h"
 #include "shared/arriving.h"
@@ -28,7 +30,7 @@
 
 #define PORTS 8
 #define QUEUE 32
-#define COUNTERS 15
+#define COUNTERS 17
 #define OUT_DISCARDS 12
 
 struct entry {
@@ -47,7 +49,7 @@ static struct book {
 static struct book *book = books; /* of the mission whose call it is */
 
 static struct {
-    uint64_t receipts, takes, counters, waiting, copies, exact;
+    uint64_t receipts, takes, counters, waiting, copies, exact, sweeps, pairs;
 } seen;
 
 static bool balanced = true;
@@ -104,7 +106,8 @@ static uint32_t full_ports(void)
  * not given. */
 static const uint8_t COUNTER_OF[CALL_NUMBERS] = {
     [1] = 1, [2] = 2,   [3] = 1,   [4] = 3,   [5] = 4,   [6] = 3,   [7] = 3,
-    [8] = 5, [9] = 6,   [10] = 9,  [11] = 11, [13] = 13, [14] = 14, [26] = 7};
+    [8] = 5, [9] = 6,   [10] = 9,  [11] = 11, [13] = 13, [14] = 14, [26] = 7,
+    [28] = 15, [30] = 16};
 
 static void count(uint32_t refusal)
 {
@@ -114,7 +117,7 @@ static void count(uint32_t refusal)
 
 static void count_receipt(uint32_t refusal, uint32_t local, uint32_t onward)
 {
-    if (refusal == 16 || refusal == 17 || refusal == 21)
+    if (refusal == 16 || refusal == 17 || refusal == 21 || refusal == 29)
         return;
     book->counters[0]++;
     count(refusal);
@@ -173,6 +176,23 @@ static void check_headers(uint32_t arrival, const struct arriving *came,
     expect(wrong == NULL, wrong, 0, 1);
 }
 
+static void check_floods(uint32_t arrival, uint32_t second,
+                         const struct arriving *came,
+                         const struct trace_call *answer)
+{
+    struct floods_receipt receipt = {
+        .second = second,
+        .source = headers_named(came, came->source, arrival),
+        .came = came,
+        .refusal = number(answer->words[0]),
+        .local = number(answer->words[1]),
+        .onward = number(answer->words[2])};
+    const char *wrong =
+        floods_receive((uint32_t)(book - books), &receipt);
+
+    expect(wrong == NULL, wrong, 0, 1);
+}
+
 static bool book_receive(const struct trace_call *call,
                          const struct trace_call *answer)
 {
@@ -193,6 +213,8 @@ static bool book_receive(const struct trace_call *call,
         return false;
     came = arriving_read(octets, length);
     check_headers(number(call->words[1]), &came, ports, answer->words[4]);
+    check_floods(number(call->words[1]), number(call->words[5]), &came,
+                 answer);
     newcomer.precedence = came.precedence;
     for (uint32_t port = 0; port < PORTS; port++) {
         if (ports >> port & 1)
@@ -201,7 +223,7 @@ static bool book_receive(const struct trace_call *call,
     return true;
 }
 
-/* ---- Takes, waiting, counters -------------------------------------------- */
+/* ---- Takes, sweeps, pairs, waiting, counters ----------------------------- */
 
 static bool book_take(const struct trace_call *call,
                       const struct trace_call *answer)
@@ -227,6 +249,26 @@ static bool book_take(const struct trace_call *call,
     memmove(entries, entries + 1, (QUEUE - 1) * sizeof *entries);
     book->ports[port].waits--;
     book->ports[port].handed_out++;
+    return true;
+}
+
+static bool book_sweep(const struct trace_call *call,
+                       const struct trace_call *answer)
+{
+    const char *wrong =
+        floods_sweep((uint32_t)(book - books), number(call->words[1]),
+                     number(answer->words[0]));
+
+    seen.sweeps++;
+    expect(wrong == NULL, wrong, 0, 1);
+    return true;
+}
+
+static bool book_pairs(const struct trace_call *answer)
+{
+    seen.pairs++;
+    expect(floods_are((uint32_t)(book - books), answer->words[0]),
+           "the pairs that are kept", 0, 1);
     return true;
 }
 
@@ -263,7 +305,8 @@ static bool book_counters(const struct trace_call *answer)
         "npInBadAddress",  "npInBadChecksum",   "unsupported",
         "npInAddrErrors",  "npInUnknownProtos", "npInDelivers",
         "npForwHopDiscard", "npForwDatagrams",  "npOutNoRoutes",
-        "npOutDiscards",   "left domain",       "too big"};
+        "npOutDiscards",   "left domain",       "too big",
+        "flood unmarked",  "pairs held"};
 
     seen.counters++;
     for (int i = 0; i < COUNTERS; i++) {
@@ -304,6 +347,14 @@ static bool note_port(const struct trace_call *call,
     return true;
 }
 
+static bool note_lifetime(const struct trace_call *call,
+                          const struct trace_call *answer)
+{
+    if (number(answer->words[0]) == 0)
+        floods_set_lifetime(number(call->words[1]));
+    return true;
+}
+
 /* Other words move nothing that is booked. */
 static bool book_line(enum call of, const struct trace_call *call,
                       const struct trace_call *answer)
@@ -318,11 +369,18 @@ static bool book_line(enum call of, const struct trace_call *call,
         return book_waiting(call, answer);
     case CALL_COUNTER:
         return book_counters(answer);
+    case CALL_SWEEP:
+        return book_sweep(call, answer);
+    case CALL_PAIR_WORD:
+        return book_pairs(answer);
     case CALL_SET_PORT:
         return note_port(call, answer);
+    case CALL_SET_LIFETIME:
+        return note_lifetime(call, answer);
     case LINE_NEW:
         memset(books, 0, sizeof books);
         headers_begin();
+        floods_begin();
         return true;
     default:
         return true;
@@ -335,7 +393,7 @@ static const char HELP[] =
     "Recounts an answered trace (docs/TRACE.md) from its calls and answers\n"
     "alone: for each mission and port the copies taken, handed out and\n"
     "waiting, the order of what is handed out, what each header sent on\n"
-    "says, and each counter.\n"
+    "says, the seconds and pairs of floods, and each counter.\n"
     "\n"
     "Status: 0 the books balance; 1 they do not, or a line has no good\n"
     "answer; 2 bad usage, or the output failed.\n";
@@ -350,10 +408,11 @@ int main(int count, char **arguments)
         return status;
     good = answered_lines(book_line);
     printf("ledger: %" PRIu64 " receipts, %" PRIu64 " copies, %" PRIu64
-           " takes, %" PRIu64 " waiting lines, %" PRIu64
+           " takes, %" PRIu64 " waiting lines, %" PRIu64 " sweeps, %" PRIu64
+           " pairs lines, %" PRIu64
            " counters lines (npOutDiscards exact in %" PRIu64 ")\n",
-           seen.receipts, seen.copies, seen.takes, seen.waiting, seen.counters,
-           seen.exact);
+           seen.receipts, seen.copies, seen.takes, seen.waiting, seen.sweeps,
+           seen.pairs, seen.counters, seen.exact);
     if (!good || !balanced)
         puts("ledger: FAILED: the books do not balance");
     return options_end(&PROGRAM, good && balanced ? 0 : 1);

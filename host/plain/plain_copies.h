@@ -13,6 +13,8 @@
 typedef struct {
     plain_header header;
     uint32_t arrival;
+    uint32_t second; /* at which it came */
+    bool flooded;
     bool by_path;
     plain_address destination;     /* where not by path; as four octets */
     plain_address source;          /* likewise */

@@ -1,5 +1,6 @@
 /*
- * Which refusal counts where, from page 01's table of refusal numbers.
+ * Which refusal counts where, from page 01's table of refusal numbers and page
+ * 02, W-207.
  *
  * The awkward cases: 15 is left out on purpose, since npOutDiscards has
  * already counted each of its dropped copies; and no refusal has npInReceives
@@ -23,6 +24,8 @@ static const uint8_t counter_of[] = {
     [PLAIN_LEAVES_DOMAIN] = PLAIN_LEFT_DOMAIN,
     [PLAIN_TOO_BIG] = PLAIN_TOO_BIG_COUNT,
     [PLAIN_UNKNOWN_TP_ID] = PLAIN_IN_UNKNOWN_PROTOS,
+    [PLAIN_FLOOD_UNMARKED] = PLAIN_FLOOD_UNMARKED_COUNT,
+    [PLAIN_PAIRS_HELD] = PLAIN_PAIRS_HELD_COUNT,
 };
 
 void plain_count(plain_counters *counters, plain_counter counter)

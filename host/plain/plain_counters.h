@@ -1,4 +1,4 @@
-/* The fifteen counters, each modulo 2^32. */
+/* The seventeen counters, each modulo 2^32. */
 #ifndef PLAIN_COUNTERS_H
 #define PLAIN_COUNTERS_H
 
@@ -22,15 +22,17 @@ typedef enum {
     PLAIN_OUT_DISCARDS = 12,
     PLAIN_LEFT_DOMAIN = 13,
     PLAIN_TOO_BIG_COUNT = 14,
-    PLAIN_COUNTERS = 15
+    PLAIN_FLOOD_UNMARKED_COUNT = 15,
+    PLAIN_PAIRS_HELD_COUNT = 16,
+    PLAIN_COUNTERS = 17
 } plain_counter;
 
 typedef struct { uint32_t counts[PLAIN_COUNTERS]; } plain_counters;
 
 void plain_count(plain_counters *counters, plain_counter counter);
 
-/* One in the counter of a received datagram's refusal, 1 to 15 or 26; none
- * where it has no counter. */
+/* One in the counter of a received datagram's refusal, 1 to 15, 26, 28 or 30;
+ * none where it has no counter. */
 void plain_count_refusal(plain_counters *counters, plain_refusal refusal);
 
 #endif

@@ -28,6 +28,12 @@ typedef enum {
     PLAIN_STAMP_BINARY = 3    /* four octets */
 } plain_stamp_format;
 
+/* The routing requirements of table 3-7 that the relay carries. */
+typedef enum {
+    PLAIN_ROUTING_POINT_TO_POINT = 0,
+    PLAIN_ROUTING_FLOOD = 3
+} plain_routing;
+
 typedef struct {
     uint32_t tp_id;
     uint32_t source_present;

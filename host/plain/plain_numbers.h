@@ -16,6 +16,7 @@ enum {
     PLAIN_ROUTES = 512, /* records in a list, at most */
     PLAIN_GROUPS = 16,
     PLAIN_PATHS = 16,
+    PLAIN_PAIRS = 64, /* of flooded datagrams, in each mission */
     PLAIN_QUEUE_ENTRIES = 32,
     PLAIN_LENGTH_MOST = 8191, /* 13 bits; the largest MTU too */
     PLAIN_HEADER_MOST = 50,
@@ -51,6 +52,9 @@ typedef enum {
     PLAIN_SET_CODE = 24,
     PLAIN_SET_CLASS = 25,
     PLAIN_UNKNOWN_TP_ID = 26,
+    PLAIN_FLOOD_UNMARKED = 28, /* flooded, no source or no timestamp */
+    PLAIN_SECOND_PAST = 29,    /* a second under the last accepted one */
+    PLAIN_PAIRS_HELD = 30,     /* flooded, and no place for its pair */
     PLAIN_SET_TWICE = 35 /* settings: a port is written once */
 } plain_refusal;
 

@@ -80,8 +80,19 @@ typedef struct {
     uint32_t here; /* whether it is delivered here */
 } plain_path_place;
 
+/* What a flooded datagram is known by when it comes again, and the second at
+ * which it first came. */
+typedef struct {
+    uint32_t format; /* 1 to 3; 0 is a free place */
+    plain_address source;
+    uint32_t p_field;
+    uint64_t time;
+    uint32_t second;
+} plain_pair;
+
 typedef struct {
     uint32_t router;
+    uint32_t lifetime;               /* of a pair, in seconds */
     plain_set set_up;                /* the ports that are */
     plain_set owned[PLAIN_MISSIONS]; /* those of each mission */
     plain_port ports[PLAIN_PORTS];
@@ -93,6 +104,8 @@ typedef struct {
     plain_group groups[PLAIN_GROUPS];
     plain_path_place paths[PLAIN_PATHS];
     plain_counters counters;
+    uint32_t last_second; /* the last one that was accepted */
+    plain_pair pairs[PLAIN_PAIRS];
 } plain_mission;
 
 /* What a mission's call is lent. A call that looks for no route is lent no
@@ -122,11 +135,11 @@ typedef struct {
     uint32_t rewritten_octets; /* of the rewritten header, 0 for none */
 } plain_verdict;
 
-/* A host without ports. */
+/* A host without ports, lifetime 0. */
 void plain_board_fresh(plain_board *board);
 
-/* All places and queues empty, all counters 0; 24 with nothing changed for a
- * number over 1. */
+/* All places and queues empty, no pair kept, all counters and the last second
+ * 0; 24 with nothing changed for a number over 1. */
 plain_refusal plain_mission_fresh(plain_mission *mission, uint32_t number);
 
 static inline bool plain_set_has(plain_set set, uint32_t port)
@@ -157,6 +170,7 @@ plain_set plain_own_ports(const plain_view *view);
 /* Settings: 0, or a refusal with nothing changed. The first of these are the
  * operator's. */
 plain_refusal plain_set_router(plain_board *board, uint32_t router);
+plain_refusal plain_set_lifetime(plain_board *board, uint32_t lifetime);
 plain_refusal plain_set_port(plain_board *board, uint32_t number,
                              const plain_port *port);
 plain_refusal plain_set_route(const plain_board *board, plain_list list,
@@ -169,13 +183,18 @@ plain_refusal plain_set_path(const plain_view *view, uint32_t place,
 plain_refusal plain_clear_group(plain_mission *mission, uint32_t place);
 plain_refusal plain_clear_path(plain_mission *mission, uint32_t place);
 
-/* One received datagram. The output, which must not overlap the octets, has a
- * stretch of 50 octets for each port. Of it only the headers of the ports that
- * took an entry are written, each from the front of its port's stretch on and
- * no longer than it is. */
+/* One datagram, received at a second. The output, which must not overlap the
+ * octets, has a stretch of 50 octets for each port. Of it only the headers of
+ * the ports that took an entry are written, each from the front of its port's
+ * stretch on and no longer than it is. */
 plain_verdict plain_receive(const plain_view *view, uint32_t arrival,
-                            plain_slot slot, const uint8_t *octets,
-                            size_t count, uint8_t *output, size_t room);
+                            plain_slot slot, uint32_t second,
+                            const uint8_t *octets, size_t count,
+                            uint8_t *output, size_t room);
+
+/* Frees the pairs of the mission whose age is over the board's lifetime; 29
+ * with nothing changed. */
+plain_refusal plain_sweep(const plain_view *view, uint32_t second);
 
 /* The first entry of the port's queue; 16 or 18 with nothing written. */
 plain_refusal plain_take(const plain_view *view, uint32_t port,

@@ -29,6 +29,13 @@ plain_refusal plain_set_router(plain_board *board, uint32_t router)
     return PLAIN_GOOD;
 }
 
+/* Every lifetime is good. */
+plain_refusal plain_set_lifetime(plain_board *board, uint32_t lifetime)
+{
+    board->lifetime = lifetime;
+    return PLAIN_GOOD;
+}
+
 static bool port_mask_good(const plain_port *port)
 {
     uint32_t ones = plain_mask_ones(port->mask);

@@ -1,7 +1,8 @@
 /*
- * The verdict on one received datagram, in the steps of page 01: the checks
- * that end the call, the local half, the ports wanted. What comes of the
- * copies for these ports is in plain_copies.c.
+ * The verdict on one received datagram, in the steps of page 01 with those of
+ * page 02, W-207, for flooded ones: the checks that end the call, the local
+ * half, the ports wanted. What comes of the copies for these ports is in
+ * plain_copies.c.
  *
  * The steps of the onward half hand on a set of ports that only grows smaller
  * and end the half by a refusal. A set that is empty from the start, without a
@@ -9,11 +10,13 @@
  *
  * The awkward cases: a path is never compared with an address, even of the
  * same number, so a datagram has either a destination or a path and the
- * findings of the other kind stay "no"; and a one-octet address is filled in
- * from the arrival port, never from the port it leaves by.
+ * findings of the other kind stay "no"; a one-octet address is filled in from
+ * the arrival port, never from the port it leaves by; and a flooded datagram's
+ * pair is kept as soon as its ports are asked for, whatever becomes of them.
  */
 #include "plain_copies.h"
 #include "plain_list.h"
+#include "plain_pairs.h"
 #include "plain_search.h"
 
 /* The assigned numbers of table 3-2, as 2^n; 0 is reserved, not assigned. */
@@ -51,17 +54,26 @@ static plain_refusal judge_addresses(const plain_view *view, plain_datagram *d)
     return PLAIN_GOOD;
 }
 
-/* Steps 2 to 6. */
+/* Steps 2 to 6, and 28 after them. */
 static plain_refusal judge(const plain_view *view, const uint8_t *octets,
                            size_t count, plain_datagram *d)
 {
+    const plain_fields *fields = &d->header.fields;
     plain_refusal refusal = plain_header_read(octets, count, &d->header);
 
     if (refusal != PLAIN_GOOD)
         return refusal;
-    if (d->header.fields.routing != 0 || d->header.fields.ipv6)
+    d->flooded = fields->routing == PLAIN_ROUTING_FLOOD;
+    if (fields->ipv6 ||
+        (fields->routing != PLAIN_ROUTING_POINT_TO_POINT && !d->flooded))
         return PLAIN_NOT_CARRIED;
-    return judge_addresses(view, d);
+    refusal = judge_addresses(view, d);
+    if (refusal != PLAIN_GOOD)
+        return refusal;
+    if (d->flooded &&
+        (d->by_path || fields->stamp_format == PLAIN_STAMP_NONE))
+        return PLAIN_FLOOD_UNMARKED;
+    return PLAIN_GOOD;
 }
 
 /* Looks up all that either half will ask. */
@@ -95,6 +107,24 @@ static uint32_t local_half(const plain_datagram *d)
     if ((ASSIGNED_TP_IDS >> d->header.fields.tp_id & 1) == 0)
         return PLAIN_UNKNOWN_TP_ID;
     return PLAIN_LOCAL_DELIVERED;
+}
+
+/* Keeps the pair. The destination decides nothing here. */
+static plain_refusal wanted_for_flood(const plain_view *view,
+                                      const plain_datagram *d,
+                                      plain_set *wanted)
+{
+    const plain_fields *fields = &d->header.fields;
+    plain_pair pair = {fields->stamp_format, d->source, fields->p_field,
+                       fields->time, d->second};
+    plain_pair_fate fate = plain_pairs_enter(view->mission, &pair);
+
+    if (fate == PLAIN_PAIR_KNOWN)
+        return PLAIN_GOOD;
+    if (fate == PLAIN_PAIR_NO_PLACE)
+        return PLAIN_PAIRS_HELD;
+    *wanted = without(plain_own_ports(view), d->arrival);
+    return wanted->bits != 0 ? PLAIN_GOOD : PLAIN_NO_ROUTE;
 }
 
 static plain_refusal wanted_for_group(const plain_view *view,
@@ -147,6 +177,8 @@ static plain_refusal wanted_ports(const plain_view *view,
         return PLAIN_GOOD;
     if (!view->board->router)
         return local != PLAIN_LOCAL_NO ? PLAIN_GOOD : PLAIN_NOT_FOR_US;
+    if (d->flooded)
+        return wanted_for_flood(view, d, wanted);
     if (d->our_broadcast) {
         *wanted = without(plain_own_ports(view), d->arrival);
         return PLAIN_GOOD;
@@ -189,30 +221,35 @@ static void count_halves(plain_counters *counters,
         plain_count_refusal(counters, (plain_refusal)verdict->onward);
 }
 
-/* The refusals that count nothing. */
+/* The refusals that count nothing. Where none is given the second is accepted,
+ * whatever the datagram then comes to. */
 static plain_refusal judge_call(const plain_view *view, uint32_t arrival,
-                                size_t room)
+                                uint32_t second, size_t room)
 {
     if (plain_list_too_long(view->routes.count))
         return PLAIN_SET_NUMBER;
     if (!plain_set_has(plain_own_ports(view), arrival))
         return PLAIN_NO_PORT;
-    return room < PLAIN_OUTPUT_ROOM ? PLAIN_NO_ROOM : PLAIN_GOOD;
+    if (room < PLAIN_OUTPUT_ROOM)
+        return PLAIN_NO_ROOM;
+    return plain_second_accept(view->mission, second);
 }
 
 plain_verdict plain_receive(const plain_view *view, uint32_t arrival,
-                            plain_slot slot, const uint8_t *octets,
-                            size_t count, uint8_t *output, size_t room)
+                            plain_slot slot, uint32_t second,
+                            const uint8_t *octets, size_t count,
+                            uint8_t *output, size_t room)
 {
     plain_verdict verdict = {PLAIN_GOOD, 0, 0, {0}, {0}, {0}, 0, 0};
     plain_datagram d;
     plain_copies copies;
 
-    verdict.refusal = judge_call(view, arrival, room);
+    verdict.refusal = judge_call(view, arrival, second, room);
     if (verdict.refusal != PLAIN_GOOD)
         return verdict;
     plain_count(&view->mission->counters, PLAIN_IN_RECEIVES);
     d.arrival = arrival;
+    d.second = second;
     verdict.refusal = judge(view, octets, count, &d);
     if (verdict.refusal != PLAIN_GOOD) {
         plain_count_refusal(&view->mission->counters, verdict.refusal);

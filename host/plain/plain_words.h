@@ -48,6 +48,10 @@ void plain_session_fresh(plain_session *session);
 extern const plain_meaning plain_relay_words[];
 extern const plain_meaning plain_header_words[];
 
+/* Puts the octets of a timestamp, the P-field first where it has one. */
+void plain_stamp_answer(plain_text *text, uint32_t format, uint32_t p_field,
+                        uint64_t time);
+
 /* Sets the output to a5, as far as it is watched. */
 void plain_output_lend(plain_session *session, uint32_t room);
 

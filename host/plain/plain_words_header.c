@@ -114,16 +114,25 @@ static void put_element(plain_text *text, uint32_t present, uint32_t number)
         plain_text_string(text, " -");
 }
 
-static void put_stamp(plain_text *text, const plain_fields *fields)
+void plain_stamp_answer(plain_text *text, uint32_t format, uint32_t p_field,
+                        uint64_t time)
 {
-    uint32_t octets = plain_stamp_octets(fields->stamp_format, fields->p_field);
+    uint32_t octets = plain_stamp_octets(format, p_field);
 
-    plain_text_string(text, octets > 0 ? " " : " -");
-    if (fields->stamp_format == PLAIN_STAMP_EXPLICIT) {
-        plain_text_digits(text, fields->p_field, 2);
+    if (format == PLAIN_STAMP_EXPLICIT) {
+        plain_text_digits(text, p_field, 2);
         octets--;
     }
-    plain_text_digits(text, fields->time, 2 * octets);
+    plain_text_digits(text, time, 2 * octets);
+}
+
+static void put_stamp(plain_text *text, const plain_fields *fields)
+{
+    bool present = fields->stamp_format != PLAIN_STAMP_NONE;
+
+    plain_text_string(text, present ? " " : " -");
+    plain_stamp_answer(text, fields->stamp_format, fields->p_field,
+                       fields->time);
 }
 
 static void put_header(plain_text *text, const plain_header *header)

@@ -1,12 +1,14 @@
 /*
- * The words of the relay: new, the settings, the list of routes, receive, take,
- * counters, waiting and search. Numbers are as wide as the library's, so that a
- * place 700 or a port 9 reaches it and gets its refusal; only a slot has 16
- * bits, and a mission is 0 or 1.
+ * The words of the relay: new, the settings, the list of routes, receive,
+ * sweep, pairs, take, counters, waiting and search. Numbers are as wide as the
+ * library's, so that a place 700 or a port 9 reaches it and gets its refusal;
+ * only a slot has 16 bits, and a mission is 0 or 1.
  *
- * The awkward case: new, records and record have no answer, and so their lines
- * have no " = ".
+ * The awkward cases: new, records and record have no answer, and so their
+ * lines have no " = "; and pairs are answered in an order of their own, since
+ * the places in which an implementation keeps them are its own affair.
  */
+#include <stdlib.h>
 #include <string.h>
 
 #include "plain_relay.h"
@@ -132,6 +134,17 @@ static bool answer_set_router(plain_session *session,
     return put_refusal(session, plain_set_router(&session->board, router));
 }
 
+static bool answer_set_lifetime(plain_session *session,
+                                const plain_word *arguments)
+{
+    uint32_t lifetime;
+
+    if (!take_number(arguments[0], &lifetime))
+        return false;
+    return put_refusal(session,
+                       plain_set_lifetime(&session->board, lifetime));
+}
+
 static bool answer_set_port(plain_session *session,
                             const plain_word *arguments)
 {
@@ -254,7 +267,7 @@ static bool answer_receive(plain_session *session,
                            const plain_word *arguments)
 {
     plain_octets *octets = &session->octets;
-    uint32_t port, number, room;
+    uint32_t port, number, room, second;
     plain_slot slot;
     plain_view view;
     plain_verdict verdict;
@@ -263,18 +276,82 @@ static bool answer_receive(plain_session *session,
         !plain_word_number(arguments[1], UINT16_MAX, &number) ||
         !plain_word_number(arguments[2], PLAIN_ROOM_MOST, &room) ||
         !plain_word_octets(arguments[3], octets) ||
-        !take_view(session, arguments[4], &view))
+        !take_number(arguments[4], &second) ||
+        !take_view(session, arguments[5], &view))
         return false;
     slot.number = (uint16_t)number;
     plain_output_lend(session, room);
-    verdict = plain_receive(&view, port, slot, octets->start, octets->count,
-                            session->output, room);
+    verdict = plain_receive(&view, port, slot, second, octets->start,
+                            octets->count, session->output, room);
     put_refusal(session, verdict.refusal);
     put_number(session, verdict.local);
     put_number(session, verdict.onward);
     put_number(session, verdict.took.bits);
     plain_text_string(&session->text, " ");
     put_outputs(session, room, verdict.took);
+    return true;
+}
+
+static bool answer_sweep(plain_session *session, const plain_word *arguments)
+{
+    uint32_t second;
+    plain_view view;
+
+    if (!take_number(arguments[0], &second) ||
+        !take_view(session, arguments[1], &view))
+        return false;
+    return put_refusal(session, plain_sweep(&view, second));
+}
+
+static int order_of(uint64_t one, uint64_t other)
+{
+    return (one > other) - (one < other);
+}
+
+/* By source, format and timestamp octet by octet. Timestamps of one format and
+ * P-field are equally long, so that their numbers are in the octets' order. */
+static int compare_pairs(const void *left, const void *right)
+{
+    const plain_pair *one = left;
+    const plain_pair *other = right;
+    int order = order_of(one->source.bits, other->source.bits);
+
+    if (order == 0)
+        order = order_of(one->format, other->format);
+    if (order == 0)
+        order = order_of(one->p_field, other->p_field);
+    return order != 0 ? order : order_of(one->time, other->time);
+}
+
+static void put_pair(plain_text *text, const plain_pair *pair)
+{
+    plain_text_digits(text, pair->source.bits, 8);
+    plain_text_string(text, ":");
+    plain_text_decimal(text, pair->format);
+    plain_text_string(text, ":");
+    plain_stamp_answer(text, pair->format, pair->p_field, pair->time);
+    plain_text_string(text, ":");
+    plain_text_decimal(text, pair->second);
+}
+
+static bool answer_pairs(plain_session *session, const plain_word *arguments)
+{
+    plain_pair held[PLAIN_PAIRS];
+    size_t count = 0;
+    plain_view view;
+
+    if (!take_view(session, arguments[0], &view))
+        return false;
+    for (size_t at = 0; at < PLAIN_PAIRS; at++)
+        if (view.mission->pairs[at].format != PLAIN_STAMP_NONE)
+            held[count++] = view.mission->pairs[at];
+    qsort(held, count, sizeof *held, compare_pairs);
+    plain_text_string(&session->text, count > 0 ? " = " : " = -");
+    for (size_t at = 0; at < count; at++) {
+        if (at > 0)
+            plain_text_string(&session->text, ",");
+        put_pair(&session->text, &held[at]);
+    }
     return true;
 }
 
@@ -346,8 +423,10 @@ static bool answer_search(plain_session *session, const plain_word *arguments)
 }
 
 const plain_meaning plain_relay_words[] = {
-    {"receive", 5, answer_receive},
+    {"receive", 6, answer_receive},
     {"take", 2, answer_take},
+    {"sweep", 2, answer_sweep},
+    {"pairs", 1, answer_pairs},
     {"counters", 1, answer_counters},
     {"waiting", 2, answer_waiting},
     {"search", 2, answer_search},
@@ -355,6 +434,7 @@ const plain_meaning plain_relay_words[] = {
     {"records", 2, answer_records},
     {"new", 0, answer_new},
     {"set_router", 1, answer_set_router},
+    {"set_lifetime", 1, answer_set_lifetime},
     {"set_port", 5, answer_set_port},
     {"set_route", 7, answer_set_route},
     {"set_group", 5, answer_set_group},

@@ -494,13 +494,13 @@ static void test_room(void)
     fresh_router();
     arrive(0, to_14); /* puts the octets that are lent below */
     lend_output();
-    verdict = plain_receive(&view, 0, slot, octets, 6, output, 399);
+    verdict = plain_receive(&view, 0, slot, 0, octets, 6, output, 399);
     CHECK_EQUAL(verdict.refusal, PLAIN_NO_ROOM);
     CHECK_EQUAL(verdict.arriving_octets, 0);
     check_the_rest(&verdict);
-    verdict = plain_receive(&view, 0, slot, octets, 6, output, 400);
+    verdict = plain_receive(&view, 0, slot, 0, octets, 6, output, 400);
     CHECK_EQUAL(verdict.refusal, PLAIN_GOOD);
-    verdict = plain_receive(&view, 0, slot, octets, 6, output, 401);
+    verdict = plain_receive(&view, 0, slot, 0, octets, 6, output, 401);
     CHECK_EQUAL(verdict.refusal, PLAIN_GOOD);
     CHECK_COUNT(PLAIN_IN_RECEIVES, 3);
 }

@@ -100,7 +100,7 @@ static plain_verdict send_fields(uint32_t mission, uint32_t arrival,
 
     CHECK_EQUAL(plain_header_build(&fields, 0, octets, sizeof octets, &length),
                 0);
-    return plain_receive(&view, arrival, slot, octets, length, output,
+    return plain_receive(&view, arrival, slot, 0, octets, length, output,
                          sizeof output);
 }
 

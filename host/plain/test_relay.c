@@ -4,8 +4,9 @@
  * half, and where one check comes before another. Each test starts from a
  * fresh relay and looks at the answer, at what was written to the output and
  * at the counters. All ports and routes are mission 0's; what two missions see
- * of each other, and what a list may hold, is tried in test_missions.c, and
- * what becomes of the header on its way out in test_legs.c.
+ * of each other, and what a list may hold, is tried in test_missions.c, what
+ * becomes of the header on its way out in test_legs.c, and what is flooded in
+ * test_floods.c.
  *
  * The awkward case is what does not happen: a refusal that writes, counts
  * twice or sends on. So every call goes through `receive` of plain_bed.h.
@@ -20,15 +21,6 @@ enum {
     BESIDE = 0x0a0a0a04, /* another node on its net */
     FAR = 0x0a0a0b02     /* port 1 */
 };
-
-#define CHECK_VERDICT(verdict, refusal_due, local_due, onward_due, took_due) \
-    do { \
-        plain_verdict got = (verdict); \
-        CHECK_EQUAL(got.refusal, refusal_due); \
-        CHECK_EQUAL(got.local, local_due); \
-        CHECK_EQUAL(got.onward, onward_due); \
-        CHECK_EQUAL(got.took.bits, took_due); \
-    } while (0)
 
 static plain_refusal set_route(uint32_t place, uint32_t prefix, uint32_t mask,
                                uint32_t port, uint32_t availability)
@@ -107,6 +99,10 @@ static void check_take(uint32_t port, plain_refusal refusal, uint16_t slot,
     CHECK_EQUAL(entry.precedence, precedence);
 }
 
+/* All counters; those at the end that are not said are 0. */
+#define CHECK_COUNTERS(...) \
+    check_counters((const uint32_t[PLAIN_COUNTERS]){__VA_ARGS__})
+
 static void check_counters(const uint32_t *due)
 {
     for (size_t at = 0; at < PLAIN_COUNTERS; at++)
@@ -126,8 +122,7 @@ static void test_marked_routes(void)
     CHECK_VERDICT(send(4, to(0xc0000201)), 0, 0, 1, 1); /* d */
     CHECK_EQUAL(plain_clear_route(list, 0), 0);
     CHECK_VERDICT(send(4, to(0xc0000201)), 0, 0, PLAIN_NO_ROUTE, 0); /* e */
-    check_counters((const uint32_t[]){5, 0, 0, 0, 0, 0, 0, 0, 0, 0, 4, 1, 0,
-                                      0, 0});
+    CHECK_COUNTERS(5, 0, 0, 0, 0, 0, 0, 0, 0, 0, 4, 1, 0, 0, 0);
 }
 
 /* The same routes in the opposite places, so that the last match is worst. */
@@ -184,8 +179,7 @@ static void test_no_octets(void)
 {
     fresh_router(1);
     CHECK_VERDICT(receive(0, 1, 0), PLAIN_SHORT, 0, 0, 0);
-    check_counters((const uint32_t[]){1, 1, 0, 0, 0, 0, 0, 0, 0, 0, 0, 0, 0,
-                                      0, 0});
+    CHECK_COUNTERS(1, 1, 0, 0, 0, 0, 0, 0, 0, 0, 0, 0, 0, 0, 0);
 }
 
 static void test_too_big(void)
@@ -237,8 +231,7 @@ static void test_hop_count(void)
     /* Delivered here, the hop count is not asked. */
     fields.destination.low = HERE;
     CHECK_VERDICT(send(0, fields), 0, 1, 0, 0);
-    check_counters((const uint32_t[]){4, 0, 0, 0, 0, 0, 0, 0, 1, 2, 1, 0, 0,
-                                      0, 0});
+    CHECK_COUNTERS(4, 0, 0, 0, 0, 0, 0, 0, 1, 2, 1, 0, 0, 0, 0);
 }
 
 static void test_full_queue(void)
@@ -254,8 +247,7 @@ static void test_full_queue(void)
     CHECK_EQUAL(waiting, 32);
     CHECK_VERDICT(send_slot(0, 32, with_precedence(fields, 15), 0), 0, 0,
                   PLAIN_ALL_FULL, 0);
-    check_counters((const uint32_t[]){33, 0, 0, 0, 0, 0, 0, 0, 0, 0, 32, 0,
-                                      1, 0, 0});
+    CHECK_COUNTERS(33, 0, 0, 0, 0, 0, 0, 0, 0, 0, 32, 0, 1, 0, 0);
     check_take(1, 0, 0, 0);
     CHECK_VERDICT(send_slot(0, 33, with_precedence(fields, 15), 0), 0, 0, 1,
                   2);
@@ -276,8 +268,7 @@ static void test_group_with_one_port_full(void)
     for (uint16_t slot = 0; slot < 32; slot++)
         send_slot(0, slot, to(0x0a0a0b04), 0);
     CHECK_VERDICT(send(0, to(0x0a04090f)), 0, 0, 1, 4);
-    check_counters((const uint32_t[]){33, 0, 0, 0, 0, 0, 0, 0, 0, 0, 33, 0,
-                                      1, 0, 0});
+    CHECK_COUNTERS(33, 0, 0, 0, 0, 0, 0, 0, 0, 0, 33, 0, 1, 0, 0);
     for (uint16_t slot = 1; slot < 32; slot++)
         send_slot(0, slot, to(0x0a04090f), 0);
     CHECK_COUNT(PLAIN_OUT_DISCARDS, 32);
@@ -296,9 +287,9 @@ static void test_port_and_room(void)
     CHECK_VERDICT(send(1, to(HERE)), PLAIN_NO_PORT, 0, 0, 0);
     CHECK_VERDICT(send(8, to(HERE)), PLAIN_NO_PORT, 0, 0, 0);
     CHECK_VERDICT(send(4294967295, to(HERE)), PLAIN_NO_PORT, 0, 0, 0);
-    verdict = plain_receive(&view, 0, slot, octets, 12, output, 399);
+    verdict = plain_receive(&view, 0, slot, 0, octets, 12, output, 399);
     CHECK_VERDICT(verdict, PLAIN_NO_ROOM, 0, 0, 0);
-    verdict = plain_receive(&view, 1, slot, octets, 12, output, 0);
+    verdict = plain_receive(&view, 1, slot, 0, octets, 12, output, 0);
     CHECK_VERDICT(verdict, PLAIN_NO_PORT, 0, 0, 0);
     CHECK_COUNT(PLAIN_IN_RECEIVES, 0);
     CHECK_VERDICT(send(0, to(HERE)), 0, 1, 0, 0);
@@ -317,23 +308,22 @@ static void test_refused_headers(void)
     CHECK_VERDICT(receive_octets(0, form, 4), PLAIN_BAD_FORM, 0, 0, 0);
     CHECK_VERDICT(receive_octets(0, checksum, 6), PLAIN_BAD_CHECKSUM, 0, 0,
                   0);
-    check_counters((const uint32_t[]){4, 1, 1, 1, 1, 0, 0, 0, 0, 0, 0, 0, 0,
-                                      0, 0});
+    CHECK_COUNTERS(4, 1, 1, 1, 1, 0, 0, 0, 0, 0, 0, 0, 0, 0, 0);
 }
 
 static void test_service_not_carried(void)
 {
-    plain_fields flood = to(0x0a0409fe); /* before the bad address */
+    plain_fields reserved = to(0x0a0409fe); /* before the bad address */
     plain_fields ipv6 = {.tp_id = 6, .source_present = 1, .ipv6 = 1};
     plain_fields octet = to_octet(0x04);
 
     fresh();
     CHECK_EQUAL(set_port(0, 0xc0000201, net24, 8191), 0);
-    flood.basic_qos_present = 1;
-    flood.routing = 3;
+    reserved.basic_qos_present = 1;
+    reserved.routing = 2;
     octet.basic_qos_present = 1;
     octet.routing = 1;
-    CHECK_VERDICT(send(0, flood), PLAIN_NOT_CARRIED, 0, 0, 0);
+    CHECK_VERDICT(send(0, reserved), PLAIN_NOT_CARRIED, 0, 0, 0);
     CHECK_VERDICT(send(0, ipv6), PLAIN_NOT_CARRIED, 0, 0, 0);
     CHECK_VERDICT(send(0, octet), PLAIN_NOT_CARRIED, 0, 0, 0);
     CHECK_COUNT(PLAIN_UNSUPPORTED, 3);
@@ -364,8 +354,7 @@ static void test_addresses_refused(void)
     CHECK_VERDICT(send(1, fields), PLAIN_BAD_ADDRESS, 0, 0, 0);
     fields.source.low = 0xc00002ff; /* net broadcast */
     CHECK_VERDICT(send(1, fields), PLAIN_BAD_ADDRESS, 0, 0, 0);
-    check_counters((const uint32_t[]){10, 0, 0, 10, 0, 0, 0, 0, 0, 0, 0, 0,
-                                      0, 0, 0});
+    CHECK_COUNTERS(10, 0, 0, 10, 0, 0, 0, 0, 0, 0, 0, 0, 0, 0, 0);
 }
 
 static void test_for_this_node(void)
@@ -406,8 +395,7 @@ static void test_host(void)
     CHECK_VERDICT(send(0, to(0x0a04090f)), 0, 1, 0, 0);
     CHECK_VERDICT(send(1, to(0x0a04090f)), 0, 0, PLAIN_NOT_FOR_US, 0);
     CHECK_VERDICT(send(0, by_path(0x0a0a0a06)), 0, 0, PLAIN_NOT_FOR_US, 0);
-    check_counters((const uint32_t[]){7, 0, 0, 0, 0, 0, 3, 1, 3, 0, 0, 0, 0,
-                                      0, 0});
+    CHECK_COUNTERS(7, 0, 0, 0, 0, 0, 3, 1, 3, 0, 0, 0, 0, 0, 0);
 }
 
 static void test_tp_ids(void)
@@ -439,8 +427,7 @@ static void test_unknown_tp_id_goes_on(void)
     CHECK_VERDICT(send(0, fields), 0, 26, 1, 2);
     fields.tp_id = 6;
     CHECK_VERDICT(send(0, fields), 0, 1, 1, 2);
-    check_counters((const uint32_t[]){3, 0, 0, 0, 0, 0, 0, 1, 1, 0, 3, 0, 0,
-                                      0, 0});
+    CHECK_COUNTERS(3, 0, 0, 0, 0, 0, 0, 1, 1, 0, 3, 0, 0, 0, 0);
 }
 
 static void test_broadcasts_of_ours(void)
@@ -655,8 +642,7 @@ static void test_leaving_the_domain(void)
     CHECK_VERDICT(send(0, to_octet(0x20)), 0, 0, 1, 2);
     CHECK_VERDICT(send(0, to_octet(0xff)), 0, 1, 1, 0xe);
     CHECK_VERDICT(send(1, to_octet(0xff)), 0, 1, 1, 0xd);
-    check_counters((const uint32_t[]){7, 0, 0, 0, 0, 0, 0, 0, 3, 0, 5, 0, 0,
-                                      2, 0});
+    CHECK_COUNTERS(7, 0, 0, 0, 0, 0, 0, 0, 3, 0, 5, 0, 0, 2, 0);
 }
 
 /* 10 before 13 before 14 before 15. */
@@ -693,8 +679,7 @@ static void test_struck_out_counts_nothing(void)
     CHECK_EQUAL(set_port(1, FAR, net24, 11), 0);
     CHECK_EQUAL(set_port(2, FAR, net24, 8191), 0);
     CHECK_VERDICT(send(0, to(0x0a0a0aff)), 0, 1, 1, 4);
-    check_counters((const uint32_t[]){1, 0, 0, 0, 0, 0, 0, 0, 1, 0, 1, 0, 0,
-                                      0, 0});
+    CHECK_COUNTERS(1, 0, 0, 0, 0, 0, 0, 0, 1, 0, 1, 0, 0, 0, 0);
 }
 
 static void test_port_settings(void)

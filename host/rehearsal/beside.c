@@ -2,8 +2,8 @@
  * beside.c: one mission on two nodes, side by side (W-208). The operator's
  * calls and that mission's were the same on both, the slots too; on one of them
  * the other mission has been busy. Then each answer, each header that was
- * written, each counter and what waits must be equal, and the table shows that
- * they are.
+ * written, each counter, each pair and what waits must be equal, and the table
+ * shows that they are.
  */
 #include "beside.h"
 
@@ -119,6 +119,26 @@ static bool number_row(const char *name, uint32_t one, uint32_t other)
     return row(left, right, one == other);
 }
 
+/* The pairs that they hold, place by place, where either holds any. */
+static bool pairs_row(uint32_t one, uint32_t other, uint32_t mission)
+{
+    char left[WIDTH + 1], right[WIDTH + 1];
+    uint32_t lefts = node_pairs(&nodes[one], mission);
+    uint32_t rights = node_pairs(&nodes[other], mission);
+    bool equal = true;
+
+    for (uint32_t place = 0; place < HJ_PAIRS; place++) {
+        hj_pair of_one = hj_get_pair(LENT_MISSION(&nodes[one], mission), place);
+        hj_pair of_other =
+            hj_get_pair(LENT_MISSION(&nodes[other], mission), place);
+
+        equal = equal && memcmp(&of_one, &of_other, sizeof of_one) == 0;
+    }
+    snprintf(left, sizeof left, "pairs held: %" PRIu32, lefts);
+    snprintf(right, sizeof right, "pairs held: %" PRIu32, rights);
+    return (lefts == 0 && rights == 0) || row(left, right, equal);
+}
+
 /* The counters that either has, and what waits on the mission's ports. */
 static bool number_rows(uint32_t one, uint32_t other, uint32_t mission)
 {
@@ -132,6 +152,7 @@ static bool number_rows(uint32_t one, uint32_t other, uint32_t mission)
         if (left != 0 || right != 0)
             equal = number_row(COUNTER_NAMES[i], left, right) && equal;
     }
+    equal = pairs_row(one, other, mission) && equal;
     for (uint32_t port = 0; port < HJ_PORTS; port++) {
         hj_port found = hj_get_port(LENT_BOARD(&nodes[one]), port);
 

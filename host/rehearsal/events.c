@@ -2,12 +2,12 @@
  * events.c: the words that send, and that let time pass.
  *
  * A header is built by the library (hj_build) and goes out on the sender's own
- * wire. Time passes in `step` and `run` alone, so that what is sent between two
- * of them is sent at one moment.
+ * wire. Time passes in `step`, `run` and `wait` alone, so that what is sent
+ * between two of them is sent at one moment.
  *
  * The awkward case is a datagram without a hop count where routes or groups go
  * round in a ring: `run` would never end. It stops after MOST_STEPS arrivals
- * and refuses the line.
+ * and refuses the line, and so does `wait`.
  */
 #include "events.h"
 
@@ -15,6 +15,7 @@
 #include <string.h>
 
 #include "beside.h"
+#include "copies.h"
 #include "expect.h"
 #include "line.h"
 #include "names.h"
@@ -31,6 +32,7 @@ struct order {
     hj_fields fields;
     uint32_t times;
     bool has_destination, has_source;
+    bool counts_up; /* each of the times has the next stamp */
 };
 
 static const char ADDRESS[] = "an address, as 10.2.2.14 or 14";
@@ -94,16 +96,36 @@ static bool read_quality(hj_fields *fields)
     return true;
 }
 
+/* A stamp has four octets of time. */
+static bool read_flood(struct order *order)
+{
+    bool counts_up = line_is("stamps");
+
+    if (line_is("flood")) {
+        order->fields.has_qos = 1;
+        order->fields.routing = FLOODED;
+        return true;
+    }
+    if (!counts_up && !line_is("stamp"))
+        return false;
+    order->counts_up = counts_up;
+    order->fields.stamp_format = HJ_STAMP_BINARY;
+    order->fields.time =
+        line_number("a stamp, 0 to 4294967295", 0, UINT32_MAX);
+    return true;
+}
+
 static void read_order(struct order *order)
 {
     static const char EXPECTED[] =
         "to, from, path, precedence, hops, transport, checksum, intermediate, "
-        "times or data";
+        "flood, stamp, stamps, times or data";
 
     while (!line_is("data")) {
         if (line_is("times"))
             order->times = line_number("how often, 1 to 64", 1, MOST_OWN);
-        else if (!read_address(order) && !read_quality(&order->fields))
+        else if (!read_address(order) && !read_quality(&order->fields) &&
+                 !read_flood(order))
             line_refuse(EXPECTED, line_word(EXPECTED));
     }
     if (!order->has_destination)
@@ -133,16 +155,20 @@ void event_send(void)
     struct order order = {.fields = {.tp_id = USUAL_TP_ID}, .times = 1};
     uint32_t node = line_node();
     uint32_t port = line_port();
+    const char *text;
 
     if (!nodes[node].wires[port].linked)
         line_refuse("a port with a link", nodes[node].name);
     read_order(&order);
-    build(&order.fields, line_text("the data as \"text\""), &datagram);
+    text = line_text("the data as \"text\"");
     line_end();
     for (uint32_t time = 0; time < order.times; time++) {
+        build(&order.fields, text, &datagram);
         if (!net_send(node, port, &datagram))
             line_refuse("at most 64 datagrams before a wire", "more");
+        copies_send(node, port, &datagram);
         told_send(node, port, &order.fields, &datagram);
+        order.fields.time += order.counts_up;
     }
     net_start_wires();
 }
@@ -197,19 +223,58 @@ void event_step(void)
 
     line_end();
     for (uint32_t step = 0; step < steps; step++) {
-        if (!net_step())
+        if (!net_step(EVER))
             line_refuse("something on a wire", "nothing");
     }
+}
+
+/* All that arrives up to that moment. */
+static void run_until(uint64_t latest)
+{
+    for (uint32_t step = 0; step < MOST_STEPS; step++) {
+        if (!net_step(latest))
+            return;
+    }
+    line_refuse("an end (a ring needs a hop count)", "20000 arrivals");
 }
 
 void event_run(void)
 {
     line_end();
-    for (uint32_t step = 0; step < MOST_STEPS; step++) {
-        if (!net_step())
-            return;
-    }
-    line_refuse("an end (a ring needs a hop count)", "20000 arrivals");
+    run_until(EVER);
+}
+
+void event_wait(void)
+{
+    uint32_t seconds =
+        line_number("how many seconds, 1 to 1000000", 1, 1000000);
+    uint64_t latest = now + UINT64_C(1000000) * seconds;
+    char text[40];
+
+    line_end();
+    run_until(latest);
+    now = latest;
+    snprintf(text, sizeof text, "(%u s pass)", (unsigned)seconds);
+    told_say(text);
+}
+
+/* At the clock's second, or at one that is said. */
+void event_sweep(void)
+{
+    uint32_t node = line_node();
+    uint32_t second = second_now();
+    uint32_t mission = 0;
+    uint32_t before, refusal;
+
+    if (line_is("at"))
+        second = line_number("a second, 0 to 4294967295", 0, UINT32_MAX);
+    if (line_is("mission"))
+        mission = line_number("a mission, 0 or 1", 0, 1);
+    line_end();
+    before = node_pairs(&nodes[node], mission);
+    refusal = hj_sweep(LENT_BOARD(&nodes[node]),
+                       LENT_MISSION(&nodes[node], mission), second);
+    told_sweep(node, mission, second, refusal, before);
 }
 
 /* ---- What is told ------------------------------------------------------ */
@@ -218,6 +283,7 @@ void event_scene(void)
 {
     expect_scene();
     beside_scene();
+    copies_scene();
     told_scene(line_rest());
 }
 

@@ -9,6 +9,8 @@ void event_send(void);
 void event_hold(void);
 void event_release(void);
 void event_take(void);
+void event_sweep(void);
+void event_wait(void);
 void event_step(void);
 void event_run(void);
 void event_scene(void);

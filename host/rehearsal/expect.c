@@ -1,7 +1,7 @@
 /*
  * expect.c: what a scenario expects. An expectation looks at what has happened
- * since its scene began; but counters and what waits are as they stand. One
- * that fails is told, the rehearsal goes on, and ends with status 1.
+ * since its scene began; but counters, pairs and what waits are as they stand.
+ * One that fails is told, the rehearsal goes on, and ends with status 1.
  *
  * `refused`, `took`, `dropped` and `header` look at the node's latest answer,
  * `named` at what it was an answer to. `nothing` says that no datagram reached
@@ -47,6 +47,7 @@ void expect_scene(void)
     for (uint32_t node = 0; node < node_count; node++) {
         nodes[node].answered = false;
         nodes[node].arrivals = 0;
+        nodes[node].sent_on = 0;
     }
 }
 
@@ -59,6 +60,7 @@ void expect_note(uint32_t node, uint32_t port, const struct kept *kept)
     nodes[node].verdict = kept->verdict;
     nodes[node].named = meaning_at(&nodes[node], port, &kept->came);
     nodes[node].arrivals++;
+    nodes[node].sent_on += hj_onward(kept->verdict) == HJ_SENT_ON;
     if (hj_local(kept->verdict) != HJ_DELIVERED)
         return;
     if (delivered == MOST_DELIVERIES)
@@ -84,7 +86,7 @@ static uint32_t first_delivery(uint32_t node, const char *text)
 
 static bool expect_refused(uint32_t node)
 {
-    uint32_t number = line_number("a number, 1 to 26", 1, HJ_UNKNOWN_TP_ID);
+    uint32_t number = line_number("a number, 1 to 30", 1, HJ_PAIRS_HELD);
     hj_verdict verdict = nodes[node].verdict;
 
     if (!nodes[node].answered)
@@ -109,6 +111,12 @@ static bool expect_arrivals(uint32_t node)
 {
     return nodes[node].arrivals ==
            line_number("how many arrivals", 0, 999999999);
+}
+
+static bool expect_sent(uint32_t node)
+{
+    return nodes[node].sent_on ==
+           line_number("how many were sent on", 0, 999999999);
 }
 
 /* The destination or the path, and the source where it is said. */
@@ -165,6 +173,16 @@ static bool expect_counter(uint32_t node)
     return value == node_counter(&nodes[node], mission, counter);
 }
 
+static bool expect_pairs(uint32_t node)
+{
+    uint32_t held = line_number("how many pairs, 0 to 64", 0, HJ_PAIRS);
+    uint32_t mission = 0;
+
+    if (line_is("mission"))
+        mission = line_number("a mission, 0 or 1", 0, 1);
+    return held == node_pairs(&nodes[node], mission);
+}
+
 static bool expect_waiting(uint32_t node)
 {
     uint32_t port = line_port();
@@ -185,20 +203,23 @@ static bool expect_order(uint32_t node)
 void expect(void)
 {
     static const char *const KINDS[] = {
-        "refused", "delivered", "nothing", "arrivals", "named", "header",
-        "took",    "dropped",   "counter", "waiting",  "order", NULL};
+        "refused", "delivered", "nothing", "arrivals", "sent",
+        "named",   "header",    "took",    "dropped",  "counter",
+        "pairs",   "waiting",   "order",   NULL};
     static bool (*const HOLDS[])(uint32_t) = {
         expect_refused, expect_delivered, expect_nothing, expect_arrivals,
-        expect_named,   expect_header,    expect_took,    expect_dropped,
-        expect_counter, expect_waiting,   expect_order};
+        expect_sent,    expect_named,     expect_header,  expect_took,
+        expect_dropped, expect_counter,   expect_pairs,   expect_waiting,
+        expect_order};
     char line[1000];
     uint32_t node, kind;
     bool holds;
 
     line_copy(line, sizeof line);
     node = line_node();
-    kind = line_choice("refused, delivered, nothing, arrivals, named, header, "
-                       "took, dropped, counter, waiting or order",
+    kind = line_choice("refused, delivered, nothing, arrivals, sent, named, "
+                       "header, took, dropped, counter, pairs, waiting or "
+                       "order",
                        KINDS);
     holds = HOLDS[kind](node);
     line_end();

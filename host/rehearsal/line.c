@@ -111,14 +111,16 @@ const char *line_text(const char *expected)
     return text;
 }
 
-/* Decimal digits alone, at most nine; false where it is something else. */
+/* Decimal digits alone, at most 2^32 - 1; false where it is something else. */
 static bool decimal(const char *word, uint32_t *number)
 {
     size_t digits = strspn(word, "0123456789");
+    unsigned long long value = strtoull(word, NULL, 10);
 
-    if (digits == 0 || digits > 9 || word[digits] != '\0')
+    if (digits == 0 || digits > 10 || word[digits] != '\0' ||
+        value > UINT32_MAX)
         return false;
-    *number = (uint32_t)strtoul(word, NULL, 10);
+    *number = (uint32_t)value;
     return true;
 }
 

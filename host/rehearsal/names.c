@@ -11,7 +11,8 @@ const char *const COUNTER_NAMES[HJ_COUNTERS] = {
     "npInBadAddress",   "npInBadChecksum",   "unsupported",
     "npInAddrErrors",   "npInUnknownProtos", "npInDelivers",
     "npForwHopDiscard", "npForwDatagrams",   "npOutNoRoutes",
-    "npOutDiscards",    "left-domain",       "too-big"};
+    "npOutDiscards",    "left-domain",       "too-big",
+    "flood-unmarked",   "pairs-held"};
 
 static const char *const NUMBERS[HJ_PORT_SET_UP + 1] = {
     [HJ_SHORT] = "too short",
@@ -41,6 +42,9 @@ static const char *const NUMBERS[HJ_PORT_SET_UP + 1] = {
         "a code or size out of range, or the other mission's port",
     [HJ_WRONG_CLASS] = "the wrong class of address",
     [HJ_UNKNOWN_TP_ID] = "unknown transport number",
+    [HJ_FLOOD_UNMARKED] = "flooded without a source or a timestamp",
+    [HJ_SECOND_PAST] = "a second before the last one accepted",
+    [HJ_PAIRS_HELD] = "all places for pairs are held",
     [HJ_PORT_SET_UP] = "the port is set up already"};
 
 const char *number_name(uint32_t number)

@@ -23,6 +23,7 @@
 #include <stdlib.h>
 
 #include "beside.h"
+#include "copies.h"
 #include "expect.h"
 #include "foretold.h"
 #include "meaning.h"
@@ -72,6 +73,7 @@ static void occupy(uint32_t node, uint32_t port, bool own, hj_answer entry)
     wire->busy = true;
     wire->until =
         now + wire_microseconds(wire->flying.length, wire->bits_per_second);
+    copies_start(&wire->flying);
     told_start(node, port, own, entry);
     if (!own)
         foretold_take(node, port, hj_slot(entry));
@@ -145,7 +147,7 @@ static void arrive(uint32_t at, uint32_t port, const struct datagram *came)
     uint16_t slot = free_slot(node, mission);
     struct kept *kept = &node->slots[mission][slot];
     uint32_t before[HJ_COUNTERS];
-    hj_arrival arrival = {port, slot, (uint32_t)(now / 1000000)};
+    hj_arrival arrival = {port, slot, second_now()};
 
     for (uint32_t counter = 0; counter < HJ_COUNTERS; counter++)
         before[counter] = node_counter(node, mission, counter);
@@ -167,7 +169,7 @@ static void note_sooner(struct wire *wire, struct wire **soonest)
         *soonest = wire;
 }
 
-bool net_step(void)
+bool net_step(uint64_t latest)
 {
     static struct datagram came;
     struct wire *soonest = NULL;
@@ -176,7 +178,7 @@ bool net_step(void)
         for (uint32_t port = 0; port < HJ_PORTS; port++)
             note_sooner(&nodes[node].wires[port], &soonest);
     }
-    if (soonest == NULL)
+    if (soonest == NULL || soonest->until > latest)
         return false;
     now = soonest->until;
     came = soonest->flying;

@@ -10,7 +10,9 @@ bool net_send(uint32_t node, uint32_t port, const struct datagram *datagram);
 void net_take(uint32_t node, uint32_t port);
 /* Each wire that is free, and not held, begins with what is next on it. */
 void net_start_wires(void);
-/* The next arrival; false where nothing is on a wire. */
-bool net_step(void);
+/* As long as it takes. */
+#define EVER UINT64_MAX
+/* The next arrival; false where there is none up to that moment. */
+bool net_step(uint64_t latest);
 
 #endif

@@ -35,6 +35,16 @@ uint32_t node_counter(const struct node *node, uint32_t mission,
     return hj_value(hj_counter(LENT_MISSION(node, mission), counter));
 }
 
+uint32_t node_pairs(const struct node *node, uint32_t mission)
+{
+    uint32_t held = 0;
+
+    for (uint32_t place = 0; place < HJ_PAIRS; place++)
+        held += hj_get_pair(LENT_MISSION(node, mission), place).format !=
+                HJ_STAMP_NONE;
+    return held;
+}
+
 const struct kept *node_kept(const struct node *node, uint32_t port,
                              uint32_t slot)
 {
@@ -63,6 +73,11 @@ uint32_t node_waiting(const struct node *node, uint32_t port)
     uint32_t mission = node_mission(node, port);
 
     return hj_value(hj_waiting(LENT_MISSION(node, mission), port));
+}
+
+uint32_t second_now(void)
+{
+    return (uint32_t)(now / 1000000);
 }
 
 uint64_t wire_microseconds(uint32_t octets, uint32_t bits_per_second)

@@ -12,8 +12,10 @@
 
 #include "harpjuniper.h"
 
-#define MOST_NODES 24
+#define MOST_NODES 32
 #define MOST_NAME 20
+/* Routing requirements of a flooded datagram (table 3-7). */
+#define FLOODED 3
 /* Characters of user data in one datagram. */
 #define MOST_DATA 400
 /* Datagrams of a node's own that may stand before one of its wires. */
@@ -53,10 +55,11 @@ struct node {
     hj_record routes[HJ_ROUTES];
     struct wire wires[HJ_PORTS];
     struct kept slots[HJ_MISSIONS][SLOTS];
-    bool answered; /* whether the three below are of this scene */
+    bool answered; /* whether the two below are of this scene */
     hj_verdict verdict;
     hj_fields named; /* what came last, its addresses as four octets */
-    uint32_t arrivals;
+    /* In this scene, and those of them that were sent on. */
+    uint32_t arrivals, sent_on;
 };
 
 extern struct node nodes[MOST_NODES];
@@ -82,8 +85,13 @@ const struct kept *node_kept(const struct node *node, uint32_t port,
 /* The copy of it for a port that took one: the port's header, and the data. */
 void kept_copy(const struct kept *kept, uint32_t port, struct datagram *copy);
 uint32_t kept_copy_octets(const struct kept *kept, uint32_t port);
+/* Pairs that the mission holds. */
+uint32_t node_pairs(const struct node *node, uint32_t mission);
 /* Of the mission that has the port. */
 uint32_t node_waiting(const struct node *node, uint32_t port);
+
+/* The clock in whole seconds, which is what a relay is given. */
+uint32_t second_now(void);
 
 /* How long so many octets are on a wire. */
 uint64_t wire_microseconds(uint32_t octets, uint32_t bits_per_second);

@@ -17,6 +17,7 @@
  *   expect.c, books.c       what a scenario expects; counters and ledger
  *   foretold.c, beside.c    at which take each entry goes out; what a mission
  *                           is told by two nodes
+ *   copies.c                how many copies a flood makes
  *   net.c                   datagrams on their way between the nodes
  *   settings.c, events.c    the words that set up; those that send and step
  */
@@ -26,6 +27,7 @@
 
 #include "beside.h"
 #include "books.h"
+#include "copies.h"
 #include "events.h"
 #include "expect.h"
 #include "foretold.h"
@@ -43,19 +45,21 @@ static const struct {
 } WORDS[] = {
     {"node", set_node},         {"port", set_port},   {"link", set_link},
     {"route", set_route},       {"group", set_group}, {"path", set_path},
+    {"lifetime", set_lifetime}, {"fresh", set_fresh},
     {"send", event_send},       {"hold", event_hold},
-    {"release", event_release}, {"take", event_take}, {"step", event_step},
-    {"run", event_run},         {"scene", event_scene},
-    {"say", event_say},         {"quiet", event_quiet},
+    {"release", event_release}, {"take", event_take}, {"sweep", event_sweep},
+    {"step", event_step},       {"run", event_run},   {"wait", event_wait},
+    {"scene", event_scene},     {"say", event_say},   {"quiet", event_quiet},
     {"loud", event_loud},       {"foretell", foretell},
-    {"beside", beside},         {"expect", expect},
+    {"beside", beside},         {"copies", copies},   {"expect", expect},
 };
 
 static void perform_line(void)
 {
     static const char EXPECTED[] =
-        "node, port, link, route, group, path, send, hold, release, take, "
-        "step, run, scene, say, quiet, loud, foretell, beside or expect";
+        "node, port, link, route, group, path, lifetime, fresh, send, hold, "
+        "release, take, sweep, step, run, wait, scene, say, quiet, loud, "
+        "foretell, beside, copies or expect";
 
     for (size_t i = 0; i < sizeof WORDS / sizeof *WORDS; i++) {
         if (line_is(WORDS[i].word)) {

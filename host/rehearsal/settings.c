@@ -1,7 +1,7 @@
 /*
- * settings.c: the words that set up nodes, ports, links, routes, groups and
- * paths. Whether a setting is good is the library's to say: its number is told,
- * and the line is refused.
+ * settings.c: the words that set up nodes, ports, links, routes, groups, paths
+ * and the lifetime of floods. Whether a setting is good is the library's to
+ * say: its number is told, and the line is refused.
  */
 #include "settings.h"
 
@@ -51,7 +51,7 @@ void set_node(void)
     uint32_t router = line_choice("'router' or 'host'", KINDS);
 
     if (node_count == MOST_NODES)
-        line_refuse("at most 24 nodes", name);
+        line_refuse("at most 32 nodes", name);
     if (strlen(name) > MOST_NAME)
         line_refuse("a name of at most 20 characters", name);
     for (uint32_t other = 0; other < node_count; other++) {
@@ -156,4 +156,37 @@ void set_path(void)
 
     taken(hj_set_path(LENT_BOARD(node), LENT_MISSION(node, mission), place,
                       path, send, here));
+}
+
+void set_lifetime(void)
+{
+    struct node *node = &nodes[line_node()];
+    uint32_t lifetime =
+        line_number("a lifetime in seconds, 0 to 4294967295", 0, UINT32_MAX);
+
+    taken(hj_set_lifetime(LENT_BOARD(node), lifetime));
+}
+
+/* Forgets what was granted to the mission's ports. What waits there would be
+ * lost, so nothing may. */
+static void close_ledger(struct node *node, uint32_t mission)
+{
+    for (uint32_t port = 0; port < HJ_PORTS; port++) {
+        struct wire *wire = &node->wires[port];
+
+        if (node_mission(node, port) != mission)
+            continue;
+        if (node_waiting(node, port) > 0)
+            line_refuse("a mission for which nothing waits", node->name);
+        wire->took = wire->dropped = wire->handed_out = 0;
+    }
+}
+
+void set_fresh(void)
+{
+    struct node *node = &nodes[line_node()];
+    uint32_t mission = mission_said();
+
+    close_ledger(node, mission);
+    taken(hj_fresh_mission(LENT_MISSION(node, mission), mission));
 }

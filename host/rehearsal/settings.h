@@ -11,5 +11,7 @@ void set_link(void);
 void set_route(void);
 void set_group(void);
 void set_path(void);
+void set_lifetime(void);
+void set_fresh(void);
 
 #endif

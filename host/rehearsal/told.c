@@ -80,6 +80,15 @@ void told_addresses(const hj_fields *fields)
     address(fields->destination_low, fields->extended);
 }
 
+/* Whether it is flooded, and with which stamp. */
+static void told_flood(const hj_fields *fields)
+{
+    if (fields->routing == FLOODED)
+        printf(", flooded");
+    if (fields->stamp_format != HJ_STAMP_NONE)
+        printf(", stamp %" PRIu64, fields->time);
+}
+
 void told_send(uint32_t node, uint32_t port, const hj_fields *fields,
                const struct datagram *datagram)
 {
@@ -96,9 +105,10 @@ void told_send(uint32_t node, uint32_t port, const hj_fields *fields,
         printf(", precedence %" PRIu32, fields->precedence);
     if (fields->has_hop_count)
         printf(", hop count %" PRIu32, fields->hop_count);
-    printf("%s%s\n", fields->has_checksum ? ", checksum" : "",
+    printf("%s%s", fields->has_checksum ? ", checksum" : "",
            fields->intermediate ? ", intermediate delivery" : "");
-    printf("%14sheader %" PRIu32 " + data %" PRIu32 " = %" PRIu32 " octets\n",
+    told_flood(fields);
+    printf("\n%14sheader %" PRIu32 " + data %" PRIu32 " = %" PRIu32 " octets\n",
            "", datagram->header, datagram->length - datagram->header,
            datagram->length);
 }
@@ -142,6 +152,19 @@ void told_refused_take(uint32_t node, uint32_t port, uint32_t number)
     at_now();
     printf("%s port %" PRIu32 ": a take is REFUSED (%" PRIu32 "), %s\n",
            nodes[node].name, port, number, number_name(number));
+}
+
+void told_sweep(uint32_t node, uint32_t mission, uint32_t second,
+                uint32_t refusal, uint32_t before)
+{
+    at_now();
+    printf("%s sweeps at second %" PRIu32, nodes[node].name, second);
+    if (mission != 0)
+        printf(", mission %" PRIu32, mission);
+    if (refusal != HJ_DONE)
+        printf(": REFUSED (%" PRIu32 "), %s", refusal, number_name(refusal));
+    printf("; pairs held: %" PRIu32 " before, %" PRIu32 " after\n", before,
+           node_pairs(&nodes[node], mission));
 }
 
 /* ---- What a relay answered --------------------------------------------- */
@@ -232,7 +255,7 @@ static void counters_moved(const struct node *node, uint32_t mission,
             between = ",";
         }
     }
-    puts("");
+    puts(*between ? "" : " none moved");
 }
 
 void told_arrival(uint32_t node, uint32_t port, const struct kept *kept,

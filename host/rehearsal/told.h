@@ -15,6 +15,9 @@ void told_send(uint32_t node, uint32_t port, const hj_fields *fields,
                const struct datagram *datagram);
 void told_start(uint32_t node, uint32_t port, bool own, hj_answer entry);
 void told_refused_take(uint32_t node, uint32_t port, uint32_t number);
+/* A sweep by the mission, which held so many pairs before it. */
+void told_sweep(uint32_t node, uint32_t mission, uint32_t second,
+                uint32_t refusal, uint32_t before);
 /* What came by the port, and the mission's counters before it did. */
 void told_arrival(uint32_t node, uint32_t port, const struct kept *kept,
                   const uint32_t *before);

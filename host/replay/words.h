@@ -26,6 +26,9 @@ answer_word answer_checksum;
 answer_word answer_read;
 answer_word answer_build;
 
+/* words_pairs.c: the pairs that a mission holds. */
+answer_word answer_pairs;
+
 /* words_relay.c: the relay. answer_new looks at no argument. */
 answer_word answer_new;
 answer_word answer_records;

@@ -16,6 +16,7 @@
 
 #include "harpjuniper.h"
 #include "lent.h"
+#include "stamp.h"
 
 static bool answer_of_four_octets(const struct trace_word *arguments,
                                   struct text *answer, uint32_t of(uint32_t))
@@ -59,21 +60,6 @@ static unsigned address_octets(const hj_fields *fields)
     return fields->extended ? 4 : 1;
 }
 
-/* Octets of the time field; the P-field octet is not among them. */
-static unsigned time_octets(uint32_t format, uint32_t p_field)
-{
-    switch (format) {
-    case HJ_STAMP_IMPLICIT:
-        return 3;
-    case HJ_STAMP_EXPLICIT:
-        return 1 + p_field / 4 % 4 + p_field % 4;
-    case HJ_STAMP_BINARY:
-        return 4;
-    default:
-        return 0;
-    }
-}
-
 static void add_number(struct text *answer, uint32_t number)
 {
     text_string(answer, " ");
@@ -99,13 +85,9 @@ static void add_address(struct text *answer, unsigned count, uint64_t high,
 
 static void add_stamp(struct text *answer, const hj_fields *fields)
 {
-    unsigned count = time_octets(fields->stamp_format, fields->p_field);
-
     add_number(answer, fields->stamp_format);
-    text_string(answer, count > 0 ? " " : " -");
-    if (fields->stamp_format == HJ_STAMP_EXPLICIT)
-        text_digits(answer, fields->p_field, 2);
-    text_digits(answer, fields->time, 2 * count);
+    text_string(answer, " ");
+    stamp_add(answer, fields->stamp_format, fields->p_field, fields->time);
 }
 
 static void add_fields(struct text *answer, const hj_fields *fields)
@@ -143,8 +125,9 @@ static bool shows_all(const hj_fields *fields)
     unsigned address = address_octets(fields);
     uint64_t hidden = beyond(fields->destination_low, address) |
                       beyond(fields->source_low, address) |
-                      beyond(fields->time, time_octets(fields->stamp_format,
-                                                       fields->p_field));
+                      beyond(fields->time,
+                             stamp_time_octets(fields->stamp_format,
+                                               fields->p_field));
 
     if (address != 16)
         hidden |= fields->destination_high | fields->source_high;
@@ -236,7 +219,8 @@ static bool take_stamp(const struct trace_word *words, hj_fields *fields)
         return false;
     if (fields->stamp_format == HJ_STAMP_EXPLICIT && count > 0)
         fields->p_field = octets[at++];
-    if (count - at != time_octets(fields->stamp_format, fields->p_field))
+    if (count - at !=
+        stamp_time_octets(fields->stamp_format, fields->p_field))
         return false;
     for (; at < count; at++)
         fields->time = fields->time << 8 | octets[at];

@@ -145,7 +145,8 @@ static bool take_arrival(const struct trace_word *words,
     arrival->how.slot = (uint16_t)slot;
     arrival->room = room;
     return trace_octets(words[3], arrival->octets, &arrival->count) &&
-           trace_mission(words[4], &arrival->mission);
+           trace_number_32(words[4], &arrival->how.second) &&
+           trace_mission(words[5], &arrival->mission);
 }
 
 /* Whether the parts that a trace does not show go with those that it does. */
@@ -195,7 +196,7 @@ static bool lengths_agree(hj_verdict verdict, const uint8_t *octets,
 static bool counts(uint32_t refusal)
 {
     return refusal != HJ_BAD_NUMBER && refusal != HJ_NO_PORT &&
-           refusal != HJ_SHORT_OUTPUT;
+           refusal != HJ_SHORT_OUTPUT && refusal != HJ_SECOND_PAST;
 }
 
 static void add_verdict(struct text *answer, hj_verdict verdict, size_t room)

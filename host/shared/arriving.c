@@ -12,9 +12,9 @@ struct place {
     size_t at;
 };
 
-static uint32_t take(struct place *place, unsigned count)
+static uint64_t take_wide(struct place *place, unsigned count)
 {
-    uint32_t number = 0;
+    uint64_t number = 0;
 
     for (; count > 0; count--, place->at++)
         number = number << 8 |
@@ -22,17 +22,22 @@ static uint32_t take(struct place *place, unsigned count)
     return number;
 }
 
-/* Passes over the timestamp, whatever it says. */
-static void pass_stamp(unsigned format, struct place *place)
+/* The last four octets, of as many as are taken. */
+static uint32_t take(struct place *place, unsigned count)
 {
-    uint32_t p_field;
+    return (uint32_t)take_wide(place, count);
+}
 
-    if (format == 2) {
-        p_field = take(place, 1);
-        place->at += 1 + p_field / 4 % 4 + p_field % 4;
-    } else if (format != 0) {
-        place->at += format == 1 ? 3 : 4;
+static void take_stamp(struct arriving *arriving, struct place *place)
+{
+    static const unsigned OCTETS[] = {0, 3, 0, 4};
+    unsigned octets = OCTETS[arriving->stamp_format];
+
+    if (arriving->stamp_format == 2) {
+        arriving->p_field = take(place, 1);
+        octets = 1 + arriving->p_field / 4 % 4 + arriving->p_field % 4;
     }
+    arriving->time = take_wide(place, octets);
 }
 
 static void take_elements(struct arriving *arriving, struct place *place)
@@ -52,7 +57,7 @@ static void take_elements(struct arriving *arriving, struct place *place)
     }
     if (arriving->has_hop_count)
         arriving->hop_count = take(place, 1);
-    pass_stamp(arriving->stamp_format, place);
+    take_stamp(arriving, place);
     arriving->header = (uint32_t)place->at + arriving->has_expanded +
                        2 * arriving->has_checksum;
 }

@@ -23,7 +23,9 @@ struct arriving {
     bool has_hop_count;
     bool has_expanded;
     bool has_checksum;
-    unsigned stamp_format;
+    unsigned stamp_format; /* 0 where there is no timestamp */
+    uint32_t p_field;      /* 0 where absent, so for the time */
+    uint64_t time;
     uint32_t destination; /* a path where there is no source */
     uint32_t source;
     uint32_t precedence; /* 0 where absent, so for routing */
@@ -32,5 +34,8 @@ struct arriving {
 };
 
 struct arriving arriving_read(const uint8_t *octets, size_t count);
+
+/* The routing requirements of a flooded datagram. */
+#define ARRIVING_FLOODED 3
 
 #endif

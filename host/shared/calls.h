@@ -40,6 +40,7 @@ enum call_object {
     ON_COUNTER,
     ON_QUEUE,
     ON_ADDRESS,
+    ON_PAIR,
     CALL_OBJECTS
 };
 
@@ -69,7 +70,7 @@ struct call_facts {
     const char *word;      /* null where traces have none */
     const char *arguments; /* likewise */
     uint8_t answers;
-    uint8_t ends[13]; /* a second 0 ends them */
+    uint8_t ends[15]; /* a second 0 ends them */
 };
 
 extern const struct call_facts call_facts[LINES];

@@ -30,6 +30,8 @@ static plain_refusal set_board(plain_board *board, plain_list list,
         return PLAIN_GOOD;
     case CALL_SET_ROUTER:
         return plain_set_router(board, n[0]);
+    case CALL_SET_LIFETIME:
+        return plain_set_lifetime(board, n[0]);
     case CALL_SET_PORT:
         return plain_set_port(board, n[0], &port);
     case CALL_SET_ROUTE:
@@ -59,6 +61,8 @@ plain_refusal plainly_set(struct plainly *relay, uint32_t mission,
         return plain_clear_group(view.mission, n[0]);
     case CALL_CLEAR_PATH:
         return plain_clear_path(view.mission, n[0]);
+    case CALL_SWEEP:
+        return plain_sweep(&view, n[0]);
     default:
         return set_board(&relay->board, list, call, n);
     }

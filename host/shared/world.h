@@ -25,6 +25,7 @@
 #define WORLD_PLACES 512 /* of a list, at most */
 #define WORLD_GROUPS 16
 #define WORLD_PATHS 16
+#define WORLD_PAIRS 128 /* that floods are drawn from, at most */
 #define WORLD_MOST_LENGTH 8191
 
 /* What the networks of a history are. */
@@ -33,6 +34,14 @@ enum nets {
     DOMAINS,    /* domains of net 10 */
     INTERNET,   /* no net 10 */
     ALL_NETS
+};
+
+/* What a flood is known by. */
+struct world_pair {
+    uint32_t source;
+    unsigned format; /* 1 to 3 */
+    uint8_t p_field;
+    uint8_t time[7]; /* as many of them as the format says */
 };
 
 struct world {
@@ -50,6 +59,12 @@ struct world {
     } routes[WORLD_ROUTES];
     uint32_t groups[WORLD_MISSIONS][WORLD_GROUPS]; /* 0 where empty */
     uint32_t paths[WORLD_MISSIONS][WORLD_PATHS];   /* 0 where empty */
+    struct world_pair pairs[WORLD_PAIRS];
+    uint32_t pair_count;
+    uint32_t floods; /* of 100 datagrams */
+    uint32_t lifetime;
+    uint32_t seconds[WORLD_MISSIONS];     /* the latest */
+    uint32_t some_second[WORLD_MISSIONS]; /* an earlier one */
 };
 
 /* A world in which nothing is set, with a list of so many places. */

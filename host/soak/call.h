@@ -65,16 +65,19 @@ enum {
     TOLD_REWRITTEN
 };
 
-/* Where the words have what: a port's on the board, the others in a mission's
- * state, whose first word is its number. */
+/* Where the words have what: ports and the lifetime on the board, the others in
+ * a mission's state, whose first word is its number. */
 enum {
     SOAK_PORTS_AT = 1,
     SOAK_PORT_WORDS = 5,
+    SOAK_LIFETIME_AT = 41,
     SOAK_GROUPS_AT = 1,
     SOAK_PATHS_AT = 65,
     SOAK_QUEUES_AT = 129,
+    SOAK_QUEUE_WORDS = HJ_QUEUE + 1,
     SOAK_COUNTERS_AT = 393,
-    SOAK_QUEUE_WORDS = HJ_QUEUE + 1
+    SOAK_LAST_SECOND_AT = 410,
+    SOAK_PAIRS_AT = 411
 };
 
 #endif

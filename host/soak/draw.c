@@ -10,6 +10,7 @@
 
 #include "numbers.h"
 #include "octets.h"
+#include "shared/floods.h"
 
 static uint32_t draw_set(const struct world *world, struct random *random)
 {
@@ -52,6 +53,7 @@ uint32_t soak_places(enum call which, const struct world *world)
         [ON_MISSION] = HJ_MISSIONS, [ON_PORT] = HJ_PORTS,
         [ON_GROUP] = HJ_GROUPS,     [ON_PATH] = HJ_PATHS,
         [ON_COUNTER] = HJ_COUNTERS, [ON_QUEUE] = HJ_PORTS,
+        [ON_PAIR] = HJ_PAIRS,
         [ON_ADDRESS] = WORLD_ROUTES /* the prefix of each */};
 
     return call_facts[which].object == ON_ROUTE
@@ -73,7 +75,7 @@ static void spoil(struct soak_call *call, const struct world *world,
 }
 
 void soak_draw_setting(struct soak_call *call, enum call which,
-                       const struct world *world, struct random *random)
+                       struct world *world, struct random *random)
 {
     uint32_t *n = call->numbers;
 
@@ -83,6 +85,10 @@ void soak_draw_setting(struct soak_call *call, enum call which,
         n[0] = world->mission;
     } else if (which == CALL_SET_ROUTER) {
         n[0] = !random_one_in(random, 8);
+    } else if (which == CALL_SET_LIFETIME) {
+        n[0] = floods_lifetime(world, random);
+    } else if (which == CALL_SWEEP) {
+        n[0] = floods_sweep(world, random);
     } else if (which == CALL_SET_PORT) {
         draw_port(n, world, random);
     } else if (which == CALL_SET_ROUTE) {
@@ -98,13 +104,14 @@ void soak_draw_setting(struct soak_call *call, enum call which,
     }
 }
 
-static void draw_receive(struct soak_call *call, const struct world *world,
+static void draw_receive(struct soak_call *call, struct world *world,
                          struct random *random)
 {
     call->numbers[0] = random_one_in(random, 24)
                            ? soak_odd_number(world, random)
                            : world_port(world, random);
     call->numbers[1] = random_below(random, 65536);
+    call->numbers[2] = floods_second(world, random);
     call->room = HJ_OUTPUT_ROOM;
     if (random_one_in(random, 8))
         call->room +=
@@ -146,7 +153,7 @@ static void draw_stateless(struct soak_call *call, const struct world *world,
 }
 
 void soak_draw_call(struct soak_call *call, enum call which,
-                    const struct world *world, struct random *random)
+                    struct world *world, struct random *random)
 {
     call->which = which;
     call->count = 0;
@@ -204,6 +211,11 @@ void soak_note(const struct soak_call *call, struct world *world)
 {
     if (call->which == CALL_FRESH_BOARD) {
         memset(world->ports_of, 0, sizeof world->ports_of);
+        world->lifetime = 0;
+    } else if (call->which == CALL_SET_LIFETIME) {
+        world->lifetime = call->numbers[0];
+    } else if (call->which == CALL_SWEEP) {
+        world->seconds[call->mission] = call->numbers[0];
     } else if (call->which == CALL_FRESH_MISSION) {
         memset(world->groups[call->mission], 0, sizeof *world->groups);
         memset(world->paths[call->mission], 0, sizeof *world->paths);
@@ -231,4 +243,23 @@ void soak_draw_record(hj_record *record, const struct world *world,
         n[random_below(random, HJ_ROUTE_NUMBERS)] =
             soak_odd_number(world, random);
     memcpy(record, n, sizeof *record);
+}
+
+void soak_draw_pair(uint32_t *words, const struct world *world,
+                    struct random *random)
+{
+    const struct world_pair *pair =
+        &world->pairs[random_below(random, world->pair_count)];
+    struct form form = {.stamp_format = pair->format,
+                        .p_field = pair->p_field};
+    unsigned octets = form_time_octets(&form);
+    uint64_t time = 0;
+
+    for (unsigned i = 0; i < octets; i++)
+        time = time << 8 | pair->time[i];
+    words[0] = pair->format;
+    words[1] = pair->source;
+    words[2] = (pair->format == 2 ? (uint32_t)pair->p_field << 24 : 0) |
+               (uint32_t)(time >> 32);
+    words[3] = (uint32_t)time;
 }

@@ -21,26 +21,12 @@
 /* Sets of elements, each by the octets that it has. */
 enum { HOP_COUNT = 1, CHECKSUM = 2 };
 
-/* The datagram and its verdict, with the words before the call. */
-struct sent {
-    const struct soak_call *call;
-    const struct soak_answer *answer;
-    const plain_header *came;
-    const struct library_lent *due;
-};
-
-static const uint32_t *port_words(const struct sent *sent, uint32_t port)
+static uint32_t domain(const struct soak_judged *sent, uint32_t port)
 {
-    return sent->due->board->words + SOAK_PORTS_AT + SOAK_PORT_WORDS * port;
+    return soak_port_words(sent, port)[1] & 0xffffff00;
 }
 
-static uint32_t domain(const struct sent *sent, uint32_t port)
-{
-    return port_words(sent, port)[1] & 0xffffff00;
-}
-
-/* An address that came, as four octets. */
-static uint32_t filled_in(const struct sent *sent, plain_wide address)
+uint32_t soak_filled_in(const struct soak_judged *sent, plain_wide address)
 {
     uint32_t above = sent->came->fields.extended
                          ? 0
@@ -49,7 +35,7 @@ static uint32_t filled_in(const struct sent *sent, plain_wide address)
     return above | (uint32_t)address.low;
 }
 
-static bool leaves_domain(const struct sent *sent, uint32_t port)
+static bool leaves_domain(const struct soak_judged *sent, uint32_t port)
 {
     return !sent->came->fields.extended &&
            domain(sent, port) != domain(sent, sent->call->numbers[0]);
@@ -81,7 +67,7 @@ static struct form form_of(const plain_fields *fields)
     return form;
 }
 
-static struct form form_for(const struct sent *sent, uint32_t port,
+static struct form form_for(const struct soak_judged *sent, uint32_t port,
                             uint32_t added)
 {
     const plain_fields *fields = &sent->came->fields;
@@ -90,8 +76,9 @@ static struct form form_for(const struct sent *sent, uint32_t port,
     form.address_octets =
         fields->extended || leaves_domain(sent, port) ? 4 : 1;
     form_put_address(&form, form.destination,
-                     filled_in(sent, fields->destination));
-    form_put_address(&form, form.source, filled_in(sent, fields->source));
+                     soak_filled_in(sent, fields->destination));
+    form_put_address(&form, form.source,
+                     soak_filled_in(sent, fields->source));
     if (added & HOP_COUNT) {
         form.has_hop_count = true;
         form.hop_count = 64;
@@ -102,9 +89,20 @@ static struct form form_for(const struct sent *sent, uint32_t port,
     return form;
 }
 
+uint32_t soak_octets_without_route(const struct soak_judged *sent,
+                                   uint32_t port)
+{
+    struct form form = form_for(sent, port, 0);
+    uint8_t header[FORM_MOST_HEADER];
+
+    return leaves_domain(sent, port) ? (uint32_t)form_write(&form, 0, header)
+                                     : sent->came->header_length;
+}
+
 /* Of the elements that the header lacks, those that the route of the
- * destination asks for; none where it does not lead to just this port. */
-static uint32_t asked_for(const struct sent *sent, uint32_t port)
+ * destination asks for; none where it does not lead to just this port, or the
+ * datagram is flooded and takes none. */
+static uint32_t asked_for(const struct soak_judged *sent, uint32_t port)
 {
     static const uint32_t BY_CAPABILITIES[] = {
         [HJ_CAPABLE_CHECKSUM] = CHECKSUM,
@@ -112,9 +110,11 @@ static uint32_t asked_for(const struct sent *sent, uint32_t port)
         [HJ_CAPABLE_BOTH] = CHECKSUM | HOP_COUNT};
     const plain_fields *fields = &sent->came->fields;
     const hj_record *route =
-        list_longest(sent->due, filled_in(sent, fields->destination), false);
+        list_longest(sent->due, soak_filled_in(sent, fields->destination),
+                     false);
 
     if (!fields->source_present || route == NULL || route->port != port ||
+        fields->routing == PLAIN_ROUTING_FLOOD ||
         sent->answer->parts[TOLD_TOOK] != (uint64_t)1 << port)
         return 0;
     return BY_CAPABILITIES[route->capabilities] &
@@ -122,7 +122,7 @@ static uint32_t asked_for(const struct sent *sent, uint32_t port)
              (fields->checksum_present ? CHECKSUM : 0u));
 }
 
-static const char *write_again(const struct sent *sent, uint32_t port,
+static const char *write_again(const struct soak_judged *sent, uint32_t port,
                                uint8_t *output)
 {
     uint32_t data = sent->came->length - sent->came->header_length;
@@ -142,7 +142,7 @@ static const char *write_again(const struct sent *sent, uint32_t port,
 
 /* ---- The header of each port --------------------------------------------- */
 
-static const char *write_header(const struct sent *sent, uint32_t port,
+static const char *write_header(const struct soak_judged *sent, uint32_t port,
                                 uint8_t *output)
 {
     const plain_header *came = sent->came;
@@ -155,7 +155,7 @@ static const char *write_header(const struct sent *sent, uint32_t port,
         return "a path that left its domain";
     if (leaves_domain(sent, port) && !rewritten)
         return "a one-octet address that left its domain";
-    if (length > HJ_MOST_LENGTH || length > port_words(sent, port)[3])
+    if (length > HJ_MOST_LENGTH || length > soak_port_words(sent, port)[3])
         return "a copy that is too big for its port";
     if (rewritten)
         return write_again(sent, port, output);
@@ -163,24 +163,21 @@ static const char *write_header(const struct sent *sent, uint32_t port,
     return NULL;
 }
 
-const char *soak_headers(const struct soak_call *call,
-                         const struct soak_answer *answer,
-                         const plain_header *came,
-                         const struct library_lent *due, uint8_t *output)
+const char *soak_headers(const struct soak_judged *sent, uint8_t *output)
 {
-    const struct sent sent = {call, answer, came, due};
+    const struct soak_answer *answer = sent->answer;
     uint64_t took = answer->parts[TOLD_TOOK];
     uint64_t rewritten = answer->parts[TOLD_REWRITTEN];
     const char *wrong = NULL;
 
-    if (answer->parts[TOLD_DATA_FROM] != came->header_length)
+    if (answer->parts[TOLD_DATA_FROM] != sent->came->header_length)
         return "the data begin elsewhere";
     if ((rewritten & ~took) != 0 ||
         (rewritten != 0) != (answer->parts[TOLD_REWRITTEN_OCTETS] != 0))
         return "rewritten headers, and none";
     for (uint32_t port = 0; port < HJ_PORTS && wrong == NULL; port++) {
         if (took >> port & 1)
-            wrong = write_header(&sent, port, output + HJ_HEADER_ROOM * port);
+            wrong = write_header(sent, port, output + HJ_HEADER_ROOM * port);
     }
     return wrong;
 }

@@ -12,6 +12,7 @@
 #include <string.h>
 
 #include "numbers.h"
+#include "shared/floods.h"
 
 #define MOST_OCTETS 300
 
@@ -81,12 +82,15 @@ static void draw_form(struct form *form, const struct world *world,
                       struct random *random)
 {
     static const uint8_t HOPS[] = {0, 1, 2, 3, 64, 255};
+    bool flooded = floods_next(world, random);
 
     form_choose(form, random);
     if (form->address_octets == 16 && !random_one_in(random, 8)) {
         form->address_octets = random_one_in(random, 2) ? 1 : 4;
         form->has_source = !random_one_in(random, 4);
     }
+    if (flooded && !random_one_in(random, 8))
+        form->has_source = true;
     if (form->address_octets == 1 && world->nets == INTERNET &&
         !random_one_in(random, 8))
         form->address_octets = 4; /* most would end in 7 */
@@ -99,6 +103,8 @@ static void draw_form(struct form *form, const struct world *world,
     form_put_address(form, form->source,
                      random_one_in(random, 16) ? draw_address(world, random)
                                                : world_unicast(world, random));
+    if (flooded)
+        floods_form(world, form, random);
     form->control_octets = form_shortest_control(form);
     if (random_one_in(random, 8))
         form->control_octets = 3;

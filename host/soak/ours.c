@@ -80,7 +80,8 @@ static void receive(const struct soak_call *call,
                     const struct library_lent *lent, const uint8_t *octets,
                     uint8_t *output, struct soak_answer *answer)
 {
-    hj_arrival arrival = {call->numbers[0], (uint16_t)call->numbers[1], 0};
+    hj_arrival arrival = {call->numbers[0], (uint16_t)call->numbers[1],
+                          call->numbers[2]};
     hj_verdict verdict =
         hj_receive(lent->board, lent->board_words, lent->mission,
                    lent->mission_words, lent->routes, lent->route_count,

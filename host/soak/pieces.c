@@ -214,8 +214,8 @@ void pieces_write_record(const struct world *world, struct random *random)
     soak_lent_keep(&routes);
 }
 
-/* A word of the board or of a mission's state; often a queue's count, or whose
- * a port or a state is. */
+/* A word of the board or of a mission's state; often a queue's count, the last
+ * second, a pair's, or whose a port or a state is. */
 static uint32_t *some_word(struct soak_lent **piece, struct random *random)
 {
     uint32_t way = random_below(random, 8);
@@ -232,6 +232,9 @@ static uint32_t *some_word(struct soak_lent **piece, struct random *random)
     else if (way == 4)
         at = SOAK_QUEUES_AT +
              SOAK_QUEUE_WORDS * random_below(random, HJ_PORTS) + HJ_QUEUE;
+    else if (way == 5) /* the first pairs, which are held first */
+        at = SOAK_LAST_SECOND_AT +
+             random_below(random, 1 + 4 * HJ_PAIR_NUMBERS);
     return (uint32_t *)soak_lent_piece(*piece) + at;
 }
 
@@ -284,6 +287,48 @@ static void own_garbage(struct random *random)
     soak_lent_keep(&board);
 }
 
+/* Pairs that may come again, in places of any words: some free, with whatever
+ * else stands there, some held, older than what comes and younger. */
+static void pair_garbage(hj_mission *mission, const struct world *world,
+                         uint32_t second, struct random *random)
+{
+    for (uint32_t i = 0; i < HJ_PAIRS; i++) {
+        uint32_t *pair = mission->words + SOAK_PAIRS_AT + HJ_PAIR_NUMBERS * i;
+        uint32_t way = random_below(random, 6);
+
+        if (way == 0)
+            pair[0] = 0;
+        if (way > 2)
+            continue;
+        if (way > 0)
+            soak_draw_pair(pair, world, random);
+        pair[4] = second - random_below(random, 20) + 5;
+    }
+}
+
+/* A last second far ahead shuts out every datagram, so some are not. */
+static void remember_garbage(const struct world *world, struct random *random)
+{
+    for (uint32_t i = 0; i < HJ_MISSIONS; i++) {
+        hj_mission *mission = (hj_mission *)soak_lent_piece(&missions[i]);
+        uint32_t second = world->seconds[i];
+
+        if (random_one_in(random, 4))
+            continue;
+        mission->words[SOAK_LAST_SECOND_AT] =
+            second - (second > 9 ? random_below(random, 10) : second);
+        if (random_one_in(random, 2))
+            pair_garbage(mission, world, second, random);
+        soak_lent_keep(&missions[i]);
+    }
+    if (random_one_in(random, 2)) {
+        hj_board *of_all = (hj_board *)soak_lent_piece(&board);
+
+        of_all->words[SOAK_LIFETIME_AT] = random_below(random, 10);
+        soak_lent_keep(&board);
+    }
+}
+
 void pieces_fill_with_garbage(const struct world *world,
                               struct random *random)
 {
@@ -293,4 +338,5 @@ void pieces_fill_with_garbage(const struct world *world,
     if (random_one_in(random, 2))
         fill(&routes, world, random);
     own_garbage(random);
+    remember_garbage(world, random);
 }

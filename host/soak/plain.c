@@ -116,8 +116,8 @@ static void receive(const struct soak_call *call, uint8_t *output,
     plain_view view = plainly_view(&relay, call->mission, list_of(call));
     plain_slot slot = {(uint16_t)call->numbers[1]};
     plain_verdict verdict =
-        plain_receive(&view, call->numbers[0], slot, call->octets,
-                      call->count, output, call->room);
+        plain_receive(&view, call->numbers[0], slot, call->numbers[2],
+                      call->octets, call->count, output, call->room);
 
     parts[0] = verdict.refusal;
     parts[TOLD_LOCAL] = verdict.local;
@@ -147,6 +147,10 @@ static void look(const struct soak_call *call, uint64_t *parts)
 
     if (call->which == CALL_GET_ROUTER) {
         parts[1] = relay.board.router;
+    } else if (call->which == CALL_GET_LIFETIME) {
+        parts[1] = relay.board.lifetime;
+    } else if (call->which == CALL_LAST_SECOND) {
+        parts[1] = mission->last_second;
     } else if (call->which == CALL_WAITING) {
         parts[0] = plain_waiting(mission, number, &waiting);
         parts[1] = waiting;
@@ -214,7 +218,20 @@ static void place_word(const struct soak_call *call, uint64_t *parts)
     put_word(call, call->which == CALL_GROUP_WORD ? groups : paths, 4, parts);
 }
 
-static void setting_word(const struct soak_call *call, uint64_t *parts)
+static void pair_word(const struct soak_call *call, uint64_t *parts)
+{
+    const plain_pair *pair =
+        &relay.missions[call->mission].pairs[call->numbers[0]];
+    const uint32_t all[] = {pair->format, pair->source.bits,
+                            pair->p_field << 24 |
+                                (uint32_t)(pair->time >> 32),
+                            (uint32_t)pair->time, pair->second};
+
+    put_word(call, all, HJ_PAIR_NUMBERS, parts);
+}
+
+/* One number of a port, a record or a place. */
+static void some_word(const struct soak_call *call, uint64_t *parts)
 {
     uint32_t number = call->numbers[0];
 
@@ -227,6 +244,8 @@ static void setting_word(const struct soak_call *call, uint64_t *parts)
               call->which == CALL_PATH_WORD) &&
              number < PLAIN_GROUPS)
         place_word(call, parts);
+    else if (call->which == CALL_PAIR_WORD && number < PLAIN_PAIRS)
+        pair_word(call, parts);
     else
         parts[0] = PLAIN_SET_NUMBER;
 }
@@ -241,13 +260,12 @@ static void with_state(const struct soak_call *call, uint8_t *output,
         receive(call, output, parts);
     else if (call->which == CALL_TAKE)
         take(call, parts);
-    else if (call->which == CALL_COUNTER || call->which == CALL_WAITING ||
-             call->which == CALL_GET_ROUTER)
-        look(call, parts);
     else if (call->which == CALL_SEARCH)
         search(call, parts);
+    else if (call_facts[call->which].numbers == 2)
+        some_word(call, parts);
     else
-        setting_word(call, parts);
+        look(call, parts);
 }
 
 void soak_plain(const struct soak_call *call, hj_record *routes,

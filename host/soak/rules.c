@@ -2,12 +2,12 @@
  * rules.c: what holds of a call and its answer on whatever words and records,
  * garbage included. What is due is made from what stood before the call and
  * from what the answer says: a refused setting changes nothing, a taken one its
- * own record, a verdict the counters it names and the queues of the ports that
- * took. Every other word is then due as it was.
+ * own record, a verdict the last second, the counters it names and the queues
+ * of the ports that took. Every other word is then due as it was.
  *
  * The reader's part comes from host/plain: a header that is refused there is
- * refused here by the same number. What the list gives is list.c's, and what is
- * due of the headers sent on is that of headers.c.
+ * refused here by the same number. What the list gives is list.c's, what is due
+ * of the headers sent on is that of headers.c, and of floods that of floods.c.
  *
  * The awkward case is a queue in a state that no history leaves. Entries behind
  * those that wait, and counts over 32, are words like any other: a newcomer
@@ -19,11 +19,10 @@
 #include <stdbool.h>
 #include <string.h>
 
+#include "floods.h"
 #include "headers.h"
 #include "list.h"
 #include "plain/plain_header.h"
-
-#define NONE 0xff
 
 /* ---- Refusals ------------------------------------------------------------ */
 
@@ -64,6 +63,7 @@ static const struct records RECORDS[CALL_OBJECTS] = {
     [ON_GROUP] = {SOAK_GROUPS_AT, HJ_GROUPS, 4},
     [ON_PATH] = {SOAK_PATHS_AT, HJ_PATHS, 4},
     [ON_COUNTER] = {SOAK_COUNTERS_AT, HJ_COUNTERS, 1},
+    [ON_PAIR] = {SOAK_PAIRS_AT, HJ_PAIRS, HJ_PAIR_NUMBERS},
     [ON_QUEUE] = {SOAK_QUEUES_AT, HJ_PORTS, SOAK_QUEUE_WORDS}};
 
 /* How many there are of the call's object. */
@@ -136,18 +136,45 @@ static const char *fresh(const struct soak_call *call,
     return only(answer, HJ_DONE);
 }
 
+/* Whether the second of a datagram or a sweep is under the last one. */
+static bool is_past(const struct library_lent *due, uint32_t second)
+{
+    return second < due->mission->words[SOAK_LAST_SECOND_AT];
+}
+
+static const char *swept(const struct soak_call *call,
+                         const struct soak_answer *answer,
+                         const struct library_lent *due)
+{
+    if (is_past(due, call->numbers[0]))
+        return only(answer, HJ_SECOND_PAST);
+    soak_sweep(due, call->numbers[0]);
+    return only(answer, HJ_DONE);
+}
+
+static const char *set_board(const struct soak_call *call,
+                             const struct soak_answer *answer,
+                             const struct library_lent *due)
+{
+    bool of_router = call->which == CALL_SET_ROUTER;
+
+    if (of_router && call->numbers[0] > 1)
+        return only(answer, HJ_BAD_CODE);
+    due->board->words[of_router ? 0 : SOAK_LIFETIME_AT] = call->numbers[0];
+    return only(answer, HJ_DONE);
+}
+
 static const char *set(const struct soak_call *call,
                        const struct soak_answer *answer,
                        const struct library_lent *due)
 {
     if (call_facts[call->which].kind == KIND_FRESH)
         return fresh(call, answer, due);
-    if (call->which != CALL_SET_ROUTER)
-        return placed(call, answer, due);
-    if (call->numbers[0] > 1)
-        return only(answer, HJ_BAD_CODE);
-    due->board->words[0] = call->numbers[0];
-    return only(answer, HJ_DONE);
+    if (call->which == CALL_SWEEP)
+        return swept(call, answer, due);
+    return call_facts[call->which].object == ON_BOARD
+               ? set_board(call, answer, due)
+               : placed(call, answer, due);
 }
 
 /* The calls that only read: the number is a word, as it stands. */
@@ -164,6 +191,10 @@ static const char *looked(const struct soak_call *call,
         word = HJ_QUEUE;
     if (call->which == CALL_GET_ROUTER)
         told.parts[1] = due->board->words[0];
+    else if (call->which == CALL_GET_LIFETIME)
+        told.parts[1] = due->board->words[SOAK_LIFETIME_AT];
+    else if (call->which == CALL_LAST_SECOND)
+        told.parts[1] = due->mission->words[SOAK_LAST_SECOND_AT];
     else if (soak_list_too_long(call) || call->numbers[0] >= places(call) ||
              word >= RECORDS[object].words)
         told.parts[0] = HJ_BAD_NUMBER;
@@ -245,17 +276,27 @@ static const char *taken(const struct soak_call *call,
 /* ---- Verdicts ------------------------------------------------------------ */
 
 /* The counter of a refusal or of a half; none for 0, for 15, and for 12, which
- * is not given. */
+ * is not given. That of all receipts is no number's, so 0 is none. */
 static void count_one(const struct library_lent *due, uint64_t number)
 {
-    static const uint8_t COUNTER[] = {
-        NONE, HJ_IN_BAD_LENGTH, HJ_IN_BAD_VERSION, HJ_IN_BAD_LENGTH,
-        HJ_IN_BAD_ADDRESS, HJ_IN_BAD_CHECKSUM, HJ_IN_BAD_ADDRESS,
-        HJ_IN_BAD_ADDRESS, HJ_UNSUPPORTED, HJ_IN_ADDR_ERRORS,
-        HJ_FORW_HOP_DISCARD, HJ_OUT_NO_ROUTES, NONE, HJ_LEFT_DOMAIN,
-        HJ_TOO_BIG_COUNT, NONE};
+    static const uint8_t COUNTER[CALL_NUMBERS] = {
+        [HJ_SHORT] = HJ_IN_BAD_LENGTH,
+        [HJ_BAD_VERSION] = HJ_IN_BAD_VERSION,
+        [HJ_BAD_LENGTH] = HJ_IN_BAD_LENGTH,
+        [HJ_BAD_FORM] = HJ_IN_BAD_ADDRESS,
+        [HJ_BAD_CHECKSUM] = HJ_IN_BAD_CHECKSUM,
+        [HJ_BAD_ADDRESS] = HJ_IN_BAD_ADDRESS,
+        [HJ_NO_DOMAIN] = HJ_IN_BAD_ADDRESS,
+        [HJ_NOT_CARRIED] = HJ_UNSUPPORTED,
+        [HJ_NOT_FOR_US] = HJ_IN_ADDR_ERRORS,
+        [HJ_HOPS_USED_UP] = HJ_FORW_HOP_DISCARD,
+        [HJ_NO_ROUTE] = HJ_OUT_NO_ROUTES,
+        [HJ_LEAVES_DOMAIN] = HJ_LEFT_DOMAIN,
+        [HJ_TOO_BIG] = HJ_TOO_BIG_COUNT,
+        [HJ_FLOOD_UNMARKED] = HJ_FLOOD_UNMARKED_COUNT,
+        [HJ_PAIRS_HELD] = HJ_PAIRS_HELD_COUNT};
 
-    if (COUNTER[number] != NONE)
+    if (COUNTER[number] != 0)
         ++*record(due, ON_COUNTER, COUNTER[number]);
 }
 
@@ -266,7 +307,8 @@ static const char *onward_fits(const struct soak_answer *answer)
     uint64_t took = answer->parts[TOLD_TOOK];
     uint64_t dropped = answer->parts[TOLD_DROPPED];
 
-    if (onward > HJ_QUEUES_FULL || onward == HJ_NOT_UP ||
+    if ((onward > HJ_QUEUES_FULL && onward != HJ_PAIRS_HELD) ||
+        onward == HJ_NOT_UP ||
         (onward > HJ_SENT_ON && onward < HJ_NOT_FOR_US))
         return "odd onward half";
     if ((took != 0) != (onward == HJ_SENT_ON) || (took & dropped) != 0)
@@ -298,22 +340,33 @@ static const char *copies(const struct soak_call *call,
     return wrong;
 }
 
-static const char *halves(const struct soak_call *call,
-                          const struct soak_answer *answer,
-                          const plain_header *header,
-                          const struct library_lent *due, uint8_t *output)
+/* Without a flood, no and not asked never come together, and 30 never. */
+static const char *flood_fits(const struct soak_judged *sent)
+{
+    uint64_t onward = sent->answer->parts[TOLD_ONWARD];
+
+    if (soak_is_flooded(sent->came))
+        return soak_flood(sent);
+    if (onward == HJ_PAIRS_HELD)
+        return "30 without a flood";
+    return onward == HJ_NOT_ASKED &&
+                   sent->answer->parts[TOLD_LOCAL] == HJ_LOCAL_NO
+               ? "odd local half"
+               : NULL;
+}
+
+/* What the halves count. */
+static const char *count_halves(const struct soak_answer *answer,
+                                const struct library_lent *due)
 {
     uint64_t local = answer->parts[TOLD_LOCAL];
     uint64_t onward = answer->parts[TOLD_ONWARD];
-    const char *wrong = onward_fits(answer);
 
-    if (wrong != NULL)
-        return wrong;
     if (local == HJ_DELIVERED)
         ++*record(due, ON_COUNTER, HJ_IN_DELIVERS);
     else if (local == HJ_UNKNOWN_TP_ID)
         ++*record(due, ON_COUNTER, HJ_IN_UNKNOWN_PROTOS);
-    else if (local != HJ_LOCAL_NO || onward == HJ_NOT_ASKED)
+    else if (local != HJ_LOCAL_NO)
         return "odd local half";
     if (onward == HJ_SENT_ON)
         ++*record(due, ON_COUNTER, HJ_FORW_DATAGRAMS);
@@ -321,19 +374,48 @@ static const char *halves(const struct soak_call *call,
         count_one(due, onward);
     *record(due, ON_COUNTER, HJ_OUT_DISCARDS) +=
         (uint32_t)__builtin_popcountll(answer->parts[TOLD_DROPPED]);
-    wrong = soak_headers(call, answer, header, due, output);
-    return wrong != NULL
-               ? wrong
-               : copies(call, answer, header->fields.precedence, due);
+    return NULL;
+}
+
+static const char *halves(const struct soak_judged *sent, uint8_t *output)
+{
+    const char *wrong = onward_fits(sent->answer);
+
+    if (wrong == NULL)
+        wrong = flood_fits(sent);
+    if (wrong == NULL)
+        wrong = count_halves(sent->answer, sent->due);
+    if (wrong == NULL)
+        wrong = soak_headers(sent, output);
+    return wrong != NULL ? wrong
+                         : copies(sent->call, sent->answer,
+                                  sent->came->fields.precedence, sent->due);
+}
+
+/* A datagram whose header is good and which is carried. */
+static const char *carried(const struct soak_judged *sent, uint8_t *output)
+{
+    uint64_t ended = sent->answer->parts[0];
+    bool unmarked =
+        soak_is_flooded(sent->came) && soak_is_unmarked(sent->came);
+
+    if (ended == HJ_DONE)
+        return unmarked ? "28 is due" : halves(sent, output);
+    if (ended != HJ_BAD_ADDRESS && ended != HJ_NO_DOMAIN &&
+        !(ended == HJ_FLOOD_UNMARKED && unmarked))
+        return "odd refusal of a datagram";
+    count_one(sent->due, ended);
+    return only(sent->answer, ended);
 }
 
 static const char *received(const struct soak_call *call,
                             const struct soak_answer *answer,
                             const struct library_lent *due, uint8_t *output)
 {
-    uint64_t ended = answer->parts[0];
+    const plain_fields *fields;
     plain_header header;
     plain_refusal reading;
+    struct soak_judged sent = {call, answer, &header, due};
 
     if (soak_list_too_long(call))
         return only(answer, HJ_BAD_NUMBER);
@@ -341,22 +423,21 @@ static const char *received(const struct soak_call *call,
         return only(answer, HJ_NO_PORT);
     if (call->room < HJ_OUTPUT_ROOM)
         return only(answer, HJ_SHORT_OUTPUT);
+    if (is_past(due, call->numbers[2]))
+        return only(answer, HJ_SECOND_PAST);
+    due->mission->words[SOAK_LAST_SECOND_AT] = call->numbers[2];
     ++*record(due, ON_COUNTER, HJ_IN_RECEIVES);
     reading = plain_header_read(call->octets, call->count, &header);
     if (reading != PLAIN_GOOD) {
         count_one(due, reading);
         return only(answer, reading);
     }
-    if (header.fields.routing != 0 || header.fields.ipv6) {
+    fields = &header.fields;
+    if ((fields->routing != 0 && !soak_is_flooded(&header)) || fields->ipv6) {
         count_one(due, HJ_NOT_CARRIED);
         return only(answer, HJ_NOT_CARRIED);
     }
-    if (ended == HJ_DONE)
-        return halves(call, answer, &header, due, output);
-    if (ended != HJ_BAD_ADDRESS && ended != HJ_NO_DOMAIN)
-        return "odd refusal of a datagram";
-    count_one(due, ended);
-    return only(answer, ended);
+    return carried(&sent, output);
 }
 
 const char *soak_rules(const struct soak_call *call,

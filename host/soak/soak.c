@@ -4,13 +4,13 @@
  *     soak [seed=N] [calls=N]
  *
  * The run goes round by threes. First a history: a fresh board and two fresh
- * missions, settings, and then datagrams, takes and other calls of both, each
- * made on host/plain too, which must answer the same; at its end every number
- * that can be asked is compared, and the ledger of each mission's ports must
- * close. Then what it left, with a few words changed, and calls on it. Then
- * garbage words and records, and calls on them. One call in eight is lent words
- * of a wrong number, one in six of those with a list another list, of the next
- * length in turn, and others are lent nothing.
+ * missions, settings, and then datagrams, takes, sweeps and other calls of
+ * both, each made on host/plain too, which must answer the same; at its end
+ * every number that can be asked is compared, and the ledger of each mission's
+ * ports must close. Then what it left, with a few words changed, and calls on
+ * it. Then garbage words and records, and calls on them. One call in eight is
+ * lent words of a wrong number, one in six of those with a list another list,
+ * of the next length in turn, and others are lent nothing.
  *
  * After each call the board, both missions' states, the list, the octets and
  * the output, with the guards around them, must be what is due (rules.c). The
@@ -31,11 +31,13 @@
 
 #include "call.h"
 #include "draw.h"
+#include "floods.h"
 #include "list.h"
 #include "ours.h"
 #include "pieces.h"
 #include "plain.h"
 #include "rules.h"
+#include "shared/floods.h"
 #include "shared/options.h"
 #include "shared/settings.h"
 #include "table.h"
@@ -94,6 +96,22 @@ static void count_call(void)
         tally.wrong_missions[call.mission_words]++;
 }
 
+/* Of a datagram that was not refused. */
+static void count_flood(void)
+{
+    uint64_t onward = answer.parts[TOLD_ONWARD];
+    plain_header came;
+
+    if (plain_header_read(call.octets, call.count, &came) != PLAIN_GOOD ||
+        !soak_is_flooded(&came))
+        return;
+    tally.floods_kept += onward == HJ_SENT_ON || onward == HJ_NO_ROUTE ||
+                         onward == HJ_HOPS_USED_UP || onward == HJ_TOO_BIG ||
+                         onward == HJ_QUEUES_FULL;
+    tally.floods_held += onward == HJ_NOT_ASKED &&
+                         answer.parts[TOLD_LOCAL] == HJ_LOCAL_NO;
+}
+
 /* Odd numbers are a failure that was found before. */
 static void count_end(void)
 {
@@ -101,8 +119,10 @@ static void count_end(void)
         return;
     if (answer.parts[0] < CALL_NUMBERS)
         tally.ends[call.which][answer.parts[0]]++;
-    if (call.which == CALL_RECEIVE && answer.parts[0] == HJ_DONE)
+    if (call.which == CALL_RECEIVE && answer.parts[0] == HJ_DONE) {
         tally.onward[answer.parts[TOLD_ONWARD]]++;
+        count_flood();
+    }
     if (call.which == CALL_RECEIVE && answer.parts[TOLD_TOOK] != 0)
         tally.sent[soak_sent_as(&answer)]++;
 }
@@ -167,17 +187,28 @@ static void count_search(void)
     tally.over[found] += longest != NULL && longest->availability != HJ_UP;
 }
 
+static uint32_t held_now(void)
+{
+    struct soak_pieces lent = pieces_lent(&call);
+
+    return soak_held(lent.lent.mission);
+}
+
 static bool make(enum soak_state sort)
 {
     bool other_list = (call_facts[call.which].lent & LENT_R) != 0 &&
                       random_one_in(random, 6);
+    uint32_t held;
 
     pieces_lend(&call, &world);
+    held = held_now();
     if (other_list)
         pieces_lend_other_list(&call, &world, random);
     if (!make_on_pieces(sort == SOAK_HISTORY))
         return false;
     tally.calls_on[sort] += call_has_state(call.which);
+    if (call.which == CALL_SWEEP && answer.parts[0] == HJ_DONE)
+        tally.swept[held_now() < held]++;
     if (call.which == CALL_SEARCH && sort == SOAK_HISTORY &&
         answer.parts[0] == HJ_DONE)
         count_search();
@@ -253,21 +284,36 @@ static uint32_t looked_for(enum call which, uint32_t n)
     return n;
 }
 
-/* Every number of one call, and one beyond the last; so for its words. */
-static bool compare_by(enum call which)
+/* The words of what a reading call asks for by this number; of a pair's place
+ * that is free only the first, since there are so many. */
+static uint32_t words_at(enum call which, uint32_t n)
 {
     static const uint32_t WORDS[CALL_OBJECTS] = {
         [ON_PORT] = HJ_PORT_NUMBERS,   [ON_ROUTE] = HJ_ROUTE_NUMBERS,
-        [ON_GROUP] = HJ_GROUP_NUMBERS, [ON_PATH] = HJ_PATH_NUMBERS};
+        [ON_GROUP] = HJ_GROUP_NUMBERS, [ON_PATH] = HJ_PATH_NUMBERS,
+        [ON_PAIR] = HJ_PAIR_NUMBERS};
+
+    if (which == CALL_PAIR_WORD) {
+        pieces_lend(&call, &world);
+        if (!soak_is_held(pieces_lent(&call).lent.mission, n))
+            return 0;
+    }
+    return WORDS[call_facts[which].object];
+}
+
+/* Every number of one call, and one beyond the last; so for its words. */
+static bool compare_by(enum call which)
+{
     uint8_t numbers = call_facts[which].numbers;
     uint32_t most = numbers == 0 ? 0
                     : call_facts[which].object == ON_ROUTE
                         ? WORLD_ROUTES
                         : soak_places(which, &world);
-    uint32_t words = WORDS[call_facts[which].object];
     bool good = true;
 
     for (uint32_t n = 0; good && n <= most; n++) {
+        uint32_t words = words_at(which, n);
+
         for (uint32_t word = 0; good && word <= words; word++)
             good = make_look(which, looked_for(which, n), word);
     }
@@ -350,16 +396,28 @@ static bool begin_missions(void)
     return good;
 }
 
+/* Few pairs or more than there are places, seldom flooded or mostly. */
+static void begin_floods(void)
+{
+    static const uint32_t PAIRS[] = {6, 20, WORLD_PAIRS};
+    static const uint32_t OF_100[] = {5, 20, 80};
+    uint32_t pairs = PICK(PAIRS);
+
+    floods_begin(&world, pairs, PICK(OF_100), random);
+}
+
 static bool begin_history(void)
 {
     static const uint32_t PLACES[] = {8, 64, 64, 64, 64, 200, HJ_ROUTES};
     enum nets nets = (enum nets)random_below(random, ALL_NETS + 1);
 
     world_begin(&world, nets, PICK(PLACES), random);
+    begin_floods();
     pieces_begin(world.places, random);
     memset(books, 0, sizeof books);
     return make_settings(CALL_FRESH_BOARD, 1) && begin_missions() &&
            make_settings(CALL_SET_ROUTER, 1) &&
+           make_settings(CALL_SET_LIFETIME, 1) &&
            make_settings(CALL_SET_PORT, 2 + random_below(random, 20)) &&
            make_settings(CALL_SET_ROUTE, random_below(random, 60)) &&
            make_settings(CALL_SET_GROUP, random_below(random, 24)) &&

@@ -92,7 +92,7 @@ static const char READING[] = "reading a relay";
 
 static const char *group_of(enum call which)
 {
-    if (call_sets(which))
+    if (call_sets(which) && which != CALL_SWEEP)
         return SETTINGS;
     return call_facts[which].kind == KIND_LOOK ? READING
                                                : call_facts[which].name;
@@ -117,7 +117,9 @@ static struct ends ends_of(const struct soak_tally *tally, const char *group)
 static struct ends onward_ends(const struct soak_tally *tally)
 {
     struct ends ends = {"onward half",
-                        {[HJ_NOT_ASKED] = true, [HJ_SENT_ON] = true},
+                        {[HJ_NOT_ASKED] = true,
+                         [HJ_SENT_ON] = true,
+                         [HJ_PAIRS_HELD] = true},
                         {0}};
 
     for (uint32_t i = HJ_NOT_FOR_US; i <= HJ_QUEUES_FULL; i++)
@@ -149,7 +151,8 @@ static bool all_ends(const struct soak_tally *tally, bool aloud)
 {
     static const char *const GROUPS[] = {"hj_read_words", "hj_build_words",
                                          SETTINGS,        "hj_receive_at",
-                                         "hj_take",       READING};
+                                         "hj_sweep",      "hj_take",
+                                         READING};
     struct ends ends = onward_ends(tally);
     bool met = say_ends(&ends, aloud);
 
@@ -170,9 +173,9 @@ void soak_say_tally(const struct soak_tally *tally)
                tally->made[which], tally->wrong_made[which]);
     printf("%-22s%12" PRIu64 "%22" PRIu64 "\n\n", "all", tally->calls,
            wrong_calls(tally));
-    say("boards of 0 to 100 words tried, but 41",
+    say("boards of 0 to 100 words tried, but 42",
         lengths_met(tally->wrong_boards, MOST_BOARDS));
-    say("missions of 0 to 420 words tried, but 408",
+    say("missions of 0 to 745 words tried, but 731",
         lengths_met(tally->wrong_missions, MOST_MISSIONS));
     say("lists of 0 to 530 records tried",
         lengths_met(tally->lists, MOST_LISTS));
@@ -192,6 +195,10 @@ void soak_say_tally(const struct soak_tally *tally)
     say("  rewritten", tally->sent[SENT_REWRITTEN]);
     say("  kept for some ports, rewritten for others",
         tally->sent[SENT_IN_TWO_FORMS]);
+    say("floods whose pair was kept", tally->floods_kept);
+    say("  was held, and so neither half", tally->floods_held);
+    say("sweeps that freed a pair", tally->swept[1]);
+    say("  that freed none", tally->swept[0]);
     puts("numbers that calls on the right words ended in, each with how "
          "often:");
     all_ends(tally, true);
@@ -207,6 +214,8 @@ bool soak_is_whole(const struct soak_tally *tally)
                  tally->ledgers > 0 &&
                  tally->found[0] > tally->over[0] && tally->over[0] > 0 &&
                  tally->found[1] > tally->over[1] && tally->over[1] > 0 &&
+                 tally->floods_kept > 0 && tally->floods_held > 0 &&
+                 tally->swept[0] > 0 && tally->swept[1] > 0 &&
                  all_ends(tally, false);
 
     for (int sort = 0; sort < SOAK_STATES; sort++)

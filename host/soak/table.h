@@ -26,7 +26,7 @@ static inline enum soak_sent soak_sent_as(const struct soak_answer *answer)
 
 /* Every length up to these is to be met. */
 #define MOST_BOARDS 100
-#define MOST_MISSIONS 420
+#define MOST_MISSIONS 745
 #define MOST_LISTS 530
 
 struct soak_tally {
@@ -48,6 +48,9 @@ struct soak_tally {
     uint64_t sent[SOAK_SENT]; /* datagrams, by their headers */
     uint64_t found[2]; /* searches in histories, without a route and with one */
     uint64_t over[2];  /* of them, where a longer one that is not up matches */
+    uint64_t floods_kept; /* floods whose pair was kept */
+    uint64_t floods_held; /* those that were held, delivered ones left out */
+    uint64_t swept[2];    /* sweeps that freed nothing, and something */
 };
 
 /* The call in a line. */

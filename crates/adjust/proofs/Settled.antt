@@ -17,9 +17,9 @@ use Rattle.adjust.specs.Settled.{settled}
 abbrev pub whole : {A : Type 0} → A → A
 whole x = x
 
--- a mission's own, with its number and counters as they were
+-- a mission's own, with its number, memory and counters as they were
 abbrev pub own : State → Mission → State
-own s m = record { number = s .number; mission = m; counters = s .counters }
+own s m = record { number = s .number; mission = m; memory = s .memory; counters = s .counters }
 
 -- and what of a relay is the mission's own
 abbrev pub ownOf : State → Relay → State

@@ -172,7 +172,7 @@ module _ (r : Relay) (n i : ℕ) where
 
 -- No other part: with the part that was written put back, all is as it was before.
 abbrev pub backPorts : Board → Board → Board
-backPorts b y = record { router = y .router; ports = b .ports }
+backPorts b y = record { router = y .router; ports = b .ports; lifetime = y .lifetime }
 
 abbrev pub backGroups : Relay → Relay → Relay
 backGroups r y = withMission y (allGroups (y .mission) (r .mission .groups))

@@ -9,12 +9,13 @@ use lib.Dec.{eqb}
 use borrow.Author.Tests.{eqb-true, eqb-false}
 use Rattle.routes.specs.declared.Record.{Record}
 use Rattle.state.specs.Relay.{Mission, Relay}
-use Rattle.state.specs.Seen.{Board, State, freshBoard, onMission, onSeated}
+use Rattle.state.specs.Seen.{Board, State, freshBoard, putLifetime, onMission, onMemory, onSeated}
 use Rattle.state.specs.Layout.{boardWords, decodeBoard, encodeBoard, missionWords, decode, encode}
 use Rattle.state.proofs.Sizes.{SizedBoard, board-sized}
 use Rattle.adjust.specs.Settled.{settledFresh, settledRouter, settledPort, settledGroup, settledPath, clearedGroup, clearedPath}
+use Rattle.floods.specs.Sweep.{sweptMemory}
 use Rattle.taking.specs.Taking.{takenRelay}
-use Rattle.relay.specs.Received.{heardEnding, receivedState}
+use Rattle.relay.specs.Received.{heardEnding, heardMemory, receivedState}
 use Rattle.lent_state.specs.View.{Lent, Held, Other, byLent, lentBoard, lent, toldBoard, changedBoard, changed, changedBoth, changedRelay}
 use Rattle.lent_state.proofs.Calls.{board-held-changed, board-other-changed, held-changed, other-changed}
 use Rattle.harpjuniper_receive.specs.Face.{receiveWords}
@@ -32,6 +33,7 @@ use Rattle.contracts.specs.Promised.{
   hj-fresh-mission,
   hj-set-router,
   hj-set-port,
+  hj-set-lifetime,
   hj-set-route,
   hj-clear-route,
   hj-set-group,
@@ -39,21 +41,26 @@ use Rattle.contracts.specs.Promised.{
   hj-clear-group,
   hj-clear-path,
   hj-get-router,
+  hj-get-lifetime,
   hj-port-word,
   hj-route-word,
   hj-group-word,
   hj-path-word,
+  hj-last-second,
+  hj-pair-word,
   hj-search,
   hj-receive-at,
   hj-take,
   hj-counter,
   hj-waiting,
+  hj-sweep,
   promised,
 }
 use Rattle.contracts.specs.Contracts.{Spot, Lying, Contract, Says, Passable}
 use Rattle.contracts.proofs.Formed.{Formed, decode-formed, words-length, words-hold, board-length, board-holds}
-use Rattle.contracts.proofs.Kept.{KeptIn, set-router-kept, set-port-kept, fresh-board-kept, set-group-kept, set-path-kept}
-use Rattle.contracts.proofs.Kept.{clear-group-kept, clear-path-kept, taken-kept, received-kept, mission-kept, seated-kept, fresh-kept}
+use Rattle.contracts.proofs.Kept.{KeptIn, set-router-kept, set-port-kept, set-lifetime-kept, fresh-board-kept, set-group-kept, set-path-kept}
+use Rattle.contracts.proofs.Kept.{clear-group-kept, clear-path-kept, taken-kept, heard-kept, received-kept, swept-kept}
+use Rattle.contracts.proofs.Kept.{mission-kept, memory-kept, seated-kept, fresh-kept}
 use Rattle.contracts.proofs.Rows.{row-contract}
 
 -- ---- the board: words that have this view
@@ -88,6 +95,7 @@ board-left (hj-set-router b router) fits = board-left-by b (λ (x : Board). sett
 board-left (hj-set-port b p address mask mtu mission) fits =
     board-left-by b (λ (x : Board). settledPort x p (record { 0 = address }) (record { 0 = mask }) mtu mission)
     (λ x h. set-port-kept x h p (record { 0 = address }) (record { 0 = mask }) mtu mission)
+board-left (hj-set-lifetime b lifetime) fits = board-left-by b (λ (x : Board). putLifetime x lifetime) (λ x h. set-lifetime-kept x h lifetime)
 board-left (hj-set-route b rs i prefix mask p availability capabilities mission) fits = (b, refl)
 board-left (hj-clear-route rs i) fits = ([], refl)
 board-left (hj-set-group b m i address send subscribed) fits = (b, refl)
@@ -95,15 +103,19 @@ board-left (hj-set-path b m i to send here) fits = (b, refl)
 board-left (hj-clear-group m i) fits = ([], refl)
 board-left (hj-clear-path m i) fits = ([], refl)
 board-left (hj-get-router b) fits = (b, refl)
+board-left (hj-get-lifetime b) fits = (b, refl)
 board-left (hj-port-word b p word) fits = (b, refl)
 board-left (hj-route-word rs i word) fits = ([], refl)
 board-left (hj-group-word m i word) fits = ([], refl)
 board-left (hj-path-word m i word) fits = ([], refl)
+board-left (hj-last-second m) fits = ([], refl)
+board-left (hj-pair-word m i word) fits = ([], refl)
 board-left (hj-search b m rs a) fits = (b, refl)
-board-left (hj-receive-at b m rs p slot octets o) fits = (b, refl)
+board-left (hj-receive-at b m rs p slot second octets o) fits = (b, refl)
 board-left (hj-take b m p) fits = (b, refl)
 board-left (hj-counter m i) fits = ([], refl)
 board-left (hj-waiting m p) fits = ([], refl)
+board-left (hj-sweep b m second) fits = (b, refl)
 
 -- ---- a mission: likewise
 abbrev StateSome : Lent State → Type 0
@@ -134,12 +146,17 @@ both-left-by b w f keeps = by-view (lentBoard b)
 seated-left-by : (b w : List ℕ) (f : Relay → Relay) → ((r : Relay) → KeptIn r → KeptIn (f r)) → StateSome (changedRelay f b w)
 seated-left-by b w f keeps = both-left-by b w (λ (x : Board) (s : State). onSeated x f s) (λ x s h. seated-kept f keeps x s h)
 
-received-left : (b m : List ℕ) (rs : List Record) (p slot : ℕ) (octets o : List ℕ) → slot < 65536
-    → StateSome (receiveWords b m rs p slot octets (length o))
+received-left : (b m : List ℕ) (rs : List Record) (p slot second : ℕ) (octets o : List ℕ) → slot < 65536
+    → StateSome (receiveWords b m rs p slot second octets (length o))
 unfolding receiveWords
-received-left b m rs p slot octets o fits =
-    both-left-by b m (λ (x : Board) (s : State). receivedState x s (record { 0 = slot }) (heardEnding x s rs p octets (length o)))
-    (λ x s h. received-kept x s h (record { 0 = slot }) fits (heardEnding x s rs p octets (length o)))
+received-left b m rs p slot second octets o fits =
+    both-left-by b m
+    (λ (x : Board) (s : State).
+    receivedState x s (record { 0 = slot }) (heardMemory x s rs p second octets (length o)) (heardEnding x s rs p second octets (length o)))
+    (λ x s h.
+    received-kept x s h (record { 0 = slot }) fits
+    (heardMemory x s rs p second octets (length o)) (heard-kept x s rs p second octets (length o) (h .memory))
+    (heardEnding x s rs p second octets (length o)))
 
 mission-left : (c : Exported) → Passable c → StateSome (promised c .mission)
 mission-left (hj-read-words octets n) fits = ([], refl)
@@ -153,6 +170,7 @@ mission-left (hj-fresh-board b) fits = ([], refl)
 mission-left (hj-fresh-mission m number) fits = left-by m (λ (x : State). settledFresh x number) (λ x h. fresh-kept x h number)
 mission-left (hj-set-router b router) fits = ([], refl)
 mission-left (hj-set-port b p address mask mtu mission) fits = ([], refl)
+mission-left (hj-set-lifetime b lifetime) fits = ([], refl)
 mission-left (hj-set-route b rs i prefix mask p availability capabilities mission) fits = ([], refl)
 mission-left (hj-clear-route rs i) fits = ([], refl)
 mission-left (hj-set-group b m i address send subscribed) fits =
@@ -163,15 +181,21 @@ mission-left (hj-set-path b m i to send here) fits =
 mission-left (hj-clear-group m i) fits = left-by m (onMission (λ (x : Mission). clearedGroup x i)) (mission-kept (λ x h. clear-group-kept x h i))
 mission-left (hj-clear-path m i) fits = left-by m (onMission (λ (x : Mission). clearedPath x i)) (mission-kept (λ x h. clear-path-kept x h i))
 mission-left (hj-get-router b) fits = ([], refl)
+mission-left (hj-get-lifetime b) fits = ([], refl)
 mission-left (hj-port-word b p word) fits = ([], refl)
 mission-left (hj-route-word rs i word) fits = ([], refl)
 mission-left (hj-group-word m i word) fits = (m, refl)
 mission-left (hj-path-word m i word) fits = (m, refl)
+mission-left (hj-last-second m) fits = (m, refl)
+mission-left (hj-pair-word m i word) fits = (m, refl)
 mission-left (hj-search b m rs a) fits = (m, refl)
-mission-left (hj-receive-at b m rs p slot octets o) fits = received-left b m rs p slot octets o (fits b m rs p slot octets o refl)
+mission-left (hj-receive-at b m rs p slot second octets o) fits = received-left b m rs p slot second octets o (fits b m rs p slot second octets o refl)
 mission-left (hj-take b m p) fits = seated-left-by b m (λ (x : Relay). takenRelay x p) (λ x h. taken-kept x h p)
 mission-left (hj-counter m i) fits = (m, refl)
 mission-left (hj-waiting m p) fits = (m, refl)
+mission-left (hj-sweep b m second) fits =
+    both-left-by b m (λ (x : Board) (s : State). onMemory (sweptMemory (x .lifetime) second) s)
+    (λ x s h. memory-kept (sweptMemory (x .lifetime) second) (swept-kept (x .lifetime) second) s h)
 
 -- Wherever what is lent lies, each call has a result that its contract allows.
 pub answer-there : (y : Lying) (c : Exported) → Passable c → (x : Result) × Contract y c x

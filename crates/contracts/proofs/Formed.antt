@@ -1,5 +1,5 @@
 -- Which boards and states words hold: those in which each list is as long as the layout says and each slot is one that its type holds (page 01,
--- "Numbers that hold everywhere"). Any 41 words hold such a board, any 408 such a state, and each of these has its words. Assumes nothing.
+-- "Numbers that hold everywhere"). Any 42 words hold such a board, any 731 such a state, and each of these has its words. Assumes nothing.
 use native.Mathlib.Omega.{arith}
 use native.Mathlib.Nat.{suc-mul, zero-mul}
 use Prim.Native.Nat.{ℕ, zero, suc, _+_, _*_, _<_}
@@ -7,19 +7,19 @@ use mathlib.Core.Path.{_≡_, refl, sym, ap, _∙_}
 use mathlib.Core.List.{List, [], _∷_, map}
 use lib.ListN.{length, take, drop, length-append, length-map, length-drop}
 use lib.Seq.{take-at, drop-at, length-take-le}
-use Rattle.sets.specs.Limits.{counterCount}
+use Rattle.sets.specs.Limits.{pairPlaces, counterCount}
 use Rattle.queue.specs.Order.{Each}
 use Rattle.queue.specs.declared.Entry.{Entry}
 use Rattle.queue.specs.declared.Queue.{Queue}
 use Rattle.queue.proofs.Each.{each, each-so}
 use Rattle.words.specs.Cut.{total, cuts, cut, joined, pieces, rows, flat}
-use Rattle.state.specs.Relay.{Mission}
+use Rattle.state.specs.Relay.{Mission, Memory}
 use Rattle.state.specs.Seen.{Board, State}
 use Rattle.state.specs.Layout.{boardSections, boardWords, boardOf, decodeBoard, encodeBoard, sections, missionWords, stateOf, decode, encode, entryOfWord}
-use Rattle.state.specs.Layout.{ownedOf, ownedWords, groupOf, groupWords, pathOf, pathWords, queueOf, queueWords}
+use Rattle.state.specs.Layout.{ownedOf, ownedWords, groupOf, groupWords, pathOf, pathWords, queueOf, queueWords, pairPlaceOf, pairWords}
 use Rattle.state.proofs.Records.{Slots, queue-record, queue-length}
 use Rattle.state.proofs.Words.{section-length}
-use Rattle.state.proofs.Sizes.{Sized, SizedBoard, many, counters-length, decode-sized}
+use Rattle.state.proofs.Sizes.{Sized, SizedBoard, many, counters-length, pairs-length, decode-sized}
 
 -- ---- the definition
 abbrev pub SlotFits : Entry → Type 0
@@ -32,11 +32,15 @@ pub record FormedMission (m : Mission) : Type 0 where
   pub sized : Sized m
   pub queues : Each FormedQueue (m .queues)
 
+abbrev pub FormedMemory : Memory → Type 0
+FormedMemory k = length (k .pairs) ≡ pairPlaces
+
 abbrev pub FormedCounters : List ℕ → Type 0
 FormedCounters l = length l ≡ counterCount
 
 pub record Formed (s : State) : Type 0 where
   pub mission : FormedMission (s .mission)
+  pub memory : FormedMemory (s .memory)
   pub counters : FormedCounters (s .counters)
 
 -- ---- lists joined, and cut again
@@ -101,6 +105,7 @@ decode-formed w l =
             queues =
                 rows-each queueOf queueWords 33 FormedQueue queue-formed 8 (cut sections w 3) (section-length w l 3 (omega arith) (omega arith));
           };
+      memory = pairs-length w;
       counters = counters-length w l;
     }
 
@@ -128,12 +133,23 @@ module _ (s : State) (formed : Formed s) where
   queues : Kept queueOf queueWords 33 8 (m .queues)
   queues = kept queueOf queueWords 33 8 (m .queues) (many m sized 2) (queues-spelt (m .queues) (formed .mission .queues))
 
+  pairs : Kept pairPlaceOf pairWords 5 64 (s .memory .pairs)
+  pairs = kept pairPlaceOf pairWords 5 64 (s .memory .pairs) (formed .memory) (each (s .memory .pairs) (λ x. (refl, refl)))
+
   written : List (List ℕ)
-  written = (s .number ∷ []) ∷ flat groupWords (m .groups) ∷ flat pathWords (m .paths) ∷ flat queueWords (m .queues) ∷ s .counters ∷ []
+  written =
+      (s .number ∷ [])
+      ∷ flat groupWords (m .groups)
+      ∷ flat pathWords (m .paths)
+      ∷ flat queueWords (m .queues)
+      ∷ s .counters
+      ∷ (s .memory .last ∷ [])
+      ∷ flat pairWords (s .memory .pairs)
+      ∷ []
 
   lengths : map length written ≡ sections
   unfolding written
-  lengths = rw (groups .0, paths .0, queues .0, formed .counters)
+  lengths = rw (groups .0, paths .0, queues .0, formed .counters, pairs .0)
 
   pub words-length : length (encode s) ≡ missionWords
   unfolding encode total written
@@ -143,7 +159,7 @@ module _ (s : State) (formed : Formed s) where
   unfolding decode encode stateOf written
   words-hold =
       ap stateOf (ap (λ (ns : List ℕ). cuts ns (joined written)) (sym lengths) ∙ cut-again written)
-      ∙ rw (groups .1, paths .1, queues .1)
+      ∙ rw (groups .1, paths .1, queues .1, pairs .1)
 
 -- ---- and a board with eight ports
 module _ (b : Board) (sized : SizedBoard b) where
@@ -151,7 +167,7 @@ module _ (b : Board) (sized : SizedBoard b) where
   ports = kept ownedOf ownedWords 5 8 (b .ports) sized (each (b .ports) (λ x. (refl, refl)))
 
   board-written : List (List ℕ)
-  board-written = (b .router ∷ []) ∷ flat ownedWords (b .ports) ∷ []
+  board-written = (b .router ∷ []) ∷ flat ownedWords (b .ports) ∷ (b .lifetime ∷ []) ∷ []
 
   board-lengths : map length board-written ≡ boardSections
   unfolding board-written

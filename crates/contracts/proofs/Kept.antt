@@ -5,7 +5,7 @@ use Prim.Native.Nat.{ℕ, zero, suc, _+_, _<_}
 use mathlib.Core.Path.{_≡_, refl, _∙_}
 use mathlib.Core.Bool.{Bool, true, false, not}
 use mathlib.Core.List.{List, [], _∷_, _++_}
-use lib.ListN.{take, drop, getD, set, replicate, length-append, length-drop, length-set}
+use lib.ListN.{take, drop, getD, set, replicate, length-append, length-drop, length-map, length-set}
 use lib.Bits.{bitAnd}
 use lib.Dec.{eqb, ltb}
 use borrow.Author.Tests.{ltb-true, ltb-false}
@@ -28,24 +28,39 @@ use Rattle.queue.proofs.Order.{insert-each}
 use Rattle.queue.proofs.Cases.{put-room, put-full}
 use Rattle.queue.proofs.Waiting.{put-bounded}
 use Rattle.records.specs.Fresh.{freshGroup, freshPath}
+use Rattle.records.specs.declared.Pair.{Pair}
 use Rattle.records.specs.declared.Group.{Group}
 use Rattle.records.specs.declared.PathPlace.{PathPlace}
-use Rattle.state.specs.Relay.{Mission, Relay, putGroup, putPath, putQueue, portSetUp, queueIn}
-use Rattle.state.specs.Seen.{Board, State, freshBoard, freshState, putRouter, putOwned, onMission, onSeated, seated}
+use Rattle.state.specs.Relay.{Mission, Memory, Relay, putGroup, putPath, putQueue, portSetUp, queueIn}
+use Rattle.state.specs.Seen.{Board, State, freshBoard, freshState, putRouter, putOwned, putLifetime, onMission, onMemory, onSeated, seated}
 use Rattle.state.specs.Layout.{freshBoardWords, freshWords}
 use Rattle.state.proofs.Fresh.{fresh, fresh-length, fresh-board}
-use Rattle.state.proofs.Sizes.{SizedBoard, board-sized, owned-sizes, group-sizes, path-sizes, queue-sizes}
+use Rattle.state.proofs.Sizes.{SizedBoard, board-sized, owned-sizes, lifetime-sizes, group-sizes, path-sizes, queue-sizes}
 use Rattle.refusals.specs.Lists.{portChecks, groupChecks, pathChecks, routerChecks, missionChecks, clearChecks}
 use Rattle.adjust.specs.Settled.{newPort, newGroup, newPath}
 use Rattle.adjust.specs.Settled.{settledFresh, settledRouter, settledPort, settledGroup, settledPath, clearedGroup, clearedPath}
 use Rattle.taking.specs.Taking.{without, takenRelay}
+use Rattle.header.specs.Read.{readOf}
+use Rattle.header.specs.declared.Read.{Read}
+use Rattle.header.specs.declared.Read.the-variants as read
+use Rattle.meaning.specs.Flood.{pairOf}
+use Rattle.routes.specs.declared.Record.{Record}
+use Rattle.verdict.specs.declared.Flood.{Flood}
+use Rattle.verdict.specs.declared.Flood.the-variants.{Plain, Unsent, Full, New}
+use Rattle.floods.specs.Memory.{remembering}
+use Rattle.floods.specs.Sweep.{sweepChecks, swept, sweptMemory}
+use Rattle.lent_state.specs.View.{tooLong}
+use Rattle.listing.specs.Listed.{seen}
+use Rattle.judge.specs.Ending.{callChecks, arrivalAt}
+use Rattle.judge.specs.Remembered.{headerMemory, octetsMemory, memoryOf}
+use Rattle.judge.specs.declared.ruling.Arrival.{Arrival}
 use Rattle.judge.specs.declared.Ending.{Ending}
 use Rattle.tally.specs.Tally.{Move, movesOf, countedAt, countedAll}
 use Rattle.tally.specs.declared.Counter.{Counter}
 use Rattle.tally.specs.declared.Counter.the-variants as counter
 use Rattle.relay.specs.Outgoing.{enteredIf, enteredAll}
-use Rattle.relay.specs.Received.{newEntry, receivedRelay, receivedState}
-use Rattle.contracts.proofs.Formed.{SlotFits, FormedQueue, FormedMission, FormedCounters, Formed, decode-formed}
+use Rattle.relay.specs.Received.{newEntry, receivedRelay, receivedState, heardMemory}
+use Rattle.contracts.proofs.Formed.{SlotFits, FormedQueue, FormedMission, FormedMemory, FormedCounters, Formed, decode-formed}
 
 -- ---- what holds of each element
 module _ {A : Type 0} (P : A → Type 0) where
@@ -124,6 +139,9 @@ module _ (b : Board) (sized : SizedBoard b) where
       either SizedBoard (eqb (firstOf (portChecks b p address mask mtu mission)) 0) {a = putOwned b p (newPort address mask mtu mission)} {b = b}
       (owned-sizes b p (newPort address mask mtu mission) ∙ sized) sized
 
+  pub set-lifetime-kept : (lifetime : ℕ) → SizedBoard (putLifetime b lifetime)
+  set-lifetime-kept lifetime = lifetime-sizes b lifetime ∙ sized
+
 pub fresh-board-kept : SizedBoard freshBoard
 fresh-board-kept = rw (← fresh-board) (board-sized freshBoardWords)
 
@@ -175,6 +193,32 @@ module _ (r : Relay) (formed : KeptIn r) where
       either KeptIn (not (portSetUp r p)) formed
       (without-kept p (takeOf q .queue) (take-formed q (queue-in p)) (takeOf q .head))
 
+-- ---- what is remembered
+remembering-kept : (f : Flood) (q : Pair) (second : ℕ) (k : Memory) → FormedMemory k → FormedMemory (remembering f q second k)
+unfolding remembering
+remembering-kept Plain q second k h = h
+remembering-kept Unsent q second k h = h
+remembering-kept Full q second k h = h
+remembering-kept (New place) q second k h = length-set (k .pairs) place _ ∙ h
+
+octets-kept : (r : Relay) (at : Arrival) (second : ℕ) (x : Read) → FormedMemory (r .memory) → FormedMemory (octetsMemory r at second x)
+unfolding headerMemory
+octets-kept r at second (read.Good h) formed = remembering-kept _ (pairOf (at .address .0) (h .fields)) second (r .memory) formed
+octets-kept r at second (read.Refused n) formed = formed
+
+pub heard-kept : (x : Board) (s : State) (rs : List Record) (port second : ℕ) (octets : List ℕ) (room : ℕ)
+    → FormedMemory (s .memory) → FormedMemory (heardMemory x s rs port second octets room)
+unfolding heardMemory memoryOf
+heard-kept x s rs port second octets room formed =
+    let r = seen x s rs in
+    either FormedMemory (tooLong rs) formed
+    (either FormedMemory (eqb (firstOf (callChecks r port second room)) 0) (octets-kept r (arrivalAt r port) second (readOf octets) formed) formed)
+
+pub swept-kept : (lifetime second : ℕ) (k : Memory) → FormedMemory k → FormedMemory (sweptMemory lifetime second k)
+unfolding sweptMemory swept
+swept-kept lifetime second k formed =
+    either FormedMemory (eqb (firstOf (sweepChecks k second)) 0) (length-map (k .pairs) _ ∙ formed) formed
+
 -- ---- receiving
 counted-kept : (l : List ℕ) → FormedCounters l → (at : Counter) (n : ℕ) → FormedCounters (countedAt l at n)
 unfolding countedAt
@@ -197,20 +241,25 @@ module _ (e : Entry) (fits : SlotFits e) (took : ℕ) where
   all-entered-kept r h zero = h
   all-entered-kept r h (suc p) = entered-kept (enteredAll r took e p) (all-entered-kept r h p) p
 
-pub received-kept : (b : Board) (s : State) → Formed s → (slot : Slot) → slot .0 < 65536 → (e : Ending) → Formed (receivedState b s slot e)
+pub received-kept : (b : Board) (s : State) → Formed s → (slot : Slot) → slot .0 < 65536 → (k : Memory) → FormedMemory k → (e : Ending)
+    → Formed (receivedState b s slot k e)
 unfolding receivedRelay
-received-kept b s h slot fits e =
+received-kept b s h slot fits k remembered e =
     record {
       mission = all-entered-kept (newEntry slot e) fits (e .ruling .took) (seated b s) (h .mission) portCount;
+      memory = remembered;
       counters = all-counted-kept (movesOf e) (s .counters) (h .counters);
     }
 
--- ---- what is the mission's own alone changes, and the counters stay
+-- ---- what is the mission's own alone changes, or what it remembers, and the counters stay
 pub mission-kept : {f : Mission → Mission} → ((m : Mission) → FormedMission m → FormedMission (f m)) → (s : State) → Formed s → Formed (onMission f s)
-mission-kept keeps s h = record { mission = keeps (s .mission) (h .mission); counters = h .counters }
+mission-kept keeps s h = record { mission = keeps (s .mission) (h .mission); memory = h .memory; counters = h .counters }
+
+pub memory-kept : (f : Memory → Memory) → ((k : Memory) → FormedMemory k → FormedMemory (f k)) → (s : State) → Formed s → Formed (onMemory f s)
+memory-kept f keeps s h = record { mission = h .mission; memory = keeps (s .memory) (h .memory); counters = h .counters }
 
 pub seated-kept : (f : Relay → Relay) → ((r : Relay) → KeptIn r → KeptIn (f r)) → (b : Board) (s : State) → Formed s → Formed (onSeated b f s)
-seated-kept f keeps b s h = record { mission = keeps (seated b s) (h .mission); counters = h .counters }
+seated-kept f keeps b s h = record { mission = keeps (seated b s) (h .mission); memory = h .memory; counters = h .counters }
 
 -- ---- a fresh mission, or the one that was there
 pub fresh-kept : (s : State) → Formed s → (n : ℕ) → Formed (settledFresh s n)

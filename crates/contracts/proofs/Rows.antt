@@ -31,6 +31,7 @@ use Rattle.contracts.specs.Promised.{
   hj-fresh-mission,
   hj-set-router,
   hj-set-port,
+  hj-set-lifetime,
   hj-set-route,
   hj-clear-route,
   hj-set-group,
@@ -38,15 +39,19 @@ use Rattle.contracts.specs.Promised.{
   hj-clear-group,
   hj-clear-path,
   hj-get-router,
+  hj-get-lifetime,
   hj-port-word,
   hj-route-word,
   hj-group-word,
   hj-path-word,
+  hj-last-second,
+  hj-pair-word,
   hj-search,
   hj-receive-at,
   hj-take,
   hj-counter,
   hj-waiting,
+  hj-sweep,
   promised,
 }
 use Rattle.contracts.specs.Contracts.{BoardAlone, MissionAlone, RoutesAlone, OutputAlone, NumbersAlone, HearsAlone, Lying, Contract, Says}
@@ -180,6 +185,7 @@ module _ (y : Lying) (x : Result) where
   contract-is-row (hj-fresh-mission m number) = on-mission x (lentTo (hj-fresh-mission m number)) _ _
   contract-is-row (hj-set-router b router) = on-board x (lentTo (hj-set-router b router)) _ _
   contract-is-row (hj-set-port b p address mask mtu mission) = on-board x (lentTo (hj-set-port b p address mask mtu mission)) _ _
+  contract-is-row (hj-set-lifetime b lifetime) = on-board x (lentTo (hj-set-lifetime b lifetime)) _ _
   contract-is-row (hj-set-route b rs i prefix mask p availability capabilities mission) =
       on-routes x (lentTo (hj-set-route b rs i prefix mask p availability capabilities mission)) _ _
   contract-is-row (hj-clear-route rs i) = on-routes x (lentTo (hj-clear-route rs i)) _ _
@@ -188,15 +194,19 @@ module _ (y : Lying) (x : Result) where
   contract-is-row (hj-clear-group m i) = on-mission x (lentTo (hj-clear-group m i)) _ _
   contract-is-row (hj-clear-path m i) = on-mission x (lentTo (hj-clear-path m i)) _ _
   contract-is-row (hj-get-router b) = looks x (lentTo (hj-get-router b)) _
+  contract-is-row (hj-get-lifetime b) = looks x (lentTo (hj-get-lifetime b)) _
   contract-is-row (hj-port-word b p word) = looks x (lentTo (hj-port-word b p word)) _
   contract-is-row (hj-route-word rs i word) = looks x (lentTo (hj-route-word rs i word)) _
   contract-is-row (hj-group-word m i word) = looks x (lentTo (hj-group-word m i word)) _
   contract-is-row (hj-path-word m i word) = looks x (lentTo (hj-path-word m i word)) _
+  contract-is-row (hj-last-second m) = looks x (lentTo (hj-last-second m)) _
+  contract-is-row (hj-pair-word m i word) = looks x (lentTo (hj-pair-word m i word)) _
   contract-is-row (hj-search b m rs a) = looks x (lentTo (hj-search b m rs a)) _
-  contract-is-row (hj-receive-at b m rs p slot octets o) = hears x (lentTo (hj-receive-at b m rs p slot octets o)) _ _ _
+  contract-is-row (hj-receive-at b m rs p slot second octets o) = hears x (lentTo (hj-receive-at b m rs p slot second octets o)) _ _ _
   contract-is-row (hj-take b m p) = on-mission x (lentTo (hj-take b m p)) _ _
   contract-is-row (hj-counter m i) = looks x (lentTo (hj-counter m i)) _
   contract-is-row (hj-waiting m p) = looks x (lentTo (hj-waiting m p)) _
+  contract-is-row (hj-sweep b m second) = on-mission x (lentTo (hj-sweep b m second)) _ _
 
 -- What a call's contract lets it give back is what its row promises,
 pub says-row : (c : Exported) (x : Result) → Says c x → Allows (promised c) x

@@ -19,17 +19,22 @@ use Rattle.harpjuniper_settings.proofs.hj_fresh_board as fresh-board
 use Rattle.harpjuniper_settings.proofs.hj_fresh_mission as fresh-mission
 use Rattle.harpjuniper_settings.proofs.hj_set_router as set-router
 use Rattle.harpjuniper_settings.proofs.hj_set_port as set-port
+use Rattle.harpjuniper_settings.proofs.hj_set_lifetime as set-lifetime
 use Rattle.harpjuniper_settings.proofs.groups_and_paths.hj_set_group as set-group
 use Rattle.harpjuniper_settings.proofs.groups_and_paths.hj_set_path as set-path
 use Rattle.harpjuniper_settings.proofs.groups_and_paths.hj_clear_group as clear-group
 use Rattle.harpjuniper_settings.proofs.groups_and_paths.hj_clear_path as clear-path
 use Rattle.harpjuniper_reads.proofs.hj_get_router as get-router
+use Rattle.harpjuniper_reads.proofs.hj_get_lifetime as get-lifetime
 use Rattle.harpjuniper_reads.proofs.hj_port_word as port-word
 use Rattle.harpjuniper_reads.proofs.hj_group_word as group-word
 use Rattle.harpjuniper_reads.proofs.hj_path_word as path-word
+use Rattle.harpjuniper_reads.proofs.hj_last_second as last-second
+use Rattle.harpjuniper_reads.proofs.hj_pair_word as pair-word
 use Rattle.harpjuniper_relay.proofs.hj_take as take
 use Rattle.harpjuniper_relay.proofs.hj_counter as counter
 use Rattle.harpjuniper_relay.proofs.hj_waiting as waiting
+use Rattle.harpjuniper_relay.proofs.hj_sweep as sweep
 use Rattle.contracts.specs.Promised.{
   Things,
   Result,
@@ -46,6 +51,7 @@ use Rattle.contracts.specs.Promised.{
   hj-fresh-mission,
   hj-set-router,
   hj-set-port,
+  hj-set-lifetime,
   hj-set-route,
   hj-clear-route,
   hj-set-group,
@@ -53,15 +59,19 @@ use Rattle.contracts.specs.Promised.{
   hj-clear-group,
   hj-clear-path,
   hj-get-router,
+  hj-get-lifetime,
   hj-port-word,
   hj-route-word,
   hj-group-word,
   hj-path-word,
+  hj-last-second,
+  hj-pair-word,
   hj-search,
   hj-receive-at,
   hj-take,
   hj-counter,
   hj-waiting,
+  hj-sweep,
 }
 use Rattle.contracts.specs.Walked.{searches, sets-route, clears-route, reads-word, receives}
 
@@ -180,6 +190,10 @@ module _ (y : Lying) where
       (at b, (p, (address, (mask, (mtu, (mission, tt))))))
       (x .answer)
       (at (x .left .board), (p, (address, (mask, (mtu, (mission, tt))))))
+  Contract (hj-set-lifetime b lifetime) x =
+      let c = hj-set-lifetime b lifetime in
+      BoardAlone (lentTo c) (x .left)
+      × set-lifetime.Reads.Learnt (once y) (at b, (lifetime, tt)) (x .answer) (at (x .left .board), (lifetime, tt))
   Contract (hj-set-route b rs i prefix mask p availability capabilities mission) x =
       let c = hj-set-route b rs i prefix mask p availability capabilities mission in
       RoutesAlone (lentTo c) (x .left)
@@ -220,6 +234,10 @@ module _ (y : Lying) where
       let c = hj-get-router b in
       (x .left ≡ lentTo c)
       × get-router.Reads.Learnt (once y) (at b, tt) (x .answer) (at b, tt)
+  Contract (hj-get-lifetime b) x =
+      let c = hj-get-lifetime b in
+      (x .left ≡ lentTo c)
+      × get-lifetime.Reads.Learnt (once y) (at b, tt) (x .answer) (at b, tt)
   Contract (hj-port-word b p word) x =
       let c = hj-port-word b p word in
       (x .left ≡ lentTo c)
@@ -236,18 +254,26 @@ module _ (y : Lying) where
       let c = hj-path-word m i word in
       (x .left ≡ lentTo c)
       × path-word.Reads.Learnt (once y) (of m, (i, (word, tt))) (x .answer) (of m, (i, (word, tt)))
+  Contract (hj-last-second m) x =
+      let c = hj-last-second m in
+      (x .left ≡ lentTo c)
+      × last-second.Reads.Learnt (once y) (of m, tt) (x .answer) (of m, tt)
+  Contract (hj-pair-word m i word) x =
+      let c = hj-pair-word m i word in
+      (x .left ≡ lentTo c)
+      × pair-word.Reads.Learnt (once y) (of m, (i, (word, tt))) (x .answer) (of m, (i, (word, tt)))
   Contract (hj-search b m rs a) x =
       let c = hj-search b m rs a in
       (x .left ≡ lentTo c)
       × searches (thrice y) (at b, (of m, (listed rs, (a, tt)))) (x .answer) (at b, (of m, (listed rs, (a, tt))))
-  Contract (hj-receive-at b m rs p slot octets o) x =
-      let c = hj-receive-at b m rs p slot octets o in
+  Contract (hj-receive-at b m rs p slot second octets o) x =
+      let c = hj-receive-at b m rs p slot second octets o in
       HearsAlone (lentTo c) (x .left)
       × receives
       (y .lifetimes)
-      (at b, (of m, (listed rs, (p, (slot, (from octets, (into o, tt)))))))
+      (at b, (of m, (listed rs, (p, (slot, (second, (from octets, (into o, tt))))))))
       (x .answer)
-      (at b, (of (x .left .mission), (listed rs, (p, (slot, (from octets, (into (x .left .output), tt)))))))
+      (at b, (of (x .left .mission), (listed rs, (p, (slot, (second, (from octets, (into (x .left .output), tt))))))))
   Contract (hj-take b m p) x =
       let c = hj-take b m p in
       MissionAlone (lentTo c) (x .left)
@@ -260,6 +286,10 @@ module _ (y : Lying) where
       let c = hj-waiting m p in
       (x .left ≡ lentTo c)
       × waiting.Reads.Learnt (once y) (of m, (p, tt)) (x .answer) (of m, (p, tt))
+  Contract (hj-sweep b m second) x =
+      let c = hj-sweep b m second in
+      MissionAlone (lentTo c) (x .left)
+      × sweep.Reads.Learnt (twice y) (at b, (of m, (second, tt))) (x .answer) (at b, (of (x .left .mission), (second, tt)))
 
 -- what a call's contract lets it give back, wherever what is lent lies
 abbrev pub Says : Exported → Result → Type 0
@@ -267,4 +297,4 @@ Says c x = (y : Lying) × Contract y c x
 
 -- What C can pass: numbers here have no end and C's have, which matters of one argument alone, the slot, a number of 16 bits.
 abbrev pub Passable : Exported → Type 0
-Passable c = (b m : List ℕ) (rs : List Record) (p slot : ℕ) (l o : List ℕ) → c ≡ hj-receive-at b m rs p slot l o → slot < 65536
+Passable c = (b m : List ℕ) (rs : List Record) (p slot second : ℕ) (l o : List ℕ) → c ≡ hj-receive-at b m rs p slot second l o → slot < 65536

@@ -24,17 +24,22 @@ use Rattle.harpjuniper_settings.proofs.hj_fresh_board as fresh-board
 use Rattle.harpjuniper_settings.proofs.hj_fresh_mission as fresh-mission
 use Rattle.harpjuniper_settings.proofs.hj_set_router as set-router
 use Rattle.harpjuniper_settings.proofs.hj_set_port as set-port
+use Rattle.harpjuniper_settings.proofs.hj_set_lifetime as set-lifetime
 use Rattle.harpjuniper_settings.proofs.groups_and_paths.hj_set_group as set-group
 use Rattle.harpjuniper_settings.proofs.groups_and_paths.hj_set_path as set-path
 use Rattle.harpjuniper_settings.proofs.groups_and_paths.hj_clear_group as clear-group
 use Rattle.harpjuniper_settings.proofs.groups_and_paths.hj_clear_path as clear-path
 use Rattle.harpjuniper_reads.proofs.hj_get_router as get-router
+use Rattle.harpjuniper_reads.proofs.hj_get_lifetime as get-lifetime
 use Rattle.harpjuniper_reads.proofs.hj_port_word as port-word
 use Rattle.harpjuniper_reads.proofs.hj_group_word as group-word
 use Rattle.harpjuniper_reads.proofs.hj_path_word as path-word
+use Rattle.harpjuniper_reads.proofs.hj_last_second as last-second
+use Rattle.harpjuniper_reads.proofs.hj_pair_word as pair-word
 use Rattle.harpjuniper_relay.proofs.hj_take as take
 use Rattle.harpjuniper_relay.proofs.hj_counter as counter
 use Rattle.harpjuniper_relay.proofs.hj_waiting as waiting
+use Rattle.harpjuniper_relay.proofs.hj_sweep as sweep
 use Rattle.harpjuniper_routes.proofs.hj_set_route as set-route
 use Rattle.harpjuniper_routes.proofs.hj_clear_route as clear-route
 use Rattle.harpjuniper_routes.proofs.hj_route_word as route-word
@@ -53,6 +58,7 @@ use Rattle.contracts.specs.Promised.{
   hj-fresh-mission,
   hj-set-router,
   hj-set-port,
+  hj-set-lifetime,
   hj-set-route,
   hj-clear-route,
   hj-set-group,
@@ -60,15 +66,19 @@ use Rattle.contracts.specs.Promised.{
   hj-clear-group,
   hj-clear-path,
   hj-get-router,
+  hj-get-lifetime,
   hj-port-word,
   hj-route-word,
   hj-group-word,
   hj-path-word,
+  hj-last-second,
+  hj-pair-word,
   hj-search,
   hj-receive-at,
   hj-take,
   hj-counter,
   hj-waiting,
+  hj-sweep,
 }
 use Rattle.contracts.specs.Walked.{Plainly, plainly, searches, sets-route, clears-route, reads-word, receives}
 
@@ -91,6 +101,7 @@ functionOf (hj-fresh-board b) = covered 1 fresh-board.Kinds.ps fresh-board.Kinds
 functionOf (hj-fresh-mission m number) = covered 1 fresh-mission.Kinds.ps fresh-mission.Kinds.r fresh-mission.Reads.Learnt fresh-mission.Symbol.routine
 functionOf (hj-set-router b router) = covered 1 set-router.Kinds.ps set-router.Kinds.r set-router.Reads.Learnt set-router.Symbol.routine
 functionOf (hj-set-port b p address mask mtu mission) = covered 1 set-port.Kinds.ps set-port.Kinds.r set-port.Reads.Learnt set-port.Symbol.routine
+functionOf (hj-set-lifetime b lifetime) = covered 1 set-lifetime.Kinds.ps set-lifetime.Kinds.r set-lifetime.Reads.Learnt set-lifetime.Symbol.routine
 functionOf (hj-set-route b rs i prefix mask p availability capabilities mission) = walked set-route.ended sets-route set-route.Symbol.routine
 functionOf (hj-clear-route rs i) = walked clear-route.ended clears-route clear-route.Symbol.routine
 functionOf (hj-set-group b m i address send subscribed) = covered 2 set-group.Kinds.ps set-group.Kinds.r set-group.Reads.Learnt set-group.Symbol.routine
@@ -98,15 +109,19 @@ functionOf (hj-set-path b m i to send here) = covered 2 set-path.Kinds.ps set-pa
 functionOf (hj-clear-group m i) = covered 1 clear-group.Kinds.ps clear-group.Kinds.r clear-group.Reads.Learnt clear-group.Symbol.routine
 functionOf (hj-clear-path m i) = covered 1 clear-path.Kinds.ps clear-path.Kinds.r clear-path.Reads.Learnt clear-path.Symbol.routine
 functionOf (hj-get-router b) = covered 1 get-router.Kinds.ps get-router.Kinds.r get-router.Reads.Learnt get-router.Symbol.routine
+functionOf (hj-get-lifetime b) = covered 1 get-lifetime.Kinds.ps get-lifetime.Kinds.r get-lifetime.Reads.Learnt get-lifetime.Symbol.routine
 functionOf (hj-port-word b p word) = covered 1 port-word.Kinds.ps port-word.Kinds.r port-word.Reads.Learnt port-word.Symbol.routine
 functionOf (hj-route-word rs i word) = walked route-word.ended reads-word route-word.Symbol.routine
 functionOf (hj-group-word m i word) = covered 1 group-word.Kinds.ps group-word.Kinds.r group-word.Reads.Learnt group-word.Symbol.routine
 functionOf (hj-path-word m i word) = covered 1 path-word.Kinds.ps path-word.Kinds.r path-word.Reads.Learnt path-word.Symbol.routine
+functionOf (hj-last-second m) = covered 1 last-second.Kinds.ps last-second.Kinds.r last-second.Reads.Learnt last-second.Symbol.routine
+functionOf (hj-pair-word m i word) = covered 1 pair-word.Kinds.ps pair-word.Kinds.r pair-word.Reads.Learnt pair-word.Symbol.routine
 functionOf (hj-search b m rs a) = walked search-route.ended searches search-route.Symbol.routine
-functionOf (hj-receive-at b m rs p slot octets o) = walked receive-at.ended receives receive-at.Symbol.routine
+functionOf (hj-receive-at b m rs p slot second octets o) = walked receive-at.ended receives receive-at.Symbol.routine
 functionOf (hj-take b m p) = covered 2 take.Kinds.ps take.Kinds.r take.Reads.Learnt take.Symbol.routine
 functionOf (hj-counter m i) = covered 1 counter.Kinds.ps counter.Kinds.r counter.Reads.Learnt counter.Symbol.routine
 functionOf (hj-waiting m p) = covered 1 waiting.Kinds.ps waiting.Kinds.r waiting.Reads.Learnt waiting.Symbol.routine
+functionOf (hj-sweep b m second) = covered 2 sweep.Kinds.ps sweep.Kinds.r sweep.Reads.Learnt sweep.Symbol.routine
 
 -- Wherever the code is called, by whatever name and with whatever arguments, the caller learns what the contract says, and has shown nothing before beside
 -- what the arguments' types own: what is asked of the arguments is `Unit`, and what a walked function requires is `emp`.

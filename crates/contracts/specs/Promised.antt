@@ -15,14 +15,15 @@ use Rattle.header.specs.Read.{readOf}
 use Rattle.sets.specs.Limits.{groupPlaces, pathPlaces}
 use Rattle.routes.specs.declared.Record.{Record}
 use Rattle.state.specs.Relay.{Relay, Mission}
-use Rattle.state.specs.Seen.{Board, State, freshBoard, onMission}
+use Rattle.state.specs.Seen.{Board, State, freshBoard, putLifetime, onMission, onMemory}
 use Rattle.state.specs.Layout.{boardWords, missionWords}
-use Rattle.lent_state.specs.View.{Lent, lent, lentBoard, toldBoard, changedBoard, told, changed, toldRelay, changedRelay}
+use Rattle.lent_state.specs.View.{Lent, lent, lentBoard, toldBoard, changedBoard, told, changed, toldBoth, changedBoth, toldRelay, changedRelay}
 use Rattle.refusals.specs.Lists.{portChecks, routeChecks, clearRouteChecks, groupChecks, pathChecks, routerChecks, clearChecks, missionChecks}
 use Rattle.adjust.specs.Settled.{newRecord, settledFresh, settledRouter, settledPort, settledRoute, clearedRoute, settledGroup, settledPath, clearedGroup, clearedPath}
+use Rattle.floods.specs.Sweep.{sweepChecks, sweptMemory}
 use Rattle.taking.specs.Taking.{takenRelay}
 use Rattle.harpjuniper.specs.Face.{readingOf, readAnswer, readLeft, buildWordsAnswer, buildWordsOutput}
-use Rattle.harpjuniper_reads.specs.Back.{portAnswer, groupAnswer, pathAnswer}
+use Rattle.harpjuniper_reads.specs.Back.{portAnswer, groupAnswer, pathAnswer, pairAnswer}
 use Rattle.harpjuniper_routes.specs.Face.{searchTold, routeWordTold}
 use Rattle.harpjuniper_receive.specs.Face.{receiveAnswer, receiveWords, receiveOutput}
 use Rattle.harpjuniper_relay.specs.Face.{takeAnswer, counterAnswer, waitingAnswer}
@@ -41,6 +42,7 @@ pub data Exported : Type 0 where
   hj-fresh-mission : List ℕ → ℕ → Exported
   hj-set-router : List ℕ → ℕ → Exported
   hj-set-port : List ℕ → ℕ → ℕ → ℕ → ℕ → ℕ → Exported
+  hj-set-lifetime : List ℕ → ℕ → Exported
   hj-set-route : List ℕ → List Record → ℕ → ℕ → ℕ → ℕ → ℕ → ℕ → ℕ → Exported
   hj-clear-route : List Record → ℕ → Exported
   hj-set-group : List ℕ → List ℕ → ℕ → ℕ → ℕ → ℕ → Exported
@@ -48,15 +50,19 @@ pub data Exported : Type 0 where
   hj-clear-group : List ℕ → ℕ → Exported
   hj-clear-path : List ℕ → ℕ → Exported
   hj-get-router : List ℕ → Exported
+  hj-get-lifetime : List ℕ → Exported
   hj-port-word : List ℕ → ℕ → ℕ → Exported
   hj-route-word : List Record → ℕ → ℕ → Exported
   hj-group-word : List ℕ → ℕ → ℕ → Exported
   hj-path-word : List ℕ → ℕ → ℕ → Exported
+  hj-last-second : List ℕ → Exported
+  hj-pair-word : List ℕ → ℕ → ℕ → Exported
   hj-search : List ℕ → List ℕ → List Record → ℕ → Exported
-  hj-receive-at : List ℕ → List ℕ → List Record → ℕ → ℕ → List ℕ → List ℕ → Exported
+  hj-receive-at : List ℕ → List ℕ → List Record → ℕ → ℕ → ℕ → List ℕ → List ℕ → Exported
   hj-take : List ℕ → List ℕ → ℕ → Exported
   hj-counter : List ℕ → ℕ → Exported
   hj-waiting : List ℕ → ℕ → Exported
+  hj-sweep : List ℕ → List ℕ → ℕ → Exported
 
 -- ---- what is lent to a call and may be written, and what is lent beside it; what a call is not lent is empty here
 pub record Things : Type 0 where
@@ -116,6 +122,7 @@ lentTo (hj-fresh-board b) = aBoard b
 lentTo (hj-fresh-mission m number) = aMission m
 lentTo (hj-set-router b router) = aBoard b
 lentTo (hj-set-port b p address mask mtu mission) = aBoard b
+lentTo (hj-set-lifetime b lifetime) = aBoard b
 lentTo (hj-set-route b rs i prefix mask p availability capabilities mission) =
     record { board = b; mission = []; routes = rs; output = []; numbers = [] }
 lentTo (hj-clear-route rs i) = aList rs
@@ -124,15 +131,19 @@ lentTo (hj-set-path b m i to send here) = both b m
 lentTo (hj-clear-group m i) = aMission m
 lentTo (hj-clear-path m i) = aMission m
 lentTo (hj-get-router b) = aBoard b
+lentTo (hj-get-lifetime b) = aBoard b
 lentTo (hj-port-word b p word) = aBoard b
 lentTo (hj-route-word rs i word) = aList rs
 lentTo (hj-group-word m i word) = aMission m
 lentTo (hj-path-word m i word) = aMission m
+lentTo (hj-last-second m) = aMission m
+lentTo (hj-pair-word m i word) = aMission m
 lentTo (hj-search b m rs a) = record { board = b; mission = m; routes = rs; output = []; numbers = [] }
-lentTo (hj-receive-at b m rs p slot octets o) = record { board = b; mission = m; routes = rs; output = o; numbers = [] }
+lentTo (hj-receive-at b m rs p slot second octets o) = record { board = b; mission = m; routes = rs; output = o; numbers = [] }
 lentTo (hj-take b m p) = both b m
 lentTo (hj-counter m i) = aMission m
 lentTo (hj-waiting m p) = aMission m
+lentTo (hj-sweep b m second) = both b m
 
 -- ---- the table
 -- all is left as it was lent
@@ -171,6 +182,10 @@ onBoard c b answer change = boardLeft (looking (lentTo c) (toldBoard answer 21 b
 abbrev onRelay : Exported → List ℕ → List ℕ → (Relay → ℕ) → (Relay → Relay) → Promise
 onRelay c b m answer change = missionLeft (looking (lentTo c) (toldRelay answer 21 b m)) (changedRelay change b m)
 
+-- one that reads the board for what is no part of that relay
+abbrev onBoth : Exported → List ℕ → List ℕ → (Board → State → ℕ) → (Board → State → State) → Promise
+onBoth c b m answer change = missionLeft (looking (lentTo c) (toldBoth answer 21 b m)) (changedBoth change b m)
+
 -- and on its own state alone
 abbrev onState : Exported → List ℕ → (State → ℕ) → (State → State) → Promise
 onState c m answer change = missionLeft (looking (lentTo c) (told answer 21 m)) (changed change m)
@@ -196,6 +211,7 @@ promised (hj-set-port b p address mask mtu mission) =
     onBoard (hj-set-port b p address mask mtu mission) b
     (λ (x : Board). firstOf (portChecks x p (record { 0 = address }) (record { 0 = mask }) mtu mission))
     (λ (x : Board). settledPort x p (record { 0 = address }) (record { 0 = mask }) mtu mission)
+promised (hj-set-lifetime b lifetime) = onBoard (hj-set-lifetime b lifetime) b (λ (x : Board). 0) (λ (x : Board). putLifetime x lifetime)
 promised (hj-set-route b rs i prefix mask p availability capabilities mission) =
     let c = hj-set-route b rs i prefix mask p availability capabilities mission in
     let x = newRecord prefix mask p availability capabilities mission in
@@ -214,17 +230,24 @@ promised (hj-clear-group m i) =
 promised (hj-clear-path m i) =
     onState (hj-clear-path m i) m (λ (x : State). firstOf (clearChecks i pathPlaces)) (onMission (λ (x : Mission). clearedPath x i))
 promised (hj-get-router b) = looking (aBoard b) (toldBoard (λ (x : Board). x .router) (refusalNumber 21) b)
+promised (hj-get-lifetime b) = looking (aBoard b) (toldBoard (λ (x : Board). x .lifetime) (refusalNumber 21) b)
 promised (hj-port-word b p word) = looking (aBoard b) (toldBoard (λ (x : Board). portAnswer x p word) (refusalNumber 21) b)
 promised (hj-route-word rs i word) = looking (aList rs) (routeWordTold rs i word)
 promised (hj-group-word m i word) = looking (aMission m) (told (λ (x : State). groupAnswer (x .mission) i word) (refusalNumber 21) m)
 promised (hj-path-word m i word) = looking (aMission m) (told (λ (x : State). pathAnswer (x .mission) i word) (refusalNumber 21) m)
+promised (hj-last-second m) = looking (aMission m) (told (λ (x : State). x .memory .last) (refusalNumber 21) m)
+promised (hj-pair-word m i word) = looking (aMission m) (told (λ (x : State). pairAnswer (x .memory) i word) (refusalNumber 21) m)
 promised (hj-search b m rs a) = looking (lentTo (hj-search b m rs a)) (searchTold b m rs a)
-promised (hj-receive-at b m rs p slot octets o) =
-    let c = hj-receive-at b m rs p slot octets o in
+promised (hj-receive-at b m rs p slot second octets o) =
+    let c = hj-receive-at b m rs p slot second octets o in
     outputLeft
-    (missionLeft (looking (lentTo c) (receiveAnswer b m rs p octets (length o))) (receiveWords b m rs p slot octets (length o)))
-    (receiveOutput b m rs p octets o)
+    (missionLeft (looking (lentTo c) (receiveAnswer b m rs p second octets (length o))) (receiveWords b m rs p slot second octets (length o)))
+    (receiveOutput b m rs p second octets o)
 promised (hj-take b m p) =
     missionLeft (looking (both b m) (toldRelay (λ (x : Relay). takeAnswer x p) (refusalNumber 16) b m)) (changedRelay (λ (x : Relay). takenRelay x p) b m)
 promised (hj-counter m i) = looking (aMission m) (told (λ (x : State). counterAnswer (x .counters) i) (refusalNumber 21) m)
 promised (hj-waiting m p) = looking (aMission m) (told (λ (x : State). waitingAnswer (x .mission) p) (refusalNumber 21) m)
+promised (hj-sweep b m second) =
+    onBoth (hj-sweep b m second) b m
+    (λ (x : Board) (s : State). firstOf (sweepChecks (s .memory) second))
+    (λ (x : Board) (s : State). onMemory (sweptMemory (x .lifetime) second) s)

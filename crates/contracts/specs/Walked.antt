@@ -41,5 +41,5 @@ reads-word κs a r e = ReadsRouteWord (now (a .0)) (a .1 .0) (a .1 .1 .0) r
 
 abbrev pub receives : Plainly receive-at.ended
 receives κs a r e =
-    Receives (now (a .0)) (now (a .1 .0)) (now (a .1 .1 .0)) (a .1 .1 .1 .0) (a .1 .1 .1 .1 .0) (now (a .1 .1 .1 .1 .1 .0)) (now (a .1 .1 .1 .1 .1 .1 .0)) r
-    (now (e .1 .0)) (now (e .1 .1 .1 .1 .1 .1 .0))
+    Receives (now (a .0)) (now (a .1 .0)) (now (a .1 .1 .0)) (a .1 .1 .1 .0) (a .1 .1 .1 .1 .0) (a .1 .1 .1 .1 .1 .0) (now (a .1 .1 .1 .1 .1 .1 .0))
+    (now (a .1 .1 .1 .1 .1 .1 .1 .0)) r (now (e .1 .0)) (now (e .1 .1 .1 .1 .1 .1 .1 .0))

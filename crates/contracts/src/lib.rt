@@ -1,4 +1,4 @@
-// What the contracts of the 27 calls from C say, as one table.
+// What the contracts of the 32 calls from C say, as one table.
 //
 // There is no code here. A contract stands above its function, in eight files of seven crates, and speaks of entries and exits of borrowed
 // slices. Who reads what C may rely on wants one list: of each call what it answers, and what it leaves of the board, of a mission's

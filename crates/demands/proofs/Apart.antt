@@ -17,6 +17,8 @@ use Rattle.history.specs.Calls.{
   clearPath,
   groupWord,
   pathWord,
+  pairWord,
+  lastSecond,
   search,
   counter,
   waiting,
@@ -31,6 +33,7 @@ use Rattle.history.specs.Calls.{
   sets,
   hears,
   takes,
+  sweeps,
   looks,
   Call,
   operator,
@@ -99,10 +102,13 @@ left-as-lent b m (sets (setGroup i address send subscribed)) = (refl, refl)
 left-as-lent b m (sets (setPath i path send here)) = (refl, refl)
 left-as-lent b m (sets (clearGroup i)) = (refl, refl)
 left-as-lent b m (sets (clearPath i)) = (refl, refl)
-left-as-lent b m (hears rs p slot octets output) = (refl, refl)
+left-as-lent b m (hears rs p slot when octets output) = (refl, refl)
 left-as-lent b m (takes p) = (refl, refl)
+left-as-lent b m (sweeps when) = (refl, refl)
 left-as-lent b m (looks (groupWord i word)) = (refl, refl)
 left-as-lent b m (looks (pathWord i word)) = (refl, refl)
+left-as-lent b m (looks (pairWord i word)) = (refl, refl)
+left-as-lent b m (looks lastSecond) = (refl, refl)
 left-as-lent b m (looks (search rs a)) = (refl, refl)
 left-as-lent b m (looks (counter i)) = (refl, refl)
 left-as-lent b m (looks (waiting p)) = (refl, refl)

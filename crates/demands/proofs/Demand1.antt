@@ -19,7 +19,7 @@ use Rattle.routes.specs.declared.Record.{Record}
 use Rattle.state.specs.Relay.{Relay}
 use Rattle.state.specs.Seen.{State, freshBoard, freshState}
 use Rattle.state.specs.Layout.{decode}
-use Rattle.lent_state.specs.View.{lent, tooLong}
+use Rattle.lent_state.specs.View.{tooLong}
 use Rattle.lent_state.proofs.Same.{board-injective}
 use Rattle.verdict.specs.Numbers.{localNumber, onwardNumber}
 use Rattle.taking.specs.Taking.{takeOutcome}
@@ -38,6 +38,8 @@ use Rattle.history.specs.Calls.{
   views,
   groupWord,
   pathWord,
+  pairWord,
+  lastSecond,
   search,
   counter,
   waiting,
@@ -48,10 +50,12 @@ use Rattle.history.specs.Calls.{
   checksum,
   boardSize,
   missionSize,
+  OperatorCall,
   MissionCall,
   sets,
   hears,
   takes,
+  sweeps,
   looks,
   Call,
   operator,
@@ -62,14 +66,13 @@ use Rattle.history.specs.Outcome as outcome
 use Rattle.history.specs.Answers.{answersOf, stands}
 use Rattle.history.specs.Transport.{SameButTpid, SameButLocal, localBy}
 use Rattle.history.proofs.Answered.{every-answer-is-listed}
-use Rattle.history.proofs.ReadBack.{ReadBack, read-back}
 use Rattle.history.proofs.Untaken.{took-none}
 use Rattle.history.proofs.Refusals.{nobody-took, output-as-lent}
 use Rattle.history.proofs.Sums.{moves-as-written}
 use Rattle.history.proofs.Transport as transport
 use Rattle.demands.specs.Trace.{Customer, Step, operates, flies, stepOf, Words, missionOf, made, wordsAfter, seatOf, relayOf, Gives}
-use Rattle.demands.specs.ReadOut.{ownOut, readOut, ownIn, hearsNothing, counterAt}
-use Rattle.demands.specs.Demand1.{Unchanged, LocalAlone, Lacks, lackNumber, refusedOwn, AnswersLack, HasLong, refusedAs, MissionLacks, Demand1}
+use Rattle.demands.specs.ReadOut.{ownOut, readOut, ownIn, memoryIn, hearsNothing, counterAt}
+use Rattle.demands.specs.Demand1.{Unchanged, OwnRemembers, Remembers, LocalAlone, Lacks, lackNumber, refusedOwn, AnswersLack, HasLong, refusedAs, MissionLacks, Demand1}
 use Rattle.demands.proofs.Lane.{madeBy}
 use Rattle.demands.proofs.Promised.{promisedBy, nextState}
 use Rattle.demands.proofs.Held.{quiet-taking}
@@ -79,6 +82,8 @@ use Rattle.demands.proofs.Lasts.{gives-lasts}
 use Rattle.demands.proofs.Told.{gives-row, gives-next, before-own, counters, counters-move}
 use Rattle.demands.proofs.Fitting.{refusal-out}
 use Rattle.demands.proofs.ReadOut.{read-out}
+use Rattle.demands.proofs.Output.{told}
+use Rattle.demands.proofs.Remembers.{left-memory, heard-leaves}
 use Rattle.demands.proofs.Whole.{whole, left-whole, operator-refused, own-refused, lackAnswer, operator-lacks, own-lacks, longAnswer, long-left}
 
 -- ---- a refusal leaves all but the counters of a datagram
@@ -95,19 +100,17 @@ module _ (who : Customer) (steps : List Step) where
   looked : (c : Call) (x : Result) (g : Gives steps (stepOf who c) x)
       → promisedBy seat (counters who steps) c
       ≡ looking (lentTo (madeBy (g .before .board) (missionOf who (g .before)) c)) (promisedBy seat (counters who steps) c .answer)
-      → Unchanged (lentTo (madeBy (g .before .board) (missionOf who (g .before)) c)) (x .left)
-  looked c x g is =
-      all-unchanged (lentTo (madeBy (g .before .board) (missionOf who (g .before)) c)) (x .left)
-      (whole _ (promisedBy seat (counters who steps) c .answer) x (subst (λ (p : Promise). Allows p x) is (gives-row who steps c x g)))
+      → x .left ≡ lentTo (madeBy (g .before .board) (missionOf who (g .before)) c)
+  looked c x g is = whole _ (promisedBy seat (counters who steps) c .answer) x (subst (λ (p : Promise). Allows p x) is (gives-row who steps c x g))
 
   -- a datagram of which no port took an entry
-  module _ (rs : List Record) (p : ℕ) (slot : Slot) (octets output : List ℕ) (x : Result) (g : Gives steps (flies who (hears rs p slot octets output)) x) where
+  module _ (rs : List Record) (p : ℕ) (slot : Slot) (second : ℕ) (octets output : List ℕ) (x : Result) (g : Gives steps (flies who (hears rs p slot second octets output)) x) where
     abbrev e : Ending
-    e = heardBy seat rs p octets (length output)
+    e = heardBy seat rs p second octets (length output)
 
-    heard-unchanged : e .ruling .took ≡ 0 → Unchanged (lentTo (made (g .before) (flies who (hears rs p slot octets output)))) (x .left)
+    heard-unchanged : e .ruling .took ≡ 0 → Unchanged (lentTo (made (g .before) (flies who (hears rs p slot second octets output)))) (x .left)
     heard-unchanged none =
-        let c = hears rs p slot octets output in
+        let c = hears rs p slot second octets output in
         let row = gives-row who steps (own c) x g in
         let before = before-own who steps (flies who c) x g in
         let hold = words-hold who (g .lent) steps (g .before) (g .begun) in
@@ -124,35 +127,56 @@ module _ (who : Customer) (steps : List Step) where
           numbers = row .numbers;
         }
 
-    answered : ReadBack (x .answer) e
-    answered = rw (gives-row who steps (own (hears rs p slot octets output)) x g .answer) (read-back seat rs p octets (length output))
-
+  -- a refused call that is no datagram leaves all
   quiet-leaves : (c : MissionCall) → hearsNothing c ≡ true → (x : Result) (g : Gives steps (flies who c) x)
-      → outcome.isRefusal (outcome.ownOutcome seat c .answer) ≡ true → Unchanged (lentTo (made (g .before) (flies who c))) (x .left)
+      → outcome.isRefusal (outcome.ownOutcome seat c .answer) ≡ true → x .left ≡ lentTo (made (g .before) (flies who c))
   quiet-leaves c quiet x g h =
       let hold = words-hold who (g .lent) steps (g .before) (g .begun) in
       looked (own c) x g
       (own-refused (g .before .board) (missionOf who (g .before)) seat (counters who steps) (hold .0) (hold .1) c quiet h)
 
-  own-leaves : (c : MissionCall) (x : Result) (g : Gives steps (flies who c) x) → outcome.isRefusal (outcome.ownOutcome seat c .answer) ≡ true
-      → Unchanged (lentTo (made (g .before) (flies who c))) (x .left)
-  own-leaves (sets s) x g h = quiet-leaves (sets s) refl x g h
-  own-leaves (hears rs p slot octets output) x g h =
-      heard-unchanged rs p slot octets output x g (took-none seat rs p octets (length output) h)
-  own-leaves (takes p) x g h = quiet-leaves (takes p) refl x g h
-  own-leaves (looks l) x g h = quiet-leaves (looks l) refl x g h
-
-  call-leaves : (c : Call) (x : Result) (g : Gives steps (stepOf who c) x) → outcome.isRefusal (outcome.outcome seat c .answer) ≡ true
-      → Unchanged (lentTo (made (g .before) (stepOf who c))) (x .left)
-  call-leaves (operator c) x g h =
+  order-leaves : (c : OperatorCall) (x : Result) (g : Gives steps (operates c) x) → outcome.isRefusal (outcome.operatorOutcome (seat .board) c .answer) ≡ true
+      → x .left ≡ lentTo (made (g .before) (operates c))
+  order-leaves c x g h =
       let hold = words-hold who (g .lent) steps (g .before) (g .begun) in
       looked (operator c) x g
       (operator-refused (g .before .board) (missionOf who (g .before)) seat (counters who steps) (hold .0) (hold .1) c h)
+
+  own-leaves : (c : MissionCall) (x : Result) (g : Gives steps (flies who c) x) → outcome.isRefusal (outcome.ownOutcome seat c .answer) ≡ true
+      → Unchanged (lentTo (made (g .before) (flies who c))) (x .left)
+  own-leaves (sets s) x g h = all-unchanged _ _ (quiet-leaves (sets s) refl x g h)
+  own-leaves (hears rs p slot second octets output) x g h =
+      heard-unchanged rs p slot second octets output x g (took-none seat rs p second octets (length output) h)
+  own-leaves (takes p) x g h = all-unchanged _ _ (quiet-leaves (takes p) refl x g h)
+  own-leaves (sweeps second) x g h = all-unchanged _ _ (quiet-leaves (sweeps second) refl x g h)
+  own-leaves (looks l) x g h = all-unchanged _ _ (quiet-leaves (looks l) refl x g h)
+
+  call-leaves : (c : Call) (x : Result) (g : Gives steps (stepOf who c) x) → outcome.isRefusal (outcome.outcome seat c .answer) ≡ true
+      → Unchanged (lentTo (made (g .before) (stepOf who c))) (x .left)
+  call-leaves (operator c) x g h = all-unchanged _ _ (order-leaves c x g h)
   call-leaves (own c) x g h = own-leaves c x g h
 
-  refusal-leaves : (c : Call) (x : Result) (g : Gives steps (stepOf who c) x) → outcome.isRefusal (readOut c (x .answer)) ≡ true
-      → Unchanged (lentTo (made (g .before) (stepOf who c))) (x .left)
-  refusal-leaves c x g h = call-leaves c x g (ap outcome.isRefusal (sym (read-out who steps c x g)) ∙ h)
+  is-refused : (c : Call) (x : Result) → Gives steps (stepOf who c) x → outcome.isRefusal (readOut c (x .answer)) ≡ true
+      → outcome.isRefusal (outcome.outcome seat c .answer) ≡ true
+  is-refused c x g h = ap outcome.isRefusal (sym (read-out who steps c x g)) ∙ h
+
+  -- ---- and what it leaves of the memory
+  same-memory : {t u : Things} → u ≡ t → memoryIn (u .mission) ≡ memoryIn (t .mission)
+  same-memory is = ap (λ (z : Things). memoryIn (z .mission)) is
+
+  own-remembers : (c : MissionCall) (x : Result) (g : Gives steps (flies who c) x) → outcome.isRefusal (outcome.ownOutcome seat c .answer) ≡ true
+      → OwnRemembers who steps c x (memoryIn (lentTo (made (g .before) (flies who c)) .mission)) (memoryIn (x .left .mission))
+  own-remembers (sets s) x g h = same-memory (quiet-leaves (sets s) refl x g h)
+  own-remembers (hears rs p slot second octets output) x g h =
+      heard-leaves who steps rs p slot second octets output x g (took-none seat rs p second octets (length output) h)
+  own-remembers (takes p) x g h = same-memory (quiet-leaves (takes p) refl x g h)
+  own-remembers (sweeps second) x g h = same-memory (quiet-leaves (sweeps second) refl x g h)
+  own-remembers (looks l) x g h = same-memory (quiet-leaves (looks l) refl x g h)
+
+  call-remembers : (c : Call) (x : Result) (g : Gives steps (stepOf who c) x) → outcome.isRefusal (outcome.outcome seat c .answer) ≡ true
+      → Remembers who steps c x (memoryIn (lentTo (made (g .before) (stepOf who c)) .mission)) (memoryIn (x .left .mission))
+  call-remembers (operator c) x g h = same-memory (order-leaves c x g h)
+  call-remembers (own c) x g h = own-remembers c x g h
 
 -- ---- two datagrams
 local-numbers : (a b : ℕ) (e f : Ending) → SameButLocal a b e f
@@ -164,33 +188,38 @@ local-numbers a b e f same =
     (λ each. inr (ap localNumber (each .0), ap localNumber (each .1)))
     (same .local)
 
-module _ (who : Customer) (steps : List Step) (rs : List Record) (p : ℕ) (slot : Slot) (output : List ℕ) where
-  left : (octets : List ℕ) (x : Result) → Gives steps (flies who (hears rs p slot octets output)) x
-      → ownIn (x .left .mission) ≡ receivedRelay (relayOf who steps) slot (heardBy (seatOf who steps) rs p octets (length output)) .mission
-  left octets x g =
-      let c = own (hears rs p slot octets output) in
+module _ (who : Customer) (steps : List Step) (rs : List Record) (p : ℕ) (slot : Slot) (second : ℕ) (output : List ℕ) where
+  left-own : (octets : List ℕ) (x : Result) → Gives steps (flies who (hears rs p slot second octets output)) x
+      → ownIn (x .left .mission) ≡ receivedRelay (relayOf who steps) slot (heardBy (seatOf who steps) rs p second octets (length output)) .mission
+  left-own octets x g =
+      let c = own (hears rs p slot second octets output) in
       ap (λ (s : State). s .mission)
       (held-words (x .left .mission) (nextState (seatOf who steps) (counters who steps) c) (gives-row who steps c x g .mission) .1)
 
   alone : (s t : List ℕ) (h k : Header) (x y : Result) → readOf s ≡ Good h → readOf t ≡ Good k → SameButTpid h k
-      → Gives steps (flies who (hears rs p slot s output)) x → Gives steps (flies who (hears rs p slot t output)) y
+      → Gives steps (flies who (hears rs p slot second s output)) x → Gives steps (flies who (hears rs p slot second t output)) y
       → LocalAlone (h .fields .tpid) (k .fields .tpid) x y
   alone s t h k x y good other same g i =
       let seat = seatOf who steps in
       let room = length output in
-      let e = heardBy seat rs p s room in
-      let f = heardBy seat rs p t room in
-      let but = transport.transport-alone p s t room h k good other same seat rs in
-      let one = answered who steps rs p slot s output x g in
-      let two = answered who steps rs p slot t output y i in
+      let e = heardBy seat rs p second s room in
+      let f = heardBy seat rs p second t room in
+      let but = transport.transport-alone p second s t room h k good other same seat rs in
+      let one = told who steps rs p slot second s output x g in
+      let two = told who steps rs p slot second t output y i in
       record {
         refusal = two .refusal ∙ sym (but .refusal) ∙ sym (one .refusal);
         onward = two .onward ∙ ap onwardNumber (sym (but .onward)) ∙ sym (one .onward);
         took = two .took ∙ sym (but .took) ∙ sym (one .took);
         dropped = two .dropped ∙ sym (but .dropped) ∙ sym (one .dropped);
-        mission = left t y i
-            ∙ ap (λ (r : Relay). r .mission) (sym (transport.leaves-the-same p s t room h k good other same seat rs slot))
-            ∙ sym (left s x g);
+        mission =
+            left-own t y i
+            ∙ ap (λ (r : Relay). r .mission) (sym (transport.leaves-the-same p second s t room h k good other same seat rs slot))
+            ∙ sym (left-own s x g);
+        memory =
+            left-memory who steps rs p slot second t output y i
+            ∙ sym (transport.remembers-the-same p second s t room h k good other same seat rs)
+            ∙ sym (left-memory who steps rs p slot second s output x g);
         local = rw (one .local, two .local) (local-numbers (h .fields .tpid) (k .fields .tpid) e f but);
       }
 
@@ -205,10 +234,13 @@ read-21 = refusal-out 21 (omega arith)
 
 own-lack-out : (b m : List ℕ) (c : MissionCall) → MissionLacks b m c → ownOut c (lackAnswer (own c)) ≡ refusedOwn c (lackNumber c)
 own-lack-out b m (sets s) w = refl
-own-lack-out b m (hears rs p slot octets output) w = ended-lack (tooLong rs)
+own-lack-out b m (hears rs p slot second octets output) w = ended-lack (tooLong rs)
 own-lack-out b m (takes p) w = rw (refusal-out 16 (omega arith))
+own-lack-out b m (sweeps second) w = refl
 own-lack-out b m (looks (groupWord i word)) w = rw read-21
 own-lack-out b m (looks (pathWord i word)) w = rw read-21
+own-lack-out b m (looks (pairWord i word)) w = rw read-21
+own-lack-out b m (looks lastSecond) w = rw read-21
 own-lack-out b m (looks (search rs a)) w = refl
 own-lack-out b m (looks (counter i)) w = rw read-21
 own-lack-out b m (looks (waiting p)) w = rw read-21
@@ -239,10 +271,13 @@ long-out : (c : Call) → HasLong c → readOut c (longAnswer c) ≡ refusedAs c
 long-out (operator (orders o)) h = refl
 long-out (operator (views v)) h = ap outcome.number read-21
 long-out (own (sets s)) h = absurd h
-long-out (own (hears rs p slot octets output)) h = refl
+long-out (own (hears rs p slot second octets output)) h = refl
 long-out (own (takes p)) h = absurd h
+long-out (own (sweeps second)) h = absurd h
 long-out (own (looks (groupWord i word))) h = absurd h
 long-out (own (looks (pathWord i word))) h = absurd h
+long-out (own (looks (pairWord i word))) h = absurd h
+long-out (own (looks lastSecond)) h = absurd h
 long-out (own (looks (search rs a))) h = refl
 long-out (own (looks (counter i))) h = absurd h
 long-out (own (looks (waiting p))) h = absurd h
@@ -281,8 +316,9 @@ module _ (n : List ℕ) where
 -- ---- a call that hears no datagram counts nothing
 no-moves : (x : Seat) (c : MissionCall) → hearsNothing c ≡ true → outcome.ownOutcome x c .moves ≡ []
 no-moves x (sets s) h = refl
-no-moves x (hears rs p slot octets output) h = true-false (sym h)
+no-moves x (hears rs p slot second octets output) h = true-false (sym h)
 no-moves x (takes p) h = quiet-taking p (takeOutcome (relayIn x) p)
+no-moves x (sweeps second) h = refl
 no-moves x (looks l) h = refl
 
 counters-stay : (who : Customer) (steps : List Step) (c : MissionCall) (x : Result) (g : Gives steps (flies who c) x) → hearsNothing c ≡ true
@@ -324,12 +360,15 @@ demand-1 =
             λ wrong. (built .answer ∙ build-other n wrong size (length o) o .0, built .output ∙ build-other n wrong size (length o) o .1),
           );
       nobody-checks-first = given.nobody-checks-first;
-      refusal-leaves = refusal-leaves;
-      untaken-leaves = λ who steps rs p slot octets output x g none.
-          heard-unchanged who steps rs p slot octets output x g (sym (answered who steps rs p slot octets output x g .took) ∙ none);
+      refusal-leaves = λ who steps c x g h. call-leaves who steps c x g (is-refused who steps c x g h);
+      refusal-remembers = λ who steps c x g h. call-remembers who steps c x g (is-refused who steps c x g h);
+      untaken-leaves = λ who steps rs p slot second octets output x g none.
+          heard-unchanged who steps rs p slot second octets output x g (sym (told who steps rs p slot second octets output x g .took) ∙ none);
+      untaken-remembers = λ who steps rs p slot second octets output x g none.
+          heard-leaves who steps rs p slot second octets output x g (sym (told who steps rs p slot second octets output x g .took) ∙ none);
       counters-move = λ who steps c x g i inside.
           counters-move who steps c x g i inside
           ∙ ap (λ (n : ℕ). (counterAt (missionOf who (g .before)) i + n) % 2 ^ 32) (moves-as-written (seatOf who steps) (own c) i inside);
       counters-stay = counters-stay;
-      transport-alone = λ who steps rs p slot s t output h k x y. alone who steps rs p slot output s t h k x y;
+      transport-alone = λ who steps rs p slot second s t output h k x y. alone who steps rs p slot second output s t h k x y;
     }

@@ -1,13 +1,13 @@
 -- Demand 2 is kept. Assumes nothing.
 use native.Mathlib.Omega.{arith}
-use Prim.Native.Nat.{ℕ, _+_, _^_, _<_, _≤_}
-use mathlib.Core.Path.{_≡_, refl, sym, ap, subst, _∙_}
-use mathlib.Core.Logic.{_↔_, _≢_, ⊎-elim}
+use Prim.Native.Nat.{ℕ, _+_, _-_, _^_, _<_, _≤_}
+use mathlib.Core.Path.{_≡_, refl, sym, ap, ap₂, subst, _∙_}
+use mathlib.Core.Logic.{_⊎_, _↔_, _≢_, ⊎-elim}
 use mathlib.Core.Bool.{Bool, true, false, _&&_, _||_, not}
 use mathlib.Core.List.{List, [], _∷_, _++_}
 use lib.ListN.{length, take, drop, replicate}
 use lib.Dec.{eqb}
-use borrow.Author.Tests.{eqb-true, ltb-false, eqb-false}
+use borrow.Author.Tests.{eq-eqb, ne-eqb, eqb-true, eqb-false, ltb-false}
 use Rattle.header.specs.declared.Read.{Read}
 use Rattle.header.proofs.Answers.{read-bounds}
 use Rattle.history.specs.SearchBack.{LongestOrNo}
@@ -16,7 +16,7 @@ use Rattle.address.specs.Class.{classOf}
 use Rattle.address.proofs.ClassTable.{class-row}
 use Rattle.checks.specs.Order.{pick, Checks, firstOf, noneHolds, firstHolds}
 use Rattle.checks.specs.Answer.{refusalNumber}
-use Rattle.checks.proofs.Bools.{true-false, and-true, or-true}
+use Rattle.checks.proofs.Bools.{true-false, refuted, and-true, or-true}
 use Rattle.refusals.proofs.Chains.{Decided, decided}
 use Rattle.sets.specs.Limits.{portCount}
 use Rattle.sets.specs.Sets.{inSet}
@@ -43,15 +43,19 @@ use Rattle.queue.specs.declared.Entry.{Entry}
 use Rattle.queue.proofs.Each.{each-so}
 use Rattle.queue.proofs.Waits.{EachOf, chosen-each, chosen-nobody}
 use Rattle.routes.specs.declared.Record.{Record}
+use Rattle.records.specs.Held.{isFree}
 use Rattle.routes.proofs.Longest.{Contiguous}
-use Rattle.state.specs.Relay.{Relay, portIn, portSetUp}
+use Rattle.state.specs.Relay.{Memory, Relay, pairAt, portIn, portSetUp}
 use Rattle.state.specs.Seen.{Board, State}
+use Rattle.floods.specs.Sweep.{isOld, swept, sweepChecks, sweptMemory}
+use Rattle.floods.proofs.Swept.{old-is, young-stays, free-after}
 use Rattle.taking.specs.Taking.{takeOutcome}
 use Rattle.taking.specs.declared.Taking.{Taking}
 use Rattle.taking.specs.declared.Taking.the-variants as taking
 use Rattle.judge.specs.Ending.{refusedBy, orElse, callChecks, octetsEnding, ruledEnding, arrivalAt, endingOf}
 use Rattle.judge.specs.declared.Ending.{Ending}
-use Rattle.relay.specs.Received.{heardEnding, receivedState}
+use Rattle.judge.specs.Remembered.{octetsMemory, memoryOf}
+use Rattle.relay.specs.Received.{heardEnding, heardMemory, receivedState}
 use Rattle.lent_state.specs.View.{Lent, Held, lent, tooLong}
 use Rattle.lent_state.proofs.Same.{lent-injective}
 use Rattle.answers.specs.Answers.{receiveNumber, takingNumber}
@@ -73,12 +77,14 @@ use Rattle.history.specs.Calls.{
   Order,
   setRouter,
   setPort,
+  setLifetime,
   setRoute,
   clearRoute,
   orders,
   views,
   portWord,
   routerFlag,
+  lifetimeWord,
   recordWord,
   Setting,
   setGroup,
@@ -90,6 +96,7 @@ use Rattle.history.specs.Calls.{
   sets,
   hears,
   takes,
+  sweeps,
   looks,
   Call,
   operator,
@@ -100,9 +107,9 @@ use Rattle.history.specs.Calls.{
   settle,
 }
 use Rattle.history.specs.Calls as look
-use Rattle.history.specs.Seat.{Seat, freshSeat, stateOf, heardBy}
+use Rattle.history.specs.Seat.{Seat, freshSeat, stateOf, heardBy, memoryBy}
 use Rattle.history.specs.Outcome.{entry, ofTaking, outcome, next, runFrom, seatAfter}
-use Rattle.history.specs.Parts.{Part, theRouter, thePort, theGroup, thePath, About, settingIn}
+use Rattle.history.specs.Parts.{Part, theRouter, thePort, theLifetime, theGroup, thePath, About, settingIn}
 use Rattle.history.specs.Line.{Copy, entryOf, takingOf, lineAt}
 use Rattle.history.specs.Marked.{Marked, markedCases}
 use Rattle.history.specs.Ranges.{Octets, EntryFits, CopyFits}
@@ -117,9 +124,9 @@ use Rattle.history.proofs.Reach.{kept-after, reached}
 use Rattle.history.proofs.ReadBack.{ReadBack}
 use Rattle.listing.proofs.Counting.{seen-contiguous}
 use Rattle.history.proofs.Takes.{take-is, is-port}
-use Rattle.demands.specs.Trace.{Customer, first, second, numberOf, Step, flies, historyOf, boardOf, seatOf, relayOf, relayFor, Gives}
-use Rattle.demands.specs.ReadOut.{ownOut, tookIn, droppedIn, ownIn, asksFor, partTold, Reads, Builds, headerOut, wireBy}
-use Rattle.demands.specs.Demand2.{ToldAs, Answered, DecidedBy, Demand2, ExactlyAs, WrittenAs, OnTheWire, GoesOut}
+use Rattle.demands.specs.Trace.{Customer, first, second, numberOf, Step, flies, missionOf, historyOf, boardOf, seatOf, relayOf, relayFor, Gives}
+use Rattle.demands.specs.ReadOut.{ownOut, tookIn, droppedIn, ownIn, memoryIn, asksFor, partTold, Reads, Builds, headerOut, wireBy}
+use Rattle.demands.specs.Demand2.{ToldAs, Answered, DecidedBy, SweptAs, Demand2, ExactlyAs, WrittenAs, OnTheWire, GoesOut}
 use Rattle.demands.proofs.Promised.{nextState}
 use Rattle.demands.proofs.Held.{reading-left, reading-answer, build-answer, build-output}
 use Rattle.demands.proofs.Traced.{history-more, board-is, held-words}
@@ -127,10 +134,11 @@ use Rattle.demands.proofs.Told.{gives-row, gives-board, counters, setti
 use Rattle.demands.proofs.Fitting.{history-passed}
 use Rattle.demands.proofs.ReadOut.{read-out}
 use Rattle.demands.proofs.Output.{told, was, takes-some, header-found, as-many, others-stay}
+use Rattle.demands.proofs.Remembers.{before-memory, page-memory, sweep-memory, sweep-own}
 
 -- ---- reading
 no-slot : (s n : List ℕ) → Passable (hj-read-words s n)
-no-slot s n b m rs p slot l o e = true-false cc
+no-slot s n b m rs p slot now l o e = true-false cc
 
 reads : (s : List ℕ) → Reads s (readingOf (readOf s))
 reads s =
@@ -188,7 +196,7 @@ module _ (fields : Numbers) (size : ℕ) where
   builds : (lent : List ℕ) → Builds fields size lent (buildAnswer fields size (length lent)) (buildOutput fields size lent)
   builds lent =
       let c = hj-build-words (numbersWords fields) size lent in
-      let a = each-call-answers c (λ b m rs p slot l o e. true-false cc) in
+      let a = each-call-answers c (λ b m rs p slot now l o e. true-false cc) in
       let row = says-row c (a .0) (a .1) in
       (a .0, (a .1, (row .answer ∙ build-answer fields size (length lent), row .output ∙ build-output fields size lent)))
 
@@ -263,6 +271,7 @@ decided-by checks by answer said = (λ n some. by-answer said n (by .1 n some), 
 orders-decided : (b : Board) (o : Order) → Decided (orderChecks b o)
 orders-decided b (setRouter x) = decided (orderChecks b (setRouter x)) refl
 orders-decided b (setPort p address mask mtu mission) = decided (orderChecks b (setPort p address mask mtu mission)) refl
+orders-decided b (setLifetime x) = decided (orderChecks b (setLifetime x)) refl
 orders-decided b (setRoute rs i prefix mask port availability capabilities mission) =
     decided (orderChecks b (setRoute rs i prefix mask port availability capabilities mission)) refl
 orders-decided b (clearRoute rs i) = decided (orderChecks b (clearRoute rs i)) refl
@@ -289,6 +298,7 @@ settings-back : (who : Customer) (steps : List Step) (part : Part) (word : ℕ) 
     → x .answer ≡ partTold (seatOf who steps) part word
 settings-back who steps theRouter word x g = gives-row who steps (operator (views routerFlag)) x g .answer
 settings-back who steps (thePort p) word x g = gives-row who steps (operator (views (portWord p word))) x g .answer
+settings-back who steps theLifetime word x g = gives-row who steps (operator (views lifetimeWord)) x g .answer
 settings-back who steps (theGroup i) word x g = gives-row who steps (own (looks (groupWord i word))) x g .answer
 settings-back who steps (thePath i) word x g = gives-row who steps (own (looks (pathWord i word))) x g .answer
 
@@ -310,10 +320,11 @@ module _ (line : List Copy) where
   )
 
 -- ---- a datagram that is not refused was read
-size-read : (r : Relay) (at : ℕ) (octets : List ℕ) (room : ℕ) → endingOf r at octets room .refusal ≡ 0 → endingOf r at octets room .size ≡ headerOf octets .size
-size-read r at octets room z =
-    let n = firstOf (stepRows r at octets room) in
-    let is = ending-by-steps r at octets room in
+size-read : (r : Relay) (at when : ℕ) (octets : List ℕ) (room : ℕ) → endingOf r at when octets room .refusal ≡ 0
+    → endingOf r at when octets room .size ≡ headerOf octets .size
+size-read r at when octets room z =
+    let n = firstOf (stepRows r at when octets room) in
+    let is = ending-by-steps r at when octets room in
     ap (λ (e : Ending). e .size) is ∙ by (eqb n 0) n refl (sym (ap (λ (e : Ending). e .refusal) is) ∙ z)
   where
     by : (t : Bool) (n : ℕ) → eqb n 0 ≡ t → pick t (ruledEnding r (arrivalAt r at) (headerOf octets)) (refusedBy n) .refusal ≡ 0
@@ -336,12 +347,12 @@ module _ (who : Customer) (steps : List Step) where
   r = relayOf who steps
 
   -- a datagram
-  module _ (rs : List Record) (at : ℕ) (slot : Slot) (octets output : List ℕ) (x : Result) (g : Gives steps (flies who (hears rs at slot octets output)) x) where
+  module _ (rs : List Record) (at : ℕ) (slot : Slot) (when : ℕ) (octets output : List ℕ) (x : Result) (g : Gives steps (flies who (hears rs at slot when octets output)) x) where
     abbrev e : Ending
-    e = heardBy seat rs at octets (length output)
+    e = heardBy seat rs at when octets (length output)
 
     answered : ReadBack (x .answer) e
-    answered = told who steps rs at slot octets output x g
+    answered = told who steps rs at slot when octets output x g
 
     -- with a list that is not too long: page 01's relay, as the customer sees it
     module _ (short : tooLong rs ≡ false) where
@@ -349,10 +360,10 @@ module _ (who : Customer) (steps : List Step) where
       q = relayFor who steps rs
 
       abbrev p : Ending
-      p = endingOf q at octets (length output)
+      p = endingOf q at when octets (length output)
 
       is : e ≡ p
-      is = heard-is seat rs at octets (length output) false short
+      is = heard-is seat rs at when octets (length output) false short
 
       seen : ReadBack (x .answer) p
       seen = subst (ReadBack (x .answer)) is answered
@@ -360,30 +371,30 @@ module _ (who : Customer) (steps : List Step) where
       contiguous : Contiguous (q .routes)
       contiguous = seen-contiguous (seat .board) rs (seat .number)
 
-      told-as : ToldAs octets x (verdictOf q at octets (length output))
+      told-as : ToldAs octets x (verdictOf q at when octets (length output))
       told-as =
-          let page = verdict-is-the-page q contiguous at octets (length output) in
+          let page = verdict-is-the-page q contiguous at when octets (length output) in
           record {
             refusal = seen .refusal ∙ page .refusal;
             local = seen .local ∙ page .ruling .local;
             onward = seen .onward ∙ page .ruling .onward;
             took = λ i inside. ap (inSet i) (seen .took) ∙ page .ruling .took i inside;
             dropped = λ i inside. ap (inSet i) (seen .dropped) ∙ page .ruling .dropped i inside;
-            data-from = λ z. seen .size ∙ size-read q at octets (length output) (sym (seen .refusal) ∙ z);
+            data-from = λ z. seen .size ∙ size-read q at when octets (length output) (sym (seen .refusal) ∙ z);
             above = answered .above;
             alone = λ some. answered .alone (λ z. some (answered .refusal ∙ z)) ∙ sym (answered .refusal);
           }
 
-      exactly-as : ExactlyAs q at octets (length output) x
+      exactly-as : ExactlyAs q at when octets (length output) x
       exactly-as =
           record {
-            refusal = subst (GivenBy (stepRows q at octets (length output))) (sym (seen .refusal)) (exactly.refusal-exactly q at octets (length output));
+            refusal = subst (GivenBy (stepRows q at when octets (length output))) (sym (seen .refusal)) (exactly.refusal-exactly q at when octets (length output));
             local = λ none.
                 subst (GivenBy (localRows q at (aimAt q at octets) (headerOf octets .fields))) (sym (seen .local))
-                (exactly.local-exactly q at octets (length output) none);
+                (exactly.local-exactly q at when octets (length output) none);
             onward = λ none n.
                 by-answer (seen .onward) n
-                (exactly.onward-exactly q at octets (length output) moreOnes (ones-choose q contiguous) none n);
+                (exactly.onward-exactly q at when octets (length output) moreOnes (ones-choose q contiguous) none n);
           }
 
       granted : (i : ℕ) → i < portCount → (inSet i (tookIn x) || inSet i (droppedIn x)) ≡ true → inSet i (p .ruling .granted) ≡ true
@@ -391,24 +402,24 @@ module _ (who : Customer) (steps : List Step) where
           ⊎-elim
           (λ took.
           and-true (inSet i (p .ruling .granted)) (hasRoom q i)
-          (sym (took-exactly q at octets (length output) i inside) ∙ ap (inSet i) (sym (seen .took)) ∙ took) .0)
+          (sym (took-exactly q at when octets (length output) i inside) ∙ ap (inSet i) (sym (seen .took)) ∙ took) .0)
           (λ dropped.
           and-true (inSet i (p .ruling .granted)) (not (hasRoom q i))
-          (sym (dropped-exactly q at octets (length output) i inside) ∙ ap (inSet i) (sym (seen .dropped)) ∙ dropped) .0)
+          (sym (dropped-exactly q at when octets (length output) i inside) ∙ ap (inSet i) (sym (seen .dropped)) ∙ dropped) .0)
           (or-true (inSet i (tookIn x)) (inSet i (droppedIn x)) some)
 
       abbrev code : ℕ
-      code = verdictOf q at octets (length output) .code
+      code = verdictOf q at when octets (length output) .code
 
-      headers : HeadersAs q at octets p (verdictOf q at octets (length output))
-      headers = headers-are-the-page q contiguous at octets (length output)
+      headers : HeadersAs q at octets p (verdictOf q at when octets (length output))
+      headers = headers-are-the-page q contiguous at when octets (length output)
 
       in-took : (i : ℕ) → inSet i (tookIn x) ≡ true → inSet i (p .ruling .took) ≡ true
       in-took i took = ap (inSet i) (sym (seen .took)) ∙ took
 
       header-is : (i : ℕ) → i < portCount → inSet i (tookIn x) ≡ true → headerOut x i ≡ nextHeader (liesFar q at i) (portIn q at .address .0) code octets
       header-is i inside took =
-          header-found who steps rs at slot octets output x g i (ap (inSet i) (sym (answered .took)) ∙ took)
+          header-found who steps rs at slot when octets output x g i (ap (inSet i) (sym (answered .took)) ∙ took)
           ∙ ap (λ (y : Ending). headerFor (y .legs) octets i) is
           ∙ headers .header i inside (in-took i took)
 
@@ -420,11 +431,11 @@ module _ (who : Customer) (steps : List Step) where
                 ap (inSet i) (seen .rewritten)
                 ∙ headers .rewritten i inside
                 ∙ ap (λ (took : ℕ). inSet i took && rewrites (liesFar q at i) code (headerOf octets .fields)) (sym (seen .took));
-            as-many = as-many who steps rs at slot octets output x g;
-            others = others-stay who steps rs at slot octets output x g;
+            as-many = as-many who steps rs at slot when octets output x g;
+            others = others-stay who steps rs at slot when octets output x g;
           }
 
-      verdict : ToldAs octets x (verdictOf q at octets (length output)) × (ExactlyAs q at octets (length output) x × WrittenAs q at octets output code x)
+      verdict : ToldAs octets x (verdictOf q at when octets (length output)) × (ExactlyAs q at when octets (length output) x × WrittenAs q at octets output code x)
       verdict = (told-as, (exactly-as, written-as))
 
       -- what goes out by port i
@@ -437,8 +448,8 @@ module _ (who : Customer) (steps : List Step) where
 
         was-read : WasRead octets e
         was-read =
-            was who steps rs at slot octets output x g
-            (takes-some who steps rs at slot octets output x g i (ap (inSet i) (sym (answered .took)) ∙ took))
+            was who steps rs at slot when octets output x g
+            (takes-some who steps rs at slot when octets output x g i (ap (inSet i) (sym (answered .took)) ∙ took))
 
         abbrev k : Header
         k = was-read .header
@@ -450,46 +461,57 @@ module _ (who : Customer) (steps : List Step) where
         arrival-small : arrival < 2 ^ 32
         arrival-small =
             set-up-small seat (kept-after m h) at
-            (arrival-set-up moreOnes q (ones-choose q contiguous) i inside at octets (length output) k (was-read .read) grants)
+            (arrival-set-up moreOnes q (ones-choose q contiguous) i inside at when octets (length output) k (was-read .read) grants)
 
         on-the-wire : OnTheWire q at i octets code (wireBy x octets i)
         on-the-wire =
-            let fits = has-passed moreOnes q (ones-choose q contiguous) i inside at octets (length output) k (was-read .read) grants in
-            let names = names-the-same moreOnes q (ones-choose q contiguous) i inside at octets (length output) k (was-read .read) grants in
+            let fits = has-passed moreOnes q (ones-choose q contiguous) i inside at when octets (length output) k (was-read .read) grants in
+            let names = names-the-same moreOnes q (ones-choose q contiguous) i inside at when octets (length output) k (was-read .read) grants in
             record {
               came = k;
               read = was-read .read;
               goes = record { fields = nextFields far arrival code (k .fields); length = nextLength far arrival code k; size = nextSize far arrival code k };
               reads = rw (header-is i inside took, answered .size, was-read .size)
-                  (read-next far arrival code octets k (g .passes .1) arrival-small (was-read .read) (fits .short));
+                  (read-next far arrival code octets k (g .passes .1 .0) arrival-small (was-read .read) (fits .short));
               aim = names .0;
               origin = names .1;
-              domain = stays-near moreOnes q (ones-choose q contiguous) i inside at octets (length output) k (was-read .read) grants;
+              domain = stays-near moreOnes q (ones-choose q contiguous) i inside at when octets (length output) k (was-read .read) grants;
               fields = refl;
-              long = next-length-parts far arrival code k (read-bounds octets k (g .passes .1) (was-read .read) .1 .1 .0);
+              long = next-length-parts far arrival code k (read-bounds octets k (g .passes .1 .0) (was-read .read) .1 .1 .0);
               fits = fits .mtu;
             }
 
   -- two datagrams that are read alike
-  module _ (rs : List Record) (at : ℕ) (slot : Slot) (output : List ℕ) where
+  module _ (rs : List Record) (at : ℕ) (slot : Slot) (when : ℕ) (output : List ℕ) where
     abbrev ending : List ℕ → Ending
-    ending octets = heardBy seat rs at octets (length output)
+    ending octets = heardBy seat rs at when octets (length output)
 
     read-alike : (s t : List ℕ) → readOf t ≡ readOf s → ending t ≡ ending s
     unfolding heardEnding endingOf
     read-alike s t same =
         let q = relayFor who steps rs in
-        ap (λ (z : Read). orElse (pick (tooLong rs) 21 0) (orElse (firstOf (callChecks q at (length output))) (octetsEnding q (arrivalAt q at) z))) same
+        ap (λ (z : Read). orElse (pick (tooLong rs) 21 0) (orElse (firstOf (callChecks q at when (length output))) (octetsEnding q (arrivalAt q at) z))) same
 
-    hears-alike : (s t : List ℕ) (x y : Result) → readOf t ≡ readOf s → Gives steps (flies who (hears rs at slot s output)) x
-        → Gives steps (flies who (hears rs at slot t output)) y → (y .answer ≡ x .answer) × (y .left .mission ≡ x .left .mission)
+    remembers-alike : (s t : List ℕ) → readOf t ≡ readOf s
+        → memoryBy seat rs at when t (length output) ≡ memoryBy seat rs at when s (length output)
+    unfolding heardMemory memoryOf
+    remembers-alike s t same =
+        let q = relayFor who steps rs in
+        ap
+        (λ (z : Read).
+        pick (tooLong rs) (seat .memory)
+        (pick (eqb (firstOf (callChecks q at when (length output))) 0) (octetsMemory q (arrivalAt q at) when z) (seat .memory))) same
+
+    hears-alike : (s t : List ℕ) (x y : Result) → readOf t ≡ readOf s → Gives steps (flies who (hears rs at slot when s output)) x
+        → Gives steps (flies who (hears rs at slot when t output)) y → (y .answer ≡ x .answer) × (y .left .mission ≡ x .left .mission)
     hears-alike s t x y same g k =
-        let one = gives-row who steps (own (hears rs at slot s output)) x g in
-        let two = gives-row who steps (own (hears rs at slot t output)) y k in
+        let one = gives-row who steps (own (hears rs at slot when s output)) x g in
+        let two = gives-row who steps (own (hears rs at slot when t output)) y k in
         let is = read-alike s t same in
-        let left : Ending → Lent State = λ (e : Ending). Held (receivedState (seat .board) (stateOf seat (counters who steps)) slot e) in (
+        let left : Memory → Ending → Lent State =
+        λ (k : Memory) (e : Ending). Held (receivedState (seat .board) (stateOf seat (counters who steps)) slot k e) in (
           two .answer ∙ ap receiveNumber is ∙ sym (one .answer),
-          lent-injective (y .left .mission) (x .left .mission) (two .mission ∙ ap left is ∙ sym (one .mission)),
+          lent-injective (y .left .mission) (x .left .mission) (two .mission ∙ ap₂ left (remembers-alike s t same) is ∙ sym (one .mission)),
         )
 
   -- a setting of the customer's
@@ -560,6 +582,71 @@ module _ (who : Customer) (steps : List Step) where
         goes-case (portSetUp r p) refl (chosen (rankBy entryOf) (lineAt p m h)) refl e
         (sym (take-is m h p) ∙ taken-entry (takeOutcome r p) e (sym (read-out who steps (own (takes p)) x g) ∙ is))
 
+-- ---- a sweep
+module _ (lifetime when : ℕ) (k : Memory) where
+  -- one that is refused
+  refused-sweep : firstOf (sweepChecks k when) ≢ 0 → sweptMemory lifetime when k ≡ k
+  unfolding sweptMemory
+  refused-sweep some = rw (ne-eqb (firstOf (sweepChecks k when)) 0 some)
+
+  -- and one that is not
+  module _ (taken : firstOf (sweepChecks k when) ≡ 0) where
+    taken-sweep : sweptMemory lifetime when k ≡ swept lifetime when k
+    unfolding sweptMemory
+    taken-sweep = rw (eq-eqb (firstOf (sweepChecks k when)) 0 taken)
+
+    taken-last : sweptMemory lifetime when k .last ≡ when
+    unfolding swept
+    taken-last = ap (λ (y : Memory). y .last) taken-sweep
+
+    taken-frees : (i : ℕ) → isFree (pairAt k i) ≡ false
+        → (isFree (pairAt (sweptMemory lifetime when k) i) ≡ true) ↔ (lifetime < when - pairAt k i .second)
+    taken-frees i held =
+        let x = pairAt k i in
+        let old = isOld lifetime when x in
+        let is : isFree (pairAt (sweptMemory lifetime when k) i) ≡ (old || isFree x) =
+        ap (λ (y : Memory). isFree (pairAt y i)) taken-sweep ∙ free-after lifetime when k i in (
+          λ e. ⊎-elim (λ o. old-is lifetime when x .0 o .1) (λ f. true-false (sym f ∙ held)) (or-true old (isFree x) (sym is ∙ e)),
+          λ l. is ∙ ap (λ (t : Bool). t || isFree x) (old-is lifetime when x .1 (eqb-false (x .pair .format) 0 held, l)),
+        )
+
+    taken-leaves : (i : ℕ) → (isFree (pairAt k i) ≡ true) ⊎ (when - pairAt k i .second ≤ lifetime) → pairAt (sweptMemory lifetime when k) i ≡ pairAt k i
+    taken-leaves i so =
+        let x = pairAt k i in
+        ap (λ (y : Memory). pairAt y i) taken-sweep
+        ∙ young-stays lifetime when k i
+        (refuted (isOld lifetime when x) (λ o.
+        let is = old-is lifetime when x .0 o in
+        ⊎-elim (λ free. is .0 (eqb-true (x .pair .format) 0 free)) (λ young. omega (arith, is .1, young)) so))
+
+module _ (who : Customer) (steps : List Step) (when : ℕ) (x : Result) (g : Gives steps (flies who (sweeps when)) x) where
+  abbrev kept : Memory
+  kept = seatOf who steps .memory
+
+  abbrev lifetime : ℕ
+  lifetime = seatOf who steps .board .lifetime
+
+  answer : x .answer ≡ firstOf (sweepChecks kept when)
+  answer = gives-row who steps (own (sweeps when)) x g .answer
+
+  left : memoryIn (x .left .mission) ≡ sweptMemory lifetime when kept
+  left = sweep-memory who steps when x g
+
+  of-seat : SweptAs kept lifetime when x
+  of-seat =
+      record {
+        decided = decided-by (sweepChecks kept when) (decided (sweepChecks kept when) refl) (x .answer) answer;
+        refused = λ some. left ∙ refused-sweep lifetime when kept (λ z. some (answer ∙ z));
+        last = λ z. ap (λ (k : Memory). k .last) left ∙ taken-last lifetime when kept (sym answer ∙ z);
+        freed = λ z i held. rw left (taken-frees lifetime when kept (sym answer ∙ z) i held);
+        others = λ z i so. ap (λ (k : Memory). pairAt k i) left ∙ taken-leaves lifetime when kept (sym answer ∙ z) i so;
+      }
+
+  swept-as : SweptAs (memoryIn (missionOf who (g .before))) (boardOf steps .lifetime) when x
+  swept-as =
+      subst (λ (k : Memory). SweptAs k (boardOf steps .lifetime) when x) (sym (before-memory who steps (flies who (sweeps when)) x g))
+      (subst (λ (b : Board). SweptAs kept (b .lifetime) when x) (board-is who steps) of-seat)
+
 -- ---- the marked cases
 below-two : (who : Customer) → numberOf who < 2
 below-two first = omega arith
@@ -593,9 +680,11 @@ demand-2 =
       build-then-read = build-then-read;
       read-then-build = read-then-build;
       verdict = verdict;
-      hears-no-further = λ who steps rs at slot s t output n x y long control agree g k.
-          hears-alike who steps rs at slot output s t x y (agree-up-to-the-length s t n long control agree) g k;
-      on-the-wire = λ who steps rs at slot octets output x g short p inside took. on-the-wire who steps rs at slot octets output x g short p inside took;
+      memory = page-memory;
+      sweeps = λ who steps when x g. (swept-as who steps when x g, sweep-own who steps when x g);
+      hears-no-further = λ who steps rs at slot when s t output n x y long control agree g k.
+          hears-alike who steps rs at slot when output s t x y (agree-up-to-the-length s t n long control agree) g k;
+      on-the-wire = λ who steps rs at slot when octets output x g short p inside took. on-the-wire who steps rs at slot when octets output x g short p inside took;
       marked = marked;
       orders-follow = λ steps o x g.
           let told = order-told first steps x o g in (
@@ -615,12 +704,12 @@ demand-2 =
           (reached n cs, (keys-unique n cs, in-range n cs));
       takings = takings;
       takings-fit = λ who steps p x e g. takings-fit who steps p x g e;
-      route-taken = λ who steps rs at slot octets output a p x g short sought inside some.
+      route-taken = λ who steps rs at slot when octets output a p x g short sought inside some.
           let seat = seatOf who steps in
-          sought-taken (relayFor who steps rs) at octets (length output) a sought (seen-contiguous (seat .board) rs (seat .number)) p inside
-          (granted who steps rs at slot octets output x g short p inside some);
-      no-route = λ who steps rs at slot octets output a x g short sought.
-          by-answer (seen who steps rs at slot octets output x g short .onward) 11 (sought-no-route (relayFor who steps rs) at octets (length output) a sought);
+          sought-taken (relayFor who steps rs) at when octets (length output) a sought (seen-contiguous (seat .board) rs (seat .number)) p inside
+          (granted who steps rs at slot when octets output x g short p inside some);
+      no-route = λ who steps rs at slot when octets output a x g short sought.
+          by-answer (seen who steps rs at slot when octets output x g short .onward) 11 (sought-no-route (relayFor who steps rs) at when octets (length output) a sought);
       search = λ who steps rs a x g short.
           subst (LongestOrNo (relayFor who steps rs) a)
           (sym (gives-row who steps (own (looks (look.search rs a))) x g .answer ∙ short-search (tooLong rs) _ short))

@@ -1,9 +1,9 @@
 -- Demand 3 is kept. Assumes nothing.
 use native.Mathlib.Omega.{arith}
 use Prim.Native.Nat.{ℕ, _<_}
-use mathlib.Core.Path.{_≡_, refl, sym, ap, subst, _∙_}
+use mathlib.Core.Path.{_≡_, refl, sym, ap, _∙_}
 use mathlib.Core.Bool.{false, Bool, true}
-use mathlib.Core.List.{List, [], _∷_, _++_, append-nil}
+use mathlib.Core.List.{List, [], _∷_, _++_}
 use lib.ListN.{length}
 use lib.Dec.{ltb}
 use borrow.Author.Tests.{lt-ltb, ltb-false}
@@ -23,10 +23,9 @@ use Rattle.state.specs.Relay.{Mission, counterIn, queueAt}
 use Rattle.answers.specs.Answers.{takingNumber}
 use Rattle.harpjuniper_relay.specs.Face.{counterAnswer, waitingAnswer}
 use Rattle.contracts.specs.Promised.{Result}
-use Rattle.contracts.specs.Contracts.{Says}
-use Rattle.history.specs.Calls.{counter, waiting, takes, Call, operator, own, looks, hears}
-use Rattle.history.specs.Seat.{Seat, freshSeat, heardBy}
-use Rattle.history.specs.Outcome.{Answer, ownOutcome, seatAfter, next}
+use Rattle.history.specs.Calls.{counter, waiting, MissionCall, takes, Call, operator, own, looks, hears}
+use Rattle.history.specs.Seat.{Seat, heardBy}
+use Rattle.history.specs.Outcome.{ownOutcome, next}
 use Rattle.history.specs.Ledger.{dropped}
 use Rattle.history.specs.Line.{entryOf, lineAt, copyOf, takenOwn}
 use Rattle.history.specs.Foretold.{answeredOwn, answeredFrom}
@@ -35,15 +34,15 @@ use Rattle.history.proofs.Heard.{heard-is}
 use Rattle.history.proofs.Sums.{counted-as-written}
 use Rattle.history.proofs.Ledger as ledgers
 use Rattle.history.proofs.Line.{queue-waits, out-or-waiting, taken-in-turn, line-in-turn}
-use Rattle.history.proofs.Foretold.{seat-then, foretold-over-histories, answers-are-handed, stands-behind, refused-idle, other-take-idle, idle-counts-nothing, not-taken-idle, setting-idle, look-idle, operator-idle}
+use Rattle.history.proofs.Foretold.{foretold-over-histories, answers-are-handed, stands-behind, refused-idle, other-take-idle, idle-counts-nothing, not-taken-idle, setting-idle, sweep-idle, look-idle, operator-idle}
 use Rattle.history.proofs.Takes.{take-is}
 use Rattle.history.proofs.Fair.{fair}
-use Rattle.demands.specs.Trace.{Customer, first, second, numberOf, Step, operates, flies, stepOf, Words, made, wordsAfter, Trace, Passes, AllPass, Begun, historyOf, seatOf, relayFor, Gives}
-use Rattle.demands.specs.ReadOut.{entriesIn, tookIn}
+use Rattle.demands.specs.Trace.{Customer, numberOf, Step, flies, Words, Trace, AllPass, Begun, historyOf, seatOf, relayFor, Gives}
+use Rattle.demands.specs.ReadOut.{ownOut, entriesIn, tookIn}
 use Rattle.demands.specs.Demand3.{placedBy, Demand3}
-use Rattle.demands.proofs.Traced.{history-more}
 use Rattle.demands.proofs.Told.{gives-row, counters}
 use Rattle.demands.proofs.ReadOut.{read-out}
+use Rattle.demands.proofs.Over.{overCalls, over-is}
 use Rattle.demands.proofs.Output.{told, was, takes-some, header-found}
 
 -- ---- what hj_counter and hj_waiting answer
@@ -82,116 +81,56 @@ module _ (who : Customer) (steps : List Step) where
       omega (arith, fits, over, many-wait p inside)
 
 -- ---- what is handed out is told
--- one step more
-trace-more : (xs : List Step) (c : Step) (w v : Words) → Trace w xs v → (x : Result) → Says (made v c) x → Trace w (xs ++ (c ∷ [])) (wordsAfter v c x)
-trace-more [] c w v t x says = subst (λ (z : Words). Trace z (c ∷ []) (wordsAfter v c x)) t (x, (says, refl))
-trace-more (d ∷ xs) c w v t x says = (t .0, (t .1 .0, trace-more xs c (wordsAfter w d (t .0)) v (t .1 .1) x says))
-
-pub pass-more : (xs : List Step) (c : Step) → AllPass xs → Passes c → AllPass (xs ++ (c ∷ []))
-pass-more [] c all p = (p, tt)
-pass-more (d ∷ xs) c all p = (all .0, pass-more xs c (all .1) p)
-
-begun-more : (w v : Words) (steps : List Step) (c : Step) (x : Result) → Begun w steps v → Says (made v c) x → Passes c
-    → Begun w (steps ++ (c ∷ [])) (wordsAfter v c x)
-begun-more w v steps c x b says p =
-    record {
-      board = b .board;
-      zero = b .zero;
-      one = b .one;
-      fresh-board = b .fresh-board;
-      fresh-zero = b .fresh-zero;
-      fresh-one = b .fresh-one;
-      then = trace-more steps c _ v (b .then) x says;
-      passed = pass-more steps c (b .passed) p;
-    }
-
 -- the entries that the answers of a history give, from its seat on
-abbrev answersOf : Customer → ℕ → List Step → List Step → List Entry
-answersOf who p steps ds = answeredFrom p (seatOf who steps) (historyOf who ds)
-
--- a step that is in the customer's history, and one that is not
-module _ (who : Customer) (p : ℕ) (steps : List Step) where
-  seat-more : (c : Call) → historyOf who (stepOf who c ∷ []) ≡ c ∷ [] → seatOf who (steps ++ (stepOf who c ∷ [])) ≡ next (seatOf who steps) c
-  seat-more c is =
-      let n = numberOf who in
-      ap (seatAfter n) (history-more who steps (stepOf who c ∷ []) ∙ ap (λ (l : List Call). historyOf who steps ++ l) is)
-      ∙ seat-then (historyOf who steps) (freshSeat n) c
-
-  seat-same : (c : Step) → historyOf who (c ∷ []) ≡ [] → seatOf who (steps ++ (c ∷ [])) ≡ seatOf who steps
-  seat-same c is =
-      ap (seatAfter (numberOf who))
-      (history-more who steps (c ∷ []) ∙ ap (λ (l : List Call). historyOf who steps ++ l) is ∙ append-nil (historyOf who steps))
+entries-are : (p : ℕ) (cs : List Call) (x : Seat)
+    → overCalls [] _++_ (λ (y : Seat) (c : MissionCall). answeredOwn p c (ownOutcome y c .answer)) x cs ≡ answeredFrom p x cs
+entries-are p [] x = refl
+entries-are p (operator c ∷ cs) x = entries-are p cs (next x (operator c))
+entries-are p (own c ∷ cs) x = ap (λ (l : List Entry). answeredOwn p c (ownOutcome x c .answer) ++ l) (entries-are p cs (next x (own c)))
 
 entries-told : (who : Customer) (p : ℕ) (ds steps : List Step) (w v u : Words) → Begun w steps v → (t : Trace v ds u) → AllPass ds
-    → entriesIn who p ds v u t ≡ answersOf who p steps ds
-entries-told who p [] steps w v u b t all = refl
-entries-told who p (operates c ∷ ds) steps w v u b t all =
-    let x = t .0 in
-    let more = begun-more w v steps (operates c) x b (t .1 .0) (all .0) in
-    entries-told who p ds (steps ++ (operates c ∷ [])) w (wordsAfter v (operates c) x) u more (t .1 .1) (all .1)
-    ∙ ap (λ (z : Seat). answeredFrom p z (historyOf who ds)) (seat-more who p steps (operator c) refl)
-entries-told first p (flies first c ∷ ds) steps w v u b t all =
-    let x = t .0 in
-    let g : Gives steps (flies first c) x = record { lent = w; before = v; begun = b; says = t .1 .0; passes = all .0 } in
-    let more = begun-more w v steps (flies first c) x b (t .1 .0) (all .0) in
-    let rest = entries-told first p ds (steps ++ (flies first c ∷ [])) w (wordsAfter v (flies first c) x) u more (t .1 .1) (all .1) in
-    ap (λ (a : Answer). answeredOwn p c a ++ entriesIn first p ds (wordsAfter v (flies first c) x) u (t .1 .1)) (read-out first steps (own c) x g)
-    ∙ ap (λ (l : List Entry). answeredOwn p c (ownOutcome (seatOf first steps) c .answer) ++ l)
-    (rest ∙ ap (λ (z : Seat). answeredFrom p z (historyOf first ds)) (seat-more first p steps (own c) refl))
-entries-told first p (flies second c ∷ ds) steps w v u b t all =
-    let x = t .0 in
-    let more = begun-more w v steps (flies second c) x b (t .1 .0) (all .0) in
-    entries-told first p ds (steps ++ (flies second c ∷ [])) w (wordsAfter v (flies second c) x) u more (t .1 .1) (all .1)
-    ∙ ap (λ (z : Seat). answeredFrom p z (historyOf first ds)) (seat-same first p steps (flies second c) refl)
-entries-told second p (flies first c ∷ ds) steps w v u b t all =
-    let x = t .0 in
-    let more = begun-more w v steps (flies first c) x b (t .1 .0) (all .0) in
-    entries-told second p ds (steps ++ (flies first c ∷ [])) w (wordsAfter v (flies first c) x) u more (t .1 .1) (all .1)
-    ∙ ap (λ (z : Seat). answeredFrom p z (historyOf second ds)) (seat-same second p steps (flies first c) refl)
-entries-told second p (flies second c ∷ ds) steps w v u b t all =
-    let x = t .0 in
-    let g : Gives steps (flies second c) x = record { lent = w; before = v; begun = b; says = t .1 .0; passes = all .0 } in
-    let more = begun-more w v steps (flies second c) x b (t .1 .0) (all .0) in
-    let rest = entries-told second p ds (steps ++ (flies second c ∷ [])) w (wordsAfter v (flies second c) x) u more (t .1 .1) (all .1) in
-    ap (λ (a : Answer). answeredOwn p c a ++ entriesIn second p ds (wordsAfter v (flies second c) x) u (t .1 .1)) (read-out second steps (own c) x g)
-    ∙ ap (λ (l : List Entry). answeredOwn p c (ownOutcome (seatOf second steps) c .answer) ++ l)
-    (rest ∙ ap (λ (z : Seat). answeredFrom p z (historyOf second ds)) (seat-more second p steps (own c) refl))
+    → entriesIn who p ds v u t ≡ answeredFrom p (seatOf who steps) (historyOf who ds)
+entries-told who p ds steps w v u b t all =
+    over-is [] _++_ (λ (y : Words) (c : MissionCall) (x : Result). answeredOwn p c (ownOut c (x .answer)))
+    (λ (y : Seat) (c : MissionCall). answeredOwn p c (ownOutcome y c .answer)) who
+    (λ steps c x g. ap (answeredOwn p c) (read-out who steps (own c) x g)) ds steps w v u b t all
+    ∙ entries-are p (historyOf who ds) (seatOf who steps)
 
 -- ---- the copies of a datagram
-module _ (who : Customer) (steps : List Step) (rs : List Record) (p at : ℕ) (slot : Slot) (octets output : List ℕ) (x : Result)
-    (g : Gives steps (flies who (hears rs at slot octets output)) x) where
+module _ (who : Customer) (steps : List Step) (rs : List Record) (p at : ℕ) (slot : Slot) (when : ℕ) (octets output : List ℕ) (x : Result)
+    (g : Gives steps (flies who (hears rs at slot when octets output)) x) where
   abbrev e : Ending
-  e = heardBy (seatOf who steps) rs at octets (length output)
+  e = heardBy (seatOf who steps) rs at when octets (length output)
 
   -- what a port took was read, and has the header's size and precedence, and the header that C finds for it
   placed-case : (t : Bool) → inSet p (e .ruling .took) ≡ t
       → pick t (copyOf p (length (historyOf who steps)) (seatOf who steps) at slot octets e ∷ []) []
       ≡ pick t (placedBy who steps p at slot octets x ∷ []) []
   placed-case true took =
-      let came = was who steps rs at slot octets output x g (takes-some who steps rs at slot octets output x g p took) in
+      let came = was who steps rs at slot when octets output x g (takes-some who steps rs at slot when octets output x g p took) in
       let is = read-good octets (came .header) .0 (came .read) .1 in
-      rw (came .size, came .precedence, is, header-found who steps rs at slot octets output x g p took)
+      rw (came .size, came .precedence, is, header-found who steps rs at slot when octets output x g p took)
   placed-case false took = refl
 
-  placed : takenOwn p (length (historyOf who steps)) (seatOf who steps) (hears rs at slot octets output)
+  placed : takenOwn p (length (historyOf who steps)) (seatOf who steps) (hears rs at slot when octets output)
       ≡ pick (inSet p (tookIn x)) (placedBy who steps p at slot octets x ∷ []) []
-  placed = placed-case (inSet p (e .ruling .took)) refl ∙ rw (told who steps rs at slot octets output x g .took)
+  placed = placed-case (inSet p (e .ruling .took)) refl ∙ rw (told who steps rs at slot when octets output x g .took)
 
 pub demand-3 : Demand3
 demand-3 =
     record {
       counters = λ who steps i x inside g. counter-reads who steps i x inside g ∙ counted-as-written i inside (numberOf who) (historyOf who steps);
       ledger = λ who steps p x inside g. rw (waiting-reads who steps p x inside g) (ledgers.ledger p inside (numberOf who) (historyOf who steps));
-      dropped-by-32 = λ who steps rs p at slot octets output x y inside g dropped k.
-          let is = told who steps rs at slot octets output x g .dropped in
+      dropped-by-32 = λ who steps rs p at slot when octets output x y inside g dropped k.
+          let is = told who steps rs at slot when octets output x g .dropped in
           waiting-reads who steps p y inside k
           ∙ full-is who steps p inside
-          (fair (seatOf who steps) p inside rs at octets (length output) .full (sym (ap (inSet p) is) ∙ dropped));
-      copies-told = λ who steps rs p at slot octets output x inside g short.
+          (fair (seatOf who steps) p inside rs at when octets (length output) .full (sym (ap (inSet p) is) ∙ dropped));
+      copies-told = λ who steps rs p at slot when octets output x inside g short.
           let seat = seatOf who steps in
-          let page = verdict-is-the-page (relayFor who steps rs) (seen-contiguous (seat .board) rs (seat .number)) at octets (length output) in
-          let parts = told who steps rs at slot octets output x g in (
-            ap (λ (z : Ending). inSet p (z .ruling .granted)) (heard-is seat rs at octets (length output) false short) ∙ page .ruling .granted p inside,
+          let page = verdict-is-the-page (relayFor who steps rs) (seen-contiguous (seat .board) rs (seat .number)) at when octets (length output) in
+          let parts = told who steps rs at slot when octets output x g in (
+            ap (λ (z : Ending). inSet p (z .ruling .granted)) (heard-is seat rs at when octets (length output) false short) ∙ page .ruling .granted p inside,
             (ap (inSet p) (sym (parts .took)), ap (inSet p) (sym (parts .dropped))),
           );
       placed = placed;
@@ -206,7 +145,7 @@ demand-3 =
       foretold-behind = λ m cs c p x inside placed. stands-behind p m cs c x placed inside;
       foretold-idle = λ m cs ds c p x idle. idle-counts-nothing p m x cs c ds idle;
       foretold-refused = λ m cs c p. refused-idle p m cs c;
-      foretold-others = λ m cs p. (other-take-idle p m cs, (not-taken-idle p m cs, (setting-idle p m cs, (look-idle p m cs, operator-idle p m cs))));
+      foretold-others = λ m cs p. (other-take-idle p m cs, (not-taken-idle p m cs, (setting-idle p m cs, (sweep-idle p m cs, (look-idle p m cs, operator-idle p m cs)))));
       handed-is-told = λ who steps later p w v u b t all.
           entries-told who p later steps w v u b t all ∙ sym (answers-are-handed p (numberOf who) (historyOf who later) (historyOf who steps));
     }

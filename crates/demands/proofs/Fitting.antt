@@ -1,40 +1,57 @@
--- What is read back fits 32 bits, so that a refusal above it is seen: after any calls that C can make, each word of a port, a group and a path does.
+-- What is read back fits 32 bits, so that a refusal above it is seen: after any calls that C can make, each word of a port, a group, a path and a pair does.
 -- Assumes nothing.
 use native.Mathlib.Omega.{arith}
 use Prim.Native.Nat.{ℕ, _^_, _<_}
 use mathlib.Core.Path.{_≡_, sym, subst}
 use mathlib.Core.Bool.{Bool, true, false, _&&_}
-use mathlib.Core.List.{List, [], _∷_}
+use mathlib.Core.List.{List, [], _∷_, map}
 use lib.ListN.{length, getD}
 use lib.Dec.{eqb, ltb}
 use Rattle.checks.specs.Order.{pick, firstOf}
 use Rattle.checks.specs.Answer.{refusalNumber}
 use Rattle.checks.proofs.Laws.{either}
 use Rattle.queue.specs.Order.{Each}
+use Rattle.header.specs.Build.{formatOf}
+use Rattle.header.specs.Range.{addressesFit, stampFits}
+use Rattle.header.specs.Range as range
+use Rattle.header.specs.declared.Addresses.{Addresses}
+use Rattle.header.specs.declared.Addresses.the-variants.{BasicPath, ExtendedPath, BasicEndSystem, ExtendedEndSystem, Ipv6}
+use Rattle.header.specs.declared.Fields.{Fields}
+use Rattle.header.specs.declared.Timestamp.{Timestamp}
+use Rattle.header.specs.declared.Timestamp.the-variants as stamp
+use Rattle.header.proofs.Answers.{read-in-range}
+use Rattle.meaning.specs.Names.{originOf}
+use Rattle.meaning.specs.Flood.{upperOf, lowerOf, sourceIn, pairOf}
 use Rattle.routes.specs.Records.{emptyRecord}
 use Rattle.routes.specs.declared.Record.{Record}
-use Rattle.records.specs.Fresh.{freshOwned, freshGroup, freshPath}
+use Rattle.records.specs.Fresh.{freshOwned, freshGroup, freshPath, freshPair}
+use Rattle.records.specs.Owned.{owns, seenPort}
+use Rattle.records.specs.declared.Port.{Port}
 use Rattle.records.specs.declared.OwnedPort.{OwnedPort}
 use Rattle.records.specs.declared.Group.{Group}
 use Rattle.records.specs.declared.PathPlace.{PathPlace}
-use Rattle.sets.specs.Limits.{portCount, groupPlaces, pathPlaces}
-use Rattle.state.specs.Relay.{Relay}
-use Rattle.state.specs.Seen.{Board, freshBoard, freshMission}
-use Rattle.state.specs.Layout.{ownedWords, groupWords, pathWords}
+use Rattle.records.specs.declared.PairPlace.{PairPlace}
+use Rattle.sets.specs.Limits.{portCount, groupPlaces, pathPlaces, pairPlaces}
+use Rattle.state.specs.Relay.{Memory, Relay, portIn}
+use Rattle.state.specs.Seen.{Board, freshBoard, freshMission, freshMemory, ownedAt}
+use Rattle.state.specs.Layout.{ownedWords, groupWords, pathWords, pairWords}
+use Rattle.state.proofs.Seen.{seen-at}
+use Rattle.floods.specs.Sweep.{isOld, sweptPlace, swept, sweepChecks, sweptMemory}
 use Rattle.adjust.specs.Settled.{newPort, newGroup, newPath}
 use Rattle.lent_state.specs.Read.{wordAnswer, placeAnswer}
 use Rattle.lent_state.specs.View.{tooLong}
 use Rattle.answers.specs.Answers.{refusalIn}
 use Rattle.answers.proofs.Digits.{refusal-parts, value-parts}
 use Rattle.route_calls.specs.Calls.{recordWords}
-use Rattle.harpjuniper_reads.specs.Back.{portAnswer, groupAnswer, pathAnswer}
+use Rattle.harpjuniper_reads.specs.Back.{portAnswer, groupAnswer, pathAnswer, pairAnswer}
 use Rattle.harpjuniper_routes.specs.Face.{routeWordTold}
 use Rattle.contracts.proofs.Kept.{set-each, getD-each, replicate-each}
-use Rattle.history.specs.Seat.{Seat, freshSeat, relayIn, heardBy}
+use Rattle.history.specs.Seat.{Seat, freshSeat, relayIn, relayWith, heardBy, memoryBy}
 use Rattle.history.specs.Calls.{
   Order,
   setRouter,
   setPort,
+  setLifetime,
   setRoute,
   clearRoute,
   orders,
@@ -47,6 +64,7 @@ use Rattle.history.specs.Calls.{
   sets,
   hears,
   takes,
+  sweeps,
   looks,
   Call,
   operator,
@@ -58,7 +76,9 @@ use Rattle.history.specs.Calls.{
 }
 use Rattle.history.specs.Looks.{wordRefusal}
 use Rattle.history.specs.Outcome.{next, runFrom}
-use Rattle.history.specs.Ranges.{Passed}
+use Rattle.history.specs.Ranges.{Octets, Passed}
+use Rattle.history.proofs.Heard.{hearing-so}
+use Rattle.history.proofs.Remembered.{remembering-so}
 use Rattle.history.proofs.Reach.{settingsOf, received-settings, taken-settings}
 use Rattle.demands.specs.Trace.{Customer, first, second, numberOf, Step, operates, flies, Fit, OperatorPasses, SettingPasses, MissionPasses, AllPass, historyOf, seatOf}
 
@@ -94,10 +114,16 @@ history-passes second (flies first c ∷ steps) all = history-passes second step
 history-passes second (flies second c ∷ steps) all = (all .0, history-passes second steps (all .1))
 
 one-passed : (c : Call) → CallPasses c → Passed c
-one-passed (operator c) p = tt
+one-passed (operator (orders (setRouter x))) p = tt
+one-passed (operator (orders (setPort q address mask mtu mission))) p = tt
+one-passed (operator (orders (setLifetime x))) p = p
+one-passed (operator (orders (setRoute rs i prefix mask q availability capabilities mission))) p = tt
+one-passed (operator (orders (clearRoute rs i))) p = tt
+one-passed (operator (views v)) p = tt
 one-passed (own (sets s)) p = tt
-one-passed (own (hears rs at slot octets output)) p = p
+one-passed (own (hears rs at slot when octets output)) p = p
 one-passed (own (takes q)) p = tt
+one-passed (own (sweeps when)) p = p
 one-passed (own (looks l)) p = p
 
 all-passed : (cs : List Call) → Each CallPasses cs → Each Passed cs
@@ -107,7 +133,7 @@ all-passed (c ∷ cs) all = (one-passed c (all .0), all-passed cs (all .1))
 pub history-passed : (who : Customer) (steps : List Step) → AllPass steps → Each Passed (historyOf who steps)
 history-passed who steps all = all-passed (historyOf who steps) (history-passes who steps all)
 
--- ---- a board and a mission whose words fit
+-- ---- a board, a mission and a memory whose words fit
 abbrev PortFits : OwnedPort → Type 0
 PortFits x = Fit (ownedWords x)
 
@@ -117,14 +143,20 @@ GroupFits x = Fit (groupWords x)
 abbrev PathFits : PathPlace → Type 0
 PathFits x = Fit (pathWords x)
 
+abbrev PairFits : PairPlace → Type 0
+PairFits x = Fit (pairWords x)
+
 abbrev BoardFits : Board → Type 0
 BoardFits b = Each PortFits (b .ports)
 
 abbrev OwnFits : List Group × List PathPlace → Type 0
 OwnFits x = Each GroupFits (x .0) × Each PathFits (x .1)
 
+abbrev MemoryFits : Memory → Type 0
+MemoryFits k = Each PairFits (k .pairs)
+
 abbrev Fits : Seat → Type 0
-Fits x = BoardFits (x .board) × OwnFits (settingsOf (x .mission))
+Fits x = BoardFits (x .board) × (OwnFits (settingsOf (x .mission)) × MemoryFits (x .memory))
 
 none-fits : 0 < 2 ^ 32
 none-fits = omega arith
@@ -138,14 +170,20 @@ group-fits = (none-fits, (none-fits, (none-fits, (none-fits, tt))))
 path-fits : PathFits freshPath
 path-fits = (none-fits, (none-fits, (none-fits, (none-fits, tt))))
 
+free-fits : PairFits freshPair
+free-fits = (none-fits, (none-fits, (none-fits, (none-fits, (none-fits, tt)))))
+
 port-fits : PortFits freshOwned
 port-fits = (none-fits, (none-fits, (none-fits, (none-fits, (none-fits, tt)))))
 
 order-fits : (b : Board) (o : Order) → OperatorPasses (orders o) → BoardFits b → BoardFits (boardLeft b o)
-order-fits b (setRouter x) p h = either BoardFits (eqb (firstOf (orderChecks b (setRouter x))) 0) {a = record { router = x; ports = b .ports }} {b = b} h h
+order-fits b (setRouter x) p h =
+    either BoardFits (eqb (firstOf (orderChecks b (setRouter x))) 0) {a = record { router = x; ports = b .ports; lifetime = b .lifetime }} {b = b} h h
 order-fits b (setPort q address mask mtu mission) p h =
     either BoardFits (eqb (firstOf (orderChecks b (setPort q address mask mtu mission))) 0)
     (set-each PortFits (b .ports) q (newPort address mask mtu mission) (one-fits, p) h) h
+order-fits b (setLifetime x) p h =
+    either BoardFits (eqb (firstOf (orderChecks b (setLifetime x))) 0) {a = record { router = b .router; ports = b .ports; lifetime = x }} {b = b} h h
 order-fits b (setRoute rs i prefix mask q availability capabilities mission) p h =
     either BoardFits (eqb (firstOf (orderChecks b (setRoute rs i prefix mask q availability capabilities mission))) 0) h h
 order-fits b (clearRoute rs i) p h = either BoardFits (eqb (firstOf (orderChecks b (clearRoute rs i))) 0) h h
@@ -165,13 +203,68 @@ setting-fits r (clearGroup i) p h =
 setting-fits r (clearPath i) p h =
     either RelayFits (eqb (firstOf (checksOf r (clearPath i))) 0) (h .0, set-each PathFits (r .mission .paths) i freshPath path-fits (h .1)) h
 
+-- ---- a pair that is kept: the source has four octets, the timestamp stands in two words, and the second is one that C can pass
+source-fits : (port : ℕ) → port < 2 ^ 32 → (a : Addresses) → addressesFit a → sourceIn (originOf port a) < 2 ^ 32
+unfolding originOf
+source-fits port small (BasicPath z) h = none-fits
+source-fits port small (ExtendedPath p) h = none-fits
+source-fits port small (BasicEndSystem d z) h = omega (arith, small, h .1)
+source-fits port small (ExtendedEndSystem d s) h = omega (arith, h .1)
+source-fits port small (Ipv6 d s) h = none-fits
+
+stamp-fits : (m : Timestamp) → stampFits m → Fit (formatOf m ∷ upperOf m ∷ lowerOf m ∷ [])
+stamp-fits stamp.Absent h = (omega arith, (omega arith, (omega arith, tt)))
+stamp-fits (stamp.Implicit t) h = (omega arith, (omega arith, (omega arith, tt)))
+stamp-fits (stamp.Explicit p t) h = (omega arith, (omega (arith, h .0), (omega arith, tt)))
+stamp-fits (stamp.Binary t) h = (omega arith, (omega arith, (omega arith, tt)))
+
+pair-fits : (port : ℕ) → port < 2 ^ 32 → (f : Fields) → range.InRange f → (when : ℕ) → when < 2 ^ 32 → PairFits (record { pair = pairOf port f; second = when })
+unfolding pairOf
+pair-fits port small f in-range when passed =
+    let words = stamp-fits (f .stamp) (in-range .stamp) in
+    (words .0, (source-fits port small (f .addresses) (in-range .addresses), (words .1 .0, (words .1 .1 .0, (passed, tt)))))
+
+-- the address of a port that the mission sees
+seen-fits : (b : Board) → BoardFits b → (n p : ℕ) → seenPort n (ownedAt b p) .address .0 < 2 ^ 32
+unfolding seenPort
+seen-fits b h n p =
+    either (λ (x : Port). x .address .0 < 2 ^ 32) (owns n (ownedAt b p)) (getD-each PortFits (b .ports) p freshOwned port-fits h .1 .0) none-fits
+
+address-fits : (x : Seat) (rs : List Record) → BoardFits (x .board) → (p : ℕ) → portIn (relayWith x rs) p .address .0 < 2 ^ 32
+address-fits x rs h p = rw (seen-at (x .board) p (x .number)) (seen-fits (x .board) h (x .number) p)
+
+heard-fits : (x : Seat) (rs : List Record) (p when : ℕ) (octets : List ℕ) (room : ℕ) → Octets octets → when < 2 ^ 32 → BoardFits (x .board)
+    → MemoryFits (x .memory) → MemoryFits (memoryBy x rs p when octets room)
+heard-fits x rs p when octets room small passed board h =
+    hearing-so x rs p when octets (λ e k. MemoryFits k) (λ n un. h) (λ now n some heard. h)
+    (λ now g is good.
+    remembering-so MemoryFits (x .memory) when h _ _ (λ place new.
+    set-each PairFits (x .memory .pairs) place _
+    (pair-fits (portIn (relayWith x rs) p .address .0) (address-fits x rs board p) (g .fields) (read-in-range octets g small is) when passed) h))
+    room
+
+-- a sweep leaves a place or frees it
+swept-fits : (lifetime when : ℕ) (l : List PairPlace) → Each PairFits l → Each PairFits (map (sweptPlace lifetime when) l)
+swept-fits lifetime when [] h = tt
+swept-fits lifetime when (x ∷ l) h = (either PairFits (isOld lifetime when x) free-fits (h .0), swept-fits lifetime when l (h .1))
+
+sweep-fits : (lifetime when : ℕ) (k : Memory) → MemoryFits k → MemoryFits (sweptMemory lifetime when k)
+unfolding sweptMemory swept
+sweep-fits lifetime when k h = either MemoryFits (eqb (firstOf (sweepChecks k when)) 0) (swept-fits lifetime when (k .pairs) h) h
+
 next-fits : (x : Seat) (c : Call) → CallPasses c → Fits x → Fits (next x c)
 next-fits x (operator (orders o)) p h = (order-fits (x .board) o p (h .0), h .1)
 next-fits x (operator (views v)) p h = h
-next-fits x (own (sets s)) p h = (h .0, setting-fits (relayIn x) s p (h .1))
-next-fits x (own (hears rs q slot octets output)) p h =
-    (h .0, subst OwnFits (sym (received-settings (relayIn x) slot (heardBy x rs q octets (length output)))) (h .1))
-next-fits x (own (takes q)) p h = (h .0, subst OwnFits (sym (taken-settings (relayIn x) q)) (h .1))
+next-fits x (own (sets s)) p h = (h .0, (setting-fits (relayIn x) s p (h .1 .0), h .1 .1))
+next-fits x (own (hears rs q slot when octets output)) p h = (
+  h .0,
+  (
+    subst OwnFits (sym (received-settings (relayIn x) slot (heardBy x rs q when octets (length output)))) (h .1 .0),
+    heard-fits x rs q when octets (length output) (p .1 .0) (p .1 .1) (h .0) (h .1 .1),
+  ),
+)
+next-fits x (own (takes q)) p h = (h .0, (subst OwnFits (sym (taken-settings (relayIn x) q)) (h .1 .0), h .1 .1))
+next-fits x (own (sweeps when)) p h = (h .0, (h .1 .0, sweep-fits (x .board .lifetime) when (x .memory) (h .1 .1)))
 next-fits x (own (looks l)) p h = h
 
 all-fits : (cs : List Call) (x : Seat) → Each CallPasses cs → Fits x → Fits (runFrom x cs)
@@ -179,10 +272,13 @@ all-fits [] x all h = h
 all-fits (c ∷ cs) x all h = all-fits cs (next x c) (all .1) (next-fits x c (all .0) h)
 
 fresh-fits : (n : ℕ) → Fits (freshSeat n)
-unfolding freshBoard freshMission
+unfolding freshBoard freshMission freshMemory
 fresh-fits n = (
   replicate-each PortFits portCount freshOwned port-fits,
-  (replicate-each GroupFits groupPlaces freshGroup group-fits, replicate-each PathFits pathPlaces freshPath path-fits),
+  (
+    (replicate-each GroupFits groupPlaces freshGroup group-fits, replicate-each PathFits pathPlaces freshPath path-fits),
+    replicate-each PairFits pairPlaces freshPair free-fits,
+  ),
 )
 
 -- ---- after any steps
@@ -200,13 +296,19 @@ module _ (who : Customer) (steps : List Step) (all : AllPass steps) where
   unfolding groupAnswer
   group-out i word =
       let m = seatOf who steps .mission in
-      word-out (groupWords (getD (m .groups) i freshGroup)) (getD-each GroupFits (m .groups) i freshGroup group-fits (fits .1 .0)) i groupPlaces word
+      word-out (groupWords (getD (m .groups) i freshGroup)) (getD-each GroupFits (m .groups) i freshGroup group-fits (fits .1 .0 .0)) i groupPlaces word
 
   pub path-out : (i word : ℕ) → refusalIn (pathAnswer (seatOf who steps .mission) i word) ≡ wordRefusal i pathPlaces word 4
   unfolding pathAnswer
   path-out i word =
       let m = seatOf who steps .mission in
-      word-out (pathWords (getD (m .paths) i freshPath)) (getD-each PathFits (m .paths) i freshPath path-fits (fits .1 .1)) i pathPlaces word
+      word-out (pathWords (getD (m .paths) i freshPath)) (getD-each PathFits (m .paths) i freshPath path-fits (fits .1 .0 .1)) i pathPlaces word
+
+  pub pair-out : (i word : ℕ) → refusalIn (pairAnswer (seatOf who steps .memory) i word) ≡ wordRefusal i pairPlaces word 5
+  unfolding pairAnswer
+  pair-out i word =
+      let k = seatOf who steps .memory in
+      word-out (pairWords (getD (k .pairs) i freshPair)) (getD-each PairFits (k .pairs) i freshPair free-fits (fits .1 .1)) i pairPlaces word
 
 -- ---- of a list that is lent
 abbrev RecordFits : Record → Type 0

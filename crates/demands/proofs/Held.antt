@@ -1,7 +1,7 @@
 -- Where the words hold a board and a customer's state, the row of each call of its history (crate `contracts`) is what proofs/Promised.antt says, and the
 -- words after it hold what the call leaves. Assumes nothing.
 use Prim.Native.Nat.{ℕ}
-use mathlib.Core.Path.{_≡_, refl, sym, ap, _∙_}
+use mathlib.Core.Path.{_≡_, refl, sym, ap, ap₂, _∙_}
 use mathlib.Core.Bool.{Bool, true, false}
 use mathlib.Core.List.{List, []}
 use lib.ListN.{length, replicate}
@@ -18,7 +18,7 @@ use Rattle.address.specs.declared.Slot.{Slot}
 use Rattle.routes.specs.declared.Record.{Record}
 use Rattle.sets.specs.Limits.{groupPlaces, pathPlaces}
 use Rattle.records.specs.Fresh.{freshGroup, freshPath}
-use Rattle.state.specs.Relay.{Relay, Mission, withGroup, withPath}
+use Rattle.state.specs.Relay.{Relay, Mission, Memory, withGroup, withPath}
 use Rattle.refusals.specs.Lists.{clearChecks}
 use Rattle.state.specs.Seen.{Board, State}
 use Rattle.taking.specs.Taking.{takeOutcome, takenRelay}
@@ -27,7 +27,7 @@ use Rattle.taking.specs.declared.Taking.the-variants.{Handed, Refused}
 use Rattle.tally.specs.Tally.{Move, countedAll}
 use Rattle.judge.specs.declared.Ending.{Ending}
 use Rattle.relay.specs.Outgoing.{sentOutput}
-use Rattle.relay.specs.Received.{heardEnding, receivedState}
+use Rattle.relay.specs.Received.{heardEnding, heardMemory, receivedState}
 use Rattle.lent_state.specs.View.{Lent, Held, lentBoard, lent, byLent, onLent, toldBoard, changedBoard, told, changed, toldBoth, changedBoth, changedRelay, tooLong}
 use Rattle.answers.specs.Answers.{rulingParts, headerParts, receiveNumber}
 use Rattle.harpjuniper.specs.Face.{Reading, readingOf, readingWords, readingCount, readAnswer, readLeft}
@@ -36,16 +36,18 @@ use Rattle.route_calls.specs.Search.{searchAnswer}
 use Rattle.harpjuniper_routes.specs.Face.{searchTold}
 use Rattle.harpjuniper_receive.specs.Face.{receiveAnswer, receiveWords, receiveOutput}
 use Rattle.contracts.specs.Promised.{Result, Promise, Allows, promised}
-use Rattle.history.specs.Seat.{Seat, stateOf, relayIn, relayWith, heardBy}
+use Rattle.history.specs.Seat.{Seat, stateOf, relayIn, relayWith, heardBy, memoryBy}
 use Rattle.history.specs.Outcome.{ofTaking, next}
 use Rattle.history.specs.Calls.{
   Order,
   setRouter,
   setPort,
+  setLifetime,
   setRoute,
   clearRoute,
   View,
   routerFlag,
+  lifetimeWord,
   portWord,
   recordWord,
   orders,
@@ -58,6 +60,8 @@ use Rattle.history.specs.Calls.{
   Look,
   groupWord,
   pathWord,
+  pairWord,
+  lastSecond,
   search,
   counter,
   waiting,
@@ -71,6 +75,7 @@ use Rattle.history.specs.Calls.{
   sets,
   hears,
   takes,
+  sweeps,
   looks,
   Call,
   operator,
@@ -123,17 +128,21 @@ quiet-taking p (Handed e) = refl
 quiet-taking p (Refused n) = refl
 
 -- ---- a datagram: the counters are not looked at, and a long list is refused by 21
-module _ (x : Seat) (l : List ℕ) (rs : List Record) (p : ℕ) (octets : List ℕ) (room : ℕ) where
-  heard-any : heardEnding (x .board) (stateOf x l) rs p octets room ≡ heardBy x rs p octets room
+module _ (x : Seat) (l : List ℕ) (rs : List Record) (p second : ℕ) (octets : List ℕ) (room : ℕ) where
+  heard-any : heardEnding (x .board) (stateOf x l) rs p second octets room ≡ heardBy x rs p second octets room
   unfolding heardEnding
   heard-any = refl
 
-  long-heard : tooLong rs ≡ true → 21 ≡ receiveNumber (heardBy x rs p octets room)
+  remembered-any : heardMemory (x .board) (stateOf x l) rs p second octets room ≡ memoryBy x rs p second octets room
+  unfolding heardMemory
+  remembered-any = refl
+
+  long-heard : tooLong rs ≡ true → 21 ≡ receiveNumber (heardBy x rs p second octets room)
   unfolding heardEnding receiveNumber rulingParts headerParts
   long-heard long = rw long
 
   answer-case : (t : Bool) → tooLong rs ≡ t
-      → pick t 21 (receiveNumber (heardBy x rs p octets room)) ≡ receiveNumber (heardBy x rs p octets room)
+      → pick t 21 (receiveNumber (heardBy x rs p second octets room)) ≡ receiveNumber (heardBy x rs p second octets room)
   answer-case true long = long-heard long
   answer-case false short = refl
 
@@ -165,23 +174,26 @@ module _ (b m : List ℕ) (x : Seat) (l : List ℕ) (board : lentBoard b ≡ Hel
   both-changed f = board-told (λ (y : Board). changed (f y) m) (lent m) ∙ own-changed (f (x .board))
 
   -- a datagram
-  module _ (rs : List Record) (p : ℕ) (slot : Slot) (octets output : List ℕ) where
+  module _ (rs : List Record) (p : ℕ) (slot : Slot) (second : ℕ) (octets output : List ℕ) where
     abbrev e : Ending
-    e = heardBy x rs p octets (length output)
+    e = heardBy x rs p second octets (length output)
 
-    heard-answer : receiveAnswer b m rs p octets (length output) ≡ receiveNumber e
+    heard-answer : receiveAnswer b m rs p second octets (length output) ≡ receiveNumber e
     unfolding receiveAnswer
     heard-answer =
-        ap (pick (tooLong rs) 21) (both-told _ 16 ∙ ap receiveNumber (heard-any x l rs p octets (length output)))
-        ∙ answer-case x l rs p octets (length output) (tooLong rs) refl
+        ap (pick (tooLong rs) 21) (both-told _ 16 ∙ ap receiveNumber (heard-any x l rs p second octets (length output)))
+        ∙ answer-case x l rs p second octets (length output) (tooLong rs) refl
 
-    heard-words : receiveWords b m rs p (slot .0) octets (length output) ≡ Held (nextState x l (own (hears rs p slot octets output)))
+    heard-words : receiveWords b m rs p (slot .0) second octets (length output) ≡ Held (nextState x l (own (hears rs p slot second octets output)))
     unfolding receiveWords
-    heard-words = both-changed _ ∙ ap (λ (z : Ending). Held (receivedState (x .board) s slot z)) (heard-any x l rs p octets (length output))
+    heard-words =
+        both-changed _
+        ∙ ap₂ (λ (k : Memory) (z : Ending). Held (receivedState (x .board) s slot k z)) (remembered-any x l rs p second octets (length output))
+        (heard-any x l rs p second octets (length output))
 
-    heard-output : receiveOutput b m rs p octets output ≡ sentOutput e octets output
+    heard-output : receiveOutput b m rs p second octets output ≡ sentOutput e octets output
     unfolding receiveOutput
-    heard-output = both-told _ output ∙ ap (λ (z : Ending). sentOutput z octets output) (heard-any x l rs p octets (length output))
+    heard-output = both-told _ output ∙ ap (λ (z : Ending). sentOutput z octets output) (heard-any x l rs p second octets (length output))
 
   search-answer : (rs : List Record) (a : Address) → searchTold b m rs (a .0) ≡ pick (tooLong rs) 21 (searchAnswer (relayWith x rs) a)
   unfolding searchTold
@@ -189,7 +201,7 @@ module _ (b m : List ℕ) (x : Seat) (l : List ℕ) (board : lentBoard b ≡ Hel
 
   -- a mission with these counters
   abbrev with : Mission → List ℕ → State
-  with z counters = record { number = x .number; mission = z; counters = counters }
+  with z counters = record { number = x .number; mission = z; memory = x .memory; counters = counters }
 
   take-words : (p : ℕ) → changedRelay (λ (r : Relay). takenRelay r p) b m ≡ Held (nextState x l (own (takes p)))
   take-words p =
@@ -198,13 +210,16 @@ module _ (b m : List ℕ) (x : Seat) (l : List ℕ) (board : lentBoard b ≡ Hel
 
   -- ---- the rows
   order-row : (o : Order) → promised (madeBy b m (operator (orders o))) ≡ promisedBy x l (operator (orders o))
+  unfolding firstOf
   order-row (setRouter z) = same-promise (board-told _ _) (board-changed _) refl refl refl refl
   order-row (setPort p address mask mtu number) = same-promise (board-told _ _) (board-changed _) refl refl refl refl
+  order-row (setLifetime z) = same-promise (board-told _ _) (board-changed _) refl refl refl refl
   order-row (setRoute rs i prefix mask p availability capabilities number) = same-promise (board-told _ _) board refl (board-told _ _) refl refl
   order-row (clearRoute rs i) = refl
 
   view-row : (v : View) → promised (madeBy b m (operator (views v))) ≡ promisedBy x l (operator (views v))
   view-row routerFlag = same-promise (board-told _ _) board refl refl refl refl
+  view-row lifetimeWord = same-promise (board-told _ _) board refl refl refl refl
   view-row (portWord p word) = same-promise (board-told _ _) board refl refl refl refl
   view-row (recordWord rs i word) = refl
 
@@ -225,6 +240,8 @@ module _ (b m : List ℕ) (x : Seat) (l : List ℕ) (board : lentBoard b ≡ Hel
   look-row : (z : Look) → promised (madeBy b m (own (looks z))) ≡ promisedBy x l (own (looks z))
   look-row (groupWord i word) = same-promise (own-told _ _) refl mission refl refl refl
   look-row (pathWord i word) = same-promise (own-told _ _) refl mission refl refl refl
+  look-row (pairWord i word) = same-promise (own-told _ _) refl mission refl refl refl
+  look-row lastSecond = same-promise (own-told _ _) refl mission refl refl refl
   look-row (search rs a) = same-promise (search-answer rs a) board mission refl refl refl
   look-row (counter i) = same-promise (own-told _ _) refl mission refl refl refl
   look-row (waiting p) = same-promise (own-told _ _) refl mission refl refl refl
@@ -243,9 +260,10 @@ module _ (b m : List ℕ) (x : Seat) (l : List ℕ) (board : lentBoard b ≡ Hel
   row-is (operator (orders o)) = order-row o
   row-is (operator (views v)) = view-row v
   row-is (own (sets z)) = setting-row z
-  row-is (own (hears rs p slot octets output)) =
-      same-promise (heard-answer rs p slot octets output) board (heard-words rs p slot octets output) refl (heard-output rs p slot octets output) refl
+  row-is (own (hears rs p slot second octets output)) =
+      same-promise (heard-answer rs p slot second octets output) board (heard-words rs p slot second octets output) refl (heard-output rs p slot second octets output) refl
   row-is (own (takes p)) = same-promise (both-told _ _) board (take-words p) refl refl refl
+  row-is (own (sweeps second)) = same-promise (both-told _ _) board (both-changed _) refl refl refl
   row-is (own (looks z)) = look-row z
 
   -- ---- the words after it
@@ -257,6 +275,7 @@ module _ (b m : List ℕ) (x : Seat) (l : List ℕ) (board : lentBoard b ≡ Hel
     order-after : (o : Order) → After (operator (orders o))
     order-after (setRouter z) k = (k .board, mission)
     order-after (setPort p address mask mtu number) k = (k .board, mission)
+    order-after (setLifetime z) k = (k .board, mission)
     order-after (setRoute rs i prefix mask p availability capabilities number) k = (
       k .board ∙ ap Held (sym (either-way (eqb (firstOf (orderChecks (x .board) (setRoute rs i prefix mask p availability capabilities number))) 0) (x .board))),
       mission,
@@ -268,6 +287,7 @@ module _ (b m : List ℕ) (x : Seat) (l : List ℕ) (board : lentBoard b ≡ Hel
 
     view-after : (v : View) → After (operator (views v))
     view-after routerFlag k = (k .board, mission)
+    view-after lifetimeWord k = (k .board, mission)
     view-after (portWord p word) k = (k .board, mission)
     view-after (recordWord rs i word) k = (board, mission)
 
@@ -280,6 +300,8 @@ module _ (b m : List ℕ) (x : Seat) (l : List ℕ) (board : lentBoard b ≡ Hel
     look-after : (z : Look) → After (own (looks z))
     look-after (groupWord i word) k = (board, k .mission)
     look-after (pathWord i word) k = (board, k .mission)
+    look-after (pairWord i word) k = (board, k .mission)
+    look-after lastSecond k = (board, k .mission)
     look-after (search rs a) k = (board, k .mission)
     look-after (counter i) k = (board, k .mission)
     look-after (waiting p) k = (board, k .mission)
@@ -296,6 +318,7 @@ module _ (b m : List ℕ) (x : Seat) (l : List ℕ) (board : lentBoard b ≡ Hel
     words-after (operator (orders o)) k = order-after o k
     words-after (operator (views v)) k = view-after v k
     words-after (own (sets z)) k = setting-after z k
-    words-after (own (hears rs p slot octets output)) k = (board, k .mission)
+    words-after (own (hears rs p slot second octets output)) k = (board, k .mission)
     words-after (own (takes p)) k = (board, k .mission)
+    words-after (own (sweeps second)) k = (board, k .mission)
     words-after (own (looks z)) k = look-after z k

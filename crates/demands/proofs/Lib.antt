@@ -1,7 +1,8 @@
--- The customers' demands are kept. To be read: Demand1, Demand2 and Demand3 (each field of the three records), Apart (neither customer can tell what the
--- other does) and WrongRelays (relays that are shut out by them). The others serve these: Lane, a trace as one customer has part in it; Fresh, how a
--- trace begins; Promised, Held, Traced and Told, what the words hold after any steps, and what C is told then; Lasts, that there are such traces; Fitting
--- and ReadOut, what C reads out of an answer; Whole, which calls leave all as it was lent; Stretches and Output, what C finds in the output.
+-- The customers' demands are kept. To be read: Demand1, Demand2 and Demand3 (each field of the three records), Floods (a flooded datagram goes on once),
+-- Apart (neither customer can tell what the other does) and WrongRelays (relays that are shut out by them). The others serve these: Lane, a trace as one
+-- customer has part in it; Fresh, how a trace begins; Promised, Held, Traced and Told, what the words hold after any steps, and what C is told then;
+-- Lasts, that there are such traces; Fitting and ReadOut, what C reads out of an answer; Over, what a customer's calls come to one after the other; Whole,
+-- which calls leave all as it was lent; Stretches and Output, what C finds in the output; Remembers, what it finds of the memory.
 pub mod Lane
 pub mod Fresh
 pub mod Promised
@@ -11,11 +12,14 @@ pub mod Lasts
 pub mod Told
 pub mod Fitting
 pub mod ReadOut
+pub mod Over
 pub mod Whole
 pub mod Stretches
 pub mod Output
+pub mod Remembers
 pub mod Demand1
 pub mod Demand2
 pub mod Demand3
+pub mod Floods
 pub mod Apart
 pub mod WrongRelays

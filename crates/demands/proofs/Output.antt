@@ -67,72 +67,72 @@ short-header far arrival code s h small e =
     (read-bounds s h small e .1 .0))
 
 -- ---- of any relay
-module _ (r : Relay) (at : ℕ) (octets : List ℕ) (room : ℕ) where
+module _ (r : Relay) (at second : ℕ) (octets : List ℕ) (room : ℕ) where
   -- a datagram that is not refused was lent the octets for eight headers
-  room-lent : endingOf r at octets room .refusal ≡ 0 → outputRoom ≤ room
+  room-lent : endingOf r at second octets room .refusal ≡ 0 → outputRoom ≤ room
   unfolding stepRows
-  room-lent z = ltb-false room outputRoom (refusal-exactly r at octets room .0 .0 z .1 .0)
+  room-lent z = ltb-false room outputRoom (refusal-exactly r at second octets room .0 .0 z .1 .0)
 
   -- a port's header has as many octets as C is told
   abbrev Counted : ℕ → Ending → Type 0
   Counted p e = inSet p (e .ruling .took) ≡ true → pick (inSet p (e .legs .rewritten)) (e .legs .octets) (e .size) ≡ length (headerFor (e .legs) octets p)
 
-  counted : Octets octets → readOf octets ≡ Good (headerOf octets) → (p : ℕ) → p < portCount → Counted p (endingOf r at octets room)
+  counted : Octets octets → readOf octets ≡ Good (headerOf octets) → (p : ℕ) → p < portCount → Counted p (endingOf r at second octets room)
   counted small read p inside is =
-      let headers = headers-of-any-relay r at octets room in
+      let headers = headers-of-any-relay r at second octets room in
       headers .size p inside is ∙ sym (next-header-length _ _ _ octets (headerOf octets) small read) ∙ sym (ap length (headers .header p inside is))
 
 -- ---- after a trace
-module _ (who : Customer) (steps : List Step) (rs : List Record) (at : ℕ) (slot : Slot) (octets output : List ℕ) (x : Result)
-    (g : Gives steps (flies who (hears rs at slot octets output)) x) where
+module _ (who : Customer) (steps : List Step) (rs : List Record) (at : ℕ) (slot : Slot) (second : ℕ) (octets output : List ℕ) (x : Result)
+    (g : Gives steps (flies who (hears rs at slot second octets output)) x) where
   abbrev seat : Seat
   seat = seatOf who steps
 
   abbrev e : Ending
-  e = heardBy seat rs at octets (length output)
+  e = heardBy seat rs at second octets (length output)
 
   abbrev took : ℕ
   took = e .ruling .took
 
   pub told : ReadBack (x .answer) e
-  told = rw (gives-row who steps (own (hears rs at slot octets output)) x g .answer) (read-back seat rs at octets (length output))
+  told = rw (gives-row who steps (own (hears rs at slot second octets output)) x g .answer) (read-back seat rs at second octets (length output))
 
   sent : x .left .output ≡ sentOutput e octets output
-  sent = gives-row who steps (own (hears rs at slot octets output)) x g .output
+  sent = gives-row who steps (own (hears rs at slot second octets output)) x g .output
 
   -- where a port took an entry
   module _ (some : took ≢ 0) where
     -- the datagram was read
     pub was : WasRead octets e
-    was = took-read seat rs at octets (length output) some
+    was = took-read seat rs at second octets (length output) some
 
     read : readOf octets ≡ Good (headerOf octets)
     read = was .read ∙ ap Good (read-good octets (was .header) .0 (was .read) .1)
 
     short : (p : ℕ) → length (headerFor (e .legs) octets p) ≤ longestHeader
-    short p = short-header _ _ _ octets (headerOf octets) (g .passes .1) read
+    short p = short-header _ _ _ octets (headerOf octets) (g .passes .1 .0) read
 
     wide : stretchOf portCount ≤ length output
     wide = by (eqb (e .refusal) 0) refl
       where
         by : (t : Bool) → eqb (e .refusal) 0 ≡ t → outputRoom ≤ length output
         by true z =
-            heard-so seat rs at octets (length output) (λ (y : Ending). y .refusal ≡ 0 → outputRoom ≤ length output)
-            (λ z. absurd (omega (arith, z))) (room-lent (relayFor who steps rs) at octets (length output)) (eqb-true (e .refusal) 0 z)
+            heard-so seat rs at second octets (length output) (λ (y : Ending). y .refusal ≡ 0 → outputRoom ≤ length output)
+            (λ z. absurd (omega (arith, z))) (room-lent (relayFor who steps rs) at second octets (length output)) (eqb-true (e .refusal) 0 z)
         by false z =
-            absurd (some (ap (λ y. y .took) (heard-grants-nothing seat rs at octets (length output) (eqb-false (e .refusal) 0 z))))
+            absurd (some (ap (λ y. y .took) (heard-grants-nothing seat rs at second octets (length output) (eqb-false (e .refusal) 0 z))))
 
     size-is : (p : ℕ) → inSet p took ≡ true → headerOctets x p ≡ length (headerFor (e .legs) octets p)
     size-is p is =
-        let inside = port-inside p took (sets-small seat rs at octets (length output) .took) is in
+        let inside = port-inside p took (sets-small seat rs at second octets (length output) .took) is in
         rw (told .took, told .rewritten, told .octets, told .size, is)
-        (heard-so seat rs at octets (length output) (Counted (relayFor who steps rs) at octets (length output) p)
-        (λ z. true-false (sym z ∙ in-none p)) (counted (relayFor who steps rs) at octets (length output) (g .passes .1) read p inside) is)
+        (heard-so seat rs at second octets (length output) (Counted (relayFor who steps rs) at second octets (length output) p)
+        (λ z. true-false (sym z ∙ in-none p)) (counted (relayFor who steps rs) at second octets (length output) (g .passes .1 .0) read p inside) is)
 
     some-found : (p : ℕ) → inSet p took ≡ true → headerOut x p ≡ headerFor (e .legs) octets p
     unfolding sentOutput
     some-found p is =
-        let inside = port-inside p took (sets-small seat rs at octets (length output) .took) is in
+        let inside = port-inside p took (sets-small seat rs at second octets (length output) .took) is in
         ap (λ (n : ℕ). take n (drop (stretchOf p) (x .left .output))) (size-is p is)
         ∙ ap (λ (l : List ℕ). take (length (headerFor (e .legs) octets p)) (drop (stretchOf p) l)) sent
         ∙ below-found took (e .legs) octets short output portCount wide p inside is

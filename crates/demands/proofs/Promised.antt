@@ -15,11 +15,12 @@ use Rattle.state.specs.Layout.{boardWords, missionWords}
 use Rattle.tally.specs.Tally.{countedAll}
 use Rattle.lent_state.specs.View.{Lent, Held, lentBoard, lent, tooLong}
 use Rattle.relay.specs.Outgoing.{sentOutput}
+use Rattle.floods.specs.Sweep.{sweepChecks}
 use Rattle.answers.specs.Answers.{receiveNumber}
 use Rattle.harpjuniper.specs.Face.{readingOf, readingWords, buildAnswer, buildOutput}
 use Rattle.route_calls.specs.Search.{searchAnswer}
 use Rattle.harpjuniper_routes.specs.Face.{routeWordTold}
-use Rattle.harpjuniper_reads.specs.Back.{portAnswer, groupAnswer, pathAnswer}
+use Rattle.harpjuniper_reads.specs.Back.{portAnswer, groupAnswer, pathAnswer, pairAnswer}
 use Rattle.harpjuniper_relay.specs.Face.{takeAnswer, counterAnswer, waitingAnswer}
 use Rattle.contracts.specs.Promised.{Promise}
 use Rattle.history.specs.Seat.{Seat, stateOf, relayIn, relayWith, heardBy}
@@ -28,10 +29,12 @@ use Rattle.history.specs.Calls.{
   Order,
   setRouter,
   setPort,
+  setLifetime,
   setRoute,
   clearRoute,
   View,
   routerFlag,
+  lifetimeWord,
   portWord,
   recordWord,
   OperatorCall,
@@ -45,6 +48,8 @@ use Rattle.history.specs.Calls.{
   Look,
   groupWord,
   pathWord,
+  pairWord,
+  lastSecond,
   search,
   counter,
   waiting,
@@ -59,6 +64,7 @@ use Rattle.history.specs.Calls.{
   sets,
   hears,
   takes,
+  sweeps,
   looks,
   Call,
   operator,
@@ -105,6 +111,7 @@ module _ (x : Seat) (l : List ℕ) where
   orderPromised (setPort p address mask mtu mission) =
       let o = setPort p address mask mtu mission in
       onBoard (firstOf (orderChecks (x .board) o)) (boardLeft (x .board) o) []
+  orderPromised (setLifetime y) = onBoard (firstOf (orderChecks (x .board) (setLifetime y))) (boardLeft (x .board) (setLifetime y)) []
   orderPromised (setRoute rs i prefix mask p availability capabilities mission) =
       let o = setRoute rs i prefix mask p availability capabilities mission in
       onBoard (firstOf (orderChecks (x .board) o)) (x .board) (listLeft (x .board) o)
@@ -113,6 +120,7 @@ module _ (x : Seat) (l : List ℕ) where
 
   abbrev viewPromised : View → Promise
   viewPromised routerFlag = onBoard (x .board .router) (x .board) []
+  viewPromised lifetimeWord = onBoard (x .board .lifetime) (x .board) []
   viewPromised (portWord p word) = onBoard (portAnswer (x .board) p word) (x .board) []
   viewPromised (recordWord rs i word) = promise (routeWordTold rs i word) noBoard noMission rs [] []
 
@@ -133,6 +141,8 @@ module _ (x : Seat) (l : List ℕ) where
   abbrev lookPromised : Look → Promise
   lookPromised (groupWord i word) = onMission (groupAnswer (x .mission) i word) (stateOf x l)
   lookPromised (pathWord i word) = onMission (pathAnswer (x .mission) i word) (stateOf x l)
+  lookPromised (pairWord i word) = onMission (pairAnswer (x .memory) i word) (stateOf x l)
+  lookPromised lastSecond = onMission (x .memory .last) (stateOf x l)
   lookPromised (search rs a) = onBoth (pick (tooLong rs) 21 (searchAnswer (relayWith x rs) a)) (stateOf x l) rs []
   lookPromised (counter i) = onMission (counterAnswer l i) (stateOf x l)
   lookPromised (waiting p) = onMission (waitingAnswer (x .mission) p) (stateOf x l)
@@ -149,10 +159,11 @@ module _ (x : Seat) (l : List ℕ) where
 
   abbrev ownPromised : MissionCall → Promise
   ownPromised (sets s) = settingPromised s
-  ownPromised (hears rs p slot octets output) =
-      let e = heardBy x rs p octets (length output) in
-      onBoth (receiveNumber e) (nextState (own (hears rs p slot octets output))) rs (sentOutput e octets output)
+  ownPromised (hears rs p slot second octets output) =
+      let e = heardBy x rs p second octets (length output) in
+      onBoth (receiveNumber e) (nextState (own (hears rs p slot second octets output))) rs (sentOutput e octets output)
   ownPromised (takes p) = onBoth (takeAnswer (relayIn x) p) (nextState (own (takes p))) [] []
+  ownPromised (sweeps second) = onBoth (firstOf (sweepChecks (x .memory) second)) (nextState (own (sweeps second))) [] []
   ownPromised (looks l) = lookPromised l
 
   abbrev pub promisedBy : Call → Promise

@@ -31,6 +31,7 @@ use Rattle.history.specs.Seat.{Seat}
 use Rattle.history.specs.Calls.{
   View,
   routerFlag,
+  lifetimeWord,
   portWord,
   recordWord,
   orders,
@@ -38,6 +39,8 @@ use Rattle.history.specs.Calls.{
   Look,
   groupWord,
   pathWord,
+  pairWord,
+  lastSecond,
   search,
   counter,
   waiting,
@@ -52,6 +55,7 @@ use Rattle.history.specs.Calls.{
   sets,
   hears,
   takes,
+  sweeps,
   looks,
   Call,
   operator,
@@ -64,12 +68,12 @@ use Rattle.history.specs.Outcome as outcome
 use Rattle.history.specs.Tally.{stateAfter}
 use Rattle.history.specs.Ranges.{CopyFits}
 use Rattle.history.proofs.Counters.{counters-fit}
-use Rattle.history.proofs.Ranges.{in-range, waiting-fits}
+use Rattle.history.proofs.Ranges.{in-range, waiting-fits, seconds-fit}
 use Rattle.history.proofs.Takes.{take-is}
 use Rattle.history.proofs.ReadBack.{read-back}
 use Rattle.demands.specs.Trace.{Customer, numberOf, Step, operates, flies, stepOf, historyOf, seatOf, relayOf, Gives}
 use Rattle.demands.specs.ReadOut.{takenOut, lookOut, ownOut, readOut}
-use Rattle.demands.proofs.Fitting.{value-out, refusal-out, history-passed, port-out, group-out, path-out, record-out}
+use Rattle.demands.proofs.Fitting.{value-out, refusal-out, history-passed, port-out, group-out, path-out, pair-out, record-out}
 use Rattle.demands.proofs.Told.{gives-row, setting-told, order-seen}
 
 -- where a test decides between a value and a refusal
@@ -143,6 +147,9 @@ module _ (who : Customer) (steps : List Step) where
   view-out routerFlag x g =
       let flag = in-range m h .flags .router in
       ap refusalIn (gives-row who steps (operator (views routerFlag)) x g .answer) ∙ value-out (seat .board .router) (omega (arith, flag))
+  view-out lifetimeWord x g =
+      ap refusalIn (gives-row who steps (operator (views lifetimeWord)) x g .answer)
+      ∙ value-out (seat .board .lifetime) (seconds-fit m h (history-passed who steps (g .begun .passed)) .1)
   view-out (portWord p word) x g =
       ap refusalIn (gives-row who steps (operator (views (portWord p word))) x g .answer) ∙ port-out who steps (g .begun .passed) p word
   view-out (recordWord rs i word) x g =
@@ -153,6 +160,11 @@ module _ (who : Customer) (steps : List Step) where
       ap refusalIn (gives-row who steps (own (looks (groupWord i word))) x g .answer) ∙ group-out who steps (g .begun .passed) i word
   look-out (pathWord i word) x g =
       ap refusalIn (gives-row who steps (own (looks (pathWord i word))) x g .answer) ∙ path-out who steps (g .begun .passed) i word
+  look-out (pairWord i word) x g =
+      ap refusalIn (gives-row who steps (own (looks (pairWord i word))) x g .answer) ∙ pair-out who steps (g .begun .passed) i word
+  look-out lastSecond x g =
+      ap refusalIn (gives-row who steps (own (looks lastSecond)) x g .answer)
+      ∙ value-out (seat .memory .last) (seconds-fit m h (history-passed who steps (g .begun .passed)) .0)
   look-out (search rs a) x g =
       ap (λ (n : ℕ). n % 2 ^ 16) (gives-row who steps (own (looks (search rs a))) x g .answer) ∙ search-out (tooLong rs) _
   look-out (counter i) x g = ap refusalIn (gives-row who steps (own (looks (counter i))) x g .answer) ∙ counter-out m h i
@@ -168,9 +180,9 @@ module _ (who : Customer) (steps : List Step) where
 
   own-out : (c : MissionCall) (x : Result) → Gives steps (flies who c) x → ownOut c (x .answer) ≡ outcome.ownOutcome seat c .answer
   own-out (sets s) x g = ap outcome.number (setting-told who steps x s g)
-  own-out (hears rs p slot octets output) x g =
-      let c = hears rs p slot octets output in
-      let back = read-back seat rs p octets (length output) in
+  own-out (hears rs p slot second octets output) x g =
+      let c = hears rs p slot second octets output in
+      let back = read-back seat rs p second octets (length output) in
       ap (ownOut c) (gives-row who steps (own c) x g .answer) ∙ rw (back .refusal, back .local, back .onward, back .took)
   own-out (takes p) x g =
       let line = lineAt p m h in
@@ -180,6 +192,7 @@ module _ (who : Customer) (steps : List Step) where
       ∙ taken-out p (portSetUp (relayOf who steps) p) (chosen (rankBy entryOf) line)
       (chosen-each (rankBy entryOf) CopyFits line (waiting-fits p m h (history-passed who steps (g .begun .passed))))
       ∙ ap (λ t. outcome.ofTaking p t .answer) (sym is)
+  own-out (sweeps second) x g = ap outcome.number (gives-row who steps (own (sweeps second)) x g .answer)
   own-out (looks l) x g = ap outcome.number (look-out l x g)
 
   -- What C reads out of the answer to any call is what the rules give after the customer's history.

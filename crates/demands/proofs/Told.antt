@@ -17,6 +17,7 @@ use Rattle.history.specs.Calls.{
   Order,
   setRouter,
   setPort,
+  setLifetime,
   setRoute,
   clearRoute,
   orders,
@@ -41,7 +42,7 @@ use Rattle.demands.specs.Trace.{Customer, first, second, numberOf, Step,
 use Rattle.demands.proofs.Lane.{madeBy, boardBy, ownBy}
 use Rattle.demands.proofs.Promised.{nextState, promisedBy}
 use Rattle.demands.proofs.Held.{either-way, words-after}
-use Rattle.demands.proofs.Traced.{held-board, held-words, row-held, board-is, words-hold}
+use Rattle.demands.proofs.Traced.{held-board, held-words, row-held, board-is, words-hold, words-board, words-own}
 
 -- ---- a step of a customer's history is a call in its lane
 module _ (who : Customer) (w : Words) (x : Result) where
@@ -100,11 +101,10 @@ module _ (who : Customer) (cs : List Step) where
 -- The words before any step spell what the history leaves.
 module _ (who : Customer) (cs : List Step) (c : Step) (x : Result) (g : Gives cs c x) where
   pub before-board : decodeBoard (g .before .board) ≡ seatOf who cs .board
-  before-board = held-board (g .before .board) (seatOf who cs .board) (words-hold who (g .lent) cs (g .before) (g .begun) .0) .1
+  before-board = words-board who (g .lent) cs (g .before) (g .begun)
 
   pub before-own : decode (missionOf who (g .before)) ≡ stateAfter (numberOf who) (historyOf who cs)
-  before-own =
-      held-words (missionOf who (g .before)) (stateAfter (numberOf who) (historyOf who cs)) (words-hold who (g .lent) cs (g .before) (g .begun) .1) .1
+  before-own = words-own who (g .lent) cs (g .before) (g .begun)
 
 -- A call of the customer's moves each counter by what page 01's table gives this call, which is nothing for all but a datagram.
 pub counters-move : (who : Customer) (cs : List Step) (c : MissionCall) (x : Result) (g : Gives cs (flies who c) x) (i : ℕ) → i < counterCount
@@ -134,6 +134,9 @@ module _ (who : Customer) (cs : List Step) (x : Result) where
       let o = setPort p address mask mtu mission in
       let k = gives-row who cs (operator (orders o)) x g in
       (k .answer, k .routes ∙ sym (either-way (eqb (firstOf (orderChecks (seatOf who cs .board) o)) 0) []))
+  order-seen (setLifetime y) g =
+      let k = gives-row who cs (operator (orders (setLifetime y))) x g in
+      (k .answer, k .routes ∙ sym (either-way (eqb (firstOf (orderChecks (seatOf who cs .board) (setLifetime y))) 0) []))
   order-seen (setRoute rs i prefix mask p availability capabilities mission) g =
       let k = gives-row who cs (operator (orders (setRoute rs i prefix mask p availability capabilities mission))) x g in
       (k .answer, k .routes)

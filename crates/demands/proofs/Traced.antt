@@ -102,3 +102,11 @@ words-hold who w cs v b =
     (fresh-board-holds (w .board) (b .board) (b .fresh-board .0) (b .fresh-board .1))
     (mission-begins who w v cs b ∙ ap Held (fresh-state n))
     (ran who cs start v (b .then) .0)
+
+-- So they spell it.
+module _ (who : Customer) (w : Words) (cs : List Step) (v : Words) (b : Begun w cs v) where
+  pub words-board : decodeBoard (v .board) ≡ seatOf who cs .board
+  words-board = held-board (v .board) (seatOf who cs .board) (words-hold who w cs v b .0) .1
+
+  pub words-own : decode (missionOf who v) ≡ stateAfter (numberOf who) (historyOf who cs)
+  words-own = held-words (missionOf who v) (stateAfter (numberOf who) (historyOf who cs)) (words-hold who w cs v b .1) .1

@@ -1,7 +1,7 @@
 -- Which calls leave all that is lent as it is: those that are refused, but for the counters of a datagram; those that are lent words of the wrong number;
 -- and those that are lent too long a list. Each is shown of the call's row, which then is that of a look. Assumes nothing.
 use Prim.Native.Nat.{ℕ}
-use mathlib.Core.Path.{_≡_, refl, sym, ap, subst, _∙_}
+use mathlib.Core.Path.{_≡_, refl, sym, ap, ap₂, subst, _∙_}
 use mathlib.Core.Bool.{Bool, true, false, not}
 use mathlib.Core.Logic.{_⊎_, ⊎-elim}
 use mathlib.Core.List.{List}
@@ -16,7 +16,7 @@ use Rattle.header.specs.declared.Read.{Read}
 use Rattle.header.specs.declared.Read.the-variants as read
 use Rattle.numbers.specs.InWords.{numbersWords}
 use Rattle.routes.specs.declared.Record.{Record}
-use Rattle.state.specs.Relay.{Relay}
+use Rattle.state.specs.Relay.{Relay, Memory}
 use Rattle.state.specs.Seen.{Board, State, seated}
 use Rattle.refusals.specs.Lists.{routeChecks, clearRouteChecks}
 use Rattle.adjust.specs.Settled.{newRecord, settledRoute, clearedRoute}
@@ -24,9 +24,10 @@ use Rattle.taking.specs.Taking.{takeOutcome, takenRelay}
 use Rattle.taking.specs.declared.Taking.{Taking}
 use Rattle.taking.specs.declared.Taking.the-variants.{Handed, Refused}
 use Rattle.tally.specs.Tally.{counterFor, countedAt, countedAll}
+use Rattle.floods.specs.Sweep.{swept, sweepChecks, sweptMemory}
 use Rattle.judge.specs.Ending.{refusedBy}
 use Rattle.judge.specs.declared.Ending.{Ending}
-use Rattle.relay.specs.Received.{heardEnding, receivedState}
+use Rattle.relay.specs.Received.{heardEnding, heardMemory, receivedState}
 use Rattle.relay.specs.Outgoing.{sentOutput}
 use Rattle.lent_state.specs.View.{Lent, Held, Other, lentBoard, lent, byLent, onLent, toldBoard, changedBoard, told, changed, toldBoth, changedBoth, tooLong}
 use Rattle.lent_state.proofs.Calls.{board-other-told, board-other-changed, other-told, other-changed}
@@ -43,10 +44,12 @@ use Rattle.history.specs.Calls.{
   Order,
   setRouter,
   setPort,
+  setLifetime,
   setRoute,
   clearRoute,
   View,
   routerFlag,
+  lifetimeWord,
   portWord,
   recordWord,
   OperatorCall,
@@ -60,6 +63,8 @@ use Rattle.history.specs.Calls.{
   Look,
   groupWord,
   pathWord,
+  pairWord,
+  lastSecond,
   search,
   counter,
   waiting,
@@ -74,6 +79,7 @@ use Rattle.history.specs.Calls.{
   sets,
   hears,
   takes,
+  sweeps,
   looks,
   Call,
   operator,
@@ -139,8 +145,8 @@ module _ (b m : List ℕ) (x : Seat) (l : List ℕ) (board : lentBoard b ≡ Hel
   same-board : {p : Board} → p ≡ x .board → Held p ≡ lentBoard b
   same-board e = ap Held e ∙ sym board
 
-  same-relay : (r : Relay) → r ≡ relayIn x → Held (record { number = x .number; mission = r .mission; counters = l }) ≡ lent m
-  same-relay r e = ap (λ (z : Relay). Held (record { number = x .number; mission = z .mission; counters = l })) e ∙ sym mission
+  same-relay : (r : Relay) → r ≡ relayIn x → Held (record { number = x .number; mission = r .mission; memory = x .memory; counters = l }) ≡ lent m
+  same-relay r e = ap (λ (z : Relay). Held (record { number = x .number; mission = z .mission; memory = x .memory; counters = l })) e ∙ sym mission
 
   -- what a refused setting would have written is not
   board-old : (o : Order) → isRefusal (outcome x (operator (orders o)) .answer) ≡ true → boardLeft (x .board) o ≡ x .board
@@ -156,12 +162,14 @@ module _ (b m : List ℕ) (x : Seat) (l : List ℕ) (board : lentBoard b ≡ Hel
   order-left (setRouter y) h = same-promise refl (same-board (board-old (setRouter y) h)) refl refl refl refl
   order-left (setPort p address mask mtu number) h =
       same-promise refl (same-board (board-old (setPort p address mask mtu number) h)) refl refl refl refl
+  order-left (setLifetime y) h = same-promise refl (same-board (board-old (setLifetime y) h)) refl refl refl refl
   order-left (setRoute rs i prefix mask p availability capabilities number) h =
       same-promise refl (sym board) refl (list-old (setRoute rs i prefix mask p availability capabilities number) h) refl refl
   order-left (clearRoute rs i) h = same-promise refl refl refl (list-old (clearRoute rs i) h) refl refl
 
   view-left : (v : View) → LeftBy (operator (views v))
   view-left routerFlag h = same-promise refl (sym board) refl refl refl refl
+  view-left lifetimeWord h = same-promise refl (sym board) refl refl refl refl
   view-left (portWord p word) h = same-promise refl (sym board) refl refl refl refl
   view-left (recordWord rs i word) h = refl
 
@@ -178,15 +186,26 @@ module _ (b m : List ℕ) (x : Seat) (l : List ℕ) (board : lentBoard b ≡ Hel
   take-left : (p : ℕ) → LeftBy (own (takes p))
   take-left p h =
       same-promise refl (sym board)
-      (ap (λ moves. Held (record { number = x .number; mission = takenRelay (relayIn x) p .mission; counters = countedAll l moves }))
+      (ap (λ moves. Held (record { number = x .number; mission = takenRelay (relayIn x) p .mission; memory = x .memory; counters = countedAll l moves }))
       (quiet-taking p (takeOutcome (relayIn x) p))
       ∙ same-relay (takenRelay (relayIn x) p) (taken-old (relayIn x) p (takeOutcome (relayIn x) p) refl h))
+      refl refl refl
+
+  sweep-left : (second : ℕ) → LeftBy (own (sweeps second))
+  unfolding sweptMemory
+  sweep-left second h =
+      same-promise refl (sym board)
+      (ap (λ (k : Memory). Held (record { number = x .number; mission = x .mission; memory = k; counters = l }))
+      (settled-old (firstOf (sweepChecks (x .memory) second)) (swept (x .board .lifetime) second (x .memory)) (x .memory) h)
+      ∙ sym mission)
       refl refl refl
 
   look-left : (z : Look) → LeftBy (own (looks z))
   unfolding buildOutput
   look-left (groupWord i word) h = same-promise refl refl (sym mission) refl refl refl
   look-left (pathWord i word) h = same-promise refl refl (sym mission) refl refl refl
+  look-left (pairWord i word) h = same-promise refl refl (sym mission) refl refl refl
+  look-left lastSecond h = same-promise refl refl (sym mission) refl refl refl
   look-left (search rs a) h = same-promise refl (sym board) (sym mission) refl refl refl
   look-left (counter i) h = same-promise refl refl (sym mission) refl refl refl
   look-left (waiting p) h = same-promise refl refl (sym mission) refl refl refl
@@ -206,8 +225,9 @@ module _ (b m : List ℕ) (x : Seat) (l : List ℕ) (board : lentBoard b ≡ Hel
 
   pub own-refused : (c : MissionCall) → hearsNothing c ≡ true → LeftBy (own c)
   own-refused (sets s) quiet h = setting-left s h
-  own-refused (hears rs p slot octets output) quiet h = true-false (sym quiet)
+  own-refused (hears rs p slot second octets output) quiet h = true-false (sym quiet)
   own-refused (takes p) quiet h = take-left p h
+  own-refused (sweeps second) quiet h = sweep-left second h
   own-refused (looks z) quiet h = look-left z h
 
 -- ---- words of the wrong number
@@ -215,10 +235,13 @@ abbrev pub lackAnswer : Call → ℕ
 lackAnswer (operator (orders o)) = 21
 lackAnswer (operator (views v)) = refusalNumber 21
 lackAnswer (own (sets s)) = 21
-lackAnswer (own (hears rs p slot octets output)) = pick (tooLong rs) 21 16
+lackAnswer (own (hears rs p slot second octets output)) = pick (tooLong rs) 21 16
 lackAnswer (own (takes p)) = refusalNumber 16
+lackAnswer (own (sweeps second)) = 21
 lackAnswer (own (looks (groupWord i word))) = refusalNumber 21
 lackAnswer (own (looks (pathWord i word))) = refusalNumber 21
+lackAnswer (own (looks (pairWord i word))) = refusalNumber 21
+lackAnswer (own (looks lastSecond)) = refusalNumber 21
 lackAnswer (own (looks (search rs a))) = 21
 lackAnswer (own (looks (counter i))) = refusalNumber 21
 lackAnswer (own (looks (waiting p))) = refusalNumber 21
@@ -252,16 +275,16 @@ module _ (b m : List ℕ) where
     both-changed : (f : Board → State → State) → changedBoth f b m ≡ lent m
     both-changed f = sym (⊎-elim (λ w. no-board-changed b m w f) (λ w. no-mission-changed b m w f) wrong)
 
-    module _ (rs : List Record) (p : ℕ) (slot : ℕ) (octets output : List ℕ) where
-      heard-answer : receiveAnswer b m rs p octets (length output) ≡ pick (tooLong rs) 21 16
+    module _ (rs : List Record) (p slot second : ℕ) (octets output : List ℕ) where
+      heard-answer : receiveAnswer b m rs p second octets (length output) ≡ pick (tooLong rs) 21 16
       unfolding receiveAnswer
       heard-answer = ap (pick (tooLong rs) 21) (both-told _ 16)
 
-      heard-words : receiveWords b m rs p slot octets (length output) ≡ lent m
+      heard-words : receiveWords b m rs p slot second octets (length output) ≡ lent m
       unfolding receiveWords
       heard-words = both-changed _
 
-      heard-output : receiveOutput b m rs p octets output ≡ output
+      heard-output : receiveOutput b m rs p second octets output ≡ output
       unfolding receiveOutput
       heard-output = both-told _ output
 
@@ -272,16 +295,20 @@ module _ (b m : List ℕ) where
   pub operator-lacks : (c : OperatorCall) → OperatorLacks b c → Leaves b m (operator c) (lackAnswer (operator c))
   operator-lacks (orders (setRouter x)) w = same-promise (board-told w _ _) (board-changed w _) refl refl refl refl
   operator-lacks (orders (setPort p address mask mtu mission)) w = same-promise (board-told w _ _) (board-changed w _) refl refl refl refl
+  operator-lacks (orders (setLifetime x)) w = same-promise (board-told w _ _) (board-changed w _) refl refl refl refl
   operator-lacks (orders (setRoute rs i prefix mask p availability capabilities mission)) w =
       same-promise (board-told w _ _) refl refl (board-told w _ _) refl refl
   operator-lacks (orders (clearRoute rs i)) w = absurd w
   operator-lacks (views routerFlag) w = same-promise (board-told w _ _) refl refl refl refl refl
+  operator-lacks (views lifetimeWord) w = same-promise (board-told w _ _) refl refl refl refl refl
   operator-lacks (views (portWord p word)) w = same-promise (board-told w _ _) refl refl refl refl refl
   operator-lacks (views (recordWord rs i word)) w = absurd w
 
   look-lacks : (z : Look) → MissionLacks b m (looks z) → Leaves b m (own (looks z)) (lackAnswer (own (looks z)))
   look-lacks (groupWord i word) w = same-promise (own-told w _ _) refl refl refl refl refl
   look-lacks (pathWord i word) w = same-promise (own-told w _ _) refl refl refl refl refl
+  look-lacks (pairWord i word) w = same-promise (own-told w _ _) refl refl refl refl refl
+  look-lacks lastSecond w = same-promise (own-told w _ _) refl refl refl refl refl
   look-lacks (search rs a) w = same-promise (search-lacks w rs (a .0)) refl refl refl refl refl
   look-lacks (counter i) w = same-promise (own-told w _ _) refl refl refl refl refl
   look-lacks (waiting p) w = same-promise (own-told w _ _) refl refl refl refl refl
@@ -298,10 +325,11 @@ module _ (b m : List ℕ) where
   own-lacks (sets (setPath i path send here)) w = same-promise (both-told w _ _) refl (both-changed w _) refl refl refl
   own-lacks (sets (clearGroup i)) w = same-promise (own-told w _ _) refl (own-changed w _) refl refl refl
   own-lacks (sets (clearPath i)) w = same-promise (own-told w _ _) refl (own-changed w _) refl refl refl
-  own-lacks (hears rs p slot octets output) w =
-      same-promise (heard-answer w rs p (slot .0) octets output) refl (heard-words w rs p (slot .0) octets output) refl
-      (heard-output w rs p (slot .0) octets output) refl
+  own-lacks (hears rs p slot second octets output) w =
+      same-promise (heard-answer w rs p (slot .0) second octets output) refl (heard-words w rs p (slot .0) second octets output) refl
+      (heard-output w rs p (slot .0) second octets output) refl
   own-lacks (takes p) w = same-promise (both-told w _ _) refl (both-changed w _) refl refl refl
+  own-lacks (sweeps second) w = same-promise (both-told w _ _) refl (both-changed w _) refl refl refl
   own-lacks (looks z) w = look-lacks z w
 
 -- ---- too long a list
@@ -336,16 +364,20 @@ own-stays f w same = by (lent w)
     by (Other o) = refl
 
 -- a datagram with too long a list moves nothing
-module _ (rs : List Record) (long : tooLong rs ≡ true) (x : Board) (s : State) (p : ℕ) (octets : List ℕ) (room : ℕ) where
-  long-ending : heardEnding x s rs p octets room ≡ refusedBy 21
+module _ (rs : List Record) (long : tooLong rs ≡ true) (x : Board) (s : State) (p second : ℕ) (octets : List ℕ) (room : ℕ) where
+  long-ending : heardEnding x s rs p second octets room ≡ refusedBy 21
   unfolding heardEnding
   long-ending = rw long
 
-  long-state : (slot : Slot) → receivedState x s slot (heardEnding x s rs p octets room) ≡ s
+  long-memory : heardMemory x s rs p second octets room ≡ s .memory
+  unfolding heardMemory
+  long-memory = rw long
+
+  long-state : (slot : Slot) → receivedState x s slot (heardMemory x s rs p second octets room) (heardEnding x s rs p second octets room) ≡ s
   unfolding counterFor countedAt
   long-state slot =
-      ap (receivedState x s slot) long-ending
-      ∙ ap (λ (r : Relay). record { number = s .number; mission = r .mission; counters = s .counters }) (nobody-took (seated x s) slot (refusedBy 21) refl)
+      ap₂ (receivedState x s slot) long-memory long-ending
+      ∙ ap (λ (r : Relay). record { number = s .number; mission = r .mission; memory = s .memory; counters = s .counters }) (nobody-took (seated x s) slot (refusedBy 21) refl)
 
 module _ (b m : List ℕ) (rs : List Record) (long : tooLong rs ≡ true) where
   route-answer : (i : ℕ) (x : Record) → toldBoard (λ (y : Board). firstOf (routeChecks y rs i x)) 21 b ≡ 21
@@ -371,39 +403,44 @@ module _ (b m : List ℕ) (rs : List Record) (long : tooLong rs ≡ true) where
   unfolding searchTold
   search-answer a = rw long
 
-  module _ (p : ℕ) (slot : Slot) (octets output : List ℕ) where
-    long-answer : receiveAnswer b m rs p octets (length output) ≡ 21
+  module _ (p : ℕ) (slot : Slot) (second : ℕ) (octets output : List ℕ) where
+    long-answer : receiveAnswer b m rs p second octets (length output) ≡ 21
     unfolding receiveAnswer
     long-answer = rw long
 
-    long-words : receiveWords b m rs p (slot .0) octets (length output) ≡ lent m
+    long-words : receiveWords b m rs p (slot .0) second octets (length output) ≡ lent m
     unfolding receiveWords
-    long-words = board-so _ (lent m) b (λ x. own-stays _ m (λ s. long-state rs long x s p octets (length output) slot))
+    long-words = board-so _ (lent m) b (λ x. own-stays _ m (λ s. long-state rs long x s p second octets (length output) slot))
 
-    long-output : receiveOutput b m rs p octets output ≡ output
+    long-output : receiveOutput b m rs p second octets output ≡ output
     unfolding receiveOutput
     long-output =
         board-so _ output b (λ x.
         own-so _ output m (λ s.
-        ap (λ (e : Ending). sentOutput e octets output) (long-ending rs long x s p octets (length output))
+        ap (λ (e : Ending). sentOutput e octets output) (long-ending rs long x s p second octets (length output))
         ∙ output-as-lent (refusedBy 21) octets output refl))
 
 pub long-left : (b m : List ℕ) (c : Call) → HasLong c → Leaves b m c (longAnswer c)
 long-left b m (operator (orders (setRouter x))) h = true-false (sym h)
 long-left b m (operator (orders (setPort p address mask mtu mission))) h = true-false (sym h)
+long-left b m (operator (orders (setLifetime x))) h = true-false (sym h)
 long-left b m (operator (orders (setRoute rs i prefix mask p availability capabilities mission))) h =
     let x = newRecord prefix mask p availability capabilities mission in
     same-promise (route-answer b m rs h i x) refl refl (route-list b m rs h i x) refl refl
 long-left b m (operator (orders (clearRoute rs i))) h = same-promise (clear-answer b m rs h i) refl refl (clear-list b m rs h i) refl refl
 long-left b m (operator (views routerFlag)) h = absurd h
+long-left b m (operator (views lifetimeWord)) h = absurd h
 long-left b m (operator (views (portWord p word))) h = absurd h
 long-left b m (operator (views (recordWord rs i word))) h = same-promise (word-answer b m rs h i word) refl refl refl refl refl
 long-left b m (own (sets s)) h = absurd h
-long-left b m (own (hears rs p slot octets output)) h =
-    same-promise (long-answer b m rs h p slot octets output) refl (long-words b m rs h p slot octets output) refl (long-output b m rs h p slot octets output) refl
+long-left b m (own (hears rs p slot second octets output)) h =
+    same-promise (long-answer b m rs h p slot second octets output) refl (long-words b m rs h p slot second octets output) refl (long-output b m rs h p slot second octets output) refl
 long-left b m (own (takes p)) h = absurd h
+long-left b m (own (sweeps second)) h = absurd h
 long-left b m (own (looks (groupWord i word))) h = absurd h
 long-left b m (own (looks (pathWord i word))) h = absurd h
+long-left b m (own (looks (pairWord i word))) h = absurd h
+long-left b m (own (looks lastSecond)) h = absurd h
 long-left b m (own (looks (search rs a))) h = same-promise (search-answer b m rs h (a .0)) refl refl refl refl refl
 long-left b m (own (looks (counter i))) h = absurd h
 long-left b m (own (looks (waiting p))) h = absurd h

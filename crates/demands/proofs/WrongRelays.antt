@@ -1,6 +1,6 @@
--- Wrong relays for two customers (page 02, W-208), each told by what it would give back to C. None of them is a relay whose calls keep their contracts: for
--- each there are steps after which it would have to give back something else. That there are such steps at all, for any words to begin with, is
--- demand 1. Assumes nothing.
+-- Wrong relays for two customers (page 02, W-208, W-214 and W-207), each told by what it would give back to C. None of them is a relay whose calls keep
+-- their contracts: for each there are steps after which it would have to give back something else. That there are such steps at all, for any words to begin
+-- with, is demand 1. Assumes nothing.
 use native.Mathlib.Omega.{arith}
 use Prim.Native.Nat.{ℕ, _+_, _*_, _<_}
 use mathlib.Core.Path.{_≡_, refl, sym, ap, _∙_}
@@ -23,6 +23,10 @@ use Rattle.header.specs.Form.{bitWeight}
 use Rattle.header.specs.Read.{headerOf, readOf}
 use Rattle.header.specs.declared.Header.{Header}
 use Rattle.header.proofs.Refusals.{read-good}
+use Rattle.meaning.specs.Flood.{pairOf}
+use Rattle.meaning.specs.Names.{floodRouting}
+use Rattle.records.specs.Held.{holdsPair}
+use Rattle.floods.specs.Memory.{isHeld, freePlace, soughtPair}
 use Rattle.next_leg.specs.Leg.{nextFields}
 use Rattle.page.specs.Table.{oneOctet, liesFar}
 use Rattle.sets.specs.Sets.{inSet}
@@ -45,7 +49,7 @@ use Rattle.history.specs.Ranges.{Octets}
 use Rattle.history.proofs.Marked.{opened}
 use Rattle.history.proofs.WrongRelays.{ended-by}
 use Rattle.demands.specs.Trace.{Customer, first, second, Step, operates, flies, stepOf, Words, made, historyOf, boardOf, relayFor, Passes, AllPass, Gives}
-use Rattle.demands.specs.ReadOut.{tookIn, dataFrom, headerOut, wireBy}
+use Rattle.demands.specs.ReadOut.{onwardIn, tookIn, dataFrom, headerOut, wireBy}
 use Rattle.demands.specs.Demand1.{NoBoard}
 use Rattle.demands.proofs.Traced.{history-more}
 use Rattle.demands.proofs.Lasts.{passable, gives-lasts}
@@ -53,7 +57,7 @@ use Rattle.demands.proofs.Told.{gives-row, order-told}
 use Rattle.demands.proofs.Output.{told}
 use Rattle.demands.proofs.Demand1.{demand-1}
 use Rattle.demands.proofs.Demand2.{demand-2}
-use Rattle.demands.proofs.Demand3.{pass-more}
+use Rattle.demands.proofs.Over.{pass-more}
 use Rattle.demands.proofs.Apart.{apart}
 
 -- ---- steps that can be made
@@ -80,7 +84,7 @@ abbrev ours : List Step
 ours = orders-of (routerWithPorts 0)
 
 abbrev hearing : MissionCall
-hearing = hears (allRoutes 0) 4 (record { 0 = 1 }) (datagram 10 4 9 14 0) (replicate outputRoom 0)
+hearing = hears (allRoutes 0) 4 (record { 0 = 1 }) 0 (datagram 10 4 9 14 0) (replicate outputRoom 0)
 
 abbrev heard : List Step
 heard = ours ++ (flies first hearing ∷ [])
@@ -94,7 +98,26 @@ abbrev narrow : List ℕ
 narrow = 32 ∷ 6 ∷ (4 * 16 + bitWeight 20 + bitWeight 22) ∷ bitWeight 25 ∷ 14 ∷ 16 ∷ []
 
 abbrev narrowly : MissionCall
-narrowly = hears (route 0 1 0 0 ∷ []) 0 (record { 0 = 1 }) narrow (replicate outputRoom 0)
+narrowly = hears (route 0 1 0 0 ∷ []) 0 (record { 0 = 1 }) 0 narrow (replicate outputRoom 0)
+
+-- a flooded datagram to 192.0.2.1 from 172.16.4.2, of sixteen octets that are all header: as `datagram`, with a timestamp of three octets, the last of them
+-- this one; and it comes in by this port
+abbrev flooding : ℕ → List ℕ
+flooding stamp =
+    32 ∷ 16
+    ∷ (4 * 16 + bitWeight 20 + bitWeight 22)
+    ∷ (bitWeight 25 + bitWeight 28 + bitWeight 30 + bitWeight 31)
+    ∷ 192 ∷ 0 ∷ 2 ∷ 1
+    ∷ 172 ∷ 16 ∷ 4 ∷ 2
+    ∷ (floodRouting * 4)
+    ∷ 0 ∷ 0 ∷ stamp
+    ∷ []
+
+abbrev flood : ℕ → ℕ → MissionCall
+flood at stamp = hears [] at (record { 0 = 1 }) 0 (flooding stamp) (replicate outputRoom 0)
+
+abbrev flooded : List Step
+flooded = ours ++ (flies first (flood 4 9) ∷ [])
 
 -- ---- the other's ports
 -- It does not hand out, or find empty, whatever port is set up, whosever it is.
@@ -165,7 +188,7 @@ octets-pass : (l : List ℕ) → allOctets l ≡ true → Octets l
 octets-pass l h i = getD-each (λ (n : ℕ). n < 256) l i 0 (omega arith) (octets-so l h)
 
 hearing-passes : Passes (flies first hearing)
-hearing-passes = (omega arith, octets-pass (datagram 10 4 9 14 0) refl)
+hearing-passes = (omega arith, (octets-pass (datagram 10 4 9 14 0) refl, omega arith))
 
 heard-pass : AllPass heard
 heard-pass = pass-more ours (flies first hearing) ports-pass hearing-passes
@@ -202,8 +225,8 @@ domains-pass = (tt, ((omega arith, (omega arith, (omega arith, (omega arith, tt)
 
 -- It does not send one-octet addresses into another domain as they came.
 pub sending-one-octet-addresses-on :
-    ((steps : List Step) (rs : List Record) (at p : ℕ) (slot : Slot) (octets output : List ℕ) (x : Result)
-    → Gives steps (flies first (hears rs at slot octets output)) x → inSet p (tookIn x) ≡ true
+    ((steps : List Step) (rs : List Record) (at p : ℕ) (slot : Slot) (when : ℕ) (octets output : List ℕ) (x : Result)
+    → Gives steps (flies first (hears rs at slot when octets output)) x → inSet p (tookIn x) ≡ true
     → oneOctet (headerOf octets .fields .addresses) ≡ true → liesFar (relayFor first steps rs) at p ≡ true
     → headerOut x p ≡ take (dataFrom x) octets)
     → ⊥
@@ -212,26 +235,66 @@ sending-one-octet-addresses-on wrong =
     let rs = route 0 1 0 0 ∷ [] in
     let slot : Slot = record { 0 = 1 } in
     let output : List ℕ = replicate outputRoom 0 in
-    let g = given twoDomains domains-pass (flies first narrowly) (omega arith, octets-pass narrow refl) in
+    let g = given twoDomains domains-pass (flies first narrowly) (omega arith, (octets-pass narrow refl, omega arith)) in
     let x = g .0 in
-    let took : inSet 1 (tookIn x) ≡ true = ap (inSet 1) (told first twoDomains rs 0 slot narrow output x (g .1) .took) in
-    let as-it-came = wrong twoDomains rs 0 1 slot narrow output x (g .1) took refl refl in
-    let wire = demand-2 .on-the-wire first twoDomains rs 0 slot narrow output x (g .1) refl 1 (omega arith) took in
+    let took : inSet 1 (tookIn x) ≡ true = ap (inSet 1) (told first twoDomains rs 0 slot 0 narrow output x (g .1) .took) in
+    let as-it-came = wrong twoDomains rs 0 1 slot 0 narrow output x (g .1) took refl refl in
+    let wire = demand-2 .on-the-wire first twoDomains rs 0 slot 0 narrow output x (g .1) refl 1 (omega arith) took in
     let came : wireBy x narrow 1 ≡ narrow = ap (λ (l : List ℕ). l ++ drop (dataFrom x) narrow) as-it-came ∙ take-append-drop (dataFrom x) narrow in
     let same = read-good narrow (wire .goes) .0 (sym (ap readOf came) ∙ wire .reads) .1 in
     true-false (wire .domain (ap (λ (h : Header). oneOctet (h .fields .addresses)) same))
 
+-- ---- what is flooded (page 02, W-207)
+nine-passes : (at : ℕ) → Passes (flies first (flood at 9))
+nine-passes at = (omega arith, (octets-pass (flooding 9) refl, omega arith))
+
+flooded-pass : AllPass flooded
+flooded-pass = pass-more ours (flies first (flood 4 9)) ports-pass (nine-passes 4)
+
+-- It does not forget pairs, and so send on again what comes again by another port.
+pub forgetting-pairs :
+    ((steps : List Step) (p q : ℕ) (slot : Slot) (when : ℕ) (octets output : List ℕ) (x y : Result)
+    → Gives steps (flies first (hears [] p slot when octets output)) x → onwardIn x ≡ 1
+    → Gives (steps ++ (flies first (hears [] p slot when octets output) ∷ [])) (flies first (hears [] q slot when octets output)) y → onwardIn y ≡ 1)
+    → ⊥
+unfolding opened pairOf holdsPair isHeld freePlace soughtPair
+forgetting-pairs wrong =
+    let slot : Slot = record { 0 = 1 } in
+    let output : List ℕ = replicate outputRoom 0 in
+    let g = given ours ports-pass (flies first (flood 4 9)) (nine-passes 4) in
+    let k = given flooded flooded-pass (flies first (flood 3 9)) (nine-passes 3) in
+    let goes : onwardIn (g .0) ≡ 1 = told first ours [] 4 slot 0 (flooding 9) output (g .0) (g .1) .onward in
+    let stays : onwardIn (k .0) ≡ 0 = told first flooded [] 3 slot 0 (flooding 9) output (k .0) (k .1) .onward in
+    let again = wrong ours 4 3 slot 0 (flooding 9) output (g .0) (k .0) (g .1) goes (k .1) in omega (arith, stays, again)
+
+-- It does not tell pairs by their addresses alone, and so keep back what has another timestamp.
+pub pairing-by-addresses :
+    ((steps : List Step) (p : ℕ) (slot : Slot) (when : ℕ) (s t output : List ℕ) (x y : Result)
+    → Gives steps (flies first (hears [] p slot when s output)) x → onwardIn x ≡ 1
+    → headerOf t .fields .addresses ≡ headerOf s .fields .addresses
+    → Gives (steps ++ (flies first (hears [] p slot when s output) ∷ [])) (flies first (hears [] p slot when t output)) y → onwardIn y ≡ 0)
+    → ⊥
+unfolding opened pairOf holdsPair isHeld freePlace soughtPair
+pairing-by-addresses wrong =
+    let slot : Slot = record { 0 = 1 } in
+    let output : List ℕ = replicate outputRoom 0 in
+    let g = given ours ports-pass (flies first (flood 4 9)) (nine-passes 4) in
+    let k = given flooded flooded-pass (flies first (flood 4 10)) (omega arith, (octets-pass (flooding 10) refl, omega arith)) in
+    let goes : onwardIn (g .0) ≡ 1 = told first ours [] 4 slot 0 (flooding 9) output (g .0) (g .1) .onward in
+    let other : onwardIn (k .0) ≡ 1 = told first flooded [] 4 slot 0 (flooding 10) output (k .0) (k .1) .onward in
+    let kept-back = wrong ours 4 slot 0 (flooding 9) (flooding 10) output (g .0) (k .0) (g .1) goes refl (k .1) in omega (arith, other, kept-back)
+
 -- ---- the order of tests
 -- It does not look at the words before the list: of one that is too long it says 21, not 16.
 pub words-before-the-list :
-    ((w : Words) (rs : List Record) (p : ℕ) (slot : Slot) (octets output : List ℕ) (x : Result) → NoBoard (w .board)
-    → Says (made w (flies first (hears rs p slot octets output))) x → x .answer ≡ 16)
+    ((w : Words) (rs : List Record) (p : ℕ) (slot : Slot) (when : ℕ) (octets output : List ℕ) (x : Result) → NoBoard (w .board)
+    → Says (made w (flies first (hears rs p slot when octets output))) x → x .answer ≡ 16)
     → ⊥
 words-before-the-list wrong =
     let w : Words = record { board = []; zero = []; one = [] } in
     let rs = replicate 513 emptyRecord in
-    let c = hears rs 0 (record { 0 = 0 }) [] [] in
-    let a = each-call-answers (made w (flies first c)) (passable w (flies first c) (omega arith, λ i. omega arith)) in
-    let short = wrong w rs 0 (record { 0 = 0 }) [] [] (a .0) (λ e. true-false cc) (a .1) in
+    let c = hears rs 0 (record { 0 = 0 }) 0 [] [] in
+    let a = each-call-answers (made w (flies first c)) (passable w (flies first c) (omega arith, (λ i. omega arith, omega arith))) in
+    let short = wrong w rs 0 (record { 0 = 0 }) 0 [] [] (a .0) (λ e. true-false cc) (a .1) in
     let long = demand-1 .long-lists w first (own c) (a .0) refl (a .1) .0 in
     let same : _≡_ {A = ℕ} 16 21 = sym (ap (λ (n : ℕ). partAt 0 n) short) ∙ ended-by long in omega arith

@@ -1,7 +1,7 @@
 -- Page 02, W-208: "For any two histories in which the operator's calls and mission A's calls are the same, lent lists included, and stand in the same
 -- order among themselves, all of A's answers, outputs, counters and waiting entries are equal, whatever mission B does." Said of what C calls: the two
--- histories are the steps cs and ds, whatever the other customer's steps are in each; `who` is either customer. Proved in proofs/Apart.antt. Assumes
--- nothing.
+-- histories are the steps cs and ds, whatever the other customer's steps are in each; `who` is either customer. The pairs and the last second of W-207 are
+-- words of the mission, and what is said of its words is said of them. Proved in proofs/Apart.antt. Assumes nothing.
 use Prim.Native.Nat.{ℕ}
 use mathlib.Core.Path.{_≡_}
 use mathlib.Core.Logic.{_≢_}
@@ -20,7 +20,7 @@ givenTo who (flies x c ∷ cs) w v t =
     let rest = givenTo who cs (wordsAfter w (flies x c) (t .0)) v (t .1 .1) in
     pick (isOf who x) (t .0 ∷ rest) rest
 
--- the words that are left to A: the board's, and its own, in which stand its counters, its waiting entries, its groups and its paths
+-- the words that are left to A: the board's, and its own, in which stand its counters, its waiting entries, its groups and paths, its pairs and last second
 abbrev pub leftTo : Customer → Words → List (List ℕ)
 leftTo who w = w .board ∷ missionOf who w ∷ []
 

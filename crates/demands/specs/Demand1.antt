@@ -1,12 +1,12 @@
 -- Demand 1: "Every call ends with a stated answer, whatever octets, port or setting it gets. Nobody has to check first. A refusal carries its number and
 -- leaves queues, settings and lent octets unchanged; only the counters of the received datagram move. An unknown transport number refuses local
 -- delivery alone." Each sentence is a field, said of what C calls, for each of two customers by itself, whatever the other does between its calls (page
--- 02, W-208). Proved in proofs/Demand1.antt. Assumes nothing.
-use Prim.Native.Nat.{ℕ, _+_, _%_, _^_, _<_}
+-- 02, W-208). W-207 "lets the kept pair and the accepted second stand after a refusal". Proved in proofs/Demand1.antt. Assumes nothing.
+use Prim.Native.Nat.{ℕ, _+_, _%_, _^_, _<_, _≤_}
 use mathlib.Core.Path.{_≡_}
-use mathlib.Core.Bool.{true}
-use mathlib.Core.Logic.{_⊎_}
-use mathlib.Core.List.{List}
+use mathlib.Core.Bool.{true, false}
+use mathlib.Core.Logic.{_⊎_, _≢_}
+use mathlib.Core.List.{List, [], _∷_}
 use lib.ListN.{length}
 use Rattle.checks.specs.Answer.{refusalNumber}
 use Rattle.checks.specs.Order.{pick, firstOf}
@@ -15,13 +15,17 @@ use Rattle.header.specs.declared.Header.{Header}
 use Rattle.header.specs.declared.Read.the-variants.{Good}
 use Rattle.address.specs.declared.Slot.{Slot}
 use Rattle.numbers.specs.InWords.{fieldWords}
-use Rattle.sets.specs.Limits.{counterCount}
+use Rattle.sets.specs.Limits.{pairPlaces, counterCount}
+use Rattle.records.specs.Held.{isFree}
 use Rattle.routes.specs.declared.Record.{Record}
+use Rattle.state.specs.Relay.{Memory, Relay, pairAt}
 use Rattle.state.specs.Seen.{freshBoard, freshState}
 use Rattle.state.specs.Layout.{boardWords, decodeBoard, missionWords, decode}
 use Rattle.lent_state.specs.View.{tooLong}
 use Rattle.refusals.specs.Lists.{missionChecks}
 use Rattle.verdict.specs.Numbers.{localNumber}
+use Rattle.judge.specs.Remembered.{isUnheard}
+use Rattle.page.specs.Memory.{keptPlace, pageMemory}
 use Rattle.harpjuniper.specs.Face.{readingCount}
 use Rattle.contracts.specs.Promised.{Things, Result, lentTo, Exported, hj-fresh-board, hj-fresh-mission, hj-read-words, hj-build-words}
 use Rattle.contracts.specs.Contracts.{Lying, Contract, Says, Passable}
@@ -29,9 +33,11 @@ use Rattle.contracts.specs.Functions.{functionOf, Unchecked}
 use Rattle.history.specs.Calls.{
   setRouter,
   setPort,
+  setLifetime,
   setRoute,
   clearRoute,
   routerFlag,
+  lifetimeWord,
   portWord,
   recordWord,
   OperatorCall,
@@ -43,6 +49,8 @@ use Rattle.history.specs.Calls.{
   clearPath,
   groupWord,
   pathWord,
+  pairWord,
+  lastSecond,
   search,
   counter,
   waiting,
@@ -57,6 +65,7 @@ use Rattle.history.specs.Calls.{
   sets,
   hears,
   takes,
+  sweeps,
   looks,
   Call,
   operator,
@@ -64,13 +73,13 @@ use Rattle.history.specs.Calls.{
   listLent,
 }
 use Rattle.history.specs.Outcome as outcome
-use Rattle.history.specs.Answers.{answersOf, stands}
+use Rattle.history.specs.Answers.{answersOf, listed, stands}
 use Rattle.history.specs.Sums.{givenBy}
 use Rattle.history.specs.Transport.{SameButTpid, localBy}
-use Rattle.demands.specs.Trace.{Customer, Step, operates, flies, stepOf, Words, missionOf, made, wordsAfter, Passes, AllPass, seatOf, Gives}
-use Rattle.demands.specs.ReadOut.{hearsNothing, readOut, operatorOut, ownOut, endedBy, localIn, onwardIn, tookIn, droppedIn, ownIn, counterAt}
+use Rattle.demands.specs.Trace.{Customer, Step, operates, flies, stepOf, Words, missionOf, made, wordsAfter, Passes, AllPass, seatOf, relayFor, Gives}
+use Rattle.demands.specs.ReadOut.{hearsNothing, readOut, operatorOut, ownOut, endedBy, localIn, onwardIn, tookIn, droppedIn, ownIn, memoryIn, counterAt}
 
--- ---- what a refusal leaves of the things lent, t, in those left, u: all but the mission's counters is as it was
+-- ---- what a refusal leaves of the things lent, t, in those left, u: all but the mission's counters and what it remembers is as it was
 pub record Unchanged (t u : Things) : Type 0 where
   pub board : u .board ≡ t .board
   -- the settings and the queues, and whose they are
@@ -80,14 +89,48 @@ pub record Unchanged (t u : Things) : Type 0 where
   pub output : u .output ≡ t .output
   pub numbers : u .numbers ≡ t .numbers
 
+-- ---- what it leaves of a memory k
+-- the pairs are as they were, but for one place that was free, which now holds the pair of these octets with their second
+pub record PairKept (r : Relay) (at second : ℕ) (octets : List ℕ) (k left : Memory) : Type 0 where
+  pub place : ℕ
+  pub inside : place < pairPlaces
+  pub free : isFree (pairAt k place) ≡ true
+  pub holds : pairAt left place ≡ keptPlace r at second octets
+  pub others : (i : ℕ) → i ≢ place → pairAt left i ≡ pairAt k i
+
+-- of a datagram, r being the relay that the customer sees with the list lent, rs
+pub record HeardLeaves (r : Relay) (rs : List Record) (at second : ℕ) (octets : List ℕ) (room : ℕ) (x : Result) (k left : Memory) : Type 0 where
+  -- 21, 16, 17 and 29 leave all;
+  pub unheard : isUnheard (endedBy x) ≡ true → left ≡ k
+  -- with any other number the second is accepted,
+  pub heard : isUnheard (endedBy x) ≡ false → (k .last ≤ second) × (left .last ≡ second)
+  -- and the pairs are as they were; or, where 10, 11, 13, 14 or 15 is the onward half, its pair is kept;
+  pub pairs : (left .pairs ≡ k .pairs) ⊎ ((listed (10 ∷ 11 ∷ 13 ∷ 14 ∷ 15 ∷ []) (onwardIn x) ≡ true) × PairKept r at second octets k left)
+  -- which of these it is, the page says
+  pub page : tooLong rs ≡ false → left ≡ pageMemory r at second octets room
+
+-- any other call leaves it
+abbrev pub OwnRemembers : Customer → List Step → MissionCall → Result → Memory → Memory → Type 0
+OwnRemembers who steps (sets s) x k left = left ≡ k
+OwnRemembers who steps (hears rs at slot second octets output) x k left =
+    HeardLeaves (relayFor who steps rs) rs at second octets (length output) x k left
+OwnRemembers who steps (takes p) x k left = left ≡ k
+OwnRemembers who steps (sweeps second) x k left = left ≡ k
+OwnRemembers who steps (looks l) x k left = left ≡ k
+
+abbrev pub Remembers : Customer → List Step → Call → Result → Memory → Memory → Type 0
+Remembers who steps (operator c) x k left = left ≡ k
+Remembers who steps (own c) x k left = OwnRemembers who steps c x k left
+
 -- what two datagrams come to that have these TP-IDs and differ in nothing else
 pub record LocalAlone (a b : ℕ) (x y : Result) : Type 0 where
   pub refusal : endedBy y ≡ endedBy x
   pub onward : onwardIn y ≡ onwardIn x
   pub took : tookIn y ≡ tookIn x
   pub dropped : droppedIn y ≡ droppedIn x
-  -- the settings and queues left
+  -- the settings and queues left, and what is remembered
   pub mission : ownIn (y .left .mission) ≡ ownIn (x .left .mission)
+  pub memory : memoryIn (y .left .mission) ≡ memoryIn (x .left .mission)
   -- no for both; or for each what its TP-ID makes it, delivered or 26
   pub local : ((localIn x ≡ 0) × (localIn y ≡ 0)) ⊎ ((localIn x ≡ localNumber (localBy a)) × (localIn y ≡ localNumber (localBy b)))
 
@@ -103,9 +146,11 @@ NoMission m = length m ≡ missionWords → ⊥
 abbrev pub OperatorLacks : List ℕ → OperatorCall → Type 0
 OperatorLacks b (orders (setRouter x)) = NoBoard b
 OperatorLacks b (orders (setPort p address mask mtu mission)) = NoBoard b
+OperatorLacks b (orders (setLifetime x)) = NoBoard b
 OperatorLacks b (orders (setRoute rs i prefix mask p availability capabilities mission)) = NoBoard b
 OperatorLacks b (orders (clearRoute rs i)) = ⊥
 OperatorLacks b (views routerFlag) = NoBoard b
+OperatorLacks b (views lifetimeWord) = NoBoard b
 OperatorLacks b (views (portWord p word)) = NoBoard b
 OperatorLacks b (views (recordWord rs i word)) = ⊥
 
@@ -114,10 +159,13 @@ MissionLacks b m (sets (setGroup i address send subscribed)) = NoBoard b ⊎ NoM
 MissionLacks b m (sets (setPath i path send here)) = NoBoard b ⊎ NoMission m
 MissionLacks b m (sets (clearGroup i)) = NoMission m
 MissionLacks b m (sets (clearPath i)) = NoMission m
-MissionLacks b m (hears rs p slot octets output) = NoBoard b ⊎ NoMission m
+MissionLacks b m (hears rs p slot second octets output) = NoBoard b ⊎ NoMission m
 MissionLacks b m (takes p) = NoBoard b ⊎ NoMission m
+MissionLacks b m (sweeps second) = NoBoard b ⊎ NoMission m
 MissionLacks b m (looks (groupWord i word)) = NoMission m
 MissionLacks b m (looks (pathWord i word)) = NoMission m
+MissionLacks b m (looks (pairWord i word)) = NoMission m
+MissionLacks b m (looks lastSecond) = NoMission m
 MissionLacks b m (looks (search rs a)) = NoBoard b ⊎ NoMission m
 MissionLacks b m (looks (counter i)) = NoMission m
 MissionLacks b m (looks (waiting p)) = NoMission m
@@ -136,14 +184,16 @@ Lacks w (flies who c) = MissionLacks (w .board) (missionOf who w) c
 -- what it answers then: 16 of a take and of a datagram, but 21 of a datagram with too long a list; 21 of all else
 abbrev pub lackNumber : MissionCall → ℕ
 lackNumber (sets s) = 21
-lackNumber (hears rs p slot octets output) = pick (tooLong rs) 21 16
+lackNumber (hears rs p slot second octets output) = pick (tooLong rs) 21 16
 lackNumber (takes p) = 16
+lackNumber (sweeps second) = 21
 lackNumber (looks l) = 21
 
 abbrev pub refusedOwn : MissionCall → ℕ → outcome.Answer
 refusedOwn (sets s) n = outcome.number n
-refusedOwn (hears rs p slot octets output) n = outcome.ended n 0 0 0
+refusedOwn (hears rs p slot second octets output) n = outcome.ended n 0 0 0
 refusedOwn (takes p) n = outcome.number n
+refusedOwn (sweeps second) n = outcome.number n
 refusedOwn (looks l) n = outcome.number n
 
 abbrev pub AnswersLack : Step → Result → Type 0
@@ -154,13 +204,17 @@ AnswersLack (flies who c) x = ownOut c (x .answer) ≡ refusedOwn c (lackNumber 
 abbrev pub HasLong : Call → Type 0
 HasLong (operator (orders o)) = tooLong (listLent o) ≡ true
 HasLong (operator (views routerFlag)) = ⊥
+HasLong (operator (views lifetimeWord)) = ⊥
 HasLong (operator (views (portWord p word))) = ⊥
 HasLong (operator (views (recordWord rs i word))) = tooLong rs ≡ true
 HasLong (own (sets s)) = ⊥
-HasLong (own (hears rs p slot octets output)) = tooLong rs ≡ true
+HasLong (own (hears rs p slot second octets output)) = tooLong rs ≡ true
 HasLong (own (takes p)) = ⊥
+HasLong (own (sweeps second)) = ⊥
 HasLong (own (looks (groupWord i word))) = ⊥
 HasLong (own (looks (pathWord i word))) = ⊥
+HasLong (own (looks (pairWord i word))) = ⊥
+HasLong (own (looks lastSecond)) = ⊥
 HasLong (own (looks (search rs a))) = tooLong rs ≡ true
 HasLong (own (looks (counter i))) = ⊥
 HasLong (own (looks (waiting p))) = ⊥
@@ -177,7 +231,7 @@ refusedAs (operator c) n = outcome.number n
 refusedAs (own c) n = refusedOwn c n
 
 pub record Demand1 : Type 2 where
-  -- "Every call ends with a stated answer, whatever octets, port or setting it gets.": of each of the 27 calls, whatever is lent to it, there is a
+  -- "Every call ends with a stated answer, whatever octets, port or setting it gets.": of each of the 32 calls, whatever is lent to it, there is a
   -- result that its contract allows (a slot has 16 bits), wherever what is lent lies, and one only;
   pub ends : (c : Exported) → Passable c → (x : Result) × (((y : Lying) → Contract y c x) × ((y : Result) → Says c y → y ≡ x))
   -- hj_fresh_board answers 0 wherever the words are as many as a board has, whatever they are, and leaves a fresh board; hj_fresh_mission likewise for
@@ -207,14 +261,21 @@ pub record Demand1 : Type 2 where
       × ((length n ≡ fieldWords → ⊥) → (y .answer ≡ refusalNumber 21) × (y .left .output ≡ o))
   -- "Nobody has to check first.": the code of each function, proved to do what its contract says, asks nothing of its caller.
   pub nobody-checks-first : (c : Exported) → Unchecked (functionOf c)
-  -- "A refusal carries its number and leaves queues, settings and lent octets unchanged;": 9 to 15 of the onward half too. The board, the list and the
-  -- output are left whole, and of the mission all but its counters
+  -- "A refusal carries its number and leaves queues, settings and lent octets unchanged;": 9 to 15 and 30 of the onward half too. The board, the list and the
+  -- output are left whole, and of the mission all but its counters and what it remembers
   pub refusal-leaves : (who : Customer) (steps : List Step) (c : Call) (x : Result) (g : Gives steps (stepOf who c) x)
       → outcome.isRefusal (readOut c (x .answer)) ≡ true → Unchanged (lentTo (made (g .before) (stepOf who c))) (x .left)
+  -- W-207: "demand 1 lets the kept pair and the accepted second stand after a refusal", and of what is remembered nothing else moves
+  pub refusal-remembers : (who : Customer) (steps : List Step) (c : Call) (x : Result) (g : Gives steps (stepOf who c) x)
+      → outcome.isRefusal (readOut c (x .answer)) ≡ true
+      → Remembers who steps c x (memoryIn (lentTo (made (g .before) (stepOf who c)) .mission)) (memoryIn (x .left .mission))
   -- and so does a datagram of which no port took an entry, whatever its local half
-  pub untaken-leaves : (who : Customer) (steps : List Step) (rs : List Record) (p : ℕ) (slot : Slot) (octets output : List ℕ) (x : Result)
-      (g : Gives steps (flies who (hears rs p slot octets output)) x) → tookIn x ≡ 0
-      → Unchanged (lentTo (made (g .before) (flies who (hears rs p slot octets output)))) (x .left)
+  pub untaken-leaves : (who : Customer) (steps : List Step) (rs : List Record) (p : ℕ) (slot : Slot) (second : ℕ) (octets output : List ℕ) (x : Result)
+      (g : Gives steps (flies who (hears rs p slot second octets output)) x) → tookIn x ≡ 0
+      → Unchanged (lentTo (made (g .before) (flies who (hears rs p slot second octets output)))) (x .left)
+  pub untaken-remembers : (who : Customer) (steps : List Step) (rs : List Record) (p : ℕ) (slot : Slot) (second : ℕ) (octets output : List ℕ)
+      (x : Result) (g : Gives steps (flies who (hears rs p slot second octets output)) x) → tookIn x ≡ 0
+      → HeardLeaves (relayFor who steps rs) rs p second octets (length output) x (memoryIn (missionOf who (g .before))) (memoryIn (x .left .mission))
   -- "only the counters of the received datagram move.": each counter by what page 01's table gives this call, and none where no datagram is heard
   pub counters-move : (who : Customer) (steps : List Step) (c : MissionCall) (x : Result) (g : Gives steps (flies who c) x) (i : ℕ) → i < counterCount
       → counterAt (missionOf who (wordsAfter (g .before) (flies who c) x)) i
@@ -222,7 +283,7 @@ pub record Demand1 : Type 2 where
   pub counters-stay : (who : Customer) (steps : List Step) (c : MissionCall) (x : Result) (g : Gives steps (flies who c) x) → hearsNothing c ≡ true
       → decode (missionOf who (wordsAfter (g .before) (flies who c) x)) .counters ≡ decode (missionOf who (g .before)) .counters
   -- "An unknown transport number refuses local delivery alone.": of two datagrams that differ in that number
-  pub transport-alone : (who : Customer) (steps : List Step) (rs : List Record) (p : ℕ) (slot : Slot) (s t output : List ℕ) (h k : Header) (x y : Result)
+  pub transport-alone : (who : Customer) (steps : List Step) (rs : List Record) (p : ℕ) (slot : Slot) (second : ℕ) (s t output : List ℕ) (h k : Header) (x y : Result)
       → readOf s ≡ Good h → readOf t ≡ Good k → SameButTpid h k
-      → Gives steps (flies who (hears rs p slot s output)) x → Gives steps (flies who (hears rs p slot t output)) y
+      → Gives steps (flies who (hears rs p slot second s output)) x → Gives steps (flies who (hears rs p slot second t output)) y
       → LocalAlone (h .fields .tpid) (k .fields .tpid) x y

@@ -2,8 +2,8 @@
 -- sought, the one taken matches the destination under its mask, no matching entry has more mask bits, and 'no route' is said exactly when none matches.
 -- A one-octet address never goes out into another domain." Each sentence is a field, said of what C calls, for each of two customers by itself, by page
 -- 01's relay as that customer sees it (page 02, W-208). W-214: "Demand 2's last sentence now speaks of octets on the wire". Proved in
--- proofs/Demand2.antt. Assumes nothing.
-use Prim.Native.Nat.{ℕ, _+_, _^_, _<_, _≤_}
+-- proofs/Demand2.antt. W-207: "demands 2 and 3 read the history with seconds and sweeps". Assumes nothing.
+use Prim.Native.Nat.{ℕ, _+_, _-_, _^_, _<_, _≤_}
 use mathlib.Core.Path.{_≡_}
 use mathlib.Core.Logic.{_⊎_, _↔_, _≢_}
 use mathlib.Core.Bool.{true, false, _&&_, _||_}
@@ -33,7 +33,8 @@ use Rattle.queue.specs.Waits.{one, chosen, rankBy}
 use Rattle.queue.specs.declared.Entry.{Entry}
 use Rattle.routes.specs.Routes.{candidate}
 use Rattle.routes.specs.declared.Record.{Record}
-use Rattle.state.specs.Relay.{portIn, routeIn, portSetUp, Relay}
+use Rattle.records.specs.Held.{isFree}
+use Rattle.state.specs.Relay.{Memory, pairAt, portIn, routeIn, portSetUp, Relay}
 use Rattle.state.specs.Layout.{decodeBoard}
 use Rattle.lent_state.specs.View.{tooLong}
 use Rattle.sets.specs.Limits.{portCount}
@@ -42,7 +43,9 @@ use Rattle.harpjuniper_routes.specs.Face.{routeWordTold}
 use Rattle.next_leg.specs.Leg.{rewrites, nextFields, dataOf, nextHeader}
 use Rattle.relay.specs.Outgoing.{stretchOf}
 use Rattle.page.specs.Table.{oneOctet, liesFar, Verdict, verdictOf, GivenBy, Decides, GivesNumber, stepRows, localRows, onwardRows, wanted, bestPort, bestCode, moreOnes, aimAt}
+use Rattle.page.specs.Memory.{pageMemory}
 use Rattle.page.specs.Sought.{RouteSought, RouteTaken}
+use Rattle.floods.specs.Sweep.{sweepChecks}
 use Rattle.contracts.specs.Promised.{Result}
 use Rattle.history.specs.Calls.{
   Order,
@@ -55,6 +58,7 @@ use Rattle.history.specs.Calls.{
   sets,
   hears,
   takes,
+  sweeps,
   looks,
   Call,
   orderChecks,
@@ -69,8 +73,8 @@ use Rattle.history.specs.Reach.{Reached, KeysUnique}
 use Rattle.history.specs.Ranges.{Octets, InRange, EntryFits}
 use Rattle.history.specs.Line.{Copy, entryOf, sentOf, lineAt}
 use Rattle.history.specs.Marked.{Marked, markedCases}
-use Rattle.demands.specs.Trace.{Customer, numberOf, Step, operates, flies, stepOf, wordsAfter, historyOf, boardOf, seatOf, relayOf, relayFor, Gives}
-use Rattle.demands.specs.ReadOut.{readOut, ownOut, endedBy, localIn, onwardIn, tookIn, droppedIn, ownIn, asksFor, partTold, Reads, Builds, dataFrom, rewrittenIn, aboveIn, headerOctets, headerOut, wireBy}
+use Rattle.demands.specs.Trace.{Customer, numberOf, Step, operates, flies, stepOf, missionOf, wordsAfter, historyOf, boardOf, seatOf, relayOf, relayFor, Gives}
+use Rattle.demands.specs.ReadOut.{readOut, ownOut, endedBy, localIn, onwardIn, tookIn, droppedIn, ownIn, memoryIn, asksFor, partTold, Reads, Builds, dataFrom, rewrittenIn, aboveIn, headerOctets, headerOut, wireBy}
 
 -- C is told this verdict of page 01, of these octets
 pub record ToldAs (octets : List ℕ) (x : Result) (v : Verdict) : Type 0 where
@@ -85,10 +89,10 @@ pub record ToldAs (octets : List ℕ) (x : Result) (v : Verdict) : Type 0 where
   pub alone : endedBy x ≢ 0 → x .answer ≡ endedBy x
 
 -- and each number exactly where its row of page 01's tables decides: at is the arrival port
-pub record ExactlyAs (r : Relay) (at : ℕ) (octets : List ℕ) (room : ℕ) (x : Result) : Type 0 where
-  pub refusal : GivenBy (stepRows r at octets room) (endedBy x)
-  pub local : noneHolds (stepRows r at octets room) → GivenBy (localRows r at (aimAt r at octets) (headerOf octets .fields)) (localIn x)
-  pub onward : noneHolds (stepRows r at octets room) → (n : ℕ)
+pub record ExactlyAs (r : Relay) (at second : ℕ) (octets : List ℕ) (room : ℕ) (x : Result) : Type 0 where
+  pub refusal : GivenBy (stepRows r at second octets room) (endedBy x)
+  pub local : noneHolds (stepRows r at second octets room) → GivenBy (localRows r at (aimAt r at octets) (headerOf octets .fields)) (localIn x)
+  pub onward : noneHolds (stepRows r at second octets room) → (n : ℕ)
       → (onwardIn x ≡ n)
       ↔ Decides (GivesNumber r at (headerOf octets) n) (onwardRows r at (aimAt r at octets) (headerOf octets .fields))
       (wanted (bestPort moreOnes r (aimAt r at octets)) (bestCode moreOnes r (aimAt r at octets)))
@@ -148,6 +152,18 @@ Answered who m =
 abbrev pub DecidedBy : Checks → ℕ → Type 0
 DecidedBy checks answer = ((n : ℕ) → n ≢ 0 → (answer ≡ n) ↔ firstHolds checks n) × ((answer ≡ 0) ↔ noneHolds checks)
 
+-- a sweep at this second, of a customer that remembered k, with this lifetime set
+pub record SweptAs (k : Memory) (lifetime second : ℕ) (x : Result) : Type 0 where
+  -- "a second under the last accepted one .. refuses a .. sweep with 29", which leaves all;
+  pub decided : DecidedBy (sweepChecks k second) (x .answer)
+  pub refused : x .answer ≢ 0 → memoryIn (x .left .mission) ≡ k
+  -- "any other second is accepted",
+  pub last : x .answer ≡ 0 → memoryIn (x .left .mission) .last ≡ second
+  -- and "frees exactly pairs whose age is over the lifetime set": of the pairs that are held those, and every other place stays as it is
+  pub freed : x .answer ≡ 0 → (i : ℕ) → isFree (pairAt k i) ≡ false
+      → (isFree (pairAt (memoryIn (x .left .mission)) i) ≡ true) ↔ (lifetime < second - pairAt k i .second)
+  pub others : x .answer ≡ 0 → (i : ℕ) → (isFree (pairAt k i) ≡ true) ⊎ (second - pairAt k i .second ≤ lifetime) → pairAt (memoryIn (x .left .mission)) i ≡ pairAt k i
+
 pub record Demand2 : Type 0 where
   -- "Headers are read .. as CCSDS 713.0-B-1 lays them out": hj_read answers what the layout gives, and refuses by n exactly where the condition of n
   -- holds and none before it
@@ -170,21 +186,29 @@ pub record Demand2 : Type 0 where
       → Builds (r .fields) (dataRead r) lent (r .header) (take (r .header) s ++ drop (r .header) lent)
   -- "every verdict .. follows the written rules": what C is told of a datagram is what page 01's tables give of the relay that the customer sees with the
   -- list lent, each number exactly where its row decides, and the output is as the page says; a list over 512 records is refused (demand 1)
-  pub verdict : (who : Customer) (steps : List Step) (rs : List Record) (at : ℕ) (slot : Slot) (octets output : List ℕ) (x : Result)
-      → Gives steps (flies who (hears rs at slot octets output)) x → tooLong rs ≡ false
-      → ToldAs octets x (verdictOf (relayFor who steps rs) at octets (length output))
-      × (ExactlyAs (relayFor who steps rs) at octets (length output) x
-      × WrittenAs (relayFor who steps rs) at octets output (verdictOf (relayFor who steps rs) at octets (length output) .code) x)
+  pub verdict : (who : Customer) (steps : List Step) (rs : List Record) (at : ℕ) (slot : Slot) (second : ℕ) (octets output : List ℕ) (x : Result)
+      → Gives steps (flies who (hears rs at slot second octets output)) x → tooLong rs ≡ false
+      → ToldAs octets x (verdictOf (relayFor who steps rs) at second octets (length output))
+      × (ExactlyAs (relayFor who steps rs) at second octets (length output) x
+      × WrittenAs (relayFor who steps rs) at octets output (verdictOf (relayFor who steps rs) at second octets (length output) .code) x)
+  -- W-207: what is remembered then, whatever is answered, is what the page says of the relay that the customer sees; of a list over 512 records demand 1 says
+  -- that all stays
+  pub memory : (who : Customer) (steps : List Step) (rs : List Record) (at : ℕ) (slot : Slot) (second : ℕ) (octets output : List ℕ) (x : Result)
+      → Gives steps (flies who (hears rs at slot second octets output)) x → tooLong rs ≡ false
+      → memoryIn (x .left .mission) ≡ pageMemory (relayFor who steps rs) at second octets (length output)
+  -- and what hj_sweep answers and leaves; settings and queues it leaves as they are
+  pub sweeps : (who : Customer) (steps : List Step) (second : ℕ) (x : Result) (g : Gives steps (flies who (sweeps second)) x)
+      → SweptAs (memoryIn (missionOf who (g .before))) (boardOf steps .lifetime) second x × (ownIn (x .left .mission) ≡ ownIn (missionOf who (g .before)))
   -- "Octets beyond the length field are ignored.": what comes after them changes neither the answer nor the words
-  pub hears-no-further : (who : Customer) (steps : List Step) (rs : List Record) (at : ℕ) (slot : Slot) (s t output : List ℕ) (n : ℕ) (x y : Result)
+  pub hears-no-further : (who : Customer) (steps : List Step) (rs : List Record) (at : ℕ) (slot : Slot) (second : ℕ) (s t output : List ℕ) (n : ℕ) (x y : Result)
       → lengthOf s ≤ n → controlOf s .end ≤ n → take n t ≡ take n s
-      → Gives steps (flies who (hears rs at slot s output)) x → Gives steps (flies who (hears rs at slot t output)) y
+      → Gives steps (flies who (hears rs at slot second s output)) x → Gives steps (flies who (hears rs at slot second t output)) y
       → (y .answer ≡ x .answer) × (y .left .mission ≡ x .left .mission)
   -- for every port that took an entry, the octets that C finds for it in the output, with the data behind them, read as the header that came with the changes
   -- of W-214 and no others (the hop count, if it has one, one less), and name the same destination, source and path
-  pub on-the-wire : (who : Customer) (steps : List Step) (rs : List Record) (at : ℕ) (slot : Slot) (octets output : List ℕ) (x : Result)
-      → Gives steps (flies who (hears rs at slot octets output)) x → tooLong rs ≡ false → (p : ℕ) → p < portCount → inSet p (tookIn x) ≡ true
-      → OnTheWire (relayFor who steps rs) at p octets (verdictOf (relayFor who steps rs) at octets (length output) .code) (wireBy x octets p)
+  pub on-the-wire : (who : Customer) (steps : List Step) (rs : List Record) (at : ℕ) (slot : Slot) (second : ℕ) (octets output : List ℕ) (x : Result)
+      → Gives steps (flies who (hears rs at slot second octets output)) x → tooLong rs ≡ false → (p : ℕ) → p < portCount → inSet p (tookIn x) ≡ true
+      → OnTheWire (relayFor who steps rs) at p octets (verdictOf (relayFor who steps rs) at second octets (length output) .code) (wireBy x octets p)
   -- page 01's marked cases a to l, for each customer
   pub marked : (who : Customer) → Each (Answered who) (markedCases (numberOf who))
   -- "every .. setting .. follows the written rules": the operator's orders, which leave a board and a list,
@@ -195,7 +219,7 @@ pub record Demand2 : Type 0 where
   pub settings : (who : Customer) (steps : List Step) (s : Setting) (x : Result) → Gives steps (flies who (sets s)) x
       → DecidedBy (checksOf (relayOf who steps) s) (x .answer) × (ownIn (x .left .mission) ≡ settle (relayOf who steps) s .mission)
   -- what is taken "holds until it is changed", whatever other calls are made, the other customer's among them, and is read back, a word at a time: of a
-  -- port, of a group, of a path, and of a record in a list
+  -- port, of a group, of a path, and of a record in a list; and so is the lifetime
   pub settings-hold : (who : Customer) (steps later : List Step) (part : Part) → Each (λ (c : Call). About c part → ⊥) (historyOf who later)
       → settingIn (seatOf who (steps ++ later)) part ≡ settingIn (seatOf who steps) part
   pub settings-back : (who : Customer) (steps : List Step) (part : Part) (word : ℕ) (x : Result) → Gives steps (asksFor who part word) x
@@ -215,14 +239,14 @@ pub record Demand2 : Type 0 where
       → ownOut (takes p) (x .answer) ≡ outcome.entry e → EntryFits e
   -- "where a route is sought, the one taken matches the destination under its mask, no matching entry has more mask bits,": W-204 reads "no matching entry
   -- that is up", and a candidate is filled, up and matches; W-208: of the routes that the customer sees in the list lent
-  pub route-taken : (who : Customer) (steps : List Step) (rs : List Record) (at : ℕ) (slot : Slot) (octets output : List ℕ) (a : Address) (p : ℕ)
-      (x : Result) → Gives steps (flies who (hears rs at slot octets output)) x → tooLong rs ≡ false
-      → RouteSought (relayFor who steps rs) at octets (length output) a → p < portCount
+  pub route-taken : (who : Customer) (steps : List Step) (rs : List Record) (at : ℕ) (slot : Slot) (second : ℕ) (octets output : List ℕ) (a : Address) (p : ℕ)
+      (x : Result) → Gives steps (flies who (hears rs at slot second octets output)) x → tooLong rs ≡ false
+      → RouteSought (relayFor who steps rs) at second octets (length output) a → p < portCount
       → (inSet p (tookIn x) || inSet p (droppedIn x)) ≡ true → RouteTaken (relayFor who steps rs) a p
   -- "and 'no route' is said exactly when none matches.": none that is up
-  pub no-route : (who : Customer) (steps : List Step) (rs : List Record) (at : ℕ) (slot : Slot) (octets output : List ℕ) (a : Address) (x : Result)
-      → Gives steps (flies who (hears rs at slot octets output)) x → tooLong rs ≡ false
-      → RouteSought (relayFor who steps rs) at octets (length output) a
+  pub no-route : (who : Customer) (steps : List Step) (rs : List Record) (at : ℕ) (slot : Slot) (second : ℕ) (octets output : List ℕ) (a : Address) (x : Result)
+      → Gives steps (flies who (hears rs at slot second octets output)) x → tooLong rs ≡ false
+      → RouteSought (relayFor who steps rs) at second octets (length output) a
       → (onwardIn x ≡ 11) ↔ ((q : ℕ) → candidate (routeIn (relayFor who steps rs) q) a ≡ false)
   -- W-202: hj_search says which route an address takes, or a plain no
   pub search : (who : Customer) (steps : List Step) (rs : List Record) (a : Address) (x : Result) → Gives steps (flies who (looks (search rs a))) x

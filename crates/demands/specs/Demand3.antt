@@ -25,7 +25,7 @@ use Rattle.state.specs.Relay.{portSetUp, portIn, queueAt}
 use Rattle.lent_state.specs.View.{tooLong}
 use Rattle.answers.specs.Answers.{takingNumber}
 use Rattle.contracts.specs.Promised.{Result}
-use Rattle.history.specs.Calls.{counter, waiting, hears, takes, looks, OperatorCall, Setting, Look, sets, Call, operator, own}
+use Rattle.history.specs.Calls.{counter, waiting, hears, takes, sweeps, looks, OperatorCall, Setting, Look, sets, Call, operator, own}
 use Rattle.history.specs.Outcome.{seatAfter, sumOver, isRefusal, outcome, ownOutcome}
 use Rattle.history.specs.Sums.{givenBy}
 use Rattle.history.specs.Ledger.{granted, dropped, handedOut}
@@ -56,20 +56,20 @@ pub record Demand3 : Type 0 where
       → sumOver (granted p) (numberOf who) (historyOf who steps)
       ≡ sumOver (handedOut p) (numberOf who) (historyOf who steps) + (x .answer + sumOver (dropped p) (numberOf who) (historyOf who steps))
   -- where the copies of a datagram, granted, taken and dropped, are those of page 01's verdict, and those that C is told
-  pub copies-told : (who : Customer) (steps : List Step) (rs : List Record) (p at : ℕ) (slot : Slot) (octets output : List ℕ) (x : Result) → p < portCount
-      → Gives steps (flies who (hears rs at slot octets output)) x → tooLong rs ≡ false
-      → (inSet p (ownOutcome (seatOf who steps) (hears rs at slot octets output) .granted)
-      ≡ verdictOf (relayFor who steps rs) at octets (length output) .granted p)
-      × ((inSet p (ownOutcome (seatOf who steps) (hears rs at slot octets output) .took) ≡ inSet p (tookIn x))
-      × (inSet p (ownOutcome (seatOf who steps) (hears rs at slot octets output) .dropped) ≡ inSet p (droppedIn x)))
+  pub copies-told : (who : Customer) (steps : List Step) (rs : List Record) (p at : ℕ) (slot : Slot) (second : ℕ) (octets output : List ℕ) (x : Result) → p < portCount
+      → Gives steps (flies who (hears rs at slot second octets output)) x → tooLong rs ≡ false
+      → (inSet p (ownOutcome (seatOf who steps) (hears rs at slot second octets output) .granted)
+      ≡ verdictOf (relayFor who steps rs) at second octets (length output) .granted p)
+      × ((inSet p (ownOutcome (seatOf who steps) (hears rs at slot second octets output) .took) ≡ inSet p (tookIn x))
+      × (inSet p (ownOutcome (seatOf who steps) (hears rs at slot second octets output) .dropped) ≡ inSet p (droppedIn x)))
   -- ".. because 32 already waited.": where hj_receive says that a port dropped its copy, hj_waiting answered 32 before
-  pub dropped-by-32 : (who : Customer) (steps : List Step) (rs : List Record) (p at : ℕ) (slot : Slot) (octets output : List ℕ) (x y : Result) → p < portCount
-      → Gives steps (flies who (hears rs at slot octets output)) x → inSet p (droppedIn x) ≡ true
+  pub dropped-by-32 : (who : Customer) (steps : List Step) (rs : List Record) (p at : ℕ) (slot : Slot) (second : ℕ) (octets output : List ℕ) (x y : Result) → p < portCount
+      → Gives steps (flies who (hears rs at slot second octets output)) x → inSet p (droppedIn x) ≡ true
       → Gives steps (flies who (looks (waiting p))) y → y .answer ≡ entryPlaces
   -- "takes one entry (slot, precedence)": what a port has of a datagram that C is told it took
-  pub placed : (who : Customer) (steps : List Step) (rs : List Record) (p at : ℕ) (slot : Slot) (octets output : List ℕ) (x : Result)
-      → Gives steps (flies who (hears rs at slot octets output)) x
-      → takenOwn p (length (historyOf who steps)) (seatOf who steps) (hears rs at slot octets output)
+  pub placed : (who : Customer) (steps : List Step) (rs : List Record) (p at : ℕ) (slot : Slot) (second : ℕ) (octets output : List ℕ) (x : Result)
+      → Gives steps (flies who (hears rs at slot second octets output)) x
+      → takenOwn p (length (historyOf who steps)) (seatOf who steps) (hears rs at slot second octets output)
       ≡ pick (inSet p (tookIn x)) (placedBy who steps p at slot octets x ∷ []) []
   -- "Of the copies waiting on a port, ..": those taken and not yet handed out, whatever is asked of them; each was taken by one call, and they stand in the
   -- order of these; hj_waiting answers how many,
@@ -98,13 +98,15 @@ pub record Demand3 : Type 0 where
   -- "Refused calls and other ports' traffic count nothing": a call that is idle on the port counts nothing, and idle is what is refused,
   pub foretold-idle : (m : ℕ) (cs ds : List Call) (c : Call) (p : ℕ) (x : Copy) → Idle p m cs c → CountsNothing p m x cs c ds
   pub foretold-refused : (m : ℕ) (cs : List Call) (c : Call) (p : ℕ) → isRefusal (outcome (seatAfter m cs) c .answer) ≡ true → Idle p m cs c
-  -- a take of another port, a datagram of which this port took no entry, a setting, a look and whatever the operator calls; the other customer's calls are
-  -- in no history of this one's;
+  -- a take of another port, a datagram of which this port took no entry, a setting, a sweep, a look and whatever the operator calls; the other customer's
+  -- calls are in no history of this one's;
   pub foretold-others : (m : ℕ) (cs : List Call) (p : ℕ)
       → ((q : ℕ) → q ≢ p → Idle p m cs (own (takes q)))
-      × (((rs : List Record) (at : ℕ) (slot : Slot) (octets output : List ℕ)
-      → inSet p (ownOutcome (seatAfter m cs) (hears rs at slot octets output) .took) ≡ false → Idle p m cs (own (hears rs at slot octets output)))
-      × (((s : Setting) → Idle p m cs (own (sets s))) × (((l : Look) → Idle p m cs (own (looks l))) × ((c : OperatorCall) → Idle p m cs (operator c)))))
+      × (((rs : List Record) (at : ℕ) (slot : Slot) (second : ℕ) (octets output : List ℕ)
+      → inSet p (ownOutcome (seatAfter m cs) (hears rs at slot second octets output) .took) ≡ false → Idle p m cs (own (hears rs at slot second octets output)))
+      × (((s : Setting) → Idle p m cs (own (sets s)))
+      × (((second : ℕ) → Idle p m cs (own (sweeps second)))
+      × (((l : Look) → Idle p m cs (own (looks l))) × ((c : OperatorCall) → Idle p m cs (operator c))))))
   -- and what is handed out is what C reads out of the answers of the customer's hj_take, in that order, whatever else is called between them.
   pub handed-is-told : (who : Customer) (steps later : List Step) (p : ℕ) (w v u : Words) → Begun w steps v → (t : Trace v later u)
       → AllPass later → entriesIn who p later v u t ≡ map entryOf (handedSince p (numberOf who) (historyOf who steps) (historyOf who later))

@@ -11,7 +11,7 @@ use Rattle.answers.specs.Answers.{partAt, refusalIn, slotIn, precedenceIn}
 use Rattle.numbers.specs.InWords.{numbersWords}
 use Rattle.numbers.specs.declared.Numbers.{Numbers}
 use Rattle.queue.specs.declared.Entry.{Entry}
-use Rattle.state.specs.Relay.{Mission, counterIn}
+use Rattle.state.specs.Relay.{Mission, Memory, counterIn}
 use Rattle.state.specs.Layout.{decode}
 use Rattle.relay.specs.Outgoing.{stretchOf}
 use Rattle.harpjuniper.specs.Face.{Reading, readingCount, readingWords}
@@ -19,9 +19,10 @@ use Rattle.harpjuniper_reads.specs.Back.{portAnswer, groupAnswer, pathAnswer}
 use Rattle.contracts.specs.Promised.{Result, hj-read-words, hj-build-words}
 use Rattle.contracts.specs.Contracts.{Says}
 use Rattle.history.specs.Seat.{Seat}
-use Rattle.history.specs.Parts.{Part, theRouter, thePort, theGroup, thePath}
+use Rattle.history.specs.Parts.{Part, theRouter, thePort, theLifetime, theGroup, thePath}
 use Rattle.history.specs.Calls.{
   routerFlag,
+  lifetimeWord,
   portWord,
   OperatorCall,
   orders,
@@ -29,6 +30,8 @@ use Rattle.history.specs.Calls.{
   Look,
   groupWord,
   pathWord,
+  pairWord,
+  lastSecond,
   search,
   counter,
   waiting,
@@ -43,6 +46,7 @@ use Rattle.history.specs.Calls.{
   sets,
   hears,
   takes,
+  sweeps,
   looks,
   Call,
   operator,
@@ -60,6 +64,8 @@ takenOut n =
 abbrev pub lookOut : Look → ℕ → ℕ
 lookOut (groupWord i word) n = refusalIn n
 lookOut (pathWord i word) n = refusalIn n
+lookOut (pairWord i word) n = refusalIn n
+lookOut lastSecond n = refusalIn n
 lookOut (search rs a) n = n % 2 ^ 16
 lookOut (counter i) n = refusalIn n
 lookOut (waiting p) n = refusalIn n
@@ -77,8 +83,9 @@ operatorOut (views v) n = outcome.number (refusalIn n)
 
 abbrev pub ownOut : MissionCall → ℕ → outcome.Answer
 ownOut (sets s) n = outcome.number n
-ownOut (hears rs p slot octets output) n = outcome.ended (partAt 0 n) (partAt 8 n) (partAt 16 n) (partAt 24 n)
+ownOut (hears rs p slot second octets output) n = outcome.ended (partAt 0 n) (partAt 8 n) (partAt 16 n) (partAt 24 n)
 ownOut (takes p) n = takenOut n
+ownOut (sweeps second) n = outcome.number n
 ownOut (looks l) n = outcome.number (lookOut l n)
 
 abbrev pub readOut : Call → ℕ → outcome.Answer
@@ -129,36 +136,46 @@ wireBy x octets p = headerOut x p ++ drop (dataFrom x) octets
 -- whether a call hears no datagram
 abbrev pub hearsNothing : MissionCall → Bool
 hearsNothing (sets s) = true
-hearsNothing (hears rs p slot octets output) = false
+hearsNothing (hears rs p slot second octets output) = false
 hearsNothing (takes p) = true
+hearsNothing (sweeps second) = true
 hearsNothing (looks l) = true
 
--- ---- what the words of a mission hold: its settings and queues, and one of its counters
+-- ---- what the words of a mission hold: its settings and queues, what it remembers, and one of its counters
 abbrev pub ownIn : List ℕ → Mission
 ownIn w = decode w .mission
+
+abbrev pub memoryIn : List ℕ → Memory
+memoryIn w = decode w .memory
 
 abbrev pub counterAt : List ℕ → ℕ → ℕ
 counterAt w i = counterIn (decode w .counters) i
 
--- the entries that C reads out of a customer's takes of port p, one step after the other
-abbrev pub entriesBy : Customer → ℕ → Step → ℕ → List Entry
-entriesBy who p (operates c) n = []
-entriesBy who p (flies x c) n = pick (isOf who x) (answeredOwn p c (ownOut c n)) []
+-- ---- what a customer's own calls come to over a trace, one after the other: `of` is what one comes to, by the words before it and what it gives back
+module _ {A : Type 0} (who : Customer) (none : A) (join : A → A → A) (of : Words → MissionCall → Result → A) where
+  abbrev pub overOwn : (cs : List Step) (w v : Words) → Trace w cs v → A
+  overOwn [] w v t = none
+  overOwn (operates c ∷ cs) w v t = overOwn cs (wordsAfter w (operates c) (t .0)) v (t .1 .1)
+  overOwn (flies x c ∷ cs) w v t =
+      let rest = overOwn cs (wordsAfter w (flies x c) (t .0)) v (t .1 .1) in
+      pick (isOf who x) (join (of w c (t .0)) rest) rest
 
+-- the entries that C reads out of a customer's takes of port p
 abbrev pub entriesIn : (who : Customer) (p : ℕ) (cs : List Step) (w v : Words) → Trace w cs v → List Entry
-entriesIn who p [] w v t = []
-entriesIn who p (c ∷ cs) w v t = entriesBy who p c (t .0 .answer) ++ entriesIn who p cs (wordsAfter w c (t .0)) v (t .1 .1)
+entriesIn who p cs w v t = overOwn who [] _++_ (λ (y : Words) (c : MissionCall) (x : Result). answeredOwn p c (ownOut c (x .answer))) cs w v t
 
 -- ---- what is read back: the step that asks for a word of a setting, and the word as it stands, or 21
 abbrev pub asksFor : Customer → Part → ℕ → Step
 asksFor who theRouter word = operates (views routerFlag)
 asksFor who (thePort p) word = operates (views (portWord p word))
+asksFor who theLifetime word = operates (views lifetimeWord)
 asksFor who (theGroup i) word = flies who (looks (groupWord i word))
 asksFor who (thePath i) word = flies who (looks (pathWord i word))
 
 abbrev pub partTold : Seat → Part → ℕ → ℕ
 partTold x theRouter word = x .board .router
 partTold x (thePort p) word = portAnswer (x .board) p word
+partTold x theLifetime word = x .board .lifetime
 partTold x (theGroup i) word = groupAnswer (x .mission) i word
 partTold x (thePath i) word = pathAnswer (x .mission) i word
 

@@ -1,6 +1,6 @@
 -- Traces: calls from C on a board and two missions, each with any result that its contract lets it give back, and each on the words that the calls before
 -- left (page 01, "Settings": "a history is made of such calls"; "What a promise has to shut out"; page 02, W-208). A list of routes is an argument of each
--- call that is lent one: it may be another each time. Assumes nothing.
+-- call that is lent one: it may be another each time; and so is the second that a datagram or a sweep brings (W-207). Assumes nothing.
 use Prim.Native.Nat.{ℕ, _^_, _<_}
 use mathlib.Core.Path.{_≡_}
 use mathlib.Core.Bool.{Bool, true, false}
@@ -22,6 +22,7 @@ use Rattle.contracts.specs.Promised.{
   hj-fresh-mission,
   hj-set-router,
   hj-set-port,
+  hj-set-lifetime,
   hj-set-route,
   hj-clear-route,
   hj-set-group,
@@ -29,15 +30,19 @@ use Rattle.contracts.specs.Promised.{
   hj-clear-group,
   hj-clear-path,
   hj-get-router,
+  hj-get-lifetime,
   hj-port-word,
   hj-route-word,
   hj-group-word,
   hj-path-word,
+  hj-last-second,
+  hj-pair-word,
   hj-search,
   hj-receive-at,
   hj-take,
   hj-counter,
   hj-waiting,
+  hj-sweep,
 }
 use Rattle.contracts.specs.Contracts.{Says}
 use Rattle.queue.specs.Order.{Each}
@@ -53,10 +58,12 @@ use Rattle.history.specs.Calls.{
   Order,
   setRouter,
   setPort,
+  setLifetime,
   setRoute,
   clearRoute,
   View,
   routerFlag,
+  lifetimeWord,
   portWord,
   recordWord,
   OperatorCall,
@@ -70,6 +77,8 @@ use Rattle.history.specs.Calls.{
   Look,
   groupWord,
   pathWord,
+  pairWord,
+  lastSecond,
   search,
   counter,
   waiting,
@@ -84,6 +93,7 @@ use Rattle.history.specs.Calls.{
   sets,
   hears,
   takes,
+  sweeps,
   looks,
   Call,
   operator,
@@ -125,11 +135,13 @@ module _ (b : List ℕ) where
   abbrev orderBy : Order → Exported
   orderBy (setRouter x) = hj-set-router b x
   orderBy (setPort p address mask mtu mission) = hj-set-port b p (address .0) (mask .0) mtu mission
+  orderBy (setLifetime x) = hj-set-lifetime b x
   orderBy (setRoute rs i prefix mask p availability capabilities mission) = hj-set-route b rs i prefix mask p availability capabilities mission
   orderBy (clearRoute rs i) = hj-clear-route rs i
 
   abbrev viewBy : View → Exported
   viewBy routerFlag = hj-get-router b
+  viewBy lifetimeWord = hj-get-lifetime b
   viewBy (portWord p word) = hj-port-word b p word
   viewBy (recordWord rs i word) = hj-route-word rs i word
 
@@ -147,6 +159,8 @@ module _ (b : List ℕ) where
     abbrev lookBy : Look → Exported
     lookBy (groupWord i word) = hj-group-word m i word
     lookBy (pathWord i word) = hj-path-word m i word
+    lookBy (pairWord i word) = hj-pair-word m i word
+    lookBy lastSecond = hj-last-second m
     lookBy (search rs a) = hj-search b m rs (a .0)
     lookBy (counter i) = hj-counter m i
     lookBy (waiting p) = hj-waiting m p
@@ -160,8 +174,9 @@ module _ (b : List ℕ) where
 
     abbrev pub missionBy : MissionCall → Exported
     missionBy (sets s) = setBy s
-    missionBy (hears rs p slot octets output) = hj-receive-at b m rs p (slot .0) octets output
+    missionBy (hears rs p slot when octets output) = hj-receive-at b m rs p (slot .0) when octets output
     missionBy (takes p) = hj-take b m p
+    missionBy (sweeps when) = hj-sweep b m when
     missionBy (looks l) = lookBy l
 
 abbrev pub made : Words → Step → Exported
@@ -174,11 +189,13 @@ module _ (b : List ℕ) where
   abbrev orderLeaves : Order → Result → List ℕ
   orderLeaves (setRouter x) y = y .left .board
   orderLeaves (setPort p address mask mtu mission) y = y .left .board
+  orderLeaves (setLifetime x) y = y .left .board
   orderLeaves (setRoute rs i prefix mask p availability capabilities mission) y = y .left .board
   orderLeaves (clearRoute rs i) y = b
 
   abbrev viewLeaves : View → Result → List ℕ
   viewLeaves routerFlag y = y .left .board
+  viewLeaves lifetimeWord y = y .left .board
   viewLeaves (portWord p word) y = y .left .board
   viewLeaves (recordWord rs i word) y = b
 
@@ -190,6 +207,8 @@ module _ (m : List ℕ) where
   abbrev lookLeaves : Look → Result → List ℕ
   lookLeaves (groupWord i word) y = y .left .mission
   lookLeaves (pathWord i word) y = y .left .mission
+  lookLeaves (pairWord i word) y = y .left .mission
+  lookLeaves lastSecond y = y .left .mission
   lookLeaves (search rs a) y = y .left .mission
   lookLeaves (counter i) y = y .left .mission
   lookLeaves (waiting p) y = y .left .mission
@@ -203,8 +222,9 @@ module _ (m : List ℕ) where
 
   abbrev pub missionLeaves : MissionCall → Result → List ℕ
   missionLeaves (sets s) y = y .left .mission
-  missionLeaves (hears rs p slot octets output) y = y .left .mission
+  missionLeaves (hears rs p slot when octets output) y = y .left .mission
   missionLeaves (takes p) y = y .left .mission
+  missionLeaves (sweeps when) y = y .left .mission
   missionLeaves (looks l) y = lookLeaves l y
 
 abbrev pub wordsAfter : Words → Step → Result → Words
@@ -217,16 +237,19 @@ abbrev pub Trace : Words → List Step → Words → Type 0
 Trace w [] v = v ≡ w
 Trace w (c ∷ cs) v = (x : Result) × (Says (made w c) x × Trace (wordsAfter w c x) cs v)
 
--- ---- what C can pass: beside octets, slots and the numbers of a header, a number of 32 bits wherever one is stored that can be read back
+-- ---- what C can pass: beside octets, slots and the numbers of a header, a number of 32 bits wherever one is stored that can be read back, as a second
+-- and a lifetime are
 abbrev pub Fit : List ℕ → Type 0
 Fit = Each (λ (n : ℕ). n < 2 ^ 32)
 
 abbrev pub OperatorPasses : OperatorCall → Type 0
 OperatorPasses (orders (setRouter x)) = Unit
 OperatorPasses (orders (setPort p address mask mtu mission)) = Fit (address .0 ∷ mask .0 ∷ mtu ∷ mission ∷ [])
+OperatorPasses (orders (setLifetime x)) = x < 2 ^ 32
 OperatorPasses (orders (setRoute rs i prefix mask p availability capabilities mission)) = Unit
 OperatorPasses (orders (clearRoute rs i)) = Unit
 OperatorPasses (views routerFlag) = Unit
+OperatorPasses (views lifetimeWord) = Unit
 OperatorPasses (views (portWord p word)) = Unit
 OperatorPasses (views (recordWord rs i word)) = Each (λ (x : Record). Fit (recordWords x)) rs
 
@@ -238,8 +261,9 @@ SettingPasses (clearPath i) = Unit
 
 abbrev pub MissionPasses : MissionCall → Type 0
 MissionPasses (sets s) = SettingPasses s
-MissionPasses (hears rs p slot octets output) = OwnPassed (hears rs p slot octets output)
+MissionPasses (hears rs p slot when octets output) = OwnPassed (hears rs p slot when octets output)
 MissionPasses (takes p) = Unit
+MissionPasses (sweeps when) = OwnPassed (sweeps when)
 MissionPasses (looks l) = OwnPassed (looks l)
 
 abbrev pub Passes : Step → Type 0

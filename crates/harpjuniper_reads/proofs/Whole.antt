@@ -1,5 +1,5 @@
--- The words of a record, read one by one, are the record: what a setting took is what is read back (page 01, "Settings"). And 21 is said of a place
--- or a word that is none. Assumes nothing.
+-- The words of a record, read one by one, are the record: what a setting took is what is read back (page 01, "Settings"), and a pair as it is held. And 21
+-- is said of a place or a word that is none. Assumes nothing.
 use Prim.Native.Nat.{ℕ, _≤_, _<_}
 use mathlib.Core.Path.{_≡_, refl, sym}
 use mathlib.Core.Bool.{Bool, true, false}
@@ -8,12 +8,12 @@ use lib.Dec.{ltb}
 use borrow.Author.Tests.{lt-ltb, le-ltb}
 use Rattle.checks.specs.Order.{pick}
 use Rattle.checks.specs.Answer.{refusalNumber}
-use Rattle.state.specs.Relay.{Mission, groupAt, pathAt}
+use Rattle.state.specs.Relay.{Mission, Memory, groupAt, pathAt, pairAt}
 use Rattle.state.specs.Seen.{Board, ownedAt}
-use Rattle.state.specs.Layout.{ownedOf, ownedWords, groupOf, groupWords, pathOf, pathWords}
+use Rattle.state.specs.Layout.{ownedOf, ownedWords, groupOf, groupWords, pathOf, pathWords, pairPlaceOf, pairWords}
 use Rattle.lent_state.specs.Read.{wordAnswer, placeAnswer}
 use Rattle.lent_state.proofs.Read.{no-word}
-use Rattle.harpjuniper_reads.specs.Back.{portAnswer, groupAnswer, pathAnswer}
+use Rattle.harpjuniper_reads.specs.Back.{portAnswer, groupAnswer, pathAnswer, pairAnswer}
 
 -- ---- a record
 pub port-read : (b : Board) (p : ℕ) → p < 8
@@ -29,6 +29,11 @@ module _ (m : Mission) (i : ℕ) (h : i < 16) where
   pub path-read : pathOf (pathAnswer m i 0 ∷ pathAnswer m i 1 ∷ pathAnswer m i 2 ∷ pathAnswer m i 3 ∷ []) ≡ pathAt m i
   unfolding pathAnswer wordAnswer
   path-read = simp (lt-ltb i 16 h)
+
+pub pair-read : (k : Memory) (i : ℕ) → i < 64
+    → pairPlaceOf (pairAnswer k i 0 ∷ pairAnswer k i 1 ∷ pairAnswer k i 2 ∷ pairAnswer k i 3 ∷ pairAnswer k i 4 ∷ []) ≡ pairAt k i
+unfolding pairAnswer wordAnswer
+pair-read k i h = simp (lt-ltb i 64 h)
 
 -- ---- no such word, no such place
 either : (i places : ℕ) {answer : ℕ} → answer ≡ refusalNumber 21 → placeAnswer i places answer ≡ refusalNumber 21
@@ -63,3 +68,12 @@ module _ (m : Mission) (i word : ℕ) where
   pub no-path-word : 4 ≤ word → pathAnswer m i word ≡ refusalNumber 21
   unfolding pathAnswer
   no-path-word h = either i 16 (sym (no-word (pathWords (pathAt m i)) word h))
+
+module _ (k : Memory) (i word : ℕ) where
+  pub no-pair : 64 ≤ i → pairAnswer k i word ≡ refusalNumber 21
+  unfolding pairAnswer
+  no-pair h = simp (le-ltb i 64 h)
+
+  pub no-pair-word : 5 ≤ word → pairAnswer k i word ≡ refusalNumber 21
+  unfolding pairAnswer
+  no-pair-word h = either i 64 (sym (no-word (pairWords (pairAt k i)) word h))

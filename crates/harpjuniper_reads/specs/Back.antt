@@ -1,10 +1,10 @@
--- The settings as C reads them back (include/harpjuniper.h): a word of the record at a place, as it stands. The words of a record are those of
--- crate state, in their order. Assumes nothing.
+-- The settings and the pairs as C reads them back (include/harpjuniper.h): a word of the record at a place, as it stands. The words of a record are those
+-- of crate state, in their order. Assumes nothing.
 use Prim.Native.Nat.{ℕ}
-use Rattle.sets.specs.Limits.{portCount, groupPlaces, pathPlaces}
-use Rattle.state.specs.Relay.{Mission, groupAt, pathAt}
+use Rattle.sets.specs.Limits.{portCount, groupPlaces, pathPlaces, pairPlaces}
+use Rattle.state.specs.Relay.{Mission, Memory, groupAt, pathAt, pairAt}
 use Rattle.state.specs.Seen.{Board, ownedAt}
-use Rattle.state.specs.Layout.{ownedWords, groupWords, pathWords}
+use Rattle.state.specs.Layout.{ownedWords, groupWords, pathWords, pairWords}
 use Rattle.lent_state.specs.Read.{wordAnswer, placeAnswer}
 
 -- set up, address, mask, MTU, mission
@@ -18,3 +18,7 @@ groupAnswer m i word = placeAnswer i groupPlaces (wordAnswer (groupWords (groupA
 -- filled, path, the ports to send to, delivered here
 unfoldable pub pathAnswer : Mission → ℕ → ℕ → ℕ
 pathAnswer m i word = placeAnswer i pathPlaces (wordAnswer (pathWords (pathAt m i)) word)
+
+-- format, source, the timestamp's upper and lower octets, second
+unfoldable pub pairAnswer : Memory → ℕ → ℕ → ℕ
+pairAnswer k i word = placeAnswer i pairPlaces (wordAnswer (pairWords (pairAt k i)) word)

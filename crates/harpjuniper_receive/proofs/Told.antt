@@ -8,7 +8,7 @@ use lib.ListN.{length}
 use borrow.Author.Tests.{eqb-true, eqb-false, eq-eqb}
 use Rattle.checks.specs.Order.{pick}
 use Rattle.routes.specs.declared.Record.{Record}
-use Rattle.state.specs.Relay.{Relay}
+use Rattle.state.specs.Relay.{Memory, Relay}
 use Rattle.state.specs.Seen.{Board, State, seated}
 use Rattle.state.specs.Layout.{boardWords, missionWords, decodeBoard, decode}
 use Rattle.lent_state.specs.View.{Held, lent, changed, toldBoth, changedBoth, tooLong}
@@ -21,44 +21,53 @@ use Rattle.judge.specs.declared.Asked.{Asked}
 use Rattle.judge.specs.declared.Ending.{Ending}
 use Rattle.judge.specs.Asked.{refusedAsked, datagramAsked, finishedOf}
 use Rattle.judge.specs.Ending.{refusedBy}
+use Rattle.judge.specs.Remembered.{rememberedBy}
 use Rattle.answers.specs.Answers.{rulingParts, headerParts, receiveNumber}
 use Rattle.next_leg.specs.Leg.{noLegs}
 use Rattle.relay.specs.Outgoing.{sentOutput}
 use Rattle.relay.proofs.outgoing.Headers.{nothing-sent}
-use Rattle.relay.specs.Received.{receivedState, heardEnding}
+use Rattle.relay.specs.Received.{receivedState, heardEnding, heardMemory}
 use Rattle.relay.specs.Split.{askedOf, queryOf, wayIn, endingAfter, answerAfter, wordsAfter, outputAfter, Following}
-use Rattle.harpjuniper_receive.proofs.Joined.{joined}
+use Rattle.harpjuniper_receive.proofs.Joined.{joined, joined-memory}
 use Rattle.harpjuniper_receive.specs.Face.{receiveAnswer, receiveWords, receiveOutput, Receives}
 
 -- what `after` ensures of the answer, the mission's words and the output
-abbrev pub Carried : List ℕ → List ℕ → ℕ → List ℕ → List ℕ → ℕ → List ℕ → List ℕ → Asked → Scan → Type 0
-Carried b w slot octets output answer words left a s =
-    (answer ≡ answerAfter b w a s) × ((lent words ≡ wordsAfter b w slot a s) × (left ≡ outputAfter b w octets output a s))
+abbrev pub Carried : List ℕ → List ℕ → ℕ → ℕ → List ℕ → List ℕ → ℕ → List ℕ → List ℕ → Asked → Scan → Type 0
+Carried b w slot second octets output answer words left a s =
+    (answer ≡ answerAfter b w a s) × ((lent words ≡ wordsAfter b w slot second a s) × (left ≡ outputAfter b w octets output a s))
 
-pub follows : (b w octets : List ℕ) (room count port : ℕ) (a : Asked) → a ≡ askedOf b w count port octets room → Following b w octets room a
-follows b w octets room count port a e = record { count = count; port = port; asked = e }
+pub follows : (b w : List ℕ) (second : ℕ) (octets : List ℕ) (room count port : ℕ) (a : Asked) → a ≡ askedOf b w count port second octets room
+    → Following b w second octets room a
+follows b w second octets room count port a e = record { count = count; port = port; asked = e }
 
 -- a number that is 21 where a list is too long, and the other's where it is not
 unless-long : (t : Bool) (n m : ℕ) → (t ≡ true → n ≡ 21) → n ≡ m → n ≡ pick t 21 m
 unless-long true n m h e = h refl
 unless-long false n m h e = e
 
-module _ (b w : List ℕ) (rs : List Record) (port slot : ℕ) (octets output : List ℕ) where
+module _ (b w : List ℕ) (rs : List Record) (port slot second : ℕ) (octets output : List ℕ) where
   abbrev asked : Asked
-  asked = askedOf b w (length rs) port octets (length output)
+  asked = askedOf b w (length rs) port second octets (length output)
 
   abbrev ended : Ending
   ended = endingAfter b w asked (scanOf (queryOf asked) rs)
 
   abbrev heard : Board → State → Ending
-  heard x s = heardEnding x s rs port octets (length output)
+  heard x s = heardEnding x s rs port second octets (length output)
+
+  abbrev kept : Memory → Memory
+  kept k = rememberedBy second asked k
+
+  abbrev heardKept : Board → State → Memory
+  heardKept x s = heardMemory x s rs port second octets (length output)
 
   -- the three promises, at an ending
   abbrev Promised : Ending → Type 0
   Promised e =
-      (receiveNumber e ≡ receiveAnswer b w rs port octets (length output))
-      × ((changedBoth (λ (x : Board) (s : State). receivedState x s (record { 0 = slot }) e) b w ≡ receiveWords b w rs port slot octets (length output))
-      × (sentOutput e octets output ≡ receiveOutput b w rs port octets output))
+      (receiveNumber e ≡ receiveAnswer b w rs port second octets (length output))
+      × ((changedBoth (λ (x : Board) (s : State). receivedState x s (record { 0 = slot }) (kept (s .memory)) e) b w
+      ≡ receiveWords b w rs port slot second octets (length output))
+      × (sentOutput e octets output ≡ receiveOutput b w rs port second octets output))
 
   -- ---- the words hold a board and a mission's state
   module _ (right-board : length b ≡ boardWords) (right : length w ≡ missionWords) where
@@ -83,8 +92,10 @@ module _ (b w : List ℕ) (rs : List Record) (port slot : ℕ) (octets output : 
       unless-long (tooLong rs) (receiveNumber here) _ long-here
           (both-held-told b w right-board right (λ (x : Board) (s : State). receiveNumber (heard x s)) 16 refl),
       (
-        same-change (λ (x : Board) (s : State). receivedState x s (record { 0 = slot }) here)
-            (λ (x : Board) (s : State). receivedState x s (record { 0 = slot }) (heard x s)) refl,
+        same-change (λ (x : Board) (s : State). receivedState x s (record { 0 = slot }) (kept (s .memory)) here)
+            (λ (x : Board) (s : State). receivedState x s (record { 0 = slot }) (heardKept x s) (heard x s))
+            (ap (λ (k : Memory). receivedState (decodeBoard b) (decode w) (record { 0 = slot }) k here)
+            (joined-memory b w rs port second octets (length output) right-board right)),
         both-held-told b w right-board right (λ (x : Board) (s : State). sentOutput (heard x s) octets output) output refl,
       ),
     )
@@ -106,7 +117,7 @@ module _ (b w : List ℕ) (rs : List Record) (port slot : ℕ) (octets output : 
     unfolding endingAfter askedOf
     ended-nobody =
         ap (λ (a : Asked). finishedOf (seated (decodeBoard b) (decode w)) (pick (tooLong rs) (refusedAsked 21) a) (wayIn (scanOf (queryOf asked) rs)))
-        (sym (no-answer Asked (λ (x : Board) (s : State). datagramAsked (seated x s) (s .number) port octets (length output)) (refusedAsked 16)))
+        (sym (no-answer Asked (λ (x : Board) (s : State). datagramAsked (seated x s) (s .number) port second octets (length output)) (refusedAsked 16)))
         ∙ nobody (seated (decodeBoard b) (decode w)) (tooLong rs) (wayIn (scanOf (queryOf asked) rs))
 
     number-is : (t : Bool) → receiveNumber (refusedBy (pick t 21 16)) ≡ pick t 21 16
@@ -119,8 +130,8 @@ module _ (b w : List ℕ) (rs : List Record) (port slot : ℕ) (octets output : 
     other-promised = (
       number-is (tooLong rs) ∙ ap (λ (n : ℕ). pick (tooLong rs) 21 n) (no-answer ℕ (λ (x : Board) (s : State). receiveNumber (heard x s)) 16),
       (
-        sym (no-change (λ (x : Board) (s : State). receivedState x s (record { 0 = slot }) (refusedBy (pick (tooLong rs) 21 16))))
-            ∙ no-change (λ (x : Board) (s : State). receivedState x s (record { 0 = slot }) (heard x s)),
+        sym (no-change (λ (x : Board) (s : State). receivedState x s (record { 0 = slot }) (kept (s .memory)) (refusedBy (pick (tooLong rs) 21 16))))
+            ∙ no-change (λ (x : Board) (s : State). receivedState x s (record { 0 = slot }) (heardKept x s) (heard x s)),
         quiet (pick (tooLong rs) 21 16) ∙ no-answer (List ℕ) (λ (x : Board) (s : State). sentOutput (heard x s) octets output) output,
       ),
     )
@@ -135,7 +146,7 @@ module _ (b w : List ℕ) (rs : List Record) (port slot : ℕ) (octets output : 
       by-lengths true true e f =
           let held = eqb-true (length b) boardWords e in
           let here = eqb-true (length w) missionWords f in
-          subst Promised (sym (joined b w rs port octets (length output) held here)) (held-promised held here)
+          subst Promised (sym (joined b w rs port second octets (length output) held here)) (held-promised held here)
       by-lengths true false e f =
           let wrong = eqb-false (length w) missionWords f in
           other-ended (λ (A : Type 0). no-mission-told b w wrong {A = A}) (no-mission-changed b w wrong)
@@ -144,8 +155,8 @@ module _ (b w : List ℕ) (rs : List Record) (port slot : ℕ) (octets output : 
           other-ended (λ (A : Type 0). no-board-told b w wrong {A = A}) (no-board-changed b w wrong)
 
   pub received : (answer : ℕ) (words left : List ℕ) (a : Asked) (q : Query) (s : Scan) → a ≡ asked → q ≡ queryOf a → s ≡ scanOf q rs
-      → Carried b w slot octets output answer words left a s → Receives b w rs port slot octets output answer words left
+      → Carried b w slot second octets output answer words left a s → Receives b w rs port slot second octets output answer words left
   received answer words left a q s ea eq es h =
-      let c = subst (λ (x : Asked). Carried b w slot octets output answer words left x (scanOf (queryOf x) rs)) ea
-      (subst (λ (x : Query). Carried b w slot octets output answer words left a (scanOf x rs)) eq (subst (Carried b w slot octets output answer words left a) es h)) in
+      let C : Asked → Scan → Type 0 = Carried b w slot second octets output answer words left in
+      let c = subst (λ (x : Asked). C x (scanOf (queryOf x) rs)) ea (subst (λ (x : Query). C a (scanOf x rs)) eq (subst (C a) es h)) in
       (c .0 ∙ promised .0, (c .1 .0 ∙ promised .1 .0, c .1 .1 ∙ promised .1 .1))

@@ -1,5 +1,5 @@
-// What C calls to set a node up: a fresh board and a fresh mission, router or host, a port. Groups and paths stand in `groups_and_paths`, routes in the
-// crate `harpjuniper_routes`.
+// What C calls to set a node up: a fresh board and a fresh mission, router or host, a port, the lifetime of pairs. Groups and paths stand in
+// `groups_and_paths`, routes in the crate `harpjuniper_routes`.
 //
 // Each function tests the number of words lent and then calls the setting. None requires anything: whatever words and numbers come, the
 // answer is 0 or the number of the first test that refuses, and a refused setting changes nothing. Where the words are not as many as
@@ -11,7 +11,7 @@ use address::Mask;
 ghost use mathlib.Core.Path.{_≡_};
 ghost use Rattle.checks.specs.Order.{firstOf};
 ghost use Rattle.state.specs.Layout.{boardWords, missionWords};
-ghost use Rattle.state.specs.Seen.{Board, State, freshBoard};
+ghost use Rattle.state.specs.Seen.{Board, State, freshBoard, putLifetime};
 ghost use Rattle.lent_state.specs.View.{lentBoard, toldBoard, changedBoard, lent, told, changed};
 ghost use Rattle.refusals.specs.Lists.{portChecks, routerChecks, missionChecks};
 ghost use Rattle.adjust.specs.Settled.{settledRouter, settledPort, settledFresh};
@@ -91,4 +91,17 @@ pub extern "C" fn hj_set_port(
         return 21;
     }
     adjust::set_port(board, port, Address(address), Mask(mask), mtu, mission)
+}
+
+// How old a pair may be before a sweep frees it, in seconds: any number is taken.
+#[no_mangle]
+pub extern "C" fn hj_set_lifetime(board: &mut [u32], lifetime: u32) -> u32
+    ensures { λ r. ⌜ r ≡ toldBoard (λ (x : Board). 0) 21 (now (board .entry)) ⌝ }
+    ensures { λ _. ⌜ lentBoard (now (board .exit)) ≡ changedBoard (λ (x : Board). putLifetime x lifetime) (now (board .entry)) ⌝ }
+{
+    if board.len() != state_board::BOARD_WORDS {
+        return 21;
+    }
+    state_board::put_lifetime(board, lifetime);
+    return 0;
 }

@@ -26,10 +26,12 @@ use Rattle.routes.specs.declared.Found.the-variants as found
 use Rattle.lent_state.specs.View.{tooLong}
 use Rattle.harpjuniper.specs.Face.{readingOf, numbersChecks}
 use Rattle.route_calls.specs.Search.{searchParts, foundNumber, searchAnswer}
+use Rattle.floods.specs.Sweep.{sweepChecks}
 use Rattle.history.specs.Seat.{Seat, relayIn, relayWith}
 use Rattle.history.specs.Calls.{
   View,
   routerFlag,
+  lifetimeWord,
   portWord,
   recordWord,
   orders,
@@ -37,6 +39,8 @@ use Rattle.history.specs.Calls.{
   Look,
   groupWord,
   pathWord,
+  pairWord,
+  lastSecond,
   search,
   counter,
   waiting,
@@ -51,6 +55,7 @@ use Rattle.history.specs.Calls.{
   sets,
   hears,
   takes,
+  sweeps,
   looks,
   Call,
   operator,
@@ -106,6 +111,7 @@ checksum-row octets = below-row (65535 - onesSum octets) 65536 (omega arith)
 
 view-listed : (v : View) → stands (numbers (viewNumbers v) ∷ []) (number (viewNumber v)) ≡ true
 view-listed routerFlag = refl
+view-listed lifetimeWord = refl
 view-listed (portWord p word) = place-row (ltb p 8 && ltb word 5)
 view-listed (recordWord rs i word) = record-row (tooLong rs) (ltb i (length rs) && ltb word 7)
 
@@ -113,8 +119,10 @@ look-listed : (seat : Seat) (l : Look) → stands (lookRow l ∷ []) (number (lo
 unfolding readOf readChecks numbersChecks searchAnswer
 look-listed seat (groupWord i word) = place-row (ltb i 16 && ltb word 4)
 look-listed seat (pathWord i word) = place-row (ltb i 16 && ltb word 4)
+look-listed seat (pairWord i word) = place-row (ltb i 64 && ltb word 5)
+look-listed seat lastSecond = refl
 look-listed seat (search rs a) = search-row (tooLong rs) (searchOf a (relayWith seat rs .routes))
-look-listed seat (counter i) = place-row (ltb i 15)
+look-listed seat (counter i) = place-row (ltb i 17)
 look-listed seat (waiting p) = place-row (ltb p 8)
 look-listed seat (read octets) =
     let n = firstOf (readChecks octets) in
@@ -128,8 +136,9 @@ look-listed seat missionSize = refl
 
 own-listed : (seat : Seat) (c : MissionCall) → stands (ownRows c) (ownOutcome seat c .answer) ≡ true
 own-listed seat (sets s) = setting-listed (relayIn seat) s
-own-listed seat (hears rs port slot octets output) = every-ending-is-listed seat rs port octets (length output)
+own-listed seat (hears rs port slot second octets output) = every-ending-is-listed seat rs port second octets (length output)
 own-listed seat (takes port) = taking-listed seat port
+own-listed seat (sweeps second) = number-row (0 ∷ 29 ∷ []) (sweepChecks (seat .memory) second) refl refl
 own-listed seat (looks l) = look-listed seat l
 
 -- Whatever is called, and on whatever seat, the answer stands in the table's rows for that call.

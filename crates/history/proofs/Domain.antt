@@ -43,7 +43,7 @@ use Rattle.state.proofs.Seen.{seen-set-up}
 use Rattle.judge.specs.Ending.{refusedBy, callChecks, headerEnding, octetsEnding, ruledEnding, arrivalAt, endingOf}
 use Rattle.judge.specs.declared.Ending.{Ending}
 use Rattle.history.specs.Seat.{Seat, freshSeat, relayIn, relayWith, heardBy}
-use Rattle.history.specs.Calls.{sets, hears, takes, looks, Call, operator, own}
+use Rattle.history.specs.Calls.{sets, hears, takes, sweeps, looks, Call, operator, own}
 use Rattle.history.specs.Outcome.{next, runFrom, seatAfter}
 use Rattle.history.specs.Ranges.{Octets}
 use Rattle.history.specs.Line.{Copy, copyOf, sentOf, takenBy, lineBy, lineFrom, lineAt}
@@ -71,28 +71,28 @@ took-case : (t : Bool) (n : ℕ) (e : Ending) → (pick t e (refusedBy n) .rulin
 took-case true n e h = (refl, h)
 took-case false n e h = absurd (h refl)
 
-octets-read : (r : Relay) (port : ℕ) (octets : List ℕ) (x : Read) → readOf octets ≡ x
+octets-read : (r : Relay) (port second : ℕ) (octets : List ℕ) (x : Read) → readOf octets ≡ x
     → (octetsEnding r (arrivalAt r port) x .ruling .took ≡ 0 → ⊥) → WasRead octets (octetsEnding r (arrivalAt r port) x)
 unfolding headerEnding
-octets-read r port octets (Good h) is took =
+octets-read r port second octets (Good h) is took =
     let n = firstOf (arrivalChecks (portIn r port .address) (h .fields)) in
     let same = took-case (eqb n 0) n (ruledEnding r (arrivalAt r port) h) took .0 in
     record { header = h; read = is; size = ap (λ (e : Ending). e .size) same; precedence = ap (λ (e : Ending). e .precedence) same }
-octets-read r port octets (Refused n) is took = absurd (took refl)
+octets-read r port second octets (Refused n) is took = absurd (took refl)
 
-page-read : (r : Relay) (port : ℕ) (octets : List ℕ) (room : ℕ) → (endingOf r port octets room .ruling .took ≡ 0 → ⊥)
-    → WasRead octets (endingOf r port octets room)
+page-read : (r : Relay) (port second : ℕ) (octets : List ℕ) (room : ℕ) → (endingOf r port second octets room .ruling .took ≡ 0 → ⊥)
+    → WasRead octets (endingOf r port second octets room)
 unfolding endingOf
-page-read r port octets room took =
-    let n = firstOf (callChecks r port room) in
+page-read r port second octets room took =
+    let n = firstOf (callChecks r port second room) in
     let case = took-case (eqb n 0) n (octetsEnding r (arrivalAt r port) (readOf octets)) took in
-    rw (case .0) (octets-read r port octets (readOf octets) refl (case .1))
+    rw (case .0) (octets-read r port second octets (readOf octets) refl (case .1))
 
-pub took-read : (seat : Seat) (rs : List Record) (port : ℕ) (octets : List ℕ) (room : ℕ)
-    → (heardBy seat rs port octets room .ruling .took ≡ 0 → ⊥) → WasRead octets (heardBy seat rs port octets room)
-took-read seat rs port octets room =
-    heard-so seat rs port octets room (λ (e : Ending). (e .ruling .took ≡ 0 → ⊥) → WasRead octets e)
-    (λ took. absurd (took refl)) (page-read (relayWith seat rs) port octets room)
+pub took-read : (seat : Seat) (rs : List Record) (port second : ℕ) (octets : List ℕ) (room : ℕ)
+    → (heardBy seat rs port second octets room .ruling .took ≡ 0 → ⊥) → WasRead octets (heardBy seat rs port second octets room)
+took-read seat rs port second octets room =
+    heard-so seat rs port second octets room (λ (e : Ending). (e .ruling .took ≡ 0 → ⊥) → WasRead octets e)
+    (λ took. absurd (took refl)) (page-read (relayWith seat rs) port second octets room)
 
 -- ---- a port that is set up has a unicast address, and so one of 32 bits
 between-above : (low high n : ℕ) → high < n → between low high n ≡ false
@@ -165,34 +165,34 @@ module _ (p : ℕ) (inside : p < 8) where
   AllNamed seat line = Each (NamesTheSame (portIn (relayIn seat) p)) line
 
   -- ---- a datagram: the copy that enters
-  module _ (seat : Seat) (rs : List Record) (n port : ℕ) (slot : Slot) (octets : List ℕ) (room : ℕ) where
-    page-copy : Kept seat → inSet p (endingOf (relayWith seat rs) port octets room .ruling .took) ≡ true
-        → NamesTheSame (portIn (relayIn seat) p) (copyOf p n seat port slot octets (endingOf (relayWith seat rs) port octets room))
+  module _ (seat : Seat) (rs : List Record) (n port : ℕ) (slot : Slot) (second : ℕ) (octets : List ℕ) (room : ℕ) where
+    page-copy : Kept seat → inSet p (endingOf (relayWith seat rs) port second octets room .ruling .took) ≡ true
+        → NamesTheSame (portIn (relayIn seat) p) (copyOf p n seat port slot octets (endingOf (relayWith seat rs) port second octets room))
     page-copy k took =
         let r = relayWith seat rs in
-        let was = page-read r port octets room (λ z. true-false (sym (sym (ap (inSet p) z) ∙ took) ∙ in-none p)) in
+        let was = page-read r port second octets room (λ z. true-false (sym (sym (ap (inSet p) z) ∙ took) ∙ in-none p)) in
         let granted =
-        and-true (inSet p (endingOf r port octets room .ruling .granted)) (hasRoom r p) (sym (took-exactly r port octets room p inside) ∙ took) .0 in
-        let names = names-the-same longerMask r (masks-choose r) p inside port octets room (was .header) (was .read) granted in
+        and-true (inSet p (endingOf r port second octets room .ruling .granted)) (hasRoom r p) (sym (took-exactly r port second octets room p inside) ∙ took) .0 in
+        let names = names-the-same longerMask r (masks-choose r) p inside port second octets room (was .header) (was .read) granted in
         record {
           came = was .header;
           read = was .read;
           size = was .size;
-          arrival = set-up-small seat k port (arrival-set-up longerMask r (masks-choose r) p inside port octets room (was .header) (was .read) granted);
+          arrival = set-up-small seat k port (arrival-set-up longerMask r (masks-choose r) p inside port second octets room (was .header) (was .read) granted);
           far = liesFar r port p;
           lies = refl;
-          code = verdictBy longerMask r port octets room .code;
-          header = headers-of-any-relay r port octets room .header p inside took;
-          short = has-passed longerMask r (masks-choose r) p inside port octets room (was .header) (was .read) granted .short;
+          code = verdictBy longerMask r port second octets room .code;
+          header = headers-of-any-relay r port second octets room .header p inside took;
+          short = has-passed longerMask r (masks-choose r) p inside port second octets room (was .header) (was .read) granted .short;
           aim = names .0;
           origin = names .1;
-          domain = stays-in-its-domain longerMask r (masks-choose r) p inside port octets room (was .header) (was .read) granted;
+          domain = stays-in-its-domain longerMask r (masks-choose r) p inside port second octets room (was .header) (was .read) granted;
         }
 
-    new-copy : Kept seat → inSet p (heardBy seat rs port octets room .ruling .took) ≡ true
-        → NamesTheSame (portIn (relayIn seat) p) (copyOf p n seat port slot octets (heardBy seat rs port octets room))
+    new-copy : Kept seat → inSet p (heardBy seat rs port second octets room .ruling .took) ≡ true
+        → NamesTheSame (portIn (relayIn seat) p) (copyOf p n seat port slot octets (heardBy seat rs port second octets room))
     new-copy k =
-        heard-so seat rs port octets room
+        heard-so seat rs port second octets room
         (λ (e : Ending). inSet p (e .ruling .took) ≡ true → NamesTheSame (portIn (relayIn seat) p) (copyOf p n seat port slot octets e))
         (λ z. true-false (sym z ∙ in-none p)) (page-copy k)
 
@@ -203,10 +203,11 @@ module _ (p : ℕ) (inside : p < 8) where
   entered-named : (n : ℕ) (seat : Seat) → Kept seat → (c : Call) → AllNamed seat (takenBy p n seat c)
   entered-named n seat k (operator c) = tt
   entered-named n seat k (own (sets s)) = tt
-  entered-named n seat k (own (hears rs port slot octets output)) =
-      let e = heardBy seat rs port octets (length output) in
-      enters-case (inSet p (e .ruling .took)) seat (copyOf p n seat port slot octets e) (new-copy seat rs n port slot octets (length output) k)
+  entered-named n seat k (own (hears rs port slot second octets output)) =
+      let e = heardBy seat rs port second octets (length output) in
+      enters-case (inSet p (e .ruling .took)) seat (copyOf p n seat port slot octets e) (new-copy seat rs n port slot second octets (length output) k)
   entered-named n seat k (own (takes port)) = tt
+  entered-named n seat k (own (sweeps second)) = tt
   entered-named n seat k (own (looks l)) = tt
 
   -- ---- a call leaves some of them, and the port as it is where anything waits

@@ -30,13 +30,13 @@ module _ (seat : Seat) (p : ℕ) (inside : p < 8) where
     pub full : inSet p (x .dropped) ≡ true → ltb (queueAt (seat .mission) p .count) 32 ≡ false
 
   -- page 01's relay rules so ..
-  ruled-fair : (rs : List Record) (port : ℕ) (octets : List ℕ) (size : ℕ) → Fair (endingOf (relayWith seat rs) port octets size .ruling)
-  ruled-fair rs port octets size =
+  ruled-fair : (rs : List Record) (port second : ℕ) (octets : List ℕ) (size : ℕ) → Fair (endingOf (relayWith seat rs) port second octets size .ruling)
+  ruled-fair rs port second octets size =
       let r = relayWith seat rs in
-      let x = endingOf r port octets size .ruling in
+      let x = endingOf r port second octets size .ruling in
       let room = ltb (queueAt (seat .mission) p .count) 32 in
-      let took = took-exactly r port octets size p inside in
-      let dropped = dropped-exactly r port octets size p inside in
+      let took = took-exactly r port second octets size p inside in
+      let dropped = dropped-exactly r port second octets size p inside in
       record {
         split = rw (took, dropped) (split-case (inSet p (x .granted)) room);
         room = λ h. and-true (inSet p (x .granted)) room (sym took ∙ h) .1;
@@ -52,5 +52,5 @@ module _ (seat : Seat) (p : ℕ) (inside : p < 8) where
         full = λ h. true-false (sym h ∙ in-none p);
       }
 
-  pub fair : (rs : List Record) (port : ℕ) (octets : List ℕ) (size : ℕ) → Fair (heardBy seat rs port octets size .ruling)
-  fair rs port octets size = heard-so seat rs port octets size (λ (e : Ending). Fair (e .ruling)) none-fair (ruled-fair rs port octets size)
+  pub fair : (rs : List Record) (port second : ℕ) (octets : List ℕ) (size : ℕ) → Fair (heardBy seat rs port second octets size .ruling)
+  fair rs port second octets size = heard-so seat rs port second octets size (λ (e : Ending). Fair (e .ruling)) none-fair (ruled-fair rs port second octets size)

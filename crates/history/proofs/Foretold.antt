@@ -37,20 +37,22 @@ use Rattle.queue.proofs.Foretold.{foretold, stand-before}
 use Rattle.networks.specs.Networks.{subnetBroadcast}
 use Rattle.settings.specs.Refusals.{otherClass, onesRefused, formRefused, portMaskRefused}
 use Rattle.meaning.specs.Names.{aimOf, originOf}
-use Rattle.verdict.specs.Rule.{targetOf, lineOf, grantedOf, copiesOf, rulingOf}
+use Rattle.verdict.specs.Rule.{targetOf, plainLine, lineOf, grantedOf, copiesOf, rulingOf}
 use Rattle.routes.specs.declared.Record.{Record}
 use Rattle.records.specs.Owned.{seenPort}
 use Rattle.state.specs.Relay.{queueAt, amongPorts, portSetUp}
-use Rattle.state.specs.Seen.{freshBoard, freshMission, portsSeen}
+use Rattle.state.specs.Seen.{freshBoard, freshMission, freshMemory, portsSeen}
 use Rattle.survey.specs.Survey.{namedBelow, ownBroadcast, surveyBelow}
 use Rattle.taking.specs.Taking.{takeOutcome, takenRelay}
 use Rattle.taking.specs.declared.Taking.{Taking}
 use Rattle.taking.specs.declared.Taking.the-variants.{Handed, Refused}
+use Rattle.floods.specs.Memory.{floodOf, remembering}
 use Rattle.judge.specs.Ruling.{ruledBy, ruleTarget, ruleOf, legsFor}
 use Rattle.next_leg.specs.Leg.{rewrites, nextLength, nextHeader, legsOf}
 use Rattle.judge.specs.Ending.{endingOf, outputRoom, callChecks, headerEnding}
+use Rattle.judge.specs.Remembered.{headerMemory, memoryOf}
 use Rattle.relay.specs.Outgoing.{enteredIf, enteredAll}
-use Rattle.relay.specs.Received.{receivedRelay, heardEnding}
+use Rattle.relay.specs.Received.{receivedRelay, heardEnding, heardMemory}
 use Rattle.history.specs.Seat.{Seat, freshSeat, relayIn}
 use Rattle.history.specs.Calls.{
   setRouter,
@@ -63,6 +65,7 @@ use Rattle.history.specs.Calls.{
   sets,
   hears,
   takes,
+  sweeps,
   looks,
   Call,
   operator,
@@ -224,8 +227,9 @@ module _ (p : ℕ) where
   placing-hands-nothing : (n : ℕ) (seat : Seat) (c : Call) (x : Copy) → takenBy p n seat c ≡ x ∷ [] → outcome seat c .out ≡ nothing
   placing-hands-nothing n seat (operator c) x is = absurd (omega (arith, ap length is))
   placing-hands-nothing n seat (own (sets s)) x is = refl
-  placing-hands-nothing n seat (own (hears rs port slot octets output)) x is = refl
+  placing-hands-nothing n seat (own (hears rs port slot second octets output)) x is = refl
   placing-hands-nothing n seat (own (takes port)) x is = absurd (omega (arith, ap length is))
+  placing-hands-nothing n seat (own (sweeps second)) x is = refl
   placing-hands-nothing n seat (own (looks l)) x is = refl
 
   placed-last : (n : ℕ) (seat : Seat) (c : Call) (x : Copy) (line : List Copy) → takenBy p n seat c ≡ x ∷ [] → lineBy p n seat c line ≡ line ++ (x ∷ [])
@@ -296,15 +300,16 @@ module _ (p m : ℕ) where
   handed-answered cs (operator (orders o)) = refl
   handed-answered cs (operator (views v)) = refl
   handed-answered cs (own (sets s)) = refl
-  handed-answered cs (own (hears rs port slot octets output)) = refl
+  handed-answered cs (own (hears rs port slot second octets output)) = refl
   handed-answered cs (own (takes q)) =
       rw (take-is m cs q) (handed-by-line cs q (portSetUp (relayIn (seatAfter m cs)) q) (eqb q p) refl (chosen rank (lineAt q m cs)) refl)
+  handed-answered cs (own (sweeps second)) = refl
   handed-answered cs (own (looks l)) = refl
 
   answer-of-take : (c : Call) (a : Answer) (e : Entry) → answeredBy p c a ≡ e ∷ [] → (c ≡ own (takes p)) × (a ≡ entry e)
   answer-of-take (operator c) a e is = absurd (omega (arith, ap length is))
   answer-of-take (own (sets s)) a e is = absurd (omega (arith, ap length is))
-  answer-of-take (own (hears rs port slot octets output)) a e is = absurd (omega (arith, ap length is))
+  answer-of-take (own (hears rs port slot second octets output)) a e is = absurd (omega (arith, ap length is))
   answer-of-take (own (takes q)) (number n) e is = absurd (omega (arith, ap length is))
   answer-of-take (own (takes q)) (ended refusal local onward took) e is = absurd (omega (arith, ap length is))
   answer-of-take (own (takes q)) (entry f) e is = by (eqb q p) refl is
@@ -312,6 +317,7 @@ module _ (p m : ℕ) where
       by : (t : Bool) → eqb q p ≡ t → pick t (f ∷ []) [] ≡ e ∷ [] → (own (takes q) ≡ own (takes p)) × (entry f ≡ entry e)
       by true same h = (ap (λ (k : ℕ). own (takes k)) (eqb-true q p same), let one : f ≡ e = cc in ap entry one)
       by false same h = absurd (omega (arith, ap length h))
+  answer-of-take (own (sweeps second)) a e is = absurd (omega (arith, ap length is))
   answer-of-take (own (looks l)) a e is = absurd (omega (arith, ap length is))
 
   -- After any history, the call that hands a copy out by port p is a take of p, and answers the copy's entry.
@@ -348,8 +354,9 @@ module _ (p m : ℕ) where
       one-answer (operator (orders o)) = refl
       one-answer (operator (views v)) = refl
       one-answer (own (sets s)) = refl
-      one-answer (own (hears rs port slot octets output)) = refl
+      one-answer (own (hears rs port slot second octets output)) = refl
       one-answer (own (takes q)) = taking q (takeOutcome (relayIn seat) q)
+      one-answer (own (sweeps second)) = refl
       one-answer (own (looks l)) = refl
 
   pub takes-are-answers : (cs ds : List Call) → length (answeredSince p m cs ds) ≡ takesSince p m cs ds
@@ -418,7 +425,7 @@ module _ (p m : ℕ) where
         higher = rw (length-then cs c, seat-then cs (freshSeat m) c, line-at-then p m cs c, none .0, idle .0) refl;
       }
 
-  -- What is idle: the operator's call, a setting and a look,
+  -- What is idle: the operator's call, a setting, a sweep and a look,
   pub operator-idle : (cs : List Call) (c : OperatorCall) → Idle p m cs (operator c)
   operator-idle cs (orders o) = (refl, refl)
   operator-idle cs (views v) = (refl, refl)
@@ -426,13 +433,16 @@ module _ (p m : ℕ) where
   pub setting-idle : (cs : List Call) (s : Setting) → Idle p m cs (own (sets s))
   setting-idle cs s = (refl, refl)
 
+  pub sweep-idle : (cs : List Call) (second : ℕ) → Idle p m cs (own (sweeps second))
+  sweep-idle cs second = (refl, refl)
+
   pub look-idle : (cs : List Call) (l : Look) → Idle p m cs (own (looks l))
   look-idle cs l = (refl, refl)
 
   -- a datagram of which the port took no entry,
-  pub not-taken-idle : (cs : List Call) (rs : List Record) (port : ℕ) (slot : Slot) (octets output : List ℕ)
-      → inSet p (outcome (seatAfter m cs) (own (hears rs port slot octets output)) .took) ≡ false → Idle p m cs (own (hears rs port slot octets output))
-  not-taken-idle cs rs port slot octets output not-in = (rw not-in refl, refl)
+  pub not-taken-idle : (cs : List Call) (rs : List Record) (port : ℕ) (slot : Slot) (second : ℕ) (octets output : List ℕ)
+      → inSet p (outcome (seatAfter m cs) (own (hears rs port slot second octets output)) .took) ≡ false → Idle p m cs (own (hears rs port slot second octets output))
+  not-taken-idle cs rs port slot second octets output not-in = (rw not-in refl, refl)
 
   -- a take of another port,
   pub other-take-idle : (cs : List Call) (q : ℕ) → (q ≡ p → ⊥) → Idle p m cs (own (takes q))
@@ -446,13 +456,14 @@ module _ (p m : ℕ) where
   pub refused-idle : (cs : List Call) (c : Call) → isRefusal (outcome (seatAfter m cs) c .answer) ≡ true → Idle p m cs c
   refused-idle cs (operator c) refused = operator-idle cs c
   refused-idle cs (own (sets s)) refused = setting-idle cs s
-  refused-idle cs (own (hears rs port slot octets output)) refused =
-      not-taken-idle cs rs port slot octets output (ap (inSet p) (took-none (seatAfter m cs) rs port octets (length output) refused) ∙ in-none p)
+  refused-idle cs (own (hears rs port slot second octets output)) refused =
+      not-taken-idle cs rs port slot second octets output (ap (inSet p) (took-none (seatAfter m cs) rs port second octets (length output) refused) ∙ in-none p)
   refused-idle cs (own (takes q)) refused = (refl, by (takeOutcome (relayIn (seatAfter m cs)) q) refused)
     where
       by : (t : Taking) → isRefusal (ofTaking q t .answer) ≡ true → outBy p (ofTaking q t .out) ≡ 0
       by (Handed e) h = true-false (sym h)
       by (Refused n) h = refl
+  refused-idle cs (own (sweeps second)) refused = sweep-idle cs second
   refused-idle cs (own (looks l)) refused = look-idle cs l
 
 -- ---- a call places at most one copy on a port
@@ -501,7 +512,7 @@ abbrev datagram : ℕ → List ℕ
 datagram precedence = 32 ∷ 7 ∷ 26 ∷ 66 ∷ 255 ∷ 20 ∷ 16 * precedence ∷ []
 
 abbrev heard : ℕ → ℕ → Call
-heard port precedence = own (hears [] port (record { 0 = 7 }) (datagram precedence) (replicate outputRoom 0))
+heard port precedence = own (hears [] port (record { 0 = 7 }) 0 (datagram precedence) (replicate outputRoom 0))
 
 -- the copy on port 1 of what call n brought by port 0
 abbrev copy : ℕ → ℕ → Copy
@@ -599,7 +610,7 @@ mistakes =
     ∷ []
 
 breaks : Each Breaks mistakes
-unfolding firstOf heardEnding endingOf callChecks amongPorts portsSeen seenPort otherClass classOf classIn familyOf scpsClass portMaskRefused formRefused maskForm onesOf onesBelow onesRefused freshBoard freshMission freshQueue readOf readChecks controlOf forbidden lengthOf layoutOf addressSize stampSize headerEnding headerOf fieldsOf qosOf addressesOf aimOf originOf ruleOf ruleTarget ruledBy rulingOf grantedOf lineOf targetOf surveyBelow ownBroadcast namedBelow subnetBroadcast octetOf copiesOf takeOutcome receivedRelay enteredAll enteredIf putOf takeOf insertBy chosen takenRelay rewrites nextLength nextHeader legsFor legsOf lessened sentBody headerSentOn checksumOctets
+unfolding firstOf heardEnding heardMemory endingOf memoryOf callChecks amongPorts portsSeen seenPort otherClass classOf classIn familyOf scpsClass portMaskRefused formRefused maskForm onesOf onesBelow onesRefused freshBoard freshMission freshMemory freshQueue readOf readChecks controlOf forbidden lengthOf layoutOf addressSize stampSize headerEnding headerMemory remembering floodOf headerOf fieldsOf qosOf addressesOf aimOf originOf ruleOf ruleTarget ruledBy rulingOf grantedOf plainLine lineOf targetOf surveyBelow ownBroadcast namedBelow subnetBroadcast octetOf copiesOf takeOutcome receivedRelay enteredAll enteredIf putOf takeOf insertBy chosen takenRelay rewrites nextLength nextHeader legsFor legsOf lessened sentBody headerSentOn checksumOctets
 breaks = ((refl, refl, refl, refl), ((refl, refl, refl, refl), ((refl, refl, refl, refl), ((refl, refl, refl, refl), ((refl, refl, refl, refl), tt)))))
 
 pub all-mistaken : Each (λ (m : Mistake). Holds (m .rule) → ⊥) mistakes

@@ -35,6 +35,7 @@ use Rattle.history.specs.Calls.{
   sets,
   hears,
   takes,
+  sweeps,
   looks,
   Call,
   operator,
@@ -154,9 +155,10 @@ module _ (seat : Seat) (k : Kept seat) (u : OwnUnique (seat .mission)) where
 
   own-unique : (c : MissionCall) → OwnUnique (nextMission seat c)
   own-unique (sets s) = settle-keeps (λ (x : Relay). OwnUnique (x .mission)) r s u (taken-unique s)
-  own-unique (hears rs port slot octets output) =
-      by-settings _ _ u (received-settings r slot (heardBy seat rs port octets (length output)))
+  own-unique (hears rs port slot second octets output) =
+      by-settings _ _ u (received-settings r slot (heardBy seat rs port second octets (length output)))
   own-unique (takes port) = by-settings _ _ u (taken-settings r port)
+  own-unique (sweeps second) = u
   own-unique (looks l) = u
 
   one-unique : (c : Call) → OwnUnique (next seat c .mission)

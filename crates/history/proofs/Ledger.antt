@@ -26,7 +26,7 @@ use Rattle.taking.specs.declared.Taking.the-variants.{Handed, Refused}
 use Rattle.judge.specs.declared.Ending.{Ending}
 use Rattle.relay.specs.Received.{newEntry, receivedRelay}
 use Rattle.history.specs.Seat.{Seat, freshSeat, relayIn, heardBy}
-use Rattle.history.specs.Calls.{orders, views, sets, hears, takes, looks, Call, operator, own, settle}
+use Rattle.history.specs.Calls.{orders, views, sets, hears, takes, sweeps, looks, Call, operator, own, settle}
 use Rattle.history.specs.Outcome.{ofTaking, outcome, next, runFrom, seatAfter, sumFrom, sumOver}
 use Rattle.history.specs.Ledger.{one, granted, dropped, handedOut}
 use Rattle.survey.proofs.Bits.{in-none}
@@ -51,8 +51,9 @@ received-eight r slot e l = eight-entered (e .ruling .took) (newEntry slot e) 8 
 pub next-eight : (seat : Seat) (c : Call) → Eight (relayIn seat) → Eight (relayIn (next seat c))
 next-eight seat (operator c) l = l
 next-eight seat (own (sets s)) l = ap length (settle-queues (relayIn seat) s) ∙ l
-next-eight seat (own (hears rs port slot octets output)) l = received-eight (relayIn seat) slot (heardBy seat rs port octets (length output)) l
+next-eight seat (own (hears rs port slot second octets output)) l = received-eight (relayIn seat) slot (heardBy seat rs port second octets (length output)) l
 next-eight seat (own (takes port)) l = taken-eight (relayIn seat) port l
+next-eight seat (own (sweeps second)) l = l
 next-eight seat (own (looks x)) l = l
 
 pub fresh-eight : (m : ℕ) → Eight (relayIn (freshSeat m))
@@ -124,11 +125,12 @@ module _ (p : ℕ) (inside : p < 8) where
   one-call seat (own (sets s)) l =
       stays-closed seat (queueIn (settle (relayIn seat) s) p .count)
       (ap (λ (x : List Queue). getD x p freshQueue .count) (settle-queues (relayIn seat) s))
-  one-call seat (own (hears rs port slot octets output)) l =
-      received-closes seat slot (heardBy seat rs port octets (length output)) l (fair seat p inside rs port octets (length output))
+  one-call seat (own (hears rs port slot second octets output)) l =
+      received-closes seat slot (heardBy seat rs port second octets (length output)) l (fair seat p inside rs port second octets (length output))
   one-call seat (own (takes port)) l =
       let none = grants-none port (takeOutcome (relayIn seat) port) in
       omega (arith, taken-closes (relayIn seat) port l, none .0, none .1)
+  one-call seat (own (sweeps second)) l = stays-closed seat _ refl
   one-call seat (own (looks x)) l = stays-closed seat _ refl
 
   all-calls : (cs : List Call) (seat : Seat) → Eight (relayIn seat)

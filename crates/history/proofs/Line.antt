@@ -32,7 +32,7 @@ use Rattle.taking.specs.Taking.{handsOut, without, takeOutcome, takenRelay}
 use Rattle.taking.specs.declared.Taking.the-variants.{Refused}
 use Rattle.relay.specs.Received.{receivedRelay}
 use Rattle.history.specs.Seat.{Seat, freshSeat, relayIn, heardBy}
-use Rattle.history.specs.Calls.{orders, views, sets, hears, takes, looks, Call, operator, own, settle}
+use Rattle.history.specs.Calls.{orders, views, sets, hears, takes, sweeps, looks, Call, operator, own, settle}
 use Rattle.history.specs.Outcome.{Out, nothing, from, ofTaking, outcome, next, runFrom, seatAfter}
 use Rattle.history.specs.Line.{Copy, entryOf, copyOf, takenBy, handedBy, leftBy, lineBy, lineFrom, takenFrom, handedFrom, lineAt, takenAt, handedAt, times, InTurn}
 use Rattle.history.proofs.Fair.{fair}
@@ -67,16 +67,16 @@ module _ (p : ℕ) (inside : p < 8) where
       waits-put entryOf w c (rw (sym (waits-count entryOf w)) (ltb-true (queueIn r p .count) 32 (room refl)))
   put-case false r line c w room = rw (append-nil line) w
 
-  heard-waits : (seat : Seat) (n : ℕ) (rs : List Record) (port : ℕ) (slot : Slot) (octets output : List ℕ) (line : List Copy)
+  heard-waits : (seat : Seat) (n : ℕ) (rs : List Record) (port : ℕ) (slot : Slot) (second : ℕ) (octets output : List ℕ) (line : List Copy)
       → Eight (relayIn seat) → Held (relayIn seat) line
-      → Held (relayIn (next seat (own (hears rs port slot octets output)))) (lineBy p n seat (own (hears rs port slot octets output)) line)
+      → Held (relayIn (next seat (own (hears rs port slot second octets output)))) (lineBy p n seat (own (hears rs port slot second octets output)) line)
   unfolding receivedRelay
-  heard-waits seat n rs port slot octets output line l w =
+  heard-waits seat n rs port slot second octets output line l w =
       let r = relayIn seat in
-      let e = heardBy seat rs port octets (length output) in
+      let e = heardBy seat rs port second octets (length output) in
       let c = copyOf p n seat port slot octets e in
       rw (entered-queue p inside (e .ruling .took) (entryOf c) 8 r l inside)
-      (put-case (inSet p (e .ruling .took)) r line c w (fair seat p inside rs port octets (length output) .room))
+      (put-case (inSet p (e .ruling .took)) r line c w (fair seat p inside rs port second octets (length output) .room))
 
   -- ---- a take
   take-case : (r : Relay) (n port : ℕ) (line : List Copy) → Eight r → Held r line
@@ -114,10 +114,11 @@ module _ (p : ℕ) (inside : p < 8) where
   next-waits seat n (operator (views v)) line l w = stays (relayIn seat) (relayIn seat) line refl w
   next-waits seat n (own (sets s)) line l w =
       stays (relayIn seat) (settle (relayIn seat) s) line (ap (λ (x : List Queue). getD x p freshQueue) (settle-queues (relayIn seat) s)) w
-  next-waits seat n (own (hears rs port slot octets output)) line l w = heard-waits seat n rs port slot octets output line l w
+  next-waits seat n (own (hears rs port slot second octets output)) line l w = heard-waits seat n rs port slot second octets output line l w
   next-waits seat n (own (takes port)) line l w =
       rw (append-nil (leftBy p (ofTaking port (takeOutcome (relayIn seat) port) .out) line (chosen (rankBy entryOf) line)))
       (taken-waits (relayIn seat) n port line l w)
+  next-waits seat n (own (sweeps second)) line l w = stays (relayIn seat) (relayIn seat) line refl w
   next-waits seat n (own (looks x)) line l w = stays (relayIn seat) (relayIn seat) line refl w
 
   all-wait : (cs : List Call) (n : ℕ) (seat : Seat) (line : List Copy) → Eight (relayIn seat) → Held (relayIn seat) line
@@ -199,17 +200,19 @@ module _ (p : ℕ) where
   pub taken-turn : (n : ℕ) (seat : Seat) (c : Call) → Each (λ (y : Copy). y .turn ≡ n) (takenBy p n seat c)
   taken-turn n seat (operator c) = tt
   taken-turn n seat (own (sets s)) = tt
-  taken-turn n seat (own (hears rs port slot octets output)) =
-      either (Each (λ (y : Copy). y .turn ≡ n)) (inSet p (heardBy seat rs port octets (length output) .ruling .took)) (refl, tt) tt
+  taken-turn n seat (own (hears rs port slot second octets output)) =
+      either (Each (λ (y : Copy). y .turn ≡ n)) (inSet p (heardBy seat rs port second octets (length output) .ruling .took)) (refl, tt) tt
   taken-turn n seat (own (takes port)) = tt
+  taken-turn n seat (own (sweeps second)) = tt
   taken-turn n seat (own (looks l)) = tt
 
   by-in-turn : (n : ℕ) (seat : Seat) (c : Call) → InTurn (takenBy p n seat c)
   by-in-turn n seat (operator c) = tt
   by-in-turn n seat (own (sets s)) = tt
-  by-in-turn n seat (own (hears rs port slot octets output)) =
-      either InTurn (inSet p (heardBy seat rs port octets (length output) .ruling .took)) (tt, tt) tt
+  by-in-turn n seat (own (hears rs port slot second octets output)) =
+      either InTurn (inSet p (heardBy seat rs port second octets (length output) .ruling .took)) (tt, tt) tt
   by-in-turn n seat (own (takes port)) = tt
+  by-in-turn n seat (own (sweeps second)) = tt
   by-in-turn n seat (own (looks l)) = tt
 
   -- ---- all that were taken: those that are taken from now on have no earlier turn

@@ -19,7 +19,7 @@ use Rattle.state.specs.Relay.{Relay, queueIn, portSetUp}
 use Rattle.queue.specs.Queue.{takeOf}
 use Rattle.queue.specs.declared.Head.{Head}
 use Rattle.queue.specs.declared.Head.the-variants.{First, Nothing}
-use Rattle.verdict.specs.Rule.{targetOf, localOf, exceptBy, aloneBy, groupLine, pathLine, routeLine, routerLine, unheardBy, hostLine, lineOf, afterHops, afterDomain, afterSize, grantedOf, copiesOf, rulingOf}
+use Rattle.verdict.specs.Rule.{targetOf, localOf, exceptBy, aloneBy, groupLine, pathLine, routeLine, routerLine, unheardBy, hostLine, plainLine, floodLine, lineOf, afterHops, afterDomain, afterSize, grantedOf, copiesOf, rulingOf}
 use Rattle.verdict.specs.declared.Target.{Target}
 use Rattle.verdict.specs.declared.Target.the-variants as target
 use Rattle.verdict.specs.declared.Place.{Place}
@@ -27,18 +27,19 @@ use Rattle.verdict.specs.declared.Place.the-variants.{Held, Missing}
 use Rattle.verdict.specs.declared.Way.{Way}
 use Rattle.verdict.specs.declared.Way.the-variants.{By, Lost}
 use Rattle.verdict.specs.Numbers.{localNumber, obstacleNumber, onwardNumber}
+use Rattle.verdict.specs.declared.Flood.{Flood}
+use Rattle.verdict.specs.declared.Flood.the-variants.{Plain, Unsent, Full, New}
 use Rattle.verdict.specs.declared.Case.{Case}
 use Rattle.verdict.specs.declared.Local.{Local}
 use Rattle.verdict.specs.declared.Local.the-variants.{No, Delivered, Unknown}
 use Rattle.verdict.specs.declared.Obstacle.{Obstacle}
 use Rattle.verdict.specs.declared.Onward.{Onward}
 use Rattle.verdict.specs.declared.Onward.the-variants as onward
-use Rattle.verdict.specs.declared.Obstacle.the-variants.{NotForUs, HopsUsedUp, NoRoute, LeavesDomain, TooBig, QueuesFull}
+use Rattle.verdict.specs.declared.Obstacle.the-variants.{NotForUs, HopsUsedUp, NoRoute, LeavesDomain, TooBig, QueuesFull, PairsHeld}
 use Rattle.verdict.specs.declared.Wish.{Wish}
 use Rattle.verdict.specs.declared.Wish.the-variants.{NotAsked, Refused, Wanted}
 use Rattle.verdict.specs.declared.Survey.{Survey}
 use Rattle.verdict.specs.declared.Ruling.{Ruling}
-use Rattle.verdict.proofs.Promises.{no-is-asked}
 use Rattle.meaning.specs.Names.{aimOf}
 use Rattle.meaning.specs.declared.Aim.{Aim}
 use Rattle.meaning.specs.declared.Aim.the-variants.{Node, Path, Uncarried}
@@ -47,7 +48,7 @@ use Rattle.survey.specs.declared.Sought.{Sought}
 use Rattle.lookup.specs.Lookup.{pathPlace}
 use Rattle.header.proofs.Refusals.{never-zero}
 use Rattle.lookup.specs.ForTarget.{placeFor, wayFor}
-use Rattle.judge.specs.Ruling.{caseOf, destinationAsked, soughtOf, legFor, ruledBy, ruleTarget, ruleAim, ruleOf}
+use Rattle.judge.specs.Ruling.{caseOf, floodFor, destinationAsked, soughtOf, legFor, ruledBy, ruleTarget, ruleAim, ruleOf}
 use Rattle.judge.specs.declared.ruling.Arrival.{Arrival}
 use Rattle.meaning.specs.Arrival.{arrivalChecks}
 use Rattle.taking.specs.Taking.{handsOut, takeOutcome}
@@ -63,6 +64,7 @@ use Rattle.history.specs.Calls.{
   Order,
   setRouter,
   setPort,
+  setLifetime,
   setRoute,
   clearRoute,
   Setting,
@@ -81,7 +83,7 @@ use Rattle.history.proofs.Refusals.{refused-grants-nothing}
 
 -- ---- the lists of a receive
 abbrev refusals : List ℕ
-refusals = 21 ∷ 16 ∷ 17 ∷ 1 ∷ 2 ∷ 4 ∷ 3 ∷ 5 ∷ 8 ∷ 7 ∷ 6 ∷ []
+refusals = 21 ∷ 16 ∷ 17 ∷ 29 ∷ 1 ∷ 2 ∷ 4 ∷ 3 ∷ 5 ∷ 8 ∷ 7 ∷ 6 ∷ 28 ∷ []
 
 -- 0 where the datagram was judged
 abbrev pub endNumbers : List ℕ
@@ -121,25 +123,20 @@ octets-listed r at s =
     let n = firstOf (readChecks s) in
     read-case r at (eqb n 0) n (headerOf s) (first-listed endNumbers (readChecks s) refl refl)
 
-page-end-listed : (r : Relay) (port : ℕ) (octets : List ℕ) (room : ℕ) → EndListed (endingOf r port octets room)
+page-end-listed : (r : Relay) (port second : ℕ) (octets : List ℕ) (room : ℕ) → EndListed (endingOf r port second octets room)
 unfolding endingOf callChecks
-page-end-listed r port octets room =
-    let n = firstOf (callChecks r port room) in
-    either EndListed (eqb n 0) (octets-listed r (arrivalAt r port) octets) (first-listed endNumbers (callChecks r port room) refl refl)
+page-end-listed r port second octets room =
+    let n = firstOf (callChecks r port second room) in
+    either EndListed (eqb n 0) (octets-listed r (arrivalAt r port) octets) (first-listed endNumbers (callChecks r port second room) refl refl)
 
-pub end-listed : (seat : Seat) (rs : List Record) (port : ℕ) (octets : List ℕ) (room : ℕ) → EndListed (heardBy seat rs port octets room)
-end-listed seat rs port octets room = heard-so seat rs port octets room EndListed refl (page-end-listed (relayWith seat rs) port octets room)
+pub end-listed : (seat : Seat) (rs : List Record) (port second : ℕ) (octets : List ℕ) (room : ℕ) → EndListed (heardBy seat rs port second octets room)
+end-listed seat rs port second octets room = heard-so seat rs port second octets room EndListed refl (page-end-listed (relayWith seat rs) port second octets room)
 
 -- ---- the local half
 abbrev isNo : Local → Bool
 isNo No = true
 isNo Delivered = false
 isNo Unknown = false
-
-no-is : (local : Local) → isNo local ≡ true → local ≡ No
-no-is No h = refl
-no-is Delivered h = true-false (sym h)
-no-is Unknown h = true-false (sym h)
 
 -- ---- the onward half: not for us, 9, only where the local half is no
 abbrev isOurs : Obstacle → Bool
@@ -149,6 +146,7 @@ isOurs NoRoute = true
 isOurs LeavesDomain = true
 isOurs TooBig = true
 isOurs QueuesFull = true
+isOurs PairsHeld = true
 
 abbrev numbered : Bool → Wish → Bool
 numbered bare NotAsked = true
@@ -199,51 +197,46 @@ host-numbered target.Group local = unheard-numbered local
 host-numbered target.Path local = unheard-numbered local
 host-numbered target.Route local = unheard-numbered local
 
+-- a flood's line says 30 or 11 of its own
+flood-numbered : (bare : Bool) (f : Flood) (others : ℕ) (l : Wish) → numbered bare l ≡ true → numbered bare (floodLine f others l) ≡ true
+flood-numbered bare Plain others l h = h
+flood-numbered bare Unsent others l h = refl
+flood-numbered bare Full others l h = other bare PairsHeld refl
+flood-numbered bare (New place) others l h = either (Numbered bare) (eqb others 0) (other bare NoRoute refl) refl
+
 line-numbered : (t : Target) (p : Place) (w : Way) (c : Case) (ready : ℕ) (local : Local)
     → numbered (isNo local) (lineOf t p w c ready local) ≡ true
-unfolding lineOf
+unfolding lineOf plainLine
 line-numbered t p w c ready local =
-    either (Numbered (isNo local)) (eqb (c .router) 0) (host-numbered t local) (router-numbered (isNo local) t p w (c .arrival) ready)
+    flood-numbered (isNo local) (c .flood) (exceptBy ready (c .arrival)) _
+    (either (Numbered (isNo local)) (eqb (c .router) 0) (host-numbered t local) (router-numbered (isNo local) t p w (c .arrival) ready))
 
--- and "no" with "not asked" never occurs
-abbrev good : Bool → Wish → Bool
-good bare NotAsked = not bare
-good bare (Refused o) = bare || isOurs o
-good bare (Wanted set) = true
+-- what strikes ports out leaves so what holds of its own obstacles and of all ports wanted
+module _ (P : Wish → Type 0) (hops : P (Refused HopsUsedUp)) (domain : P (Refused LeavesDomain)) (size : P (Refused TooBig)) (ports : (set : ℕ) → P (Wanted set)) where
+  hops-keeps : (l : Wish) (spent : ℕ) → P l → P (afterHops l spent)
+  hops-keeps NotAsked spent h = h
+  hops-keeps (Refused o) spent h = h
+  hops-keeps (Wanted set) spent h = either P (eqb spent 0) h hops
 
-line-good : (bare : Bool) (l : Wish) → numbered bare l ≡ true → (bare ≡ true → l ≡ NotAsked → ⊥) → good bare l ≡ true
-line-good true NotAsked h asked = absurd (asked refl refl)
-line-good false NotAsked h asked = refl
-line-good bare (Refused n) h asked = h
-line-good bare (Wanted set) h asked = refl
+  domain-keeps : (l : Wish) (bound near : ℕ) → P l → P (afterDomain l bound near)
+  domain-keeps NotAsked bound near h = h
+  domain-keeps (Refused o) bound near h = h
+  domain-keeps (Wanted set) bound near h = either P (eqb bound 0) h (either P (eqb (bitAnd set near) 0) domain (ports (bitAnd set near)))
 
--- what strikes ports out leaves it so
-module _ (bare : Bool) where
-  abbrev Good : Wish → Type 0
-  Good l = good bare l ≡ true
+  size-keeps : (l : Wish) (fitting : ℕ) → P l → P (afterSize l fitting)
+  size-keeps NotAsked fitting h = h
+  size-keeps (Refused o) fitting h = h
+  size-keeps (Wanted set) fitting h = either P (eqb (bitAnd set fitting) 0) size (ports (bitAnd set fitting))
 
-  hops-good : (l : Wish) (spent : ℕ) → Good l → Good (afterHops l spent)
-  hops-good NotAsked spent h = h
-  hops-good (Refused n) spent h = h
-  hops-good (Wanted set) spent h = either Good (eqb spent 0) refl (other bare HopsUsedUp refl)
-
-  domain-good : (l : Wish) (bound domain : ℕ) → Good l → Good (afterDomain l bound domain)
-  domain-good NotAsked bound domain h = h
-  domain-good (Refused n) bound domain h = h
-  domain-good (Wanted set) bound domain h =
-      either Good (eqb bound 0) refl (either Good (eqb (bitAnd set domain) 0) (other bare LeavesDomain refl) refl)
-
-  size-good : (l : Wish) (fitting : ℕ) → Good l → Good (afterSize l fitting)
-  size-good NotAsked fitting h = h
-  size-good (Refused n) fitting h = h
-  size-good (Wanted set) fitting h = either Good (eqb (bitAnd set fitting) 0) (other bare TooBig refl) refl
-
-  granted-good : (l : Wish) (c : Case) (s : Survey) → Good l → Good (grantedOf l c s)
+  pub granted-keeps : (l : Wish) (c : Case) (s : Survey) → P l → P (grantedOf l c s)
   unfolding grantedOf
-  granted-good l c s h =
-      let hops = afterHops l (c .spent) in
-      let domain = afterDomain hops (c .bound) (s .domain) in
-      size-good domain (s .fitting) (domain-good hops (c .bound) (s .domain) (hops-good l (c .spent) h))
+  granted-keeps l c s h =
+      let hopped = afterHops l (c .spent) in
+      let near = afterDomain hopped (c .bound) (s .domain) in
+      size-keeps near (s .fitting) (domain-keeps hopped (c .bound) (s .domain) (hops-keeps l (c .spent) h))
+
+granted-numbered : (bare : Bool) (l : Wish) (c : Case) (s : Survey) → Numbered bare l → Numbered bare (grantedOf l c s)
+granted-numbered bare = granted-keeps (Numbered bare) (other bare HopsUsedUp refl) (other bare LeavesDomain refl) (other bare TooBig refl) (λ set. refl)
 
 -- ---- the rows of a datagram that was judged
 abbrev Judged : Ruling → Type 0
@@ -253,48 +246,50 @@ Judged x = stands endingRows (ended 0 (localNumber (x .local)) (onwardNumber (x 
 abbrev sent : Bool → ℕ
 sent none = onwardNumber (pick none (onward.Refused QueuesFull) onward.SentOn)
 
--- what holds of the six numbers of obstacles holds of any obstacle's
-pub each-obstacle : (P : ℕ → Type 0) → P 9 × (P 10 × (P 11 × (P 13 × (P 14 × P 15)))) → (o : Obstacle) → P (obstacleNumber o)
+-- what holds of the seven numbers of obstacles holds of any obstacle's
+pub each-obstacle : (P : ℕ → Type 0) → P 9 × (P 10 × (P 11 × (P 13 × (P 14 × (P 15 × P 30))))) → (o : Obstacle) → P (obstacleNumber o)
 each-obstacle P h NotForUs = h .0
 each-obstacle P h HopsUsedUp = h .1 .0
 each-obstacle P h NoRoute = h .1 .1 .0
 each-obstacle P h LeavesDomain = h .1 .1 .1 .0
 each-obstacle P h TooBig = h .1 .1 .1 .1 .0
-each-obstacle P h QueuesFull = h .1 .1 .1 .1 .1
+each-obstacle P h QueuesFull = h .1 .1 .1 .1 .1 .0
+each-obstacle P h PairsHeld = h .1 .1 .1 .1 .1 .1
 
 -- not delivered: any obstacle
 sent-not-delivered : (t : Bool) (took : ℕ) → eqb took 0 ≡ t → stands endingRows (ended 0 0 (sent t) took) ≡ true
 sent-not-delivered true took h = simp (h)
 sent-not-delivered false took h = simp (h)
 
-not-delivered : (l : Wish) (full : ℕ) → good true l ≡ true → Judged (rulingOf No l full)
+not-delivered : (l : Wish) (full : ℕ) → Judged (rulingOf No l full)
 unfolding rulingOf copiesOf
-not-delivered NotAsked full h = true-false (sym h)
-not-delivered (Refused o) full h = each-obstacle (λ (n : ℕ). stands endingRows (ended 0 0 n 0) ≡ true) (refl, (refl, (refl, (refl, (refl, refl))))) o
-not-delivered (Wanted set) full h = sent-not-delivered (eqb (exceptBy set full) 0) (exceptBy set full) refl
+not-delivered NotAsked full = refl
+not-delivered (Refused o) full = each-obstacle (λ (n : ℕ). stands endingRows (ended 0 0 n 0) ≡ true) (refl, (refl, (refl, (refl, (refl, (refl, refl)))))) o
+not-delivered (Wanted set) full = sent-not-delivered (eqb (exceptBy set full) 0) (exceptBy set full) refl
 
 -- delivered or 26: any obstacle but that it is not for us
-ours-listed : (o : Obstacle) → isOurs o ≡ true → listed (0 ∷ 11 ∷ 10 ∷ 13 ∷ 14 ∷ 15 ∷ []) (obstacleNumber o) ≡ true
+ours-listed : (o : Obstacle) → isOurs o ≡ true → listed (0 ∷ 30 ∷ 11 ∷ 10 ∷ 13 ∷ 14 ∷ 15 ∷ []) (obstacleNumber o) ≡ true
 ours-listed NotForUs h = true-false (sym h)
 ours-listed HopsUsedUp h = refl
 ours-listed NoRoute h = refl
 ours-listed LeavesDomain h = refl
 ours-listed TooBig h = refl
 ours-listed QueuesFull h = refl
+ours-listed PairsHeld h = refl
 
 module _ (local : Local) (bare : eqb (localNumber local) 0 ≡ false) (yes : listed (1 ∷ 26 ∷ []) (localNumber local) ≡ true) where
   sent-delivered : (t : Bool) (took : ℕ) → eqb took 0 ≡ t → stands endingRows (ended 0 (localNumber local) (sent t) took) ≡ true
   sent-delivered true took h = simp (bare, yes, h)
   sent-delivered false took h = simp (bare, yes, h)
 
-  delivered : (l : Wish) (full : ℕ) → good false l ≡ true → Judged (rulingOf local l full)
+  delivered : (l : Wish) (full : ℕ) → numbered false l ≡ true → Judged (rulingOf local l full)
   unfolding rulingOf copiesOf
   delivered NotAsked full h = simp (bare, yes)
   delivered (Refused o) full h = let k = ours-listed o h in simp (bare, yes, k)
   delivered (Wanted set) full h = sent-delivered (eqb (exceptBy set full) 0) (exceptBy set full) refl
 
-local-case : (local : Local) (l : Wish) (full : ℕ) → good (isNo local) l ≡ true → Judged (rulingOf local l full)
-local-case No l full k = not-delivered l full k
+local-case : (local : Local) (l : Wish) (full : ℕ) → numbered (isNo local) l ≡ true → Judged (rulingOf local l full)
+local-case No l full k = not-delivered l full
 local-case Delivered l full k = delivered Delivered refl refl l full k
 local-case Unknown l full k = delivered Unknown refl refl l full k
 
@@ -303,10 +298,7 @@ unfolding ruledBy
 judged t p w c s =
     let local = localOf t p c in
     let line = lineOf t p w c (s .ready) local in
-    let bare = isNo local in
-    let asked : bare ≡ true → line ≡ NotAsked → ⊥ = λ z. no-is-asked t p w c (s .ready) (no-is local z) in
-    local-case local (grantedOf line c s) (s .full)
-    (granted-good bare line c s (line-good bare line (line-numbered t p w c (s .ready) local) asked))
+    local-case local (grantedOf line c s) (s .full) (granted-numbered (isNo local) line c s (line-numbered t p w c (s .ready) local))
 
 -- ---- what holds of every ruling holds of every ending
 
@@ -323,7 +315,7 @@ module _ (P : Ruling → Type 0)
 
   every-rule : (r : Relay) (at : Arrival) (x : Aim) (h : Header) → P (ruleOf r at x h)
   unfolding ruleOf
-  every-rule r at x h = every-aim r (soughtOf (legFor r at x h)) x (caseOf (r .router) (at .set) (h .fields))
+  every-rule r at x h = every-aim r (soughtOf (legFor r at x h)) x (caseOf (r .router) (at .set) (h .fields) (floodFor r at x h))
 
   ended-or : (t : Bool) (n : ℕ) (e : Ending) → eqb n 0 ≡ t → (e .refusal ≡ 0 → P (e .ruling)) → pick t e (refusedBy n) .refusal ≡ 0 → P (pick t e (refusedBy n) .ruling)
   ended-or true n e z f h = f h
@@ -337,48 +329,48 @@ module _ (P : Ruling → Type 0)
   ended-read r at s (read.Refused n) e z = absurd (never-zero s (e ∙ ap read.Refused z))
 
   -- of every call that no refusal ended
-  pub of-every-ending : (r : Relay) (port : ℕ) (octets : List ℕ) (room : ℕ)
-      → endingOf r port octets room .refusal ≡ 0 → P (endingOf r port octets room .ruling)
+  pub of-every-ending : (r : Relay) (port second : ℕ) (octets : List ℕ) (room : ℕ)
+      → endingOf r port second octets room .refusal ≡ 0 → P (endingOf r port second octets room .ruling)
   unfolding endingOf
-  of-every-ending r port octets room z =
-      let n = firstOf (callChecks r port room) in
+  of-every-ending r port second octets room z =
+      let n = firstOf (callChecks r port second room) in
       ended-or (eqb n 0) n (octetsEnding r (arrivalAt r port) (readOf octets)) refl
       (ended-read r (arrivalAt r port) octets (readOf octets) refl) z
 
   -- of every call, where it is one of no ruling too
-  any-case : P noRuling → (r : Relay) (port : ℕ) (octets : List ℕ) (room : ℕ) (t : Bool) → eqb (endingOf r port octets room .refusal) 0 ≡ t
-      → P (endingOf r port octets room .ruling)
-  any-case none r port octets room true z = of-every-ending r port octets room (eqb-true (endingOf r port octets room .refusal) 0 z)
-  any-case none r port octets room false z =
-      rw (refused-grants-nothing r port octets room (eqb-false (endingOf r port octets room .refusal) 0 z)) none
+  any-case : P noRuling → (r : Relay) (port second : ℕ) (octets : List ℕ) (room : ℕ) (t : Bool) → eqb (endingOf r port second octets room .refusal) 0 ≡ t
+      → P (endingOf r port second octets room .ruling)
+  any-case none r port second octets room true z = of-every-ending r port second octets room (eqb-true (endingOf r port second octets room .refusal) 0 z)
+  any-case none r port second octets room false z =
+      rw (refused-grants-nothing r port second octets room (eqb-false (endingOf r port second octets room .refusal) 0 z)) none
 
-  pub of-any-ending : P noRuling → (r : Relay) (port : ℕ) (octets : List ℕ) (room : ℕ) → P (endingOf r port octets room .ruling)
-  of-any-ending none r port octets room = any-case none r port octets room _ refl
+  pub of-any-ending : P noRuling → (r : Relay) (port second : ℕ) (octets : List ℕ) (room : ℕ) → P (endingOf r port second octets room .ruling)
+  of-any-ending none r port second octets room = any-case none r port second octets room _ refl
 
-judged-ending : (r : Relay) (port : ℕ) (octets : List ℕ) (room : ℕ) → endingOf r port octets room .refusal ≡ 0 → Judged (endingOf r port octets room .ruling)
+judged-ending : (r : Relay) (port second : ℕ) (octets : List ℕ) (room : ℕ) → endingOf r port second octets room .refusal ≡ 0 → Judged (endingOf r port second octets room .ruling)
 judged-ending = of-every-ending Judged (λ r x q t p w c. judged t p w c (surveyOf r (destinationAsked x) q))
 
 -- ---- receiving
 refused-row : (n : ℕ) → eqb n 0 ≡ false → listed endNumbers n ≡ true → stands endingRows (ended n 0 0 0) ≡ true
 refused-row n z h = let k : listed refusals n ≡ true = rw z at h in row-first _ _ k
 
-ended-case : (r : Relay) (port : ℕ) (octets : List ℕ) (room : ℕ) (t : Bool) → eqb (endingOf r port octets room .refusal) 0 ≡ t
-    → stands endingRows (ofEnding (endingOf r port octets room) .answer) ≡ true
-ended-case r port octets room true z =
-    let n = eqb-true (endingOf r port octets room .refusal) 0 z in
-    rw n (judged-ending r port octets room n)
-ended-case r port octets room false z =
-    let e = endingOf r port octets room in
-    let none = refused-grants-nothing r port octets room (eqb-false (e .refusal) 0 z) in
+ended-case : (r : Relay) (port second : ℕ) (octets : List ℕ) (room : ℕ) (t : Bool) → eqb (endingOf r port second octets room .refusal) 0 ≡ t
+    → stands endingRows (ofEnding (endingOf r port second octets room) .answer) ≡ true
+ended-case r port second octets room true z =
+    let n = eqb-true (endingOf r port second octets room .refusal) 0 z in
+    rw n (judged-ending r port second octets room n)
+ended-case r port second octets room false z =
+    let e = endingOf r port second octets room in
+    let none = refused-grants-nothing r port second octets room (eqb-false (e .refusal) 0 z) in
     ap (λ (x : Ruling). stands endingRows (ended (e .refusal) (localNumber (x .local)) (onwardNumber (x .onward)) (x .took))) none
-    ∙ refused-row (e .refusal) z (page-end-listed r port octets room)
+    ∙ refused-row (e .refusal) z (page-end-listed r port second octets room)
 
 -- Every ending stands in the table's rows of a receive.
-pub every-ending-is-listed : (seat : Seat) (rs : List Record) (port : ℕ) (octets : List ℕ) (room : ℕ)
-    → stands endingRows (ofEnding (heardBy seat rs port octets room) .answer) ≡ true
-every-ending-is-listed seat rs port octets room =
-    heard-so seat rs port octets room (λ (e : Ending). stands endingRows (ofEnding e .answer) ≡ true) refl
-    (ended-case (relayWith seat rs) port octets room _ refl)
+pub every-ending-is-listed : (seat : Seat) (rs : List Record) (port second : ℕ) (octets : List ℕ) (room : ℕ)
+    → stands endingRows (ofEnding (heardBy seat rs port second octets room) .answer) ≡ true
+every-ending-is-listed seat rs port second octets room =
+    heard-so seat rs port second octets room (λ (e : Ending). stands endingRows (ofEnding e .answer) ≡ true) refl
+    (ended-case (relayWith seat rs) port second octets room _ refl)
 
 -- 12 is given nowhere: it ends no call, and is no onward half (page 02, W-204).
 unended : (e : Ending) → stands endingRows (ofEnding e .answer) ≡ true → e .refusal ≡ 12 → ⊥
@@ -387,13 +379,13 @@ unended e h is = true-false (sym h ∙ rw is)
 onward-not-twelve : (x : Onward) → eqb (onwardNumber x) 12 ≡ false
 onward-not-twelve onward.NotAsked = refl
 onward-not-twelve onward.SentOn = refl
-onward-not-twelve (onward.Refused o) = each-obstacle (λ (n : ℕ). eqb n 12 ≡ false) (refl, (refl, (refl, (refl, (refl, refl))))) o
+onward-not-twelve (onward.Refused o) = each-obstacle (λ (n : ℕ). eqb n 12 ≡ false) (refl, (refl, (refl, (refl, (refl, (refl, refl)))))) o
 
-pub never-twelve : (seat : Seat) (rs : List Record) (port : ℕ) (octets : List ℕ) (room : ℕ)
-    → (heardBy seat rs port octets room .refusal ≡ 12 → ⊥) × (onwardNumber (heardBy seat rs port octets room .ruling .onward) ≡ 12 → ⊥)
-never-twelve seat rs port octets room =
-    let e = heardBy seat rs port octets room in (
-      unended e (every-ending-is-listed seat rs port octets room),
+pub never-twelve : (seat : Seat) (rs : List Record) (port second : ℕ) (octets : List ℕ) (room : ℕ)
+    → (heardBy seat rs port second octets room .refusal ≡ 12 → ⊥) × (onwardNumber (heardBy seat rs port second octets room .ruling .onward) ≡ 12 → ⊥)
+never-twelve seat rs port second octets room =
+    let e = heardBy seat rs port second octets room in (
+      unended e (every-ending-is-listed seat rs port second octets room),
       eqb-false (onwardNumber (e .ruling .onward)) 12 (onward-not-twelve (e .ruling .onward)),
     )
 
@@ -411,6 +403,7 @@ pub order-listed : (b : Board) (o : Order) → stands (numbers (orderNumbers o) 
 order-listed b (setRouter x) = number-row (0 ∷ 24 ∷ []) (routerChecks x) refl refl
 order-listed b (setPort p address mask mtu mission) =
     number-row (0 ∷ 21 ∷ 25 ∷ 22 ∷ 24 ∷ 35 ∷ []) (portChecks b p address mask mtu mission) refl refl
+order-listed b (setLifetime x) = number-row (0 ∷ []) [] refl refl
 order-listed b (setRoute rs i prefix mask port availability capabilities mission) =
     number-row (0 ∷ 21 ∷ 22 ∷ 24 ∷ 23 ∷ []) (routeChecks b rs i (newRecord prefix mask port availability capabilities mission)) refl refl
 order-listed b (clearRoute rs i) = number-row (0 ∷ 21 ∷ []) (clearRouteChecks rs i) refl refl
@@ -424,17 +417,3 @@ setting-listed r (clearPath i) = number-row (0 ∷ 21 ∷ []) (clearChecks i 16)
 pub taking-listed : (seat : Seat) (port : ℕ) → stands (ownRows (takes port)) (ownOutcome seat (takes port) .answer) ≡ true
 unfolding takeOutcome
 taking-listed seat port = taken-case port (not (portSetUp (relayIn seat) port)) (takeOf (queueIn (relayIn seat) port) .head)
-
--- "No" with "not asked" never occurs: no row has it.
-unsaid : (x : Ruling) → Judged x → x .local ≡ No → x .onward ≡ onward.NotAsked → ⊥
-unsaid x h z o = true-false (sym h ∙ rw (z, o))
-
-pub never-unsaid : (seat : Seat) (rs : List Record) (port : ℕ) (octets : List ℕ) (room : ℕ)
-    → heardBy seat rs port octets room .refusal ≡ 0
-    → heardBy seat rs port octets room .ruling .local ≡ No
-    → heardBy seat rs port octets room .ruling .onward ≡ onward.NotAsked
-    → ⊥
-never-unsaid seat rs port octets room =
-    heard-so seat rs port octets room (λ (e : Ending). e .refusal ≡ 0 → e .ruling .local ≡ No → e .ruling .onward ≡ onward.NotAsked → ⊥)
-    (λ z l o. eqb-false 21 0 refl z)
-    (λ z. unsaid (endingOf (relayWith seat rs) port octets room .ruling) (judged-ending (relayWith seat rs) port octets room z))

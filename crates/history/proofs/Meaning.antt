@@ -25,8 +25,8 @@ use Rattle.page.proofs.Sought.{Passed, granted-fits}
 
 -- what the header of a copy that port p is granted is written by: whether the port lies in another domain, and what the route taken asks for, by any
 -- comparison that so chooses
-module _ (more : Route → Route → Bool) (r : Relay) (chooses : Chooses more r) (p : ℕ) (inside : p < 8) (port : ℕ) (octets : List ℕ) (room : ℕ) (h : Header)
-    (good : readOf octets ≡ Good h) (copy : inSet p (endingOf r port octets room .ruling .granted) ≡ true) where
+module _ (more : Route → Route → Bool) (r : Relay) (chooses : Chooses more r) (p : ℕ) (inside : p < 8) (port second : ℕ) (octets : List ℕ) (room : ℕ) (h : Header)
+    (good : readOf octets ≡ Good h) (copy : inSet p (endingOf r port second octets room .ruling .granted) ≡ true) where
   abbrev far : Bool
   far = liesFar r port p
 
@@ -34,18 +34,18 @@ module _ (more : Route → Route → Bool) (r : Relay) (chooses : Chooses more r
   arrival = portIn r port .address .0
 
   abbrev code : ℕ
-  code = verdictBy more r port octets room .code
+  code = verdictBy more r port second octets room .code
 
   -- It has passed all that the tables ask.
   pub has-passed : Passed r port h code p
   has-passed =
       subst (λ (x : Header). Passed r port x code p) (sym (read-good octets h .0 good .1))
-      (granted-fits r port octets room p inside more chooses copy)
+      (granted-fits r port second octets room p inside more chooses copy)
 
   -- The port that it came in by is set up.
   pub arrival-set-up : portSetUp r port ≡ true
   unfolding stepRows
-  arrival-set-up = not-false (portSetUp r port) (granted-exactly r port octets room more chooses p inside .0 copy .0 .0)
+  arrival-set-up = not-false (portSetUp r port) (granted-exactly r port second octets room more chooses p inside .0 copy .0 .0)
 
   home : far ≡ false → domainOf (portIn r p .address) ≡ domainOf (portIn r port .address)
   home near = eqb-true (domainOf (portIn r p .address)) (domainOf (portIn r port .address)) (not-false _ near)

@@ -36,6 +36,7 @@ withAssigned c n =
       assigned = n;
       bound = c .bound;
       spent = c .spent;
+      flood = c .flood;
     }
 
 pub onward-free-of-tpid : (t : Target) (p : Place) (w : Way) (c : Case) (n : ℕ) (s : Survey)
@@ -45,4 +46,4 @@ onward-free-of-tpid t p w c n s =
     let d = withAssigned c n in
     let struck : Wish → Wish = λ l. afterSize (afterDomain (afterHops l (c .spent)) (c .bound) (s .domain)) (s .fitting) in
     any-local (localOf t p c) (localOf t p d) (struck (lineOf t p w c (s .ready) (localOf t p c))) (s .full)
-    ∙ ap (λ (l : Wish). onwardHalf (rulingOf (localOf t p d) (struck l) (s .full))) (tpid-free t p w c d (s .ready) refl refl refl)
+    ∙ ap (λ (l : Wish). onwardHalf (rulingOf (localOf t p d) (struck l) (s .full))) (tpid-free t p w c d (s .ready) refl refl refl refl)

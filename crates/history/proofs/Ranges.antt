@@ -1,8 +1,8 @@
 -- After any history what the board and a mission hold is in the ranges that include/harpjuniper.h promises: `in-range` of both, `idle-line` and
--- `waiting-fits` of the copies that wait, `taken-fits` of what a take hands out. The last two ask that the history is one that C can make: precedence is
--- read from an octet. Assumes nothing.
+-- `waiting-fits` of the copies that wait, `taken-fits` of what a take hands out, `seconds-fit` of the words that seconds and the lifetime are kept in. The
+-- last three ask that the history is one that C can make: precedence is read from an octet. Assumes nothing.
 use native.Mathlib.Omega.{arith}
-use Prim.Native.Nat.{ℕ, zero, suc, _<_, _≤_, _%_}
+use Prim.Native.Nat.{ℕ, zero, suc, _<_, _≤_, _%_, _^_}
 use mathlib.Core.Path.{_≡_, refl, sym, ap, _∙_}
 use mathlib.Core.Bool.{Bool, true, false}
 use mathlib.Core.List.{List, [], _∷_}
@@ -12,7 +12,7 @@ use native.Mathlib.Nat.{div-eq-of-lt, lt-of-lt-of-le, lt-of-not-le}
 use native.Mathlib.Decide.{decLe}
 use mathlib.Core.Logic.{by-cases}
 use lib.Pow.{pow-mono}
-use borrow.Author.Tests.{ltb-true}
+use borrow.Author.Tests.{ltb-true, ltb-false}
 use Rattle.checks.specs.Order.{pick, firstOf}
 use Rattle.checks.proofs.Bools.{true-false, refuted, and-true, not-false}
 use Rattle.checks.proofs.Laws.{either}
@@ -32,19 +32,23 @@ use Rattle.queue.specs.Order.{Each}
 use Rattle.queue.specs.Waits.{Chosen, nobody, one, chosen, rankBy}
 use Rattle.queue.specs.declared.Entry.{Entry}
 use Rattle.queue.proofs.Waits.{EachOf, chosen-each, waits-count}
-use Rattle.records.specs.Fresh.{freshOwned, freshGroup, freshPath}
+use Rattle.records.specs.Fresh.{freshOwned, freshGroup, freshPath, freshPair}
 use Rattle.records.specs.Owned.{isMission}
 use Rattle.records.specs.declared.OwnedPort.{OwnedPort}
 use Rattle.records.specs.declared.Group.{Group}
 use Rattle.records.specs.declared.PathPlace.{PathPlace}
+use Rattle.records.specs.declared.Pair.{Pair}
+use Rattle.records.specs.declared.PairPlace.{PairPlace}
 use Rattle.routes.specs.declared.Record.{Record}
-use Rattle.state.specs.Relay.{Mission, Relay, portIn, groupAt, pathAt, putGroup, putPath, portSetUp}
-use Rattle.state.specs.Seen.{Board, freshBoard, freshMission, ownedAt}
+use Rattle.state.specs.Relay.{Mission, Memory, Relay, portIn, groupAt, pathAt, pairAt, putGroup, putPath, putLast, putPair, portSetUp}
+use Rattle.state.specs.Seen.{Board, freshBoard, freshMission, freshMemory, ownedAt}
 use Rattle.refusals.specs.Lists.{portChecks, pathChecks}
 use Rattle.refusals.proofs.Chains.{decided}
 use Rattle.adjust.specs.Settled.{newPort}
 use Rattle.taking.specs.Taking.{takeOutcome}
 use Rattle.taking.specs.declared.Taking.the-variants.{Handed}
+use Rattle.floods.specs.Sweep.{isOld, isPast, swept, sweepChecks, sweptMemory}
+use Rattle.floods.proofs.Swept.{place-swept}
 use Rattle.judge.specs.Ending.{refusedBy, callChecks, ruledEnding, headerEnding, octetsEnding, arrivalAt, endingOf}
 use Rattle.judge.specs.declared.Ending.{Ending}
 use Rattle.history.specs.Seat.{Seat, freshSeat, relayIn, relayWith, heardBy}
@@ -52,6 +56,7 @@ use Rattle.history.specs.Calls.{
   Order,
   setRouter,
   setPort,
+  setLifetime,
   setRoute,
   clearRoute,
   orders,
@@ -65,6 +70,7 @@ use Rattle.history.specs.Calls.{
   sets,
   hears,
   takes,
+  sweeps,
   looks,
   Call,
   operator,
@@ -76,9 +82,10 @@ use Rattle.history.specs.Calls.{
 }
 use Rattle.history.specs.Outcome.{Out, nothing, from, nextMission, outcome, next, runFrom, seatAfter}
 use Rattle.history.specs.Line.{Copy, entryOf, copyOf, takenBy, leftBy, lineBy, lineFrom, lineAt, takingOf}
-use Rattle.history.specs.Ranges.{Flag, InRange, Octets, Passed, EntryFits, CopyFits}
+use Rattle.history.specs.Ranges.{Flag, InRange, Octets, OrderPassed, Passed, EntryFits, CopyFits}
 use Rattle.history.proofs.Settled.{order-keeps, settle-keeps}
-use Rattle.history.proofs.Heard.{heard-so}
+use Rattle.history.proofs.Heard.{heard-so, hearing-so}
+use Rattle.history.proofs.Remembered.{remembering-so, memory-so}
 use Rattle.history.proofs.Ports.{set-up-stays}
 use Rattle.history.proofs.Reach.{settingsOf, received-settings, taken-settings}
 use Rattle.history.proofs.Small.{sets-small}
@@ -118,6 +125,7 @@ order-flags b f (setPort p address mask mtu mission) taken =
           every-place freshOwned (λ (j : ℕ) (x : OwnedPort). Flag (x .port .ready) × Flag (x .mission)) (b .ports) p (newPort address mask mtu mission)
           (omega arith, ltb-true mission 2 mine) (f .ports);
     }
+order-flags b f (setLifetime x) taken = record { router = f .router; ports = f .ports }
 order-flags b f (setRoute rs i prefix mask port availability capabilities mission) taken = f
 order-flags b f (clearRoute rs i) taken = f
 
@@ -160,9 +168,10 @@ written-flags r f (clearPath i) taken = path-flags (r .mission) f i _ (omega ari
 
 own-flags : (seat : Seat) (c : MissionCall) → OwnFlags (seat .mission) → OwnFlags (nextMission seat c)
 own-flags seat (sets s) f = settle-keeps (λ (x : Relay). OwnFlags (x .mission)) (relayIn seat) s f (written-flags (relayIn seat) f s)
-own-flags seat (hears rs port slot octets output) f =
-    same-flags (seat .mission) f _ (received-settings (relayIn seat) slot (heardBy seat rs port octets (length output)))
+own-flags seat (hears rs port slot second octets output) f =
+    same-flags (seat .mission) f _ (received-settings (relayIn seat) slot (heardBy seat rs port second octets (length output)))
 own-flags seat (takes port) f = same-flags (seat .mission) f _ (taken-settings (relayIn seat) port)
+own-flags seat (sweeps second) f = f
 own-flags seat (looks l) f = f
 
 next-own : (seat : Seat) (c : Call) → OwnFlags (seat .mission) → OwnFlags (next seat c .mission)
@@ -194,8 +203,60 @@ fresh-own =
       paths = all-fresh freshPath (λ (x : PathPlace). Flag (x .filled) × Flag (x .here)) (omega arith, omega arith) 16;
     }
 
+-- ---- what is remembered
+pub record MemoryFits (k : Memory) : Type 0 where
+  pub formats : (i : ℕ) → pairAt k i .pair .format < 4
+  pub seconds : (i : ℕ) → pairAt k i .second ≤ k .last
+
+module _ (k : Memory) (f : MemoryFits k) (second : ℕ) (now : isPast k second ≡ false) where
+  -- no pair is younger than a second that is accepted
+  not-younger : (i : ℕ) → pairAt k i .second ≤ second
+  not-younger i = omega (arith, f .seconds i, ltb-false second (k .last) now)
+
+  accepted-fits : MemoryFits (putLast k second)
+  accepted-fits = record { formats = f .formats; seconds = not-younger }
+
+  kept-fits : (place : ℕ) (q : Pair) → q .format < 4 → MemoryFits (putPair (putLast k second) place (record { pair = q; second = second }))
+  kept-fits place q small =
+      record {
+        formats = every-place freshPair (λ (j : ℕ) (x : PairPlace). x .pair .format < 4) (k .pairs) place _ small (f .formats);
+        seconds = every-place freshPair (λ (j : ℕ) (x : PairPlace). x .second ≤ second) (k .pairs) place _ (omega arith) not-younger;
+      }
+
+  swept-fits : (lifetime : ℕ) → MemoryFits (swept lifetime second k)
+  unfolding swept
+  swept-fits lifetime =
+      record {
+        formats =
+            λ i.
+            rw (place-swept lifetime second k i)
+            (either (λ (x : PairPlace). x .pair .format < 4) (isOld lifetime second (pairAt k i)) (omega arith) (f .formats i));
+        seconds =
+            λ i.
+            rw (place-swept lifetime second k i)
+            (either (λ (x : PairPlace). x .second ≤ second) (isOld lifetime second (pairAt k i)) (omega arith) (not-younger i));
+      }
+
+next-memory : (seat : Seat) (c : Call) → MemoryFits (seat .memory) → MemoryFits (next seat c .memory)
+next-memory seat c f =
+    memory-so MemoryFits seat f (accepted-fits (seat .memory) f)
+    (λ second place q now keeping. kept-fits (seat .memory) f second now place q (keeping .format))
+    (λ second now. swept-fits (seat .memory) f second now (seat .board .lifetime)) c
+
+all-memory : (cs : List Call) (seat : Seat) → MemoryFits (seat .memory) → MemoryFits (runFrom seat cs .memory)
+all-memory [] seat f = f
+all-memory (c ∷ cs) seat f = all-memory cs (next seat c) (next-memory seat c f)
+
+fresh-memory : MemoryFits freshMemory
+unfolding freshMemory
+fresh-memory =
+    record {
+      formats = all-fresh freshPair (λ (x : PairPlace). x .pair .format < 4) (omega arith) 64;
+      seconds = all-fresh freshPair (λ (x : PairPlace). x .second ≤ 0) (omega arith) 64;
+    }
+
 -- ---- what holds of every refusal, and of the ending of every header that is read, holds of the ending
-module _ (P : Ending → Type 0) (none : (n : ℕ) → P (refusedBy n)) (r : Relay) (port : ℕ) (octets : List ℕ)
+module _ (P : Ending → Type 0) (none : (n : ℕ) → P (refusedBy n)) (r : Relay) (port second : ℕ) (octets : List ℕ)
     (ruled : (h : Header) → readOf octets ≡ read.Good h → P (ruledEnding r (arrivalAt r port) h)) where
   octets-so : (x : Read) → readOf octets ≡ x → P (octetsEnding r (arrivalAt r port) x)
   unfolding headerEnding
@@ -204,30 +265,30 @@ module _ (P : Ending → Type 0) (none : (n : ℕ) → P (refusedBy n)) (r : Rel
       either P (eqb n 0) (ruled h is) (none n)
   octets-so (read.Refused n) is = none n
 
-  ending-so : (room : ℕ) → P (endingOf r port octets room)
+  ending-so : (room : ℕ) → P (endingOf r port second octets room)
   unfolding endingOf
   ending-so room =
-      let n = firstOf (callChecks r port room) in
+      let n = firstOf (callChecks r port second room) in
       either P (eqb n 0) (octets-so (readOf octets) refl) (none n)
 
 -- ---- a port that takes an entry is one of the eight, and set up
-module _ (seat : Seat) (rs : List Record) (p port : ℕ) (octets : List ℕ) (room : ℕ) where
-  none-beyond : 8 ≤ p → inSet p (heardBy seat rs port octets room .ruling .took) ≡ false
+module _ (seat : Seat) (rs : List Record) (p port second : ℕ) (octets : List ℕ) (room : ℕ) where
+  none-beyond : 8 ≤ p → inSet p (heardBy seat rs port second octets room .ruling .took) ≡ false
   none-beyond h =
-      ap (λ (n : ℕ). eqb (n % 2) 1) (div-eq-of-lt (lt-of-lt-of-le (sets-small seat rs port octets room .took) (pow-mono {i = 8} {j = p} h)))
+      ap (λ (n : ℕ). eqb (n % 2) 1) (div-eq-of-lt (lt-of-lt-of-le (sets-small seat rs port second octets room .took) (pow-mono {i = 8} {j = p} h)))
 
-  page-up : p < 8 → inSet p (endingOf (relayWith seat rs) port octets room .ruling .took) ≡ true → portSetUp (relayIn seat) p ≡ true
+  page-up : p < 8 → inSet p (endingOf (relayWith seat rs) port second octets room .ruling .took) ≡ true → portSetUp (relayIn seat) p ≡ true
   page-up inside took =
       let r = relayWith seat rs in
-      granted-set-up r port octets room p inside
-      (and-true (inSet p (endingOf r port octets room .ruling .granted)) (hasRoom r p) (sym (took-exactly r port octets room p inside) ∙ took) .0)
+      granted-set-up r port second octets room p inside
+      (and-true (inSet p (endingOf r port second octets room .ruling .granted)) (hasRoom r p) (sym (took-exactly r port second octets room p inside) ∙ took) .0)
 
-  ending-up : inSet p (heardBy seat rs port octets room .ruling .took) ≡ true → portSetUp (relayIn seat) p ≡ true
+  ending-up : inSet p (heardBy seat rs port second octets room .ruling .took) ≡ true → portSetUp (relayIn seat) p ≡ true
   ending-up took =
       by-cases (decLe 8 p)
       (λ h. true-false (sym took ∙ none-beyond h))
       (λ h.
-      heard-so seat rs port octets room (λ (e : Ending). inSet p (e .ruling .took) ≡ true → portSetUp (relayIn seat) p ≡ true)
+      heard-so seat rs port second octets room (λ (e : Ending). inSet p (e .ruling .took) ≡ true → portSetUp (relayIn seat) p ≡ true)
       (λ z. true-false (sym z ∙ in-none p)) (page-up (lt-of-not-le h)) took)
 
 -- ---- nothing waits on a port that is not set up, or not the mission's
@@ -238,11 +299,12 @@ module _ (p : ℕ) where
   enters-none : (seat : Seat) (n : ℕ) (c : Call) → portSetUp (relayIn seat) p ≡ false → takenBy p n seat c ≡ []
   enters-none seat n (operator c) h = refl
   enters-none seat n (own (sets s)) h = refl
-  enters-none seat n (own (hears rs port slot octets output)) h =
-      let e = heardBy seat rs port octets (length output) in
+  enters-none seat n (own (hears rs port slot second octets output)) h =
+      let e = heardBy seat rs port second octets (length output) in
       ap (λ (t : Bool). pick t (copyOf p n seat port slot octets e ∷ []) [])
-      (refuted (inSet p (e .ruling .took)) (λ t. true-false (sym (ending-up seat rs p port octets (length output) t) ∙ h)))
+      (refuted (inSet p (e .ruling .took)) (λ t. true-false (sym (ending-up seat rs p port second octets (length output) t) ∙ h)))
   enters-none seat n (own (takes port)) h = refl
+  enters-none seat n (own (sweeps second)) h = refl
   enters-none seat n (own (looks l)) h = refl
 
   leaves-none : (o : Out) → leftBy p o [] (chosen (rankBy entryOf) []) ≡ []
@@ -274,10 +336,13 @@ pub in-range : (m : ℕ) (cs : List Call) → InRange (seatAfter m cs)
 in-range m cs =
     let b = all-board cs (freshSeat m) fresh-board in
     let o = all-own cs (freshSeat m) fresh-own in
+    let k = all-memory cs (freshSeat m) fresh-memory in
     record {
       flags = record { router = b .router; ports = b .ports; groups = o .groups; paths = o .paths };
       queues = λ p inside. queue-waits p inside m cs .sound .bounded .fits;
       idle = λ p inside h. waits-count entryOf (queue-waits p inside m cs) ∙ ap length (idle-line p m cs h);
+      formats = k .formats;
+      seconds = k .seconds;
     }
 
 -- ---- what waits fits
@@ -285,20 +350,21 @@ asked-fits : (q : Qos) → qosFits q → precedenceAsked q < 16
 asked-fits qos.Absent h = omega arith
 asked-fits (qos.Present precedence routing program) h = h .0
 
-ending-fits : (seat : Seat) (rs : List Record) (port : ℕ) (octets : List ℕ) (room : ℕ) → Octets octets → heardBy seat rs port octets room .precedence < 16
-ending-fits seat rs port octets room small =
-    heard-so seat rs port octets room (λ (e : Ending). e .precedence < 16) (omega arith)
-    (ending-so (λ (e : Ending). e .precedence < 16) (λ n. omega arith) (relayWith seat rs) port octets
+ending-fits : (seat : Seat) (rs : List Record) (port second : ℕ) (octets : List ℕ) (room : ℕ) → Octets octets → heardBy seat rs port second octets room .precedence < 16
+ending-fits seat rs port second octets room small =
+    heard-so seat rs port second octets room (λ (e : Ending). e .precedence < 16) (omega arith)
+    (ending-so (λ (e : Ending). e .precedence < 16) (λ n. omega arith) (relayWith seat rs) port second octets
     (λ h is. asked-fits (h .fields .qos) (read-in-range octets h small is .qos)) room)
 
 module _ (p : ℕ) where
   enters-fits : (seat : Seat) (n : ℕ) (c : Call) → Passed c → Each CopyFits (takenBy p n seat c)
   enters-fits seat n (operator c) passed = tt
   enters-fits seat n (own (sets s)) passed = tt
-  enters-fits seat n (own (hears rs port slot octets output)) passed =
-      let e = heardBy seat rs port octets (length output) in
-      either (Each CopyFits) (inSet p (e .ruling .took)) (((ending-fits seat rs port octets (length output) (passed .1), passed .0), passed .1), tt) tt
+  enters-fits seat n (own (hears rs port slot second octets output)) passed =
+      let e = heardBy seat rs port second octets (length output) in
+      either (Each CopyFits) (inSet p (e .ruling .took)) (((ending-fits seat rs port second octets (length output) (passed .1 .0), passed .0), passed .1 .0), tt) tt
   enters-fits seat n (own (takes port)) passed = tt
+  enters-fits seat n (own (sweeps second)) passed = tt
   enters-fits seat n (own (looks l)) passed = tt
 
   all-fit : (cs : List Call) (n : ℕ) (seat : Seat) (line : List Copy) → Each Passed cs → Each CopyFits line → Each CopyFits (lineFrom p n seat line cs)
@@ -321,3 +387,39 @@ module _ (p : ℕ) where
   taken-fits m cs passed e h =
       handed-case (portSetUp (relayIn (seatAfter m cs)) p) (chosen (rankBy entryOf) (lineAt p m cs)) e
       (chosen-each (rankBy entryOf) CopyFits (lineAt p m cs) (waiting-fits m cs passed)) (sym (take-is m cs p) ∙ h)
+
+-- ---- the words that seconds and a lifetime are kept in
+module _ (seat : Seat) where
+  -- a second that C can pass has 32 bits, and so has the last one
+  next-last : (c : Call) → Passed c → seat .memory .last < 2 ^ 32 → next seat c .memory .last < 2 ^ 32
+  unfolding sweptMemory swept
+  next-last (operator c) passed h = h
+  next-last (own (sets s)) passed h = h
+  next-last (own (hears rs port slot second octets output)) passed h =
+      hearing-so seat rs port second octets (λ e k. k .last < 2 ^ 32) (λ n un. h) (λ now n some heard. passed .1 .1)
+      (λ now g is good. remembering-so (λ (k : Memory). k .last < 2 ^ 32) (seat .memory) second (passed .1 .1) _ _ (λ place new. passed .1 .1)) (length output)
+  next-last (own (takes port)) passed h = h
+  next-last (own (sweeps second)) passed h = either (λ (k : Memory). k .last < 2 ^ 32) (eqb (firstOf (sweepChecks (seat .memory) second)) 0) passed h
+  next-last (own (looks l)) passed h = h
+
+  next-lifetime : (c : Call) → Passed c → seat .board .lifetime < 2 ^ 32 → next seat c .board .lifetime < 2 ^ 32
+  next-lifetime (operator (orders o)) passed h = order-keeps (λ (b : Board). b .lifetime < 2 ^ 32) (seat .board) o h (λ taken. by o passed)
+    where
+      by : (o : Order) → OrderPassed o → boardWritten (seat .board) o .lifetime < 2 ^ 32
+      by (setRouter x) p = h
+      by (setPort q address mask mtu mission) p = h
+      by (setLifetime x) p = p
+      by (setRoute rs i prefix mask port availability capabilities mission) p = h
+      by (clearRoute rs i) p = h
+  next-lifetime (operator (views v)) passed h = h
+  next-lifetime (own c) passed h = h
+
+all-words : (cs : List Call) (seat : Seat) → Each Passed cs → (seat .memory .last < 2 ^ 32) × (seat .board .lifetime < 2 ^ 32)
+    → (runFrom seat cs .memory .last < 2 ^ 32) × (runFrom seat cs .board .lifetime < 2 ^ 32)
+all-words [] seat passed h = h
+all-words (c ∷ cs) seat passed h = all-words cs (next seat c) (passed .1) (next-last seat c (passed .0) (h .0), next-lifetime seat c (passed .0) (h .1))
+
+-- After any history that C can make the last second and the lifetime have 32 bits, and with the last second each that is kept.
+pub seconds-fit : (m : ℕ) (cs : List Call) → Each Passed cs → (seatAfter m cs .memory .last < 2 ^ 32) × (seatAfter m cs .board .lifetime < 2 ^ 32)
+unfolding freshMemory freshBoard
+seconds-fit m cs passed = all-words cs (freshSeat m) passed (omega arith, omega arith)

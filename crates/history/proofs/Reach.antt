@@ -25,8 +25,8 @@ use Rattle.records.specs.SetUp.{isSetUp}
 use Rattle.records.specs.declared.OwnedPort.{OwnedPort}
 use Rattle.records.specs.declared.Group.{Group}
 use Rattle.records.specs.declared.PathPlace.{PathPlace}
-use Rattle.state.specs.Relay.{Mission, Relay, routeIn, groupAt, pathAt, queueIn, putGroup, putPath, portSetUp}
-use Rattle.state.specs.Seen.{Board, freshBoard, freshMission, ownedAt, putOwned}
+use Rattle.state.specs.Relay.{Mission, Memory, Relay, routeIn, groupAt, pathAt, queueIn, putGroup, putPath, portSetUp}
+use Rattle.state.specs.Seen.{Board, freshBoard, freshMission, freshMemory, ownedAt, putOwned}
 use Rattle.listing.proofs.Counting.{seen-taken}
 use Rattle.refusals.specs.Lists.{portChecks, groupChecks, pathChecks}
 use Rattle.refusals.specs.Ready.{readySet}
@@ -48,6 +48,7 @@ use Rattle.history.specs.Calls.{
   Order,
   setRouter,
   setPort,
+  setLifetime,
   setRoute,
   clearRoute,
   orders,
@@ -61,6 +62,7 @@ use Rattle.history.specs.Calls.{
   sets,
   hears,
   takes,
+  sweeps,
   looks,
   Call,
   operator,
@@ -72,7 +74,9 @@ use Rattle.history.specs.Calls.{
 }
 use Rattle.history.specs.Outcome.{nextMission, next, runFrom, seatAfter}
 use Rattle.history.specs.Reach.{RouteGood, Reached}
+use Rattle.floods.proofs.Swept.{swept-length}
 use Rattle.history.proofs.Settled.{order-keeps, settle-keeps}
+use Rattle.history.proofs.Remembered.{memory-so}
 use Rattle.history.proofs.Ports.{ready-is, seen-stays}
 
 -- ---- which ports are set up only grows
@@ -146,6 +150,7 @@ port-kept b k p a m u n taken =
 written-board : (b : Board) → BoardKept b → (o : Order) → firstOf (orderChecks b o) ≡ 0 → BoardKept (boardWritten b o)
 written-board b k (setRouter x) z = record { eight = k .eight; good = k .good }
 written-board b k (setPort p a m u n) z = port-kept b k p a m u n z
+written-board b k (setLifetime x) z = record { eight = k .eight; good = k .good }
 written-board b k (setRoute rs i prefix mask port availability capabilities n) z = k
 written-board b k (clearRoute rs i) z = k
 
@@ -246,30 +251,39 @@ by-settings ready m n k e =
 next-own : (seat : Seat) (c : MissionCall) → OwnKept (readySet (relayIn seat)) (seat .mission) → OwnKept (readySet (relayIn seat)) (nextMission seat c)
 next-own seat (sets s) k =
     settle-keeps (λ (x : Relay). OwnKept (readySet (relayIn seat)) (x .mission)) (relayIn seat) s k (written-own (relayIn seat) k s)
-next-own seat (hears rs port slot octets output) k =
-    by-settings _ _ _ k (received-settings (relayIn seat) slot (heardBy seat rs port octets (length output)))
+next-own seat (hears rs port slot second octets output) k =
+    by-settings _ _ _ k (received-settings (relayIn seat) slot (heardBy seat rs port second octets (length output)))
 next-own seat (takes port) k = by-settings _ _ _ k (taken-settings (relayIn seat) port)
+next-own seat (sweeps second) k = k
 next-own seat (looks l) k = k
+
+-- ---- no place for a pair comes or goes
+next-pairs : (seat : Seat) (c : Call) → length (seat .memory .pairs) ≡ 64 → length (next seat c .memory .pairs) ≡ 64
+next-pairs seat c l =
+    memory-so (λ (k : Memory). length (k .pairs) ≡ 64) seat l (λ second now. l) (λ second place q now keeping. length-set (seat .memory .pairs) place _ ∙ l)
+    (λ second now. swept-length (seat .board .lifetime) second (seat .memory) ∙ l) c
 
 -- ---- each call, and then all
 pub record Kept (seat : Seat) : Type 0 where
   pub board : BoardKept (seat .board)
   pub mission : OwnKept (readySet (relayIn seat)) (seat .mission)
+  pub pairs : length (seat .memory .pairs) ≡ 64
 
 pub one-kept : (seat : Seat) (c : Call) → Kept seat → Kept (next seat c)
 one-kept seat (operator c) k =
     record {
       board = next-board seat (operator c) (k .board);
       mission = own-grows _ _ (seat-grows seat (operator c)) (seat .mission) (k .mission);
+      pairs = k .pairs;
     }
-one-kept seat (own c) k = record { board = k .board; mission = next-own seat c (k .mission) }
+one-kept seat (own c) k = record { board = k .board; mission = next-own seat c (k .mission); pairs = next-pairs seat (own c) (k .pairs) }
 
 all-kept : (cs : List Call) (seat : Seat) → Kept seat → Kept (runFrom seat cs)
 all-kept [] seat k = k
 all-kept (c ∷ cs) seat k = all-kept cs (next seat c) (one-kept seat c k)
 
 pub fresh-kept : (m : ℕ) → Kept (freshSeat m)
-unfolding freshBoard freshMission
+unfolding freshBoard freshMission freshMemory
 fresh-kept m =
     record {
       board =
@@ -288,6 +302,7 @@ fresh-kept m =
             paths-good =
                 λ i h z. true-false (sym z ∙ ap (λ (x : PathPlace). not (eqb (x .filled) 0)) (getD-replicate {A = PathPlace} 16 i freshPath freshPath h));
           };
+      pairs = refl;
     }
 
 pub kept-after : (m : ℕ) (cs : List Call) → Kept (seatAfter m cs)
@@ -307,4 +322,5 @@ reached m cs =
       routes = route-good (seatAfter m cs);
       groups = k .mission .groups-good;
       paths = k .mission .paths-good;
+      pairs = k .pairs;
     }

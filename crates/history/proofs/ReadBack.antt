@@ -132,29 +132,29 @@ octets-fit r at s =
     (omega arith, (omega arith, omega arith)))
     (omega arith, (omega arith, omega arith))
 
-page-fits : (r : Relay) (port : ℕ) (octets : List ℕ) (room : ℕ) → Fits (endingOf r port octets room)
+page-fits : (r : Relay) (port second : ℕ) (octets : List ℕ) (room : ℕ) → Fits (endingOf r port second octets room)
 unfolding endingOf
-page-fits r port octets room =
-    either Fits (eqb (firstOf (callChecks r port room)) 0) (octets-fit r (arrivalAt r port) octets) (omega arith, (omega arith, omega arith))
+page-fits r port second octets room =
+    either Fits (eqb (firstOf (callChecks r port second room)) 0) (octets-fit r (arrivalAt r port) octets) (omega arith, (omega arith, omega arith))
 
-ending-fits : (seat : Seat) (rs : List Record) (port : ℕ) (octets : List ℕ) (room : ℕ) → Fits (heardBy seat rs port octets room)
-ending-fits seat rs port octets room =
-    heard-so seat rs port octets room Fits (omega arith, (omega arith, omega arith)) (page-fits (relayWith seat rs) port octets room)
+ending-fits : (seat : Seat) (rs : List Record) (port second : ℕ) (octets : List ℕ) (room : ℕ) → Fits (heardBy seat rs port second octets room)
+ending-fits seat rs port second octets room =
+    heard-so seat rs port second octets room Fits (omega arith, (omega arith, omega arith)) (page-fits (relayWith seat rs) port second octets room)
 
 -- ---- so no part is changed by being taken modulo 256
 alone-number : (n : ℕ) → n < 256 → receiveNumber (refusedBy n) ≡ n
 unfolding receiveNumber rulingParts headerParts
 alone-number n low = omega (arith, mod-eq-of-lt low)
 
-pub read-back : (seat : Seat) (rs : List Record) (port : ℕ) (octets : List ℕ) (room : ℕ)
-    → ReadBack (receiveNumber (heardBy seat rs port octets room)) (heardBy seat rs port octets room)
+pub read-back : (seat : Seat) (rs : List Record) (port second : ℕ) (octets : List ℕ) (room : ℕ)
+    → ReadBack (receiveNumber (heardBy seat rs port second octets room)) (heardBy seat rs port second octets room)
 unfolding receiveNumber
-read-back seat rs port octets room =
-    let e = heardBy seat rs port octets room in
+read-back seat rs port second octets room =
+    let e = heardBy seat rs port second octets room in
     let x = e .ruling in
-    let low = rows-low (e .refusal) (localNumber (x .local)) (onwardNumber (x .onward)) (x .took) endingRows refl (every-ending-is-listed seat rs port octets room) in
-    let small = sets-small seat rs port octets room in
-    let fits = ending-fits seat rs port octets room in
+    let low = rows-low (e .refusal) (localNumber (x .local)) (onwardNumber (x .onward)) (x .took) endingRows refl (every-ending-is-listed seat rs port second octets room) in
+    let small = sets-small seat rs port second octets room in
+    let fits = ending-fits seat rs port second octets room in
     let ruling = rulingParts (e .refusal) (localNumber (x .local)) (onwardNumber (x .onward)) (x .took) (x .dropped) in
     let is : receiveNumber e ≡ headerParts ruling (e .size) (e .legs .octets) (e .legs .rewritten) =
     cc (mod-eq-of-lt (low .0), mod-eq-of-lt (low .1 .0), mod-eq-of-lt (low .1 .1), mod-eq-of-lt (small .took), mod-eq-of-lt (small .dropped), mod-eq-of-lt (fits .0), mod-eq-of-lt (fits .1 .0), mod-eq-of-lt (fits .1 .1))
@@ -173,5 +173,5 @@ read-back seat rs port octets room =
       octets = rw is (parts .at-48);
       rewritten = rw is (parts .at-56);
       above = rw is (parts .above);
-      alone = λ z. ap receiveNumber (heard-has-nothing seat rs port octets room z) ∙ alone-number (e .refusal) (low .0);
+      alone = λ z. ap receiveNumber (heard-has-nothing seat rs port second octets room z) ∙ alone-number (e .refusal) (low .0);
     }

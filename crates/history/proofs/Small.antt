@@ -13,7 +13,7 @@ use Rattle.history.proofs.Listed.{of-any-ending}
 none-small : Small noRuling
 none-small = record { granted = omega arith; took = omega arith; dropped = omega arith }
 
-pub sets-small : (seat : Seat) (rs : List Record) (port : ℕ) (octets : List ℕ) (room : ℕ) → Small (heardBy seat rs port octets room .ruling)
-sets-small seat rs port octets room =
-    heard-so seat rs port octets room (λ (e : Ending). Small (e .ruling)) none-small
-    (of-any-ending Small ruled-small none-small (relayWith seat rs) port octets room)
+pub sets-small : (seat : Seat) (rs : List Record) (port second : ℕ) (octets : List ℕ) (room : ℕ) → Small (heardBy seat rs port second octets room .ruling)
+sets-small seat rs port second octets room =
+    heard-so seat rs port second octets room (λ (e : Ending). Small (e .ruling)) none-small
+    (of-any-ending Small ruled-small none-small (relayWith seat rs) port second octets room)

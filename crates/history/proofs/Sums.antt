@@ -26,7 +26,7 @@ use Rattle.taking.specs.declared.Taking.the-variants.{Handed, Refused}
 use Rattle.tally.specs.declared.Counter.the-variants.{At, Nothing}
 use Rattle.tally.specs.Tally.{Move, receiptCounter, counterFor, localCounter, onwardCounter, discardCounter, movesOf}
 use Rattle.history.specs.Seat.{Seat, freshSeat, relayIn, heardBy}
-use Rattle.history.specs.Calls.{orders, views, sets, hears, takes, looks, Call, operator, own}
+use Rattle.history.specs.Calls.{orders, views, sets, hears, takes, sweeps, looks, Call, operator, own}
 use Rattle.history.specs.Outcome.{ended, Outcome, ofEnding, ofTaking, outcome, next, sumFrom, sumOver}
 use Rattle.history.specs.Answers.{endingRows, listed, stands}
 use Rattle.history.specs.Tally.{sumAt, stateAfter}
@@ -36,7 +36,7 @@ use Rattle.history.proofs.Counters.{counters}
 use Rattle.history.proofs.Listed.{endNumbers, end-listed, each-obstacle, every-ending-is-listed}
 use Rattle.history.proofs.Small.{sets-small}
 
--- ---- fifteen numbers, one for each counter
+-- ---- seventeen numbers, one for each counter
 abbrev tabled : ℕ → (ℕ → ℕ) → List ℕ
 tabled zero f = []
 tabled (suc n) f = f 0 ∷ tabled n (λ i. f (suc i))
@@ -46,9 +46,9 @@ tabled-at zero f i h = absurd (omega arith)
 tabled-at (suc n) f zero h = refl
 tabled-at (suc n) f (suc i) h = tabled-at n (λ j. f (suc j)) i (omega arith)
 
--- what moves give the fifteen
+-- what moves give the seventeen
 abbrev given : List Move → List ℕ
-given moves = tabled 15 (sumAt moves)
+given moves = tabled 17 (sumAt moves)
 
 -- ---- what is written of each part of an ending: of a half and of the copies with 16, which counts nothing
 abbrev ofRefusal : ℕ → List ℕ
@@ -68,7 +68,7 @@ together n local onward took copies i =
     getD (ofRefusal n) i 0 + (getD (ofLocal local) i 0 + (getD (ofOnward onward took) i 0 + getD (ofDropped copies) i 0))
 
 -- the parts give to different counters
-parts : (n local onward took copies : ℕ) → tabled 15 (together n local onward took copies) ≡ counted (ended n local onward took) copies
+parts : (n local onward took copies : ℕ) → tabled 17 (together n local onward took copies) ≡ counted (ended n local onward took) copies
 parts n local onward took copies = simp (add-zero, zero-add)
 
 -- ---- the refusal is one of the page's numbers
@@ -89,7 +89,7 @@ refusal-part : (n : ℕ) → listed endNumbers n ≡ true → given ((receiptCou
 unfolding counterFor
 refusal-part n =
     of-listed (λ (m : ℕ). given ((receiptCounter m, 1) ∷ (counterFor m, 1) ∷ []) ≡ ofRefusal m) endNumbers n
-    (refl, (refl, (refl, (refl, (refl, (refl, (refl, (refl, (refl, (refl, (refl, (refl, tt))))))))))))
+    (refl, (refl, (refl, (refl, (refl, (refl, (refl, (refl, (refl, (refl, (refl, (refl, (refl, (refl, tt))))))))))))))
 
 -- ---- the local half
 local-part : (l : Local) → given ((localCounter l, 1) ∷ []) ≡ ofLocal (localNumber l)
@@ -108,13 +108,13 @@ sent-case refusal local onward took true false h k s = refl
 sent-case refusal local onward took false true h k s = refl
 sent-case refusal local onward took false false h k s = true-false (sym (simp (k, h, and-false) at s))
 
-pub sent-where-taken : (seat : Seat) (rs : List Record) (port : ℕ) (octets : List ℕ) (room : ℕ)
-    → eqb (onwardNumber (heardBy seat rs port octets room .ruling .onward)) 1 ≡ not (eqb (heardBy seat rs port octets room .ruling .took) 0)
-sent-where-taken seat rs port octets room =
-    let e = heardBy seat rs port octets room in
+pub sent-where-taken : (seat : Seat) (rs : List Record) (port second : ℕ) (octets : List ℕ) (room : ℕ)
+    → eqb (onwardNumber (heardBy seat rs port second octets room .ruling .onward)) 1 ≡ not (eqb (heardBy seat rs port second octets room .ruling .took) 0)
+sent-where-taken seat rs port second octets room =
+    let e = heardBy seat rs port second octets room in
     let x = e .ruling in
     sent-case (e .refusal) (localNumber (x .local)) (onwardNumber (x .onward)) (x .took) (eqb (x .took) 0) (eqb (onwardNumber (x .onward)) 1) refl refl
-    (every-ending-is-listed seat rs port octets room)
+    (every-ending-is-listed seat rs port second octets room)
 
 -- ---- the onward half
 onward-part : (x : Onward) (took : ℕ) → eqb (onwardNumber x) 1 ≡ not (eqb took 0) → given ((onwardCounter x, 1) ∷ []) ≡ ofOnward (onwardNumber x) took
@@ -123,7 +123,7 @@ onward-part onward.NotAsked took h = rw (← h)
 onward-part onward.SentOn took h = rw (← h)
 onward-part (onward.Refused o) took h =
     each-obstacle (λ (n : ℕ). eqb n 1 ≡ not (eqb took 0) → given ((counterFor n, 1) ∷ []) ≡ ofOnward n took)
-    ((λ k. rw (← k)), ((λ k. rw (← k)), ((λ k. rw (← k)), ((λ k. rw (← k)), ((λ k. rw (← k)), (λ k. rw (← k))))))) o h
+    ((λ k. rw (← k)), ((λ k. rw (← k)), ((λ k. rw (← k)), ((λ k. rw (← k)), ((λ k. rw (← k)), ((λ k. rw (← k)), (λ k. rw (← k)))))))) o h
 
 -- ---- the ones of a set of the eight ports are its ports
 bit-case : (b : ℕ) → b < 2 → one (eqb b 1) ≡ b
@@ -165,28 +165,28 @@ discard-part set small =
     rw (ones-eight set small) (discard-case (eqb set 0) (portsIn 8 set) (λ z. ap (portsIn 8) (eqb-true set 0 z)))
 
 -- ---- one call
-module _ (i : ℕ) (inside : i < 15) where
+module _ (i : ℕ) (inside : i < 17) where
   part-at : (moves : List Move) (l : List ℕ) → given moves ≡ l → sumAt moves i ≡ getD l i 0
-  part-at moves l e = sym (tabled-at 15 (sumAt moves) i inside) ∙ ap (λ (x : List ℕ). getD x i 0) e
+  part-at moves l e = sym (tabled-at 17 (sumAt moves) i inside) ∙ ap (λ (x : List ℕ). getD x i 0) e
 
   parts-at : (n local onward took copies : ℕ) → together n local onward took copies i ≡ getD (counted (ended n local onward took) copies) i 0
   parts-at n local onward took copies =
-      sym (tabled-at 15 (together n local onward took copies) i inside)
+      sym (tabled-at 17 (together n local onward took copies) i inside)
       ∙ ap (λ (x : List ℕ). getD x i 0) (parts n local onward took copies)
 
-  ending-gives : (seat : Seat) (rs : List Record) (port : ℕ) (octets : List ℕ) (room : ℕ)
-      → sumAt (movesOf (heardBy seat rs port octets room)) i ≡ givenBy i (ofEnding (heardBy seat rs port octets room))
-  ending-gives seat rs port octets room =
-      let e = heardBy seat rs port octets room in
+  ending-gives : (seat : Seat) (rs : List Record) (port second : ℕ) (octets : List ℕ) (room : ℕ)
+      → sumAt (movesOf (heardBy seat rs port second octets room)) i ≡ givenBy i (ofEnding (heardBy seat rs port second octets room))
+  ending-gives seat rs port second octets room =
+      let e = heardBy seat rs port second octets room in
       let x = e .ruling in
       let n = localNumber (x .local) in
       let m = onwardNumber (x .onward) in
       omega (
         arith,
-        part-at ((receiptCounter (e .refusal), 1) ∷ (counterFor (e .refusal), 1) ∷ []) _ (refusal-part (e .refusal) (end-listed seat rs port octets room)),
+        part-at ((receiptCounter (e .refusal), 1) ∷ (counterFor (e .refusal), 1) ∷ []) _ (refusal-part (e .refusal) (end-listed seat rs port second octets room)),
         part-at ((localCounter (x .local), 1) ∷ []) _ (local-part (x .local)),
-        part-at ((onwardCounter (x .onward), 1) ∷ []) _ (onward-part (x .onward) (x .took) (sent-where-taken seat rs port octets room)),
-        part-at ((discardCounter (x .dropped), onesOf (x .dropped)) ∷ []) _ (discard-part (x .dropped) (sets-small seat rs port octets room .dropped)),
+        part-at ((onwardCounter (x .onward), 1) ∷ []) _ (onward-part (x .onward) (x .took) (sent-where-taken seat rs port second octets room)),
+        part-at ((discardCounter (x .dropped), onesOf (x .dropped)) ∷ []) _ (discard-part (x .dropped) (sets-small seat rs port second octets room .dropped)),
         parts-at (e .refusal) n m (x .took) (portsIn 8 (x .dropped)),
       )
 
@@ -198,8 +198,9 @@ module _ (i : ℕ) (inside : i < 15) where
   one-call seat (operator (orders o)) = refl
   one-call seat (operator (views v)) = refl
   one-call seat (own (sets s)) = refl
-  one-call seat (own (hears rs port slot octets output)) = ending-gives seat rs port octets (length output)
+  one-call seat (own (hears rs port slot second octets output)) = ending-gives seat rs port second octets (length output)
   one-call seat (own (takes port)) = taking-gives port (takeOutcome (relayIn seat) port)
+  one-call seat (own (sweeps second)) = refl
   one-call seat (own (looks l)) = refl
 
   all-calls : (cs : List Call) (seat : Seat) → sumFrom (λ (o : Outcome). sumAt (o .moves) i) seat cs ≡ sumFrom (givenBy i) seat cs
@@ -207,9 +208,9 @@ module _ (i : ℕ) (inside : i < 15) where
   all-calls (c ∷ cs) seat = rw (one-call seat c, all-calls cs (next seat c))
 
 -- What a call moves counter i by is what the page's table says of its outcome.
-pub moves-as-written : (seat : Seat) (c : Call) (i : ℕ) → i < 15 → sumAt (outcome seat c .moves) i ≡ givenBy i (outcome seat c)
+pub moves-as-written : (seat : Seat) (c : Call) (i : ℕ) → i < 17 → sumAt (outcome seat c .moves) i ≡ givenBy i (outcome seat c)
 moves-as-written seat c i inside = one-call i inside seat c
 
 -- After any history of mission m counter i is the sum of what the page's table says of each outcome, modulo 2^32.
-pub counted-as-written : (i : ℕ) → i < 15 → (m : ℕ) (cs : List Call) → counterIn (stateAfter m cs .counters) i ≡ sumOver (givenBy i) m cs % 2 ^ 32
+pub counted-as-written : (i : ℕ) → i < 17 → (m : ℕ) (cs : List Call) → counterIn (stateAfter m cs .counters) i ≡ sumOver (givenBy i) m cs % 2 ^ 32
 counted-as-written i inside m cs = counters i inside m cs ∙ ap (λ (n : ℕ). n % 2 ^ 32) (all-calls i inside cs (freshSeat m))

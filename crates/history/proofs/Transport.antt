@@ -37,15 +37,18 @@ use Rattle.verdict.specs.declared.Survey.{Survey}
 use Rattle.verdict.specs.declared.Wish.{Wish}
 use Rattle.verdict.specs.declared.Wish.the-variants.{NotAsked, Refused, Wanted}
 use Rattle.next_leg.specs.Leg.{rewrites, nextFields, nextLength, legsOf}
-use Rattle.judge.specs.Ruling.{caseOf, legFor, surveyFor, ruledBy, ruleTarget, ruleAim, ruleOf, legsFor}
+use Rattle.meaning.specs.Flood.{pairOf}
+use Rattle.floods.specs.Memory.{floodOf}
+use Rattle.judge.specs.Ruling.{caseOf, floodFor, legFor, surveyFor, ruledBy, ruleTarget, ruleAim, ruleOf, legsFor}
 use Rattle.judge.specs.declared.ruling.Arrival.{Arrival}
 use Rattle.judge.specs.Ending.{refusedBy, callChecks, ruledEnding, headerEnding, arrivalAt, endingOf}
 use Rattle.judge.specs.declared.Ending.{Ending}
 use Rattle.relay.specs.Outgoing.{enteredAll}
-use Rattle.relay.specs.Received.{receivedRelay}
+use Rattle.relay.specs.Received.{receivedRelay, heardMemory}
 use Rattle.routes.specs.declared.Record.{Record}
 use Rattle.lent_state.specs.View.{tooLong}
-use Rattle.history.specs.Seat.{Seat, relayIn, relayWith, heardBy}
+use Rattle.judge.specs.Remembered.{headerMemory, memoryOf}
+use Rattle.history.specs.Seat.{Seat, relayIn, relayWith, heardBy, memoryBy}
 use Rattle.history.specs.Transport.{withTpid, SameButTpid, localBy, SameButLocal}
 use Rattle.history.proofs.Heard.{heard-is}
 use Rattle.history.proofs.Onward.{onwardHalf, withAssigned, onward-free-of-tpid}
@@ -64,7 +67,7 @@ halves-case : (t : Bool) (a b : ℕ)
 halves-case true a b = inl (refl, refl)
 halves-case false a b = inr (assigned-case (isAssigned a), assigned-case (isAssigned b))
 
-ruling-local : (local : Local) (l : Wish) (full : ℕ) → rulingOf local l full .local ≡ local
+pub ruling-local : (local : Local) (l : Wish) (full : ℕ) → rulingOf local l full .local ≡ local
 unfolding rulingOf copiesOf
 ruling-local local NotAsked full = refl
 ruling-local local (Refused n) full = refl
@@ -116,10 +119,10 @@ module _ (a b : ℕ) where
 -- of a header, and of the same with another TP-ID
 module _ (r : Relay) (at : Arrival) (h : Header) (b : ℕ) where
   ruled-ending-alike : SameButLocal (h .fields .tpid) b (ruledEnding r at h) (ruledEnding r at (withTpid b h))
-  unfolding ruleOf legsFor legsOf nextLength rewrites nextFields sizeOf secondOctet thirdOctet restOctets
+  unfolding ruleOf legsFor floodOf pairOf legsOf nextLength rewrites nextFields sizeOf secondOctet thirdOctet restOctets
   ruled-ending-alike =
       let x = aimOf (at .address .0) (h .fields .addresses) in
-      let alike = aim-alike (h .fields .tpid) b r x (caseOf (r .router) (at .set) (h .fields)) (surveyFor r at x h) in
+      let alike = aim-alike (h .fields .tpid) b r x (caseOf (r .router) (at .set) (h .fields) (floodFor r at x h)) (surveyFor r at x h) in
       record {
         refusal = refl;
         onward = ap (λ x. x .0) (alike .0);
@@ -138,11 +141,11 @@ module _ (r : Relay) (at : Arrival) (h : Header) (b : ℕ) where
       let n = firstOf (arrivalChecks (at .address) (h .fields)) in
       else-alike (h .fields .tpid) b (eqb n 0) n (ruledEnding r at h) (ruledEnding r at (withTpid b h)) ruled-ending-alike
 
-module _ (port : ℕ) (s t : List ℕ) (room : ℕ) (h k : Header) (hs : readOf s ≡ Good h) (kt : readOf t ≡ Good k) (same : SameButTpid h k) where
-  page-alike : (r : Relay) → SameButLocal (h .fields .tpid) (k .fields .tpid) (endingOf r port s room) (endingOf r port t room)
+module _ (port second : ℕ) (s t : List ℕ) (room : ℕ) (h k : Header) (hs : readOf s ≡ Good h) (kt : readOf t ≡ Good k) (same : SameButTpid h k) where
+  page-alike : (r : Relay) → SameButLocal (h .fields .tpid) (k .fields .tpid) (endingOf r port second s room) (endingOf r port second t room)
   unfolding endingOf
   page-alike r =
-      let n = firstOf (callChecks r port room) in
+      let n = firstOf (callChecks r port second room) in
       let at = arrivalAt r port in
       rw (hs, kt ∙ ap Good same)
       (else-alike (h .fields .tpid) (k .fields .tpid) (eqb n 0) n (headerEnding r at h) (headerEnding r at (withTpid (k .fields .tpid) h))
@@ -155,14 +158,19 @@ module _ (port : ℕ) (s t : List ℕ) (room : ℕ) (h k : Header) (hs : readOf 
     long-or-not false e f alike = alike
 
     -- Two datagrams whose headers differ in the TP-ID alone end alike but for the local half.
-    pub transport-alone : SameButLocal (h .fields .tpid) (k .fields .tpid) (heardBy seat rs port s room) (heardBy seat rs port t room)
+    pub transport-alone : SameButLocal (h .fields .tpid) (k .fields .tpid) (heardBy seat rs port second s room) (heardBy seat rs port second t room)
     transport-alone =
-        rw (heard-is seat rs port s room (tooLong rs) refl, heard-is seat rs port t room (tooLong rs) refl)
+        rw (heard-is seat rs port second s room (tooLong rs) refl, heard-is seat rs port second t room (tooLong rs) refl)
         (long-or-not (tooLong rs) _ _ (page-alike (relayWith seat rs)))
 
-    -- And they leave the same: the entries of both go to the same ports and have the same precedence.
+    -- What is remembered of both is the same, ..
+    pub remembers-the-same : memoryBy seat rs port second s room ≡ memoryBy seat rs port second t room
+    unfolding heardMemory memoryOf headerMemory floodOf pairOf
+    remembers-the-same = rw (hs, kt ∙ ap Good same)
+
+    -- .. and they leave the same: the entries of both go to the same ports and have the same precedence.
     pub leaves-the-same : (slot : Slot)
-        → receivedRelay (relayIn seat) slot (heardBy seat rs port s room) ≡ receivedRelay (relayIn seat) slot (heardBy seat rs port t room)
+        → receivedRelay (relayIn seat) slot (heardBy seat rs port second s room) ≡ receivedRelay (relayIn seat) slot (heardBy seat rs port second t room)
     unfolding receivedRelay
     leaves-the-same slot =
         ap₂ (λ (took precedence : ℕ). enteredAll (relayIn seat) took (record { slot = slot; precedence = precedence }) portCount)

@@ -7,10 +7,11 @@ use mathlib.Core.Bool.{Bool, true, false, not, _&&_}
 use mathlib.Core.Logic.{⊎-elim}
 use mathlib.Core.List.{List}
 use lib.Dec.{eqb, ltb}
-use borrow.Author.Tests.{eqb-false, ltb-true}
+use borrow.Author.Tests.{ltb-true}
 use Rattle.checks.specs.Order.{pick}
 use Rattle.checks.proofs.Bools.{true-false, and-true, or-false, and-not-false}
-use Rattle.sets.specs.Sets.{inSet, firstBelow}
+use Rattle.sets.specs.Sets.{inSet}
+use Rattle.sets.proofs.First.{first-holds}
 use Rattle.settings.specs.Sets.{isReady, namesOther, setRefused}
 use Rattle.address.specs.declared.Address.{Address}
 use Rattle.address.specs.declared.PathAddress.{PathAddress}
@@ -32,9 +33,11 @@ use Rattle.state.specs.Relay.{Relay, portIn, groupIn, pathIn}
 use Rattle.survey.specs.Survey.{surveyBelow, surveyOf}
 use Rattle.survey.specs.declared.Destination.{Destination}
 use Rattle.survey.specs.declared.Sought.{Sought}
-use Rattle.verdict.specs.Rule.{exceptBy, aloneBy, groupLine, pathLine, routeLine, routerLine, unheardBy, hostLine, lineOf}
+use Rattle.verdict.specs.Rule.{exceptBy, aloneBy, groupLine, pathLine, routeLine, routerLine, unheardBy, hostLine, plainLine, floodLine, lineOf}
 use Rattle.verdict.specs.declared.Target.{Target}
 use Rattle.verdict.specs.declared.Target.the-variants as target
+use Rattle.verdict.specs.declared.Flood.{Flood}
+use Rattle.verdict.specs.declared.Flood.the-variants.{Plain, Unsent, Full, New}
 use Rattle.verdict.specs.declared.Case.{Case}
 use Rattle.verdict.specs.declared.Local.{Local}
 use Rattle.verdict.specs.declared.Local.the-variants.{No, Delivered, Unknown}
@@ -51,27 +54,6 @@ use Rattle.history.specs.Outcome.{seatAfter}
 use Rattle.history.proofs.Ports.{ready-is}
 use Rattle.history.proofs.Reach.{Kept, kept-after}
 use Rattle.survey.proofs.Bits.{in-except, in-gathered, only-that}
-
--- ---- the first place that a test holds at
-first-case : (test : ℕ → Bool) (i : ℕ) (f : ℕ) (t u : Bool) → eqb f i ≡ t → test i ≡ u → f ≤ i → (f < i → test f ≡ true)
-    → pick t (pick u i (suc i)) f < suc i → test (pick t (pick u i (suc i)) f) ≡ true
-first-case test i f true true e k l ih h = k
-first-case test i f true false e k l ih h = absurd (omega arith)
-first-case test i f false u e k l ih h = ih (⊎-elim (λ z. absurd (eqb-false f i e z)) (λ z. z) (eq-or-lt-of-le l))
-
-below-case : (i f : ℕ) (t u : Bool) → f ≤ i → pick t (pick u i (suc i)) f ≤ suc i
-below-case i f true true l = omega arith
-below-case i f true false l = omega arith
-below-case i f false u l = omega arith
-
-first-at-most : (test : ℕ → Bool) (n : ℕ) → firstBelow test n ≤ n
-first-at-most test zero = omega arith
-first-at-most test (suc i) = below-case i (firstBelow test i) (eqb (firstBelow test i) i) (test i) (first-at-most test i)
-
-pub first-holds : (test : ℕ → Bool) (n : ℕ) → firstBelow test n < n → test (firstBelow test n) ≡ true
-first-holds test zero h = absurd (omega arith)
-first-holds test (suc i) h =
-    first-case test i (firstBelow test i) (eqb (firstBelow test i) i) (test i) refl refl (first-at-most test i) (first-holds test i) h
 
 -- ---- a set that is not refused names ports that are ready
 names-ready : (k s ready p : ℕ) → namesOther k s ready ≡ false → p < k → inSet p s ≡ true → isReady p ready ≡ true
@@ -201,9 +183,19 @@ module _ (seat : Seat) (k : Kept seat) (rs : List Record) (p : ℕ) (inside : p 
   router-line target.Path x w arrival d q g h = path-line x arrival g
   router-line target.Route x w arrival d q g h = route-line w h
 
+  -- a flood wants ports that are set up, or what the line wants
+  flood-line : (f : Flood) (arrival : ℕ) (d : Destination) (q : Sought) (l : Wish) → GoodLine l → GoodLine (floodLine f (exceptBy (surveyOf r d q .ready) arrival) l)
+  flood-line Plain arrival d q l g = g
+  flood-line Unsent arrival d q l g = tt
+  flood-line Full arrival d q l g = tt
+  flood-line (New place) arrival d q l g =
+      let ready = surveyOf r d q .ready in
+      pick-line (eqb (exceptBy ready arrival) 0) (Refused NoRoute) (Wanted (exceptBy ready arrival)) tt (λ m. survey-ready d q (except-in ready arrival m))
+
   line-good : (t : Target) (x : Place) (w : Way) (c : Case) (d : Destination) (q : Sought) (local : Local) → Good x → GoodWay w → GoodLine (lineOf t x w c (surveyOf r d q .ready) local)
-  unfolding lineOf
-  line-good t x w c d q local g h = pick-line (eqb (c .router) 0) _ _ (host-line t local) (router-line t x w (c .arrival) d q g h)
+  unfolding lineOf plainLine
+  line-good t x w c d q local g h =
+      flood-line (c .flood) (c .arrival) d q _ (pick-line (eqb (c .router) 0) _ _ (host-line t local) (router-line t x w (c .arrival) d q g h))
 
   place-good : (t : Target) (a : Address) (arrival : ℕ) → Good (placeFor r t a arrival)
   place-good target.Here a arrival = tt

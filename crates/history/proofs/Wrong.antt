@@ -31,11 +31,12 @@ use Rattle.address.specs.declared.Mask.{Mask}
 use Rattle.settings.specs.Refusals.{placeRefused, portClassRefused}
 use Rattle.verdict.specs.Rule.{afterHops, afterSize, grantedOf}
 use Rattle.verdict.specs.declared.Case.{Case}
+use Rattle.verdict.specs.declared.Flood.the-variants.{Plain}
 use Rattle.verdict.specs.declared.Obstacle.the-variants.{LeavesDomain}
 use Rattle.verdict.specs.declared.Survey.{Survey}
 use Rattle.verdict.specs.declared.Wish.{Wish}
 use Rattle.verdict.specs.declared.Wish.the-variants.{Refused, Wanted}
-use Rattle.judge.specs.Ending.{callChecks, endingOf}
+use Rattle.judge.specs.Ending.{outputRoom, callChecks, endingOf}
 use Rattle.judge.specs.declared.Ending.{Ending}
 use Rattle.lent_state.specs.View.{tooLong}
 use Rattle.routes.specs.declared.Record.{Record}
@@ -115,7 +116,7 @@ abbrev pub grantedAnywhere : Wish → Case → Survey → Wish
 grantedAnywhere w c s = afterSize (afterHops w (c .spent)) (s .fitting)
 
 abbrev oneOctetPath : Case
-oneOctetPath = record { arrival = 1; router = 1; intermediate = 0; assigned = 1; bound = 1; spent = 0 }
+oneOctetPath = record { arrival = 1; router = 1; intermediate = 0; assigned = 1; bound = 1; spent = 0; flood = Plain }
 
 abbrev port0InDomain : Survey
 port0InDomain = record { ready = 3; addressed = 0; broadcast = 0; domain = 1; fitting = 3; full = 0 }
@@ -132,15 +133,21 @@ pub no-receipt-at-17 : ((refusal : ℕ) → receiptCounter refusal ≡ receiptUn
 no-receipt-at-17 same = true-false (let e : counter.Nothing ≡ counter.At 0 = same 17 in cc)
 
 -- 17 before 16: a port that is not set up is 16, whatever the room
-pub sixteen-comes-first : (r : Relay) (port : ℕ) (octets : List ℕ) (room : ℕ)
-    → portSetUp r port ≡ false → endingOf r port octets room .refusal ≡ 16
+pub sixteen-comes-first : (r : Relay) (port second : ℕ) (octets : List ℕ) (room : ℕ)
+    → portSetUp r port ≡ false → endingOf r port second octets room .refusal ≡ 16
 unfolding endingOf callChecks firstOf
-sixteen-comes-first r port octets room h = simp (h)
+sixteen-comes-first r port second octets room h = simp (h)
+
+-- 29 before 17: where the room is short it is 17, whatever the second (W-207: "after 16 and 17")
+pub room-comes-before-second : (r : Relay) (port second : ℕ) (octets : List ℕ) (room : ℕ)
+    → portSetUp r port ≡ true → ltb room outputRoom ≡ true → endingOf r port second octets room .refusal ≡ 17
+unfolding endingOf callChecks firstOf
+room-comes-before-second r port second octets room h short = simp (h, short)
 
 -- 16 before 21: a list that is too long is 21, whatever the port
-pub list-comes-first : (seat : Seat) (rs : List Record) (port : ℕ) (octets : List ℕ) (room : ℕ)
-    → tooLong rs ≡ true → heardBy seat rs port octets room .refusal ≡ 21
-list-comes-first seat rs port octets room h = ap (λ (e : Ending). e .refusal) (heard-is seat rs port octets room true h)
+pub list-comes-first : (seat : Seat) (rs : List Record) (port second : ℕ) (octets : List ℕ) (room : ℕ)
+    → tooLong rs ≡ true → heardBy seat rs port second octets room .refusal ≡ 21
+list-comes-first seat rs port second octets room h = ap (λ (e : Ending). e .refusal) (heard-is seat rs port second octets room true h)
 
 -- 25 after 22: an address of another class is 25, whatever the mask
 pub class-comes-before-mask : (b : Board) (p : ℕ) (a : Address) (m : Mask) (mtu mission : ℕ)

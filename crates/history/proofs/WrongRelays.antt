@@ -1,4 +1,4 @@
--- The wrong relays of page 01, "What a promise has to shut out", of page 02, W-204 and W-208, and three more. A relay is told by what the calls of mission 0
+-- The wrong relays of page 01, "What a promise has to shut out", of page 02, W-204, W-207 and W-208, and three more. A relay is told by what the calls of mission 0
 -- do after any history, and by the state that a history leaves; it keeps its promises where both are what the rules give. None that does so is one of
 -- these. What shows it are the marked cases (specs/Marked.antt) and a few histories beside them. Assumes nothing.
 use native.Mathlib.Omega.{arith}
@@ -27,6 +27,11 @@ use Rattle.settings.specs.Sets.{namesOther, setRefused}
 use Rattle.refusals.specs.Elsewhere.{pathElsewhere}
 use Rattle.lookup.specs.Lookup.{pathPlace}
 use Rattle.verdict.specs.Rule.{pathLine}
+use Rattle.records.specs.Held.{holdsPair}
+use Rattle.meaning.specs.Flood.{pairOf}
+use Rattle.meaning.specs.Names.{floodRouting}
+use Rattle.floods.specs.Memory.{isHeld, freePlace, soughtPair}
+use Rattle.floods.specs.Sweep.{isOld, swept, sweptMemory}
 use Rattle.state.specs.Relay.{routeIn, queueAt, counterIn}
 use Rattle.state.specs.Seen.{State, freshState}
 use Rattle.adjust.specs.Settled.{newRecord}
@@ -38,7 +43,7 @@ use Rattle.taking.specs.declared.Taking.{Taking}
 use Rattle.taking.specs.declared.Taking.the-variants.{Handed, Refused}
 use Rattle.tally.specs.Tally.{receiptCounter, rulingMoves, movesOf, counterFor, countedAt}
 use Rattle.history.specs.Seat.{Seat, relayIn, relayWith, heardBy}
-use Rattle.history.specs.Calls.{Order, setRouter, setPort, orders, views, setPath, sets, hears, takes, looks, Call, operator, own}
+use Rattle.history.specs.Calls.{Order, setRouter, setPort, orders, views, setPath, sets, hears, takes, sweeps, looks, Call, operator, own}
 use Rattle.history.specs.Outcome.{Answer, number, ended, entry, Outcome, ofTaking, outcome, seatAfter}
 use Rattle.history.specs.Tally.{sumAt, tally, stateAfter}
 use Rattle.history.specs.Marked.{ordered, port, routerWithPorts, A, B, C, D, allRoutes, withoutA, datagram, heard, sentBy, notSent}
@@ -82,7 +87,21 @@ twoDomains =
 
 -- on path 14, in one octet (as `datagram`, with neither source nor QOS)
 abbrev pub basic : Call
-basic = own (hears [] 0 (record { 0 = 1 }) (32 ∷ 4 ∷ (4 * 16 + bitWeight 22) ∷ 14 ∷ []) (replicate outputRoom 0))
+basic = own (hears [] 0 (record { 0 = 1 }) 0 (32 ∷ 4 ∷ (4 * 16 + bitWeight 22) ∷ 14 ∷ []) (replicate outputRoom 0))
+
+-- a flooded datagram to 192.0.2.1 from 172.16.4.2, with a timestamp of three octets (as `datagram`), that comes in by this port in this second
+abbrev pub flooded : ℕ → ℕ → Call
+flooded at second =
+    own (hears [] at (record { 0 = 1 }) second
+    (32 ∷ 16
+    ∷ (4 * 16 + bitWeight 20 + bitWeight 22)
+    ∷ (bitWeight 25 + bitWeight 28 + bitWeight 30 + bitWeight 31)
+    ∷ 192 ∷ 0 ∷ 2 ∷ 1
+    ∷ 172 ∷ 16 ∷ 4 ∷ 2
+    ∷ (floodRouting * 4)
+    ∷ 0 ∷ 0 ∷ 9
+    ∷ [])
+    (replicate outputRoom 0))
 
 -- a route as if it were up, whatever its availability
 abbrev pub asIfUp : Route → Route
@@ -132,9 +151,14 @@ pub record Cases : Type 0 where
   pub kept : inSet 3 (outcome (seatAfter 0 (waitingForD 31)) (forD (allRoutes 0)) .dropped) ≡ false
   -- a one-octet path does not leave its domain
   pub domain : outcome (seatAfter 0 twoDomains) basic .answer ≡ notSent 13
+  -- a flooded datagram goes to all other ports, and not when it comes again, whatever the port; a sweep, the lifetime 0, frees its pair, and accepts a second
+  pub flood : outcome (seatAfter 0 begun) (flooded 4 0) .answer ≡ ended 0 0 1 15
+  pub again : outcome (seatAfter 0 (begun ++ flooded 4 0 ∷ [])) (flooded 3 0) .answer ≡ notSent 0
+  pub freed : outcome (seatAfter 0 (begun ++ flooded 4 0 ∷ own (sweeps 1) ∷ [])) (flooded 4 1) .answer ≡ ended 0 0 1 15
+  pub past : outcome (seatAfter 0 (begun ++ own (sweeps 1) ∷ [])) (flooded 4 0) .answer ≡ ended 29 0 0 0
 
 pub cases : Cases
-unfolding opened freshState countedAt counterFor pathForm pathClassRefused setRefused namesOther pathElsewhere pathPlace pathLine
+unfolding opened freshState countedAt counterFor pathForm pathClassRefused setRefused namesOther pathElsewhere pathPlace pathLine pairOf holdsPair isHeld freePlace soughtPair isOld swept sweptMemory
 cases =
     record {
       octets = refl;
@@ -150,6 +174,10 @@ cases =
       granted = refl;
       kept = refl;
       domain = refl;
+      flood = refl;
+      again = refl;
+      freed = refl;
+      past = refl;
     }
 
 -- the ports that took an entry
@@ -161,7 +189,7 @@ portsOf (entry e) = 0
 pub ended-by : {refusal local onward took refusal' local' onward' took' : ℕ} → ended refusal local onward took ≡ ended refusal' local' onward' took' → refusal ≡ refusal'
 ended-by e = cc
 
--- 21 and 17 end a datagram with no ruling, and no counter is theirs
+-- 21, 17 and 29 end a datagram with no ruling, and no counter is theirs
 unmoved-by : (n : ℕ) (e : Ending) (i : ℕ) → e .refusal ≡ n → e .ruling ≡ noRuling
     → sumAt ((receiptCounter n, 1) ∷ (counterFor n, 1) ∷ rulingMoves noRuling) i ≡ 0 → sumAt (movesOf e) i ≡ 0
 unmoved-by n e i is bare none =
@@ -178,11 +206,12 @@ module _ (n : ℕ) (refuses : n ≡ 0 → ⊥) (i : ℕ) (none : sumAt ((receipt
   unmoved-at seat (operator (orders o)) local onward took e = refl
   unmoved-at seat (operator (views v)) local onward took e = refl
   unmoved-at seat (own (sets s)) local onward took e = refl
-  unmoved-at seat (own (hears rs p slot octets output)) local onward took e =
+  unmoved-at seat (own (hears rs p slot second octets output)) local onward took e =
       let is = ended-by e in
-      let bare = heard-grants-nothing seat rs p octets (length output) (λ z. refuses (sym is ∙ z)) in
-      unmoved-by n (heardBy seat rs p octets (length output)) i is bare none
+      let bare = heard-grants-nothing seat rs p second octets (length output) (λ z. refuses (sym is ∙ z)) in
+      unmoved-by n (heardBy seat rs p second octets (length output)) i is bare none
   unmoved-at seat (own (takes p)) local onward took e = unmoved-taking p (takeOutcome (relayIn seat) p) i
+  unmoved-at seat (own (sweeps second)) local onward took e = refl
   unmoved-at seat (own (looks l)) local onward took e = refl
 
 -- a port that drops a copy is full
@@ -198,9 +227,10 @@ module _ (seat : Seat) (p : ℕ) (inside : p < 8) (room : queueAt (seat .mission
   not-dropped (operator (orders o)) drops = none-dropped drops
   not-dropped (operator (views v)) drops = none-dropped drops
   not-dropped (own (sets s)) drops = none-dropped drops
-  not-dropped (own (hears rs q slot octets output)) drops =
-      true-false (sym (lt-ltb (queueAt (seat .mission) p .count) 32 room) ∙ fair seat p inside rs q octets (length output) .full drops)
+  not-dropped (own (hears rs q slot second octets output)) drops =
+      true-false (sym (lt-ltb (queueAt (seat .mission) p .count) 32 room) ∙ fair seat p inside rs q second octets (length output) .full drops)
   not-dropped (own (takes q)) drops = no-taking-drops q (takeOutcome (relayIn seat) q) drops
+  not-dropped (own (sweeps second)) drops = none-dropped drops
   not-dropped (own (looks l)) drops = none-dropped drops
 
 -- ---- what calls do
@@ -230,34 +260,34 @@ module _ (does : List Call → Call → Outcome) (kept : (cs : List Call) (c : C
 
   -- It does not copy its first answer for other octets.
   pub copying-answers :
-      ((settings : List Order) (rs : List Record) (port : ℕ) (slot : Slot) (first second output : List ℕ)
-      → does (ordered settings ++ own (hears rs port slot first output) ∷ []) (own (hears rs port slot second output)) .answer
-      ≡ does (ordered settings) (own (hears rs port slot first output)) .answer)
+      ((settings : List Order) (rs : List Record) (port : ℕ) (slot : Slot) (second : ℕ) (first others output : List ℕ)
+      → does (ordered settings ++ own (hears rs port slot second first output) ∷ []) (own (hears rs port slot second others output)) .answer
+      ≡ does (ordered settings) (own (hears rs port slot second first output)) .answer)
       → ⊥
   copying-answers wrong =
-      let same = wrong (routerWithPorts 0) (allRoutes 0) 4 (record { 0 = 1 }) (datagram 10 4 9 14 0) (datagram 10 4 9 16 0) (replicate outputRoom 0) in
+      let same = wrong (routerWithPorts 0) (allRoutes 0) 4 (record { 0 = 1 }) 0 (datagram 10 4 9 14 0) (datagram 10 4 9 16 0) (replicate outputRoom 0) in
       let later = answers (begun ++ forD (allRoutes 0) ∷ []) forC ∙ cases .octets in
       let ports : _≡_ {A = ℕ} 4 8 = ap portsOf (sym later ∙ same ∙ in-case-a) in omega arith
 
   -- Nor for the same octets with another list of routes,
   pub copying-over-lists :
-      ((settings : List Order) (rs changed : List Record) (port : ℕ) (slot : Slot) (octets output : List ℕ)
-      → does (ordered settings ++ own (hears rs port slot octets output) ∷ []) (own (hears changed port slot octets output)) .answer
-      ≡ does (ordered settings) (own (hears rs port slot octets output)) .answer)
+      ((settings : List Order) (rs changed : List Record) (port : ℕ) (slot : Slot) (second : ℕ) (octets output : List ℕ)
+      → does (ordered settings ++ own (hears rs port slot second octets output) ∷ []) (own (hears changed port slot second octets output)) .answer
+      ≡ does (ordered settings) (own (hears rs port slot second octets output)) .answer)
       → ⊥
   copying-over-lists wrong =
-      let same = wrong (routerWithPorts 0) (allRoutes 0) (withoutA 0) 4 (record { 0 = 1 }) (datagram 192 0 2 1 0) (replicate outputRoom 0) in
+      let same = wrong (routerWithPorts 0) (allRoutes 0) (withoutA 0) 4 (record { 0 = 1 }) 0 (datagram 192 0 2 1 0) (replicate outputRoom 0) in
       let later = answers (begun ++ forA (allRoutes 0) ∷ []) (forA (withoutA 0)) ∙ cases .cleared in
       let ports : _≡_ {A = ℕ} 0 1 = ap portsOf (sym later ∙ same ∙ in-case-d) in omega arith
 
   -- and once a setting is changed.
   pub copying-over-settings :
-      ((settings : List Order) (changed : Order) (rs : List Record) (port : ℕ) (slot : Slot) (octets output : List ℕ)
-      → does (ordered settings ++ own (hears rs port slot octets output) ∷ operator (orders changed) ∷ []) (own (hears rs port slot octets output)) .answer
-      ≡ does (ordered settings) (own (hears rs port slot octets output)) .answer)
+      ((settings : List Order) (changed : Order) (rs : List Record) (port : ℕ) (slot : Slot) (second : ℕ) (octets output : List ℕ)
+      → does (ordered settings ++ own (hears rs port slot second octets output) ∷ operator (orders changed) ∷ []) (own (hears rs port slot second octets output)) .answer
+      ≡ does (ordered settings) (own (hears rs port slot second octets output)) .answer)
       → ⊥
   copying-over-settings wrong =
-      let same = wrong (routerWithPorts 0) (setRouter 0) (allRoutes 0) 4 (record { 0 = 1 }) (datagram 192 0 2 1 0) (replicate outputRoom 0) in
+      let same = wrong (routerWithPorts 0) (setRouter 0) (allRoutes 0) 4 (record { 0 = 1 }) 0 (datagram 192 0 2 1 0) (replicate outputRoom 0) in
       let later = answers (begun ++ forA (allRoutes 0) ∷ operator (orders (setRouter 0)) ∷ []) (forA (allRoutes 0)) ∙ cases .host in
       let ports : _≡_ {A = ℕ} 0 1 = ap portsOf (sym later ∙ same ∙ in-case-d) in omega arith
 
@@ -302,15 +332,34 @@ module _ (does : List Call → Call → Outcome) (kept : (cs : List Call) (c : C
   pub leaving-the-domain : ((cs : List Call) (c : Call) (local : ℕ) → does cs c .answer ≡ ended 0 local 13 0 → ⊥) → ⊥
   leaving-the-domain wrong = wrong twoDomains basic 0 (answers twoDomains basic ∙ cases .domain)
 
+  -- It does not send on a flooded datagram whenever it comes (W-207: "not asked for a held pair"),
+  pub flooding-again : ((cs : List Call) (p q second : ℕ) → does (cs ++ flooded p second ∷ []) (flooded q second) .answer ≡ does cs (flooded p second) .answer) → ⊥
+  flooding-again wrong =
+      let same = wrong begun 4 3 0 in
+      let ports : _≡_ {A = ℕ} 0 15 =
+      ap portsOf (sym (answers (begun ++ flooded 4 0 ∷ []) (flooded 3 0) ∙ cases .again) ∙ same ∙ answers begun (flooded 4 0) ∙ cases .flood) in omega arith
+
+  -- nor never again,
+  pub freeing-nothing :
+      ((cs : List Call) (p first second : ℕ) → portsOf (does (cs ++ flooded p first ∷ own (sweeps second) ∷ []) (flooded p second) .answer) ≡ 0) → ⊥
+  freeing-nothing wrong =
+      let ports : _≡_ {A = ℕ} 0 15 =
+      sym (wrong begun 4 0 1) ∙ ap portsOf (answers (begun ++ flooded 4 0 ∷ own (sweeps 1) ∷ []) (flooded 4 1) ∙ cases .freed) in omega arith
+
+  -- and it does not take every second.
+  pub taking-any-second : ((cs : List Call) (c : Call) (local onward took : ℕ) → does cs c .answer ≡ ended 29 local onward took → ⊥) → ⊥
+  taking-any-second wrong =
+      wrong (begun ++ own (sweeps 1) ∷ []) (flooded 4 0) 0 0 0 (answers (begun ++ own (sweeps 1) ∷ []) (flooded 4 0) ∙ cases .past)
+
   -- No counter of it moves at 17,
   pub counting-at-17 : (cs : List Call) (c : Call) (i local onward took : ℕ)
       → does cs c .answer ≡ ended 17 local onward took → (sumAt (does cs c .moves) i ≡ 0 → ⊥) → ⊥
   counting-at-17 cs c i local onward took e wrong =
       wrong
       (ap (λ o. sumAt (o .moves) i) (kept cs c)
-      ∙ unmoved-at 17 (λ z. omega arith) i (counts-nothing i .1 .1) (seatAfter 0 cs) c local onward took (sym (answers cs c) ∙ e))
+      ∙ unmoved-at 17 (λ z. omega arith) i (counts-nothing i .1 .1 .0) (seatAfter 0 cs) c local onward took (sym (answers cs c) ∙ e))
 
-  -- nor at 21, a list that is too long (W-208).
+  -- at 21, a list that is too long (W-208),
   pub counting-at-21 : (cs : List Call) (c : Call) (i local onward took : ℕ)
       → does cs c .answer ≡ ended 21 local onward took → (sumAt (does cs c .moves) i ≡ 0 → ⊥) → ⊥
   counting-at-21 cs c i local onward took e wrong =
@@ -318,28 +367,36 @@ module _ (does : List Call → Call → Outcome) (kept : (cs : List Call) (c : C
       (ap (λ o. sumAt (o .moves) i) (kept cs c)
       ∙ unmoved-at 21 (λ z. omega arith) i (counts-nothing i .0) (seatAfter 0 cs) c local onward took (sym (answers cs c) ∙ e))
 
+  -- nor at 29, a second of the past (W-207).
+  pub counting-at-29 : (cs : List Call) (c : Call) (i local onward took : ℕ)
+      → does cs c .answer ≡ ended 29 local onward took → (sumAt (does cs c .moves) i ≡ 0 → ⊥) → ⊥
+  counting-at-29 cs c i local onward took e wrong =
+      wrong
+      (ap (λ o. sumAt (o .moves) i) (kept cs c)
+      ∙ unmoved-at 29 (λ z. omega arith) i (counts-nothing i .1 .1 .1) (seatAfter 0 cs) c local onward took (sym (answers cs c) ∙ e))
+
 -- ---- what histories leave
 module _ (leaves : List Call → State) (kept : (cs : List Call) → leaves cs ≡ stateAfter 0 cs) where
   -- It does not leave every queue as it was, whatever is heard first.
   pub entering-nothing :
-      ((settings : List Order) (rs : List Record) (port : ℕ) (slot : Slot) (octets output : List ℕ) (p : ℕ)
-      → queueAt (leaves (ordered settings ++ own (hears rs port slot octets output) ∷ []) .mission) p .count
+      ((settings : List Order) (rs : List Record) (port : ℕ) (slot : Slot) (second : ℕ) (octets output : List ℕ) (p : ℕ)
+      → queueAt (leaves (ordered settings ++ own (hears rs port slot second octets output) ∷ []) .mission) p .count
       ≡ queueAt (leaves (ordered settings) .mission) p .count)
       → ⊥
   entering-nothing wrong =
-      let same = wrong (routerWithPorts 0) (allRoutes 0) 4 (record { 0 = 1 }) (datagram 10 4 9 14 0) (replicate outputRoom 0) 3 in
+      let same = wrong (routerWithPorts 0) (allRoutes 0) 4 (record { 0 = 1 }) 0 (datagram 10 4 9 14 0) (replicate outputRoom 0) 3 in
       let left : (cs : List Call) → queueAt (leaves cs .mission) 3 .count ≡ queueAt (seatAfter 0 cs .mission) 3 .count =
       λ cs. ap (λ s. queueAt (s .mission) 3 .count) (kept cs) in
       let none : _≡_ {A = ℕ} 1 0 = sym (cases .waits .1) ∙ sym (left (waitingForD 1)) ∙ same ∙ left (waitingForD 0) ∙ cases .waits .0 in omega arith
 
   -- Nor every counter.
   pub counting-nothing :
-      ((settings : List Order) (rs : List Record) (port : ℕ) (slot : Slot) (octets output : List ℕ) (i : ℕ)
-      → counterIn (leaves (ordered settings ++ own (hears rs port slot octets output) ∷ []) .counters) i
+      ((settings : List Order) (rs : List Record) (port : ℕ) (slot : Slot) (second : ℕ) (octets output : List ℕ) (i : ℕ)
+      → counterIn (leaves (ordered settings ++ own (hears rs port slot second octets output) ∷ []) .counters) i
       ≡ counterIn (leaves (ordered settings) .counters) i)
       → ⊥
   counting-nothing wrong =
-      let same = wrong (routerWithPorts 0) (allRoutes 0) 4 (record { 0 = 1 }) (datagram 10 4 9 14 0) (replicate outputRoom 0) 0 in
+      let same = wrong (routerWithPorts 0) (allRoutes 0) 4 (record { 0 = 1 }) 0 (datagram 10 4 9 14 0) (replicate outputRoom 0) 0 in
       let left : (cs : List Call) → counterIn (leaves cs .counters) 0 ≡ counterIn (stateAfter 0 cs .counters) 0 =
       λ cs. ap (λ s. counterIn (s .counters) 0) (kept cs) in
       let none : _≡_ {A = ℕ} 1 0 = sym (cases .receipts .1) ∙ sym (left (waitingForD 1)) ∙ same ∙ left (waitingForD 0) ∙ cases .receipts .0 in omega arith
@@ -348,8 +405,8 @@ module _ (leaves : List Call → State) (kept : (cs : List Call) → leaves cs �
   pub doing-nothing : ((cs : List Call) (c : Call) → leaves (cs ++ c ∷ []) ≡ leaves cs) → ⊥
   doing-nothing wrong =
       counting-nothing
-      (λ settings rs port slot octets output i. ap (λ s. counterIn (s .counters) i) (wrong (ordered settings) (own (hears rs port slot octets output))))
+      (λ settings rs port slot second octets output i. ap (λ s. counterIn (s .counters) i) (wrong (ordered settings) (own (hears rs port slot second octets output))))
 
   -- Nor does it have counts other than those that the rules give over the history.
-  pub inventing-counts : (cs : List Call) (i : ℕ) → i < 15 → (counterIn (leaves cs .counters) i ≡ tally 0 cs i % 2 ^ 32 → ⊥) → ⊥
+  pub inventing-counts : (cs : List Call) (i : ℕ) → i < 17 → (counterIn (leaves cs .counters) i ≡ tally 0 cs i % 2 ^ 32 → ⊥) → ⊥
   inventing-counts cs i inside wrong = wrong (ap (λ s. counterIn (s .counters) i) (kept cs) ∙ counters i inside 0 cs)

@@ -1,5 +1,5 @@
 -- The table of all that each call may answer: page 01, "Settings", "One received datagram, step by step" and "Refusal numbers";
--- page 02, W-208 (21 of a list over 512 records before all else). Assumes nothing.
+-- page 02, W-208 (21 of a list over 512 records before all else) and W-207 (28, 29 and 30). Assumes nothing.
 use Prim.Native.Nat.{ℕ}
 use mathlib.Core.Bool.{Bool, true, false, not, _&&_, _||_}
 use mathlib.Core.List.{List, [], _∷_}
@@ -8,10 +8,12 @@ use Rattle.history.specs.Calls.{
   Order,
   setRouter,
   setPort,
+  setLifetime,
   setRoute,
   clearRoute,
   View,
   routerFlag,
+  lifetimeWord,
   portWord,
   recordWord,
   OperatorCall,
@@ -25,6 +27,8 @@ use Rattle.history.specs.Calls.{
   Look,
   groupWord,
   pathWord,
+  pairWord,
+  lastSecond,
   search,
   counter,
   waiting,
@@ -39,6 +43,7 @@ use Rattle.history.specs.Calls.{
   sets,
   hears,
   takes,
+  sweeps,
   looks,
   Call,
   operator,
@@ -60,6 +65,7 @@ pub data Row : Type 0 where
 abbrev pub orderNumbers : Order → List ℕ
 orderNumbers (setRouter x) = 0 ∷ 24 ∷ []
 orderNumbers (setPort p address mask mtu mission) = 0 ∷ 21 ∷ 25 ∷ 22 ∷ 24 ∷ 35 ∷ []
+orderNumbers (setLifetime x) = 0 ∷ []
 orderNumbers (setRoute rs i prefix mask port availability capabilities mission) = 0 ∷ 21 ∷ 22 ∷ 24 ∷ 23 ∷ []
 orderNumbers (clearRoute rs i) = 0 ∷ 21 ∷ []
 
@@ -71,12 +77,15 @@ settingNumbers (clearPath i) = 0 ∷ 21 ∷ []
 
 abbrev pub viewNumbers : View → List ℕ
 viewNumbers routerFlag = 0 ∷ []
+viewNumbers lifetimeWord = 0 ∷ []
 viewNumbers (portWord p word) = 0 ∷ 21 ∷ []
 viewNumbers (recordWord rs i word) = 0 ∷ 21 ∷ []
 
 abbrev pub lookRow : Look → Row
 lookRow (groupWord i word) = numbers (0 ∷ 21 ∷ [])
 lookRow (pathWord i word) = numbers (0 ∷ 21 ∷ [])
+lookRow (pairWord i word) = numbers (0 ∷ 21 ∷ [])
+lookRow lastSecond = numbers (0 ∷ [])
 lookRow (search rs a) = numbers (21 ∷ 0 ∷ 256 ∷ [])
 lookRow (counter i) = numbers (0 ∷ 21 ∷ [])
 lookRow (waiting p) = numbers (0 ∷ 21 ∷ [])
@@ -85,18 +94,20 @@ lookRow (build fields size output) = numbers (0 ∷ 17 ∷ 19 ∷ 20 ∷ [])
 lookRow (class a) = numbers (0 ∷ 1 ∷ 2 ∷ 3 ∷ 4 ∷ 5 ∷ 6 ∷ [])
 lookRow (form p) = numbers (0 ∷ 1 ∷ [])
 lookRow (checksum octets) = below 65536
-lookRow boardSize = numbers (41 ∷ [])
-lookRow missionSize = numbers (408 ∷ [])
+lookRow boardSize = numbers (42 ∷ [])
+lookRow missionSize = numbers (731 ∷ [])
 
 abbrev pub endingRows : List Row
 endingRows =
     -- refused: nothing is said of the halves, and no port took an entry
-    endings (21 ∷ 16 ∷ 17 ∷ 1 ∷ 2 ∷ 4 ∷ 3 ∷ 5 ∷ 8 ∷ 7 ∷ 6 ∷ []) (0 ∷ []) (0 ∷ []) false
+    endings (21 ∷ 16 ∷ 17 ∷ 29 ∷ 1 ∷ 2 ∷ 4 ∷ 3 ∷ 5 ∷ 8 ∷ 7 ∷ 6 ∷ 28 ∷ []) (0 ∷ []) (0 ∷ []) false
     -- not delivered: refused onward, or sent on
-    ∷ endings (0 ∷ []) (0 ∷ []) (9 ∷ 11 ∷ 10 ∷ 13 ∷ 14 ∷ 15 ∷ []) false
+    ∷ endings (0 ∷ []) (0 ∷ []) (9 ∷ 30 ∷ 11 ∷ 10 ∷ 13 ∷ 14 ∷ 15 ∷ []) false
     ∷ endings (0 ∷ []) (0 ∷ []) (1 ∷ []) true
+    -- not delivered and not asked: a flooded datagram whose pair is held, and nothing else (law `unsaid-is-held`)
+    ∷ endings (0 ∷ []) (0 ∷ []) (0 ∷ []) false
     -- delivered or 26: not asked or refused onward, or sent on
-    ∷ endings (0 ∷ []) (1 ∷ 26 ∷ []) (0 ∷ 11 ∷ 10 ∷ 13 ∷ 14 ∷ 15 ∷ []) false
+    ∷ endings (0 ∷ []) (1 ∷ 26 ∷ []) (0 ∷ 30 ∷ 11 ∷ 10 ∷ 13 ∷ 14 ∷ 15 ∷ []) false
     ∷ endings (0 ∷ []) (1 ∷ 26 ∷ []) (1 ∷ []) true
     ∷ []
 
@@ -106,8 +117,9 @@ operatorRow (views v) = numbers (viewNumbers v)
 
 abbrev pub ownRows : MissionCall → List Row
 ownRows (sets s) = numbers (settingNumbers s) ∷ []
-ownRows (hears rs port slot octets output) = endingRows
+ownRows (hears rs port slot second octets output) = endingRows
 ownRows (takes port) = numbers (16 ∷ 18 ∷ []) ∷ entries ∷ []
+ownRows (sweeps second) = numbers (0 ∷ 29 ∷ []) ∷ []
 ownRows (looks l) = lookRow l ∷ []
 
 abbrev pub answersOf : Call → List Row

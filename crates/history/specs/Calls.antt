@@ -1,6 +1,6 @@
 -- The calls of one mission's history: the operator's, and the mission's own (page 01, "Settings": "a history is made of such calls"; page 02, W-208). The
--- other mission's are none of them: it is lent words that no call here is lent. A list of routes is lent with a call, and is a part of it.
--- Assumes nothing.
+-- other mission's are none of them: it is lent words that no call here is lent. A list of routes is lent with a call, and is a part of it, and so is the
+-- second that a datagram or a sweep brings (W-207). Assumes nothing.
 use Prim.Native.Nat.{ℕ}
 use mathlib.Core.List.{List, []}
 use lib.ListN.{set}
@@ -15,15 +15,17 @@ use Rattle.records.specs.Fresh.{freshGroup, freshPath}
 use Rattle.routes.specs.Records.{emptyRecord}
 use Rattle.routes.specs.declared.Record.{Record}
 use Rattle.state.specs.Relay.{Relay, withGroup, withPath}
-use Rattle.state.specs.Seen.{Board, putRouter, putOwned}
+use Rattle.state.specs.Seen.{Board, putRouter, putOwned, putLifetime}
 use Rattle.refusals.specs.Lists.{portChecks, routeChecks, clearRouteChecks, groupChecks, pathChecks, routerChecks, clearChecks}
 use Rattle.adjust.specs.Settled.{newPort, newRecord, newGroup, newPath, settled}
 
--- ---- the operator's: "Only the operator writes ports, routes, .. and router settings"
+-- ---- the operator's: "Only the operator writes ports, routes, lifetime, .. and router settings"
 pub data Order : Type 0 where
   setRouter : ℕ → Order
   -- the port, its address, mask and MTU, and the mission that it is given to
   setPort : ℕ → Address → Mask → ℕ → ℕ → Order
+  -- how old a pair may grow before a sweep frees it
+  setLifetime : ℕ → Order
   -- the list as it is lent, the place, and the record: prefix, mask, port, availability, capabilities, mission
   setRoute : List Record → ℕ → ℕ → ℕ → ℕ → ℕ → ℕ → ℕ → Order
   clearRoute : List Record → ℕ → Order
@@ -31,6 +33,7 @@ pub data Order : Type 0 where
 -- what the operator asks to see, as it stands: a word of a port, and of a record of a list
 pub data View : Type 0 where
   routerFlag : View
+  lifetimeWord : View
   portWord : ℕ → ℕ → View
   recordWord : List Record → ℕ → ℕ → View
 
@@ -50,6 +53,9 @@ pub data Look : Type 0 where
   -- a word of a group or a path, as it stands
   groupWord : ℕ → ℕ → Look
   pathWord : ℕ → ℕ → Look
+  -- a word of a pair's place, and the last second
+  pairWord : ℕ → ℕ → Look
+  lastSecond : Look
   -- the route of this list that an address takes
   search : List Record → Address → Look
   -- a counter, and how many wait on a port
@@ -67,19 +73,22 @@ pub data Look : Type 0 where
 
 pub data MissionCall : Type 0 where
   sets : Setting → MissionCall
-  -- the list of routes, the port, the slot, the octets, and the output as it is lent
-  hears : List Record → ℕ → Slot → List ℕ → List ℕ → MissionCall
+  -- the list of routes, the port, the slot, the second, the octets, and the output as it is lent
+  hears : List Record → ℕ → Slot → ℕ → List ℕ → List ℕ → MissionCall
   takes : ℕ → MissionCall
+  -- the second
+  sweeps : ℕ → MissionCall
   looks : Look → MissionCall
 
 pub data Call : Type 0 where
   operator : OperatorCall → Call
   own : MissionCall → Call
 
--- ---- what an order does: what may refuse it, in the page's order
+-- ---- what an order does: what may refuse it, in the page's order; any lifetime is taken (docs/DECISIONS.md)
 abbrev pub orderChecks : Board → Order → Checks
 orderChecks b (setRouter x) = routerChecks x
 orderChecks b (setPort p address mask mtu mission) = portChecks b p address mask mtu mission
+orderChecks b (setLifetime x) = []
 orderChecks b (setRoute rs i prefix mask port availability capabilities mission) =
     routeChecks b rs i (newRecord prefix mask port availability capabilities mission)
 orderChecks b (clearRoute rs i) = clearRouteChecks rs i
@@ -88,18 +97,21 @@ orderChecks b (clearRoute rs i) = clearRouteChecks rs i
 abbrev pub boardWritten : Board → Order → Board
 boardWritten b (setRouter x) = putRouter b x
 boardWritten b (setPort p address mask mtu mission) = putOwned b p (newPort address mask mtu mission)
+boardWritten b (setLifetime x) = putLifetime b x
 boardWritten b (setRoute rs i prefix mask port availability capabilities mission) = b
 boardWritten b (clearRoute rs i) = b
 
 abbrev pub listLent : Order → List Record
 listLent (setRouter x) = []
 listLent (setPort p address mask mtu mission) = []
+listLent (setLifetime x) = []
 listLent (setRoute rs i prefix mask port availability capabilities mission) = rs
 listLent (clearRoute rs i) = rs
 
 abbrev pub listWritten : Order → List Record
 listWritten (setRouter x) = []
 listWritten (setPort p address mask mtu mission) = []
+listWritten (setLifetime x) = []
 listWritten (setRoute rs i prefix mask port availability capabilities mission) =
     set rs i (newRecord prefix mask port availability capabilities mission)
 listWritten (clearRoute rs i) = set rs i emptyRecord

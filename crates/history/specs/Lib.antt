@@ -4,11 +4,13 @@ pub mod Calls
 pub mod Looks
 pub mod Outcome
 pub mod Answers
+pub mod Refused
 pub mod Tally
 pub mod Sums
 pub mod Ledger
 pub mod Line
 pub mod Foretold
+pub mod Floods
 pub mod Parts
 pub mod Reach
 pub mod Ranges

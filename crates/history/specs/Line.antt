@@ -22,7 +22,7 @@ use Rattle.taking.specs.declared.Taking.{Taking}
 use Rattle.taking.specs.declared.Taking.the-variants.{Handed, Refused}
 use Rattle.relay.specs.Received.{newEntry}
 use Rattle.history.specs.Seat.{Seat, freshSeat, relayIn, heardBy}
-use Rattle.history.specs.Calls.{MissionCall, sets, hears, takes, looks, Call, operator, own}
+use Rattle.history.specs.Calls.{MissionCall, sets, hears, takes, sweeps, looks, Call, operator, own}
 use Rattle.history.specs.Outcome.{Out, nothing, from, outcome, next}
 
 pub record Copy : Type 0 where
@@ -58,9 +58,11 @@ module _ (p : ℕ) where
   -- the copies that it takes of a call: one or none
   abbrev pub takenOwn : ℕ → Seat → MissionCall → List Copy
   takenOwn n x (sets s) = []
-  takenOwn n x (hears rs port slot octets output) =
-      pick (inSet p (heardBy x rs port octets (length output) .ruling .took)) (copyOf p n x port slot octets (heardBy x rs port octets (length output)) ∷ []) []
+  takenOwn n x (hears rs port slot second octets output) =
+      pick (inSet p (heardBy x rs port second octets (length output) .ruling .took))
+      (copyOf p n x port slot octets (heardBy x rs port second octets (length output)) ∷ []) []
   takenOwn n x (takes port) = []
+  takenOwn n x (sweeps second) = []
   takenOwn n x (looks l) = []
 
   abbrev pub takenBy : ℕ → Seat → Call → List Copy

@@ -10,7 +10,7 @@ use Rattle.address.specs.Class.{classOf, classNumber}
 use Rattle.address.specs.Path.{pathForm, pathNumber}
 use Rattle.checksum.specs.Sum.{checksumOf}
 use Rattle.header.specs.Read.{readOf}
-use Rattle.sets.specs.Limits.{portCount, groupPlaces, pathPlaces, counterCount}
+use Rattle.sets.specs.Limits.{portCount, groupPlaces, pathPlaces, pairPlaces, counterCount}
 use Rattle.state.specs.Layout.{boardWords, missionWords}
 use Rattle.lent_state.specs.View.{tooLong}
 use Rattle.harpjuniper.specs.Face.{readingOf, numbersChecks}
@@ -19,11 +19,14 @@ use Rattle.history.specs.Seat.{Seat, relayWith}
 use Rattle.history.specs.Calls.{
   View,
   routerFlag,
+  lifetimeWord,
   portWord,
   recordWord,
   Look,
   groupWord,
   pathWord,
+  pairWord,
+  lastSecond,
   search,
   counter,
   waiting,
@@ -43,13 +46,16 @@ wordRefusal place places word words = pick (ltb place places && ltb word words) 
 -- a port has five words, a record of a list seven
 abbrev pub viewNumber : View → ℕ
 viewNumber routerFlag = 0
+viewNumber lifetimeWord = 0
 viewNumber (portWord p word) = wordRefusal p portCount word 5
 viewNumber (recordWord rs i word) = pick (tooLong rs) 21 (wordRefusal i (length rs) word 7)
 
--- a group has four, and a path; a search looks at what the mission sees of the list
+-- a group has four, and a path; a pair's place five; a search looks at what the mission sees of the list
 abbrev pub lookNumber : Seat → Look → ℕ
 lookNumber x (groupWord i word) = wordRefusal i groupPlaces word 4
 lookNumber x (pathWord i word) = wordRefusal i pathPlaces word 4
+lookNumber x (pairWord i word) = wordRefusal i pairPlaces word 5
+lookNumber x lastSecond = 0
 lookNumber x (search rs a) = pick (tooLong rs) 21 (searchAnswer (relayWith x rs) a % 2 ^ 16)
 lookNumber x (counter i) = pick (ltb i counterCount) 0 21
 lookNumber x (waiting p) = pick (ltb p portCount) 0 21

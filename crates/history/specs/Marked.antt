@@ -67,9 +67,9 @@ datagram a b c d precedence =
     ∷ (precedence * 16)
     ∷ []
 
--- it comes in by port 4
+-- it comes in by port 4, in second 0 (page 02, W-207)
 abbrev pub heard : List Record → ℕ → List ℕ → Call
-heard rs slot octets = own (hears rs 4 (record { 0 = slot }) octets (replicate outputRoom 0))
+heard rs slot octets = own (hears rs 4 (record { 0 = slot }) 0 octets (replicate outputRoom 0))
 
 -- ---- the answers
 -- not delivered, and sent on by port p alone

@@ -1,5 +1,5 @@
--- What one call does, and what a history of calls leaves: all that is counted, granted, dropped and handed out, from the settings and the queues
--- alone. No counter is looked at (page 01 has no rule that reads one), and nothing of the other mission. Assumes nothing.
+-- What one call does, and what a history of calls leaves: all that is counted, granted, dropped and handed out, from the settings, the queues and
+-- the memory alone. No counter is looked at (page 01 has no rule that reads one), and nothing of the other mission. Assumes nothing.
 use Prim.Native.Nat.{ℕ, _+_}
 use mathlib.Core.Bool.{Bool, false, not, _||_}
 use mathlib.Core.List.{List, [], _∷_}
@@ -7,7 +7,7 @@ use lib.ListN.{length}
 use lib.Dec.{eqb, ltb}
 use Rattle.checks.specs.Order.{firstOf}
 use Rattle.queue.specs.declared.Entry.{Entry}
-use Rattle.state.specs.Relay.{Mission}
+use Rattle.state.specs.Relay.{Mission, Memory}
 use Rattle.state.specs.Seen.{Board}
 use Rattle.verdict.specs.Numbers.{localNumber, onwardNumber}
 use Rattle.judge.specs.declared.Ending.{Ending}
@@ -15,8 +15,9 @@ use Rattle.taking.specs.Taking.{takeOutcome, takenRelay}
 use Rattle.taking.specs.declared.Taking.{Taking}
 use Rattle.taking.specs.declared.Taking.the-variants.{Handed, Refused}
 use Rattle.tally.specs.Tally.{Move, movesOf}
+use Rattle.floods.specs.Sweep.{sweepChecks, sweptMemory}
 use Rattle.relay.specs.Received.{receivedRelay}
-use Rattle.history.specs.Seat.{Seat, freshSeat, relayIn, heardBy}
+use Rattle.history.specs.Seat.{Seat, freshSeat, relayIn, heardBy, memoryBy}
 use Rattle.history.specs.Calls.{
   OperatorCall,
   orders,
@@ -25,6 +26,7 @@ use Rattle.history.specs.Calls.{
   sets,
   hears,
   takes,
+  sweeps,
   looks,
   Call,
   operator,
@@ -38,7 +40,7 @@ use Rattle.history.specs.Looks.{viewNumber, lookNumber}
 
 -- ---- one call
 pub data Answer : Type 0 where
-  -- a number alone: of a setting, 0 where it is taken; of a take that is refused; of a look
+  -- a number alone: of a setting, 0 where it is taken; of a take that is refused; of a sweep; of a look
   number : ℕ → Answer
   -- of a datagram: the refusal, 0 where it was judged; the local half; the onward half; the ports that took an entry
   ended : ℕ → ℕ → ℕ → ℕ → Answer
@@ -93,8 +95,9 @@ operatorOutcome b (views v) = quiet (number (viewNumber v))
 -- the mission's own: page 01's call on what the mission sees
 abbrev pub ownOutcome : Seat → MissionCall → Outcome
 ownOutcome x (sets s) = quiet (number (firstOf (checksOf (relayIn x) s)))
-ownOutcome x (hears rs p slot octets output) = ofEnding (heardBy x rs p octets (length output))
+ownOutcome x (hears rs p slot second octets output) = ofEnding (heardBy x rs p second octets (length output))
 ownOutcome x (takes p) = ofTaking p (takeOutcome (relayIn x) p)
+ownOutcome x (sweeps second) = quiet (number (firstOf (sweepChecks (x .memory) second)))
 ownOutcome x (looks l) = quiet (number (lookNumber x l))
 
 abbrev pub outcome : Seat → Call → Outcome
@@ -108,20 +111,28 @@ nextBoard b (views v) = b
 
 abbrev pub nextMission : Seat → MissionCall → Mission
 nextMission x (sets s) = settle (relayIn x) s .mission
-nextMission x (hears rs p slot octets output) = receivedRelay (relayIn x) slot (heardBy x rs p octets (length output)) .mission
+nextMission x (hears rs p slot second octets output) = receivedRelay (relayIn x) slot (heardBy x rs p second octets (length output)) .mission
 nextMission x (takes p) = takenRelay (relayIn x) p .mission
+nextMission x (sweeps second) = x .mission
 nextMission x (looks l) = x .mission
 
+abbrev pub nextMemory : Seat → MissionCall → Memory
+nextMemory x (sets s) = x .memory
+nextMemory x (hears rs p slot second octets output) = memoryBy x rs p second octets (length output)
+nextMemory x (takes p) = x .memory
+nextMemory x (sweeps second) = sweptMemory (x .board .lifetime) second (x .memory)
+nextMemory x (looks l) = x .memory
+
 abbrev pub next : Seat → Call → Seat
-next x (operator c) = record { board = nextBoard (x .board) c; number = x .number; mission = x .mission }
-next x (own c) = record { board = x .board; number = x .number; mission = nextMission x c }
+next x (operator c) = record { board = nextBoard (x .board) c; number = x .number; mission = x .mission; memory = x .memory }
+next x (own c) = record { board = x .board; number = x .number; mission = nextMission x c; memory = nextMemory x c }
 
 -- ---- one call after the other
 abbrev pub runFrom : Seat → List Call → Seat
 runFrom x [] = x
 runFrom x (c ∷ cs) = runFrom (next x c) cs
 
--- the settings in force and the entries that wait after a history of mission n
+-- the settings in force, the entries that wait and what is remembered after a history of mission n
 abbrev pub seatAfter : ℕ → List Call → Seat
 seatAfter n cs = runFrom (freshSeat n) cs
 

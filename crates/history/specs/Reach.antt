@@ -1,4 +1,4 @@
--- What holds of the settings in every state that a history reaches: page 01, "Settings"; page 02, W-208. Each record that stands in a place still passes
+-- What holds of the settings in every state that a history reaches: page 01, "Settings"; page 02, W-208 and W-207. Each record that stands in a place still passes
 -- the tests that took it, those of the ports that are set up now included; and each route that the mission sees passes its tests, whatever list is lent.
 -- Assumes nothing.
 use Prim.Native.Nat.{ℕ, _<_}
@@ -45,6 +45,8 @@ pub record Reached (x : Seat) : Type 0 where
   -- a filled path's address is valid, and its set names only such ports
   pub paths : (i : ℕ) → i < 16 → not (eqb (pathAt (x .mission) i .filled) 0) ≡ true
       → (pathClassRefused (pathAt (x .mission) i .path) ≡ false) × (setRefused (pathAt (x .mission) i .send) (readySet (relayIn x)) ≡ false)
+  -- there are 64 places for pairs, whatever was kept and freed
+  pub pairs : length (x .memory .pairs) ≡ 64
 
 -- ---- no two places hold the same entry
 abbrev pub sameGroup : Group → Group → Bool

@@ -1,5 +1,5 @@
--- The fifteen counters in the customer's words, one rule for all: page 01's table of refusal numbers read by counter, step 1 ("These two count nothing. All
--- later ends count one in npInReceives") and what stands below the table ("npOutDiscards counts dropped copies .. npInDelivers counts deliveries,
+-- The seventeen counters in the customer's words, one rule for all: page 01's table of refusal numbers read by counter, step 1 ("These two count nothing.
+-- All later ends count one in npInReceives"), page 02, W-207 (29 "counts nothing"; "28 and 30 each get a counter"), and what stands below the table ("npOutDiscards counts dropped copies .. npInDelivers counts deliveries,
 -- npForwDatagrams datagrams with at least one entry taken"). No counter and no list of moves is looked at here. Assumes nothing.
 use Prim.Native.Nat.{ℕ, zero, suc, _+_}
 use mathlib.Core.Bool.{not}
@@ -21,8 +21,8 @@ portsIn (suc p) set = portsIn p set + one (inSet p set)
 abbrev pub counted : Answer → ℕ → List ℕ
 counted (number n) copies = []
 counted (ended refusal local onward took) copies =
-    -- npInReceives: every end but 16 and 17, and 21 before both, a list over 512 records (page 02, W-208)
-    one (not (listed (21 ∷ 16 ∷ 17 ∷ []) refusal))
+    -- npInReceives: every end but 16 and 17, 21 before both, a list over 512 records (page 02, W-208), and 29 after them, a second of the past (W-207)
+    one (not (listed (21 ∷ 16 ∷ 17 ∷ 29 ∷ []) refusal))
     -- npInBadLength: 1, short; 3, length
     ∷ one (listed (1 ∷ 3 ∷ []) refusal)
     -- npInBadVersion: 2, version
@@ -51,6 +51,10 @@ counted (ended refusal local onward took) copies =
     ∷ one (eqb onward 13)
     -- too big: 14, too big for every port
     ∷ one (eqb onward 14)
+    -- 28, a flood without source or timestamp
+    ∷ one (eqb refusal 28)
+    -- 30, all pairs held
+    ∷ one (eqb onward 30)
     ∷ []
 counted (entry e) copies = []
 

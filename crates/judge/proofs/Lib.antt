@@ -5,3 +5,4 @@ pub mod Wanted
 pub mod Finished
 pub mod Searching
 pub mod Took
+pub mod Remembering

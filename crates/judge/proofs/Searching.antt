@@ -23,9 +23,13 @@ use Rattle.records.specs.SetUp.{isSetUp}
 use Rattle.records.specs.declared.Port.{Port}
 use Rattle.sets.specs.Sets.{portSet}
 use Rattle.state.specs.Relay.{Relay, readyOf}
+use Rattle.verdict.specs.declared.Flood.{Flood}
+use Rattle.verdict.specs.declared.Flood.the-variants.{Plain, Unsent, Full, New}
+use Rattle.verdict.specs.declared.Target.the-variants as target
+use Rattle.floods.specs.Memory.{floodOf}
 use Rattle.survey.specs.Survey.{namedBelow, namedOf}
 use Rattle.judge.specs.Ending.{callChecks, arrivalAt}
-use Rattle.judge.specs.Asked.{searchedIn, refusedAsked, elseAsked, nodeAsked, pathAsked, aimAsked, carriedAsked, octetsAsked, datagramAsked}
+use Rattle.judge.specs.Asked.{searchedIn, unlessFlood, refusedAsked, elseAsked, nodeAsked, pathAsked, aimAsked, carriedAsked, octetsAsked, datagramAsked}
 use Rattle.judge.specs.declared.ruling.Arrival.{Arrival}
 use Rattle.judge.specs.declared.Asked.{Asked}
 
@@ -43,6 +47,13 @@ all-ready ports (suc n) =
 named-ready : (ports : List Port) (a : Address) → namedOf ports a .ready ≡ readyOf ports
 unfolding namedBelow readyOf
 named-ready ports a = all-ready ports 8
+
+-- whatever the pairs say, nothing is sought where nothing would be
+none-sought : (f : Flood) → unlessFlood f 0 ≡ 1 → ⊥
+none-sought Plain e = omega (arith, e)
+none-sought Unsent e = omega (arith, e)
+none-sought Full e = omega (arith, e)
+none-sought (New place) e = omega (arith, e)
 
 -- ---- what is asked
 module _ (r : Relay) (number : ℕ) where
@@ -67,7 +78,7 @@ module _ (r : Relay) (number : ℕ) where
   aim-asks : (at : Arrival) (h : Header) (c : Renewal) (x : Aim) → searchedIn (aimAsked r number at h c x) ≡ 1 → Asks (aimAsked r number at h c x)
   unfolding aimAsked nodeAsked pathAsked
   aim-asks at h c (aim.Node a) e = (refl, named-ready (r .ports) a)
-  aim-asks at h c (aim.Path p) e = absurd (omega (arith, e))
+  aim-asks at h c (aim.Path p) e = absurd (none-sought (floodOf (r .router) target.Path (r .memory) (at .address .0) (h .fields)) e)
   aim-asks at h c aim.Uncarried e = refused-asks 6 e
 
   header-asks : (at : Arrival) (h : Header) (c : Renewal) → searchedIn (carriedAsked r number at h c) ≡ 1 → Asks (carriedAsked r number at h c)
@@ -80,9 +91,9 @@ module _ (r : Relay) (number : ℕ) where
   octets-asks at (found.Good h c) e = header-asks at h c e
   octets-asks at (found.Refused n) e = refused-asks n e
 
-  pub search-asks : (port : ℕ) (octets : List ℕ) (room : ℕ)
-      → searchedIn (datagramAsked r number port octets room) ≡ 1 → Asks (datagramAsked r number port octets room)
+  pub search-asks : (port second : ℕ) (octets : List ℕ) (room : ℕ)
+      → searchedIn (datagramAsked r number port second octets room) ≡ 1 → Asks (datagramAsked r number port second octets room)
   unfolding datagramAsked
-  search-asks port octets room e =
-      else-asks (firstOf (callChecks r port room)) (octetsAsked r number (arrivalAt r port) (foundOf octets))
+  search-asks port second octets room e =
+      else-asks (firstOf (callChecks r port second room)) (octetsAsked r number (arrivalAt r port) (foundOf octets))
       (octets-asks (arrivalAt r port) (foundOf octets)) e

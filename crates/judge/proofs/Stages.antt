@@ -22,6 +22,7 @@ use Rattle.header.specs.Onward.{foundOf}
 use Rattle.header.specs.declared.Renewal.{Renewal}
 use Rattle.header.specs.declared.Header.{Header}
 use Rattle.meaning.specs.Names.{aimOf, originOf, notCarried, noDomain, badClass, badPath, badAim, badSource}
+use Rattle.meaning.specs.Flood.{unmarked}
 use Rattle.meaning.specs.Arrival.{arrivalChecks}
 use Rattle.meaning.specs.Asked.{precedenceAsked}
 use Rattle.meaning.specs.declared.Aim.{Aim}
@@ -36,9 +37,11 @@ use Rattle.survey.specs.declared.Destination.{Destination}
 use Rattle.lookup.specs.Lookup.{pathPlace}
 use Rattle.lookup.specs.ForTarget.{placeFor}
 use Rattle.verdict.specs.Rule.{targetOf}
+use Rattle.floods.specs.Memory.{floodOf}
 use Rattle.verdict.specs.declared.Target.{Target}
 use Rattle.verdict.specs.declared.Target.the-variants as target
 use Rattle.verdict.specs.declared.Place.{Place}
+use Rattle.verdict.specs.declared.Flood.{Flood}
 use Rattle.verdict.specs.declared.Case.{Case}
 use Rattle.verdict.specs.declared.Survey.{Survey}
 use Rattle.judge.specs.Ruling.{caseOf, destinationAsked}
@@ -87,57 +90,96 @@ module _ (p : PathAddress) {form : PathForm} {n : ℕ} (is : form ≡ pathForm (
   unfolding pathLooked
   path-looked r some e = rw (ne-eqb _ 0 (λ z. some (form-told ∙ z))) cc
 
+-- what was looked up is no refusal
+node-free : (r : Relay) (arrival : ℕ) (a : Address) → nodeLooked r arrival a .refusal ≡ 0
+unfolding nodeLooked
+node-free r arrival a = refl
+
+path-free : (r : Relay) (p : PathAddress) → pathLooked r p .refusal ≡ 0
+unfolding pathLooked
+path-free r p = refl
+
 -- ---- what was looked up, with the header
 module _ (r : Relay) (number : ℕ) (at : Arrival) (h : Header) (k : Renewal) where
   abbrev asked-with : Aim → Looked → Asked
   asked-with x l = elseAsked (l .refusal) (headerAsked r number at h k x (l .target) (l .place) (l .ready))
 
-  pub looked-asked : (x : Aim) → asked-with x (aimLooked r (at .set) x) ≡ elseAsked (pick (badAim x) 6 0) (aimAsked r number at h k x)
+  -- what a flood lacks, after what its destination is refused by
+  abbrev lacking : Bool → ℕ
+  lacking bad = pick bad 6 (pick (unmarked (h .fields)) 28 0)
+
+  pub looked-asked : unmarked (h .fields) ≡ false → (x : Aim) → asked-with x (aimLooked r (at .set) x) ≡ elseAsked (lacking (badAim x)) (aimAsked r number at h k x)
   unfolding aimAsked nodeAsked pathAsked nodeLooked pathLooked
-  looked-asked (aim.Node a) = by-class (badClass (a .0))
+  looked-asked marked (aim.Node a) = by-class (badClass (a .0))
     where
-      by-class : (bad : Bool) → asked-with (aim.Node a) (pick bad (refusedLooked 6) (nodeLooked r (at .set) a)) ≡ elseAsked (pick bad 6 0) (nodeAsked r number at h k a)
+      by-class : (bad : Bool) → asked-with (aim.Node a) (pick bad (refusedLooked 6) (nodeLooked r (at .set) a)) ≡ elseAsked (lacking bad) (nodeAsked r number at h k a)
       by-class true = refl
-      by-class false = refl
-  looked-asked (aim.Path p) = by-form (badPath (p .0))
+      by-class false = rw marked
+  looked-asked marked (aim.Path p) = by-form (badPath (p .0))
     where
-      by-form : (bad : Bool) → asked-with (aim.Path p) (pick bad (refusedLooked 6) (pathLooked r p)) ≡ elseAsked (pick bad 6 0) (pathAsked r number at h k p)
+      by-form : (bad : Bool) → asked-with (aim.Path p) (pick bad (refusedLooked 6) (pathLooked r p)) ≡ elseAsked (lacking bad) (pathAsked r number at h k p)
       by-form true = refl
-      by-form false = refl
-  looked-asked aim.Uncarried = refl
+      by-form false = rw marked
+  looked-asked marked aim.Uncarried = refl
 
   pub good-refused : (x : Aim) {l : Looked} {e : Asked} → l ≡ aimLooked r (at .set) x → (l .refusal ≡ 0 → ⊥) → e ≡ refusedAsked (l .refusal)
-      → e ≡ elseAsked (pick (badAim x) 6 0) (aimAsked r number at h k x)
-  good-refused x {l} {e} el some told =
-      let is : e ≡ asked-with x l = simp (ne-eqb (l .refusal) 0 some) told in
-      is ∙ ap (asked-with x) el ∙ looked-asked x
+      → e ≡ elseAsked (lacking (badAim x)) (aimAsked r number at h k x)
+  good-refused x {l} {e} el some told = by-aim x (λ z. some (ap (λ (y : Looked). y .refusal) el ∙ z)) (told ∙ ap (λ (y : Looked). refusedAsked (y .refusal)) el)
+    where
+      by-bad : (bad : Bool) (found : Looked) (rest : Asked) → found .refusal ≡ 0 → (pick bad (refusedLooked 6) found .refusal ≡ 0 → ⊥)
+          → e ≡ refusedAsked (pick bad (refusedLooked 6) found .refusal) → e ≡ elseAsked (lacking bad) rest
+      by-bad true found rest zero z is = is
+      by-bad false found rest zero z is = absurd (z zero)
 
-  pub good-asked : (x : Aim) {l : Looked} {router m : ℕ} {c : Case} {d : Destination} {precedence : ℕ}
+      by-aim : (y : Aim) → (aimLooked r (at .set) y .refusal ≡ 0 → ⊥) → e ≡ refusedAsked (aimLooked r (at .set) y .refusal)
+          → e ≡ elseAsked (lacking (badAim y)) (aimAsked r number at h k y)
+      by-aim (aim.Node a) z is = by-bad (badClass (a .0)) (nodeLooked r (at .set) a) _ (node-free r (at .set) a) z is
+      by-aim (aim.Path p) z is = by-bad (badPath (p .0)) (pathLooked r p) _ (path-free r p) z is
+      by-aim aim.Uncarried z is = is
+
+  -- the destination is good, and a flood lacks its source or its timestamp
+  pub good-unmarked : (x : Aim) {l : Looked} {e : Asked} → l ≡ aimLooked r (at .set) x → l .refusal ≡ 0 → unmarked (h .fields) ≡ true → e ≡ refusedAsked 28
+      → e ≡ elseAsked (lacking (badAim x)) (aimAsked r number at h k x)
+  good-unmarked x {l} {e} el none lacks told = by-aim x (sym (ap (λ (y : Looked). y .refusal) el) ∙ none)
+    where
+      by-bad : (bad : Bool) (found : Looked) (rest : Asked) → pick bad (refusedLooked 6) found .refusal ≡ 0 → e ≡ elseAsked (lacking bad) rest
+      by-bad true found rest z = absurd (omega (arith, z))
+      by-bad false found rest z = rw lacks told
+
+      by-aim : (y : Aim) → aimLooked r (at .set) y .refusal ≡ 0 → e ≡ elseAsked (lacking (badAim y)) (aimAsked r number at h k y)
+      by-aim (aim.Node a) z = by-bad (badClass (a .0)) (nodeLooked r (at .set) a) _ z
+      by-aim (aim.Path p) z = by-bad (badPath (p .0)) (pathLooked r p) _ z
+      by-aim aim.Uncarried z = absurd (omega (arith, z))
+
+  pub good-asked : (x : Aim) {l : Looked} {router m : ℕ} {f : Flood} {c : Case} {d : Destination} {precedence : ℕ}
       → l ≡ aimLooked r (at .set) x
       → l .refusal ≡ 0
+      → unmarked (h .fields) ≡ false
       → router ≡ r .router
-      → c ≡ caseOf router (at .set) (h .fields)
+      → f ≡ floodOf router (l .target) (r .memory) (at .address .0) (h .fields)
+      → c ≡ caseOf router (at .set) (h .fields) f
       → d ≡ destinationAsked x
       → m ≡ number
       → precedence ≡ precedenceAsked (h .fields .qos)
       → _≡_ {A = Asked}
       (record { refusal = 0; target = l .target; place = l .place; case = c; ready = l .ready; destination = d; number = m; precedence = precedence; arrival = at .address; header = h; renewal = k })
-      (elseAsked (pick (badAim x) 6 0) (aimAsked r number at h k x))
-  good-asked x {l} {router} {m} {c} {d} {precedence} el none e1 e2 e3 e4 e5 =
+      (elseAsked (lacking (badAim x)) (aimAsked r number at h k x))
+  good-asked x {l} {router} {m} {f} {c} {d} {precedence} el none marked e1 e0 e2 e3 e4 e5 =
       let e : Asked = record { refusal = 0; target = l .target; place = l .place; case = c; ready = l .ready; destination = d; number = m; precedence = precedence; arrival = at .address; header = h; renewal = k } in
       let is : e ≡ asked-with x l = simp (eq-eqb (l .refusal) 0 none) cc in
-      is ∙ ap (asked-with x) el ∙ looked-asked x
+      is ∙ ap (asked-with x) el ∙ looked-asked marked x
 
 -- ---- a good header: 6 is given for either address
-either-6 : (t u : Bool) → u ≡ true → 6 ≡ firstOf ((t, 6) ∷ (u, 6) ∷ [])
+either-6 : (t u v : Bool) → u ≡ true → 6 ≡ firstOf ((t, 6) ∷ (u, 6) ∷ (v, 28) ∷ [])
 unfolding firstOf
-either-6 true u h = refl
-either-6 false u h = rw h
+either-6 true u v h = refl
+either-6 false u v h = rw h
 
-first-6 : (t u : Bool) → u ≡ false → pick t 6 0 ≡ firstOf ((t, 6) ∷ (u, 6) ∷ [])
+-- and then 28
+first-6 : (t u v : Bool) → u ≡ false → pick t 6 (pick v 28 0) ≡ firstOf ((t, 6) ∷ (u, 6) ∷ (v, 28) ∷ [])
 unfolding firstOf
-first-6 true u h = refl
-first-6 false u h = rw h
+first-6 true u v h = refl
+first-6 false u v h = rw h
 
 source-told : (at : Arrival) (h : Header) {o : Origin} {c : Check} → o ≡ originOf (at .address .0) (h .fields .addresses) → c ≡ checkOf (badSource o)
     → c ≡ checkOf (badSource (originOf (at .address .0) (h .fields .addresses)))
@@ -153,16 +195,16 @@ module _ (r : Relay) (number : ℕ) (at : Arrival) (h : Header) (k : Renewal) {e
       {o : Origin} {origin : Check} (from : o ≡ originOf (at .address .0) (h .fields .addresses)) (told″ : origin ≡ checkOf (badSource o)) where
     pub source-refused : origin ≡ Failed → e ≡ refusedAsked 6 → e ≡ carriedAsked r number at h k
     source-refused fails is =
-        header-refused (passes _ _ _ told carries (passes _ _ _ told′ has (either-6 _ _ (failed-true _ (sym (source-told at h from told″) ∙ fails))))) (λ z. omega arith) is
+        header-refused (passes _ _ _ told carries (passes _ _ _ told′ has (either-6 _ _ _ (failed-true _ (sym (source-told at h from told″) ∙ fails))))) (λ z. omega arith) is
 
     pub header-aimed : origin ≡ Passed → {x : Aim} → x ≡ aimOf (at .address .0) (h .fields .addresses)
-        → e ≡ elseAsked (pick (badAim x) 6 0) (aimAsked r number at h k x) → e ≡ carriedAsked r number at h k
+        → e ≡ elseAsked (pick (badAim x) 6 (pick (unmarked (h .fields)) 28 0)) (aimAsked r number at h k x) → e ≡ carriedAsked r number at h k
     unfolding carriedAsked
     header-aimed passed aimed is =
         is
-        ∙ ap (λ (z : Aim). elseAsked (pick (badAim z) 6 0) (aimAsked r number at h k z)) aimed
+        ∙ ap (λ (z : Aim). elseAsked (pick (badAim z) 6 (pick (unmarked (h .fields)) 28 0)) (aimAsked r number at h k z)) aimed
         ∙ ap (λ (n : ℕ). elseAsked n (aimAsked r number at h k (aimOf (at .address .0) (h .fields .addresses))))
-        (passes _ _ _ told carries (passes _ _ _ told′ has (first-6 _ _ (passed-false _ (sym (source-told at h from told″) ∙ passed)))))
+        (passes _ _ _ told carries (passes _ _ _ told′ has (first-6 _ _ _ (passed-false _ (sym (source-told at h from told″) ∙ passed)))))
 
 -- ---- the whole
 -- the port, by the mission's number
@@ -173,24 +215,37 @@ port-told b port e is = is ∙ ap (λ (k : ℕ). checkOf (not (amongPorts (ports
 pub port-seen : (b : Board) (port : ℕ) {n m : ℕ} {p : Port} → n ≡ m → p ≡ getD (portsSeen n b) port freshPort → p ≡ getD (portsSeen m b) port freshPort
 port-seen b port e is = is ∙ ap (λ (k : ℕ). getD (portsSeen k b) port freshPort) e
 
-module _ (r : Relay) (number port : ℕ) (octets : List ℕ) (room : ℕ) {e : Asked} {c : Check} (told : c ≡ checkOf (not (amongPorts (r .ports) port))) where
-  pub no-port : c ≡ Failed → e ≡ refusedAsked 16 → e ≡ datagramAsked r number port octets room
+module _ (r : Relay) (number port second : ℕ) (octets : List ℕ) (room : ℕ) {e : Asked} {c : Check} (told : c ≡ checkOf (not (amongPorts (r .ports) port))) where
+  pub no-port : c ≡ Failed → e ≡ refusedAsked 16 → e ≡ datagramAsked r number port second octets room
   unfolding datagramAsked callChecks
   no-port fails is = by-number _ _ (fails-here _ _ _ told fails) (λ z. omega arith) is
 
   module _ (ready : c ≡ Passed) where
-    pub no-room : room < outputRoom → e ≡ refusedAsked 17 → e ≡ datagramAsked r number port octets room
+    pub no-room : room < outputRoom → e ≡ refusedAsked 17 → e ≡ datagramAsked r number port second octets room
     unfolding datagramAsked callChecks
     no-room short is = by-number _ _ (passes _ _ _ told ready (holds-here _ _ _ (lt-ltb room outputRoom short))) (λ z. omega arith) is
 
+    -- a second under the last accepted one
+    pub past-second : {last : ℕ} → outputRoom ≤ room → last ≡ r .memory .last → second < last → e ≡ refusedAsked 29
+        → e ≡ datagramAsked r number port second octets room
+    unfolding datagramAsked callChecks
+    past-second enough same early is =
+        by-number _ _
+        (passes _ _ _ told ready (holds-not _ _ _ (le-ltb room outputRoom enough) (holds-here _ _ _ (lt-ltb second (r .memory .last) (rw (← same) early)))))
+        (λ z. omega arith) is
+
     pub judged :
-        {p : Port} {set : ℕ}
+        {p : Port} {set last : ℕ}
         → outputRoom ≤ room
+        → last ≡ r .memory .last
+        → last ≤ second
         → p ≡ getD (r .ports) port freshPort
         → set ≡ onlyPort port
         → e ≡ octetsAsked r number (record { set = set; address = p .address }) (foundOf octets)
-        → e ≡ datagramAsked r number port octets room
+        → e ≡ datagramAsked r number port second octets room
     unfolding datagramAsked callChecks
-    judged enough same only is =
-        by-rest _ _ (passes _ _ _ told ready (holds-not _ _ _ (le-ltb room outputRoom enough) none-left)) refl
+    judged enough kept late same only is =
+        by-rest _ _
+        (passes _ _ _ told ready
+        (holds-not _ _ _ (le-ltb room outputRoom enough) (holds-not _ _ _ (le-ltb second (r .memory .last) (rw (← kept) late)) none-left))) refl
         (is ∙ ap (λ (at : Arrival). octetsAsked r number at (foundOf octets)) cc)

@@ -79,20 +79,20 @@ octets-read r number at s (found.Good h c) e k =
 octets-read r number at s (found.Refused n) e k = absurd (never-zero s (found-refused s n e ∙ ap read.Refused k))
 
 -- nothing refuses: there is room, and the octets were read
-pub asked-good : (r : Relay) (number port : ℕ) (octets : List ℕ) (room : ℕ) → datagramAsked r number port octets room .refusal ≡ 0
-    → (outputRoom ≤ room) × WasRead octets (datagramAsked r number port octets room)
+pub asked-good : (r : Relay) (number port second : ℕ) (octets : List ℕ) (room : ℕ) → datagramAsked r number port second octets room .refusal ≡ 0
+    → (outputRoom ≤ room) × WasRead octets (datagramAsked r number port second octets room)
 unfolding datagramAsked callChecks
-asked-good r number port octets room k = by-number (eqb n 0) refl k
+asked-good r number port second octets room k = by-number (eqb n 0) refl k
   where
     n : ℕ
-    n = firstOf (callChecks r port room)
+    n = firstOf (callChecks r port second room)
 
     a : Asked
     a = octetsAsked r number (arrivalAt r port) (foundOf octets)
 
     by-number : (t : Bool) → eqb n 0 ≡ t → pick t a (refusedAsked n) .refusal ≡ 0 → (outputRoom ≤ room) × WasRead octets (pick t a (refusedAsked n))
     by-number true e j =
-        let none = zero-none (callChecks r port room) ((λ z. omega arith), ((λ z. omega arith), tt)) (eqb-true n 0 e) in
+        let none = zero-none (callChecks r port second room) ((λ z. omega arith), ((λ z. omega arith), ((λ z. omega arith), tt))) (eqb-true n 0 e) in
         (ltb-false room outputRoom (none .1 .0), octets-read r number (arrivalAt r port) octets (foundOf octets) refl j)
     by-number false e j = absurd (eqb-false n 0 e j)
 

@@ -27,6 +27,8 @@ use Rattle.verdict.specs.declared.Target.the-variants.{Here, Broadcast, Group, 
 use Rattle.verdict.specs.declared.Place.{Place}
 use Rattle.verdict.specs.declared.Place.the-variants.{Missing}
 use Rattle.verdict.specs.declared.Way.{Way}
+use Rattle.verdict.specs.declared.Flood.{Flood}
+use Rattle.verdict.specs.declared.Flood.the-variants.{Plain, Unsent, Full, New}
 use Rattle.verdict.specs.declared.Case.{Case}
 use Rattle.verdict.specs.declared.Local.{Local}
 use Rattle.verdict.specs.declared.Wish.{Wish}
@@ -39,6 +41,7 @@ use Rattle.survey.specs.declared.Destination.{Destination}
 use Rattle.survey.specs.declared.Destination.the-variants.{Node, Other}
 use Rattle.lookup.specs.Lookup.{pathPlace}
 use Rattle.lookup.specs.ForTarget.{placeFor}
+use Rattle.floods.specs.Memory.{floodOf}
 use Rattle.judge.specs.Ruling.{caseOf, destinationAsked, targetAsked, soughtOf}
 use Rattle.judge.specs.Ending.{callChecks, arrivalAt, orElse}
 use Rattle.judge.specs.declared.ruling.Arrival.{Arrival}
@@ -50,7 +53,7 @@ use Rattle.judge.specs.declared.Ending.{Ending}
 -- ---- before the search
 -- a refusal asks nothing
 abbrev pub noCase : Case
-noCase = record { arrival = 0; router = 0; intermediate = 0; assigned = 0; bound = 0; spent = 0 }
+noCase = record { arrival = 0; router = 0; intermediate = 0; assigned = 0; bound = 0; spent = 0; flood = Plain }
 
 abbrev pub noHeader : Header
 noHeader =
@@ -96,7 +99,7 @@ headerAsked r number at h n x t p ready =
       refusal = 0;
       target = t;
       place = p;
-      case = caseOf (r .router) (at .set) (h .fields);
+      case = caseOf (r .router) (at .set) (h .fields) (floodOf (r .router) t (r .memory) (at .address .0) (h .fields));
       ready = ready;
       destination = destinationAsked x;
       number = number;
@@ -144,9 +147,9 @@ abbrev pub octetsAsked : Relay → ℕ → Arrival → Found → Asked
 octetsAsked r number at (found.Good h n) = carriedAsked r number at h n
 octetsAsked r number at (found.Refused n) = refusedAsked n
 
-unfoldable pub datagramAsked : Relay → ℕ → ℕ → List ℕ → ℕ → Asked
-datagramAsked r number port octets room =
-    elseAsked (firstOf (callChecks r port room)) (octetsAsked r number (arrivalAt r port) (foundOf octets))
+unfoldable pub datagramAsked : Relay → ℕ → ℕ → ℕ → List ℕ → ℕ → Asked
+datagramAsked r number port second octets room =
+    elseAsked (firstOf (callChecks r port second room)) (octetsAsked r number (arrivalAt r port) (foundOf octets))
 
 -- ---- after it
 -- a ruling, and the headers of the copies that ports took, where those of the domain are known
@@ -189,7 +192,13 @@ finishedOf r a w =
       legs = ruledAsked r a w .legs;
     })
 
--- ---- between them: a route is searched where the route line decides, on a router
+-- ---- between them: a route is searched where the route line decides, on a router, and no flood is on
+abbrev pub unlessFlood : Flood → ℕ → ℕ
+unlessFlood Plain n = n
+unlessFlood Unsent n = 0
+unlessFlood Full n = 0
+unlessFlood (New place) n = 0
+
 abbrev pub routeSought : Target → ℕ → ℕ
 routeSought Here router = 0
 routeSought Broadcast router = 0
@@ -198,7 +207,7 @@ routeSought Path router = 0
 routeSought Route router = pick (eqb router 0) 0 1
 
 abbrev pub searchedIn : Asked → ℕ
-searchedIn a = pick (eqb (a .refusal) 0) (routeSought (a .target) (a .case .router)) 0
+searchedIn a = pick (eqb (a .refusal) 0) (unlessFlood (a .case .flood) (routeSought (a .target) (a .case .router))) 0
 
 -- the address that it is searched for
 abbrev pub addressIn : Destination → ℕ

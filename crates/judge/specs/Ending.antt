@@ -20,6 +20,7 @@ use Rattle.verdict.specs.declared.Onward.the-variants.{NotAsked}
 use Rattle.verdict.specs.declared.Ruling.{Ruling}
 use Rattle.state.specs.Relay.{Relay, portIn, portSetUp}
 use Rattle.next_leg.specs.Leg.{noLegs}
+use Rattle.floods.specs.Sweep.{isPast}
 use Rattle.judge.specs.Ruling.{ruleOf, legsFor}
 use Rattle.judge.specs.declared.ruling.Arrival.{Arrival}
 use Rattle.judge.specs.declared.Ending.{Ending}
@@ -40,8 +41,9 @@ orElse n e = pick (eqb n 0) e (refusedBy n)
 abbrev pub outputRoom : ℕ
 outputRoom = portCount * longestHeader
 
-unfoldable pub callChecks : Relay → ℕ → ℕ → Checks
-callChecks r port room = (not (portSetUp r port), 16) ∷ (ltb room outputRoom, 17) ∷ []
+-- "a second under the last accepted one .. refuses a datagram or sweep with 29, after 16 and 17" (page 02, W-207)
+unfoldable pub callChecks : Relay → ℕ → ℕ → ℕ → Checks
+callChecks r port second room = (not (portSetUp r port), 16) ∷ (ltb room outputRoom, 17) ∷ (isPast (r .memory) second, 29) ∷ []
 
 -- ---- the ending
 abbrev pub ruledEnding : Relay → Arrival → Header → Ending
@@ -65,6 +67,6 @@ octetsEnding r at (read.Refused n) = refusedBy n
 abbrev pub arrivalAt : Relay → ℕ → Arrival
 arrivalAt r port = record { set = onlyPort port; address = portIn r port .address }
 
--- what becomes of these octets, come in by this port, with so much room for output
-unfoldable pub endingOf : Relay → ℕ → List ℕ → ℕ → Ending
-endingOf r port octets room = orElse (firstOf (callChecks r port room)) (octetsEnding r (arrivalAt r port) (readOf octets))
+-- what becomes of these octets, come in by this port in this second, with so much room for output
+unfoldable pub endingOf : Relay → ℕ → ℕ → List ℕ → ℕ → Ending
+endingOf r port second octets room = orElse (firstOf (callChecks r port second room)) (octetsEnding r (arrivalAt r port) (readOf octets))

@@ -3,3 +3,5 @@
 pub mod Ending
 pub mod Ruling
 pub mod Asked
+-- What the contracts cite: what is remembered of it.
+pub mod Remembered

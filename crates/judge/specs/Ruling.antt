@@ -12,13 +12,14 @@ use Rattle.meaning.specs.declared.Aim.{Aim}
 use Rattle.meaning.specs.declared.Aim.the-variants as aim
 use Rattle.meaning.specs.Asked.{assignedOf, spentOf}
 use Rattle.state.specs.Relay.{Relay}
-use Rattle.verdict.specs.Rule.{targetOf, localOf, lineOf, codeOf, grantedOf, rulingOf}
+use Rattle.verdict.specs.Rule.{targetOf, localOf, lineOf, wayUnder, codeOf, grantedOf, rulingOf}
 use Rattle.verdict.specs.declared.Target.{Target}
 use Rattle.verdict.specs.declared.Target.the-variants.{Path, Route}
 use Rattle.verdict.specs.declared.Place.{Place}
 use Rattle.verdict.specs.declared.Place.the-variants.{Missing}
 use Rattle.verdict.specs.declared.Way.{Way}
 use Rattle.verdict.specs.declared.Way.the-variants.{Lost}
+use Rattle.verdict.specs.declared.Flood.{Flood}
 use Rattle.verdict.specs.declared.Case.{Case}
 use Rattle.verdict.specs.declared.Survey.{Survey}
 use Rattle.verdict.specs.declared.Ruling.{Ruling}
@@ -32,11 +33,12 @@ use Rattle.next_leg.specs.declared.Lengths.{Lengths}
 use Rattle.next_leg.specs.declared.Legs.{Legs}
 use Rattle.lookup.specs.Lookup.{pathPlace}
 use Rattle.lookup.specs.ForTarget.{placeFor, wayFor}
+use Rattle.floods.specs.Memory.{floodOf}
 use Rattle.judge.specs.declared.ruling.Arrival.{Arrival}
 
 -- ---- what is asked
-abbrev pub caseOf : ℕ → ℕ → Fields → Case
-caseOf router arrival f =
+abbrev pub caseOf : ℕ → ℕ → Fields → Flood → Case
+caseOf router arrival f flood =
     record {
       arrival = arrival;
       router = router;
@@ -44,6 +46,7 @@ caseOf router arrival f =
       assigned = assignedOf (f .tpid);
       bound = isBound (f .addresses);
       spent = spentOf (f .hops);
+      flood = flood;
     }
 
 -- a path is not compared with any port's address
@@ -63,14 +66,24 @@ soughtOf l = soughtBy (l .arrival) (nextLengths l)
 abbrev pub targetAsked : Relay → Address → Target
 targetAsked r a = targetOf (classOf (a .0)) (namedOf (r .ports) a)
 
--- "the port's route": what the route taken asks for; a host takes none, and neither does a line that asks for no route
-abbrev pub codeFor : Relay → Aim → ℕ
-codeFor r (aim.Node a) = pick (eqb (r .router) 0) 0 (codeOf (wayFor r (targetAsked r a) a))
-codeFor r (aim.Path p) = 0
-codeFor r aim.Uncarried = 0
+-- and of what the header aims at
+abbrev pub targetFor : Relay → Aim → Target
+targetFor r (aim.Node a) = targetAsked r a
+targetFor r (aim.Path p) = Path
+targetFor r aim.Uncarried = Route
+
+-- what the mission's pairs say of it (page 02, W-207)
+abbrev pub floodFor : Relay → Arrival → Aim → Header → Flood
+floodFor r at x h = floodOf (r .router) (targetFor r x) (r .memory) (at .address .0) (h .fields)
+
+-- "the port's route": what the route taken asks for; a host takes none, and neither does a line that asks for no route, or a flood
+abbrev pub codeFor : Relay → Flood → Aim → ℕ
+codeFor r f (aim.Node a) = pick (eqb (r .router) 0) 0 (codeOf (wayUnder f (wayFor r (targetAsked r a) a)))
+codeFor r f (aim.Path p) = 0
+codeFor r f aim.Uncarried = 0
 
 abbrev pub legFor : Relay → Arrival → Aim → Header → Leg
-legFor r at x h = record { arrival = at .address; code = codeFor r x; header = h }
+legFor r at x h = record { arrival = at .address; code = codeFor r (floodFor r at x h) x; header = h }
 
 -- what the ports say of it
 abbrev pub surveyFor : Relay → Arrival → Aim → Header → Survey
@@ -92,7 +105,7 @@ ruleAim r (aim.Path p) c s = ruledBy Path (pathPlace r p) Lost c s
 ruleAim r aim.Uncarried c s = ruledBy Route Missing Lost c s
 
 unfoldable pub ruleOf : Relay → Arrival → Aim → Header → Ruling
-ruleOf r at x h = ruleAim r x (caseOf (r .router) (at .set) (h .fields)) (surveyFor r at x h)
+ruleOf r at x h = ruleAim r x (caseOf (r .router) (at .set) (h .fields) (floodFor r at x h)) (surveyFor r at x h)
 
 -- the headers of the copies that ports took
 unfoldable pub legsFor : Relay → Arrival → Aim → Header → Legs

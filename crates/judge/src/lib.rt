@@ -1,7 +1,7 @@
 // The verdict on a received datagram, from its octets to an ending, in two steps with the search of the routes between them.
 //
-// The stages stand in page 01's order: the port and the output's room (16, 17), the reader (1 to 5), what is carried (8), the domain (7),
-// the addresses (6). The first refusal ends the call. Else the destination's target and the place of its group or path are looked up, and all
+// The stages stand in page 01's order, with page 02's 29 and 28 among them: the port and the output's room (16, 17), the second (29), the reader (1 to 5), what is carried (8), the domain (7),
+// the addresses (6), what a flood needs (28). The first refusal ends the call. Else the destination's target and the place of its group or path are looked up, and all
 // that the rest needs is handed on by value, `Asked`: which route is to be searched too, if any. The list of routes is lent to another step.
 // With its answer module `finishing` gives the ruling. Nothing is written here: an ending says all that becomes of the datagram, and another
 // crate does it. So the same ending can be asked for without being carried out.
@@ -27,6 +27,7 @@ use meaning::Aim;
 use next_leg::Legs;
 use survey::Destination;
 use verdict::Case;
+use verdict::Flood;
 use verdict::Local;
 use verdict::Onward;
 use verdict::Place;
@@ -37,6 +38,7 @@ ghost use lib.ListN.{length};
 ghost use Rattle.checks.specs.Order.{pick};
 ghost use Rattle.header.specs.Onward.{foundOf};
 ghost use Rattle.meaning.specs.Names.{badClass, badPath, badAim};
+ghost use Rattle.meaning.specs.Flood.{unmarked};
 ghost use Rattle.state.specs.Seen.{Board, seated};
 ghost use Rattle.state.specs.Layout.{boardWords, decodeBoard, missionWords, decode};
 ghost use Rattle.judge.specs.Ruling.{destinationAsked};
@@ -126,6 +128,7 @@ pub fn refused(refusal: u32) -> Asked
         assigned: 0,
         bound: 0,
         spent: 0,
+        flood: Flood::Plain,
     };
     let renewal = Renewal {
         hops: 0,
@@ -243,12 +246,12 @@ fn destination_of(x: Aim) -> Destination
     }
 }
 
-// What is known before the search, of a header that is good so far.
+// What is known before the search, of a header that is good so far: the rest of 6, then 28, and what the pairs say.
 fn ask_good(board: &[u32], mission: &[u32], at: Arrival, h: Header, n: Renewal, x: Aim) -> Asked
     requires { ⌜ (length (now board) ≡ boardWords) × (length (now mission) ≡ missionWords) ⌝ }
     ensures { λ r. ⌜
         r
-        ≡ elseAsked (pick (badAim x) 6 0)
+        ≡ elseAsked (pick (badAim x) 6 (pick (unmarked (h .fields)) 28 0))
         (aimAsked (seated (decodeBoard (now (board .entry))) (decode (now (mission .entry)))) (decode (now (mission .entry)) .number) at h n x)
         ⌝ }
 {
@@ -257,15 +260,20 @@ fn ask_good(board: &[u32], mission: &[u32], at: Arrival, h: Header, n: Renewal, 
         return refused(l.refusal);
     }
     let f = h.fields;
+    let Check::Passed = meaning::flood::check_marked(f) else {
+        return refused(28);
+    };
     let from = at.address;
     let qos = f.qos;
     let target = l.target;
     let place = l.place;
+    let router = state_board::router_of(board);
+    let flood = floods::flood_of(mission, router, target, from, f);
     Asked {
         refusal: 0,
         target,
         place,
-        case: crate::ruling::case_of(state_board::router_of(board), at.set, f),
+        case: crate::ruling::case_of(router, at.set, f, flood),
         ready: l.ready,
         destination: destination_of(x),
         number: state_mission::number_of(mission),
@@ -315,13 +323,20 @@ fn ask_octets(board: &[u32], mission: &[u32], at: Arrival, octets: &[u8]) -> Ask
     }
 }
 
-// What is known before the search of the octets that came in by a port, with so much room for output.
-pub fn judge(board: &[u32], mission: &[u32], port: u32, octets: &[u8], room: usize) -> Asked
+// What is known before the search of the octets that came in by a port in a second, with so much room for output.
+pub fn judge(
+    board: &[u32],
+    mission: &[u32],
+    port: u32,
+    second: u32,
+    octets: &[u8],
+    room: usize,
+) -> Asked
     requires { ⌜ (length (now board) ≡ boardWords) × (length (now mission) ≡ missionWords) ⌝ }
     ensures { λ r. ⌜
         r
         ≡ datagramAsked (seated (decodeBoard (now (board .entry))) (decode (now (mission .entry)))) (decode (now (mission .entry)) .number) port
-        (now (octets .entry)) room
+        second (now (octets .entry)) room
         ⌝ }
 {
     let number = state_mission::number_of(mission);
@@ -330,6 +345,9 @@ pub fn judge(board: &[u32], mission: &[u32], port: u32, octets: &[u8], room: usi
     };
     if room < OUTPUT_ROOM {
         return refused(17);
+    }
+    if second < state_pairs::last_of(mission) {
+        return refused(29);
     }
     let p = state_board::seen_port(board, number, port as usize);
     let address = p.address;

@@ -8,6 +8,7 @@ use header::Fields;
 use next_leg::Lengths;
 use survey::Sought;
 use verdict::Case;
+use verdict::Flood;
 ghost use mathlib.Core.Path.{_≡_};
 ghost use Prim.Native.Nat.{_*_, _<_};
 ghost use Rattle.header.specs.Limits.{lengthLimit};
@@ -20,8 +21,8 @@ pub struct Arrival {
 }
 
 // What the rule asks of the node, the arrival port and the header.
-pub fn case_of(router: u32, arrival: u32, f: Fields) -> Case
-    ensures { λ r. ⌜ r ≡ caseOf router arrival f ⌝ }
+pub fn case_of(router: u32, arrival: u32, f: Fields, flood: Flood) -> Case
+    ensures { λ r. ⌜ r ≡ caseOf router arrival f flood ⌝ }
 {
     let addresses = f.addresses;
     let hops = f.hops;
@@ -32,6 +33,7 @@ pub fn case_of(router: u32, arrival: u32, f: Fields) -> Case
         assigned: meaning::asked::assigned_of(f.tpid),
         bound: meaning::is_bound(addresses),
         spent: meaning::asked::spent_of(hops),
+        flood,
     }
 }
 

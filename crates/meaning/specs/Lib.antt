@@ -4,3 +4,5 @@ pub mod Names
 pub mod Asked
 -- What the contract cites: the checks of a good header.
 pub mod Arrival
+-- What the contracts cite: a flooded datagram and its pair.
+pub mod Flood

@@ -56,9 +56,16 @@ abbrev pub routingAsked : Qos → ℕ
 routingAsked qos.Absent = 0
 routingAsked (qos.Present precedence routing program) = routing
 
--- 8: routing requirements not 0, or IPv6 addresses
+-- 003, table 3-7: the routing requirement of a flood
+abbrev pub floodRouting : ℕ
+floodRouting = 3
+
+-- 8: routing requirements not 0, but for the flood value (page 02, W-207), or IPv6 addresses
+abbrev pub carriedRouting : ℕ → Bool
+carriedRouting n = eqb n 0 || eqb n floodRouting
+
 abbrev pub notCarried : Fields → Bool
-notCarried f = not (eqb (routingAsked (f .qos)) 0) || not (eqb (ipv6Flag (f .addresses)) 0)
+notCarried f = not (carriedRouting (routingAsked (f .qos))) || not (eqb (ipv6Flag (f .addresses)) 0)
 
 -- 7: a one-octet address, and the arrival port's address does not begin with 10
 abbrev pub noDomain : Address → Addresses → Bool

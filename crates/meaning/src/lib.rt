@@ -6,6 +6,7 @@
 // once here; everything later compares names and never bare octets. The awkward case is an IPv6 header, which is read and not
 // carried: what it names has a case of its own, which no check lets through.
 pub mod asked;
+pub mod flood;
 
 use address::Address;
 use address::PathAddress;
@@ -22,11 +23,15 @@ ghost use Rattle.meaning.specs.Names.{
   isBasic,
   isBound,
   routingAsked,
+  carriedRouting,
   notCarried,
   noDomain,
   notUnicast,
   badSource,
 };
+
+// The routing requirement of a flood (003, table 3-7).
+pub const FLOOD_ROUTING: u8 = 3;
 
 // What a destination names: an end system or a group of them, a path, or a system that is not reached by what is carried here.
 pub enum Aim {
@@ -101,7 +106,7 @@ pub fn is_bound(a: Addresses) -> u32
 }
 
 // The routing requirements, 0 where there is no basic QOS.
-fn routing_of(q: Qos) -> u8
+pub fn routing_of(q: Qos) -> u8
     ensures { λ r. ⌜ r ≡ routingAsked q ⌝ }
 {
     match q {
@@ -110,13 +115,23 @@ fn routing_of(q: Qos) -> u8
     }
 }
 
-// Step 4: point-to-point routing and no IPv6 addresses.
+// The routing requirements that are carried: point-to-point and flood.
+fn is_carried(routing: u8) -> bool
+    ensures { λ r. ⌜ r ≡ carriedRouting routing ⌝ }
+{
+    if routing == 0 {
+        return true;
+    }
+    routing == FLOOD_ROUTING
+}
+
+// Step 4: point-to-point routing or flood, and no IPv6 addresses.
 pub fn check_carried(f: Fields) -> Check
     ensures { λ r. ⌜ r ≡ checkOf (notCarried f) ⌝ }
 {
     let qos = f.qos;
     let addresses = f.addresses;
-    if routing_of(qos) != 0 {
+    if !is_carried(routing_of(qos)) {
         return Check::Failed;
     }
     if header::flags::ipv6_flag(addresses) != 0 {

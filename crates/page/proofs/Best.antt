@@ -2,19 +2,20 @@
 use native.Mathlib.Omega.{arith}
 use native.Mathlib.Decide.{decLe}
 use native.Mathlib.Nat.{lt-of-not-le}
-use Prim.Native.Nat.{ℕ, zero, suc, _<_, _≤_}
+use Prim.Native.Nat.{ℕ, _<_, _≤_}
 use mathlib.Core.Path.{_≡_, refl, sym, ap, subst, _∙_}
 use mathlib.Core.Logic.{⊎-elim, by-cases, _≢_}
 use mathlib.Core.Bool.{Bool, true, false, not, _&&_, _||_}
 use mathlib.Core.List.{List}
 use lib.Dec.{eqb, ltb}
 use lib.ListN.{length}
-use borrow.Author.Tests.{eq-eqb, eqb-true, eqb-false, ltb-true, ltb-false, lt-ltb, le-ltb, not-true}
+use borrow.Author.Tests.{eqb-true, eqb-false, ltb-true, ltb-false, lt-ltb, le-ltb, not-true}
 use Rattle.checks.specs.Order.{pick}
 use Rattle.checks.proofs.Bools.{true-false, refuted, and-true, or-true}
-use Rattle.sets.specs.Sets.{anyBelow, firstBelow}
+use Rattle.sets.specs.Sets.{anyBelow}
 use Rattle.sets.proofs.Anywhere.{any-is, any-found}
 use Rattle.sets.proofs.Loops.{firstBelow-found}
+use Rattle.sets.proofs.First.{first-none}
 use Rattle.address.specs.declared.Address.{Address}
 use Rattle.routes.specs.Routes.{routeAt, candidate}
 use Rattle.routes.specs.Search.{searchOf}
@@ -30,12 +31,6 @@ use Rattle.page.specs.Table.{matches, someMatches, outdoes, isBest, best
 use Rattle.page.specs.Ends.{Chooses}
 use Rattle.page.proofs.Sets.{only-is}
 use Rattle.page.proofs.Copies.{Alone, Same}
-
--- a test that holds nowhere among the first n is first met behind them
-first-none : (test : ℕ → Bool) (n : ℕ) → ((i : ℕ) → i < n → test i ≡ false) → firstBelow test n ≡ n
-first-none test zero none = refl
-first-none test (suc n) none =
-    simp (first-none test n (λ i l. none i (omega (arith, l))), eq-eqb n n refl, none n (omega arith))
 
 module _ (more : Route → Route → Bool) (r : Relay) (chooses : Chooses more r) (a : Address) where
   abbrev rs : List Route

@@ -26,6 +26,7 @@ use Rattle.survey.specs.Survey.{inDomain, fitsPort, isFitting, surveyOf}
 use Rattle.survey.specs.declared.Sought.{Sought}
 use Rattle.verdict.specs.Numbers.{localNumber, obstacleNumber, onwardNumber}
 use Rattle.verdict.specs.Rule.{exceptBy, sameDomain, largeEnough, afterDomain, afterSize, grantedOf, copiesOf, rulingOf}
+use Rattle.verdict.specs.declared.Flood.{Flood}
 use Rattle.verdict.specs.declared.Case.{Case}
 use Rattle.verdict.specs.declared.Local.{Local}
 use Rattle.verdict.specs.declared.Obstacle.{Obstacle}
@@ -122,9 +123,9 @@ size-case : (near : Bool) (arrival code : ℕ) (h : Header) → pick near (nextL
 size-case true arrival code h = refl
 size-case false arrival code h = refl
 
-module _ (r : Relay) (at : ℕ) (x : Aim) (h : Header) (code : ℕ) (local : Local) where
+module _ (r : Relay) (at : ℕ) (x : Aim) (h : Header) (flood : Flood) (code : ℕ) (local : Local) where
   abbrev asked : Case
-  asked = caseOf (r .router) (onlyPort at) (h .fields)
+  asked = caseOf (r .router) (onlyPort at) (h .fields) flood
 
   abbrev sought : Sought
   sought = soughtOf (record { arrival = portIn r at .address; code = code; header = h })

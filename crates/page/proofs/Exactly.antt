@@ -1,24 +1,28 @@
 -- When each number is given: exactly where the condition of a row that says it holds, and none before it. First for all rows of a table at
 -- once, then number by number in the page's words. Assumes nothing.
 use native.Mathlib.Omega.{arith}
-use Prim.Native.Nat.{ℕ, _<_}
+use Prim.Native.Nat.{ℕ, _*_, _<_, _≤_}
 use mathlib.Core.Path.{_≡_, refl, sym, ap, subst, _∙_}
 use mathlib.Core.Logic.{_↔_, _≢_, _⊎_, inl, inr, ⊎-elim}
 use mathlib.Core.Bool.{Bool, true, false, not, _&&_, _||_}
 use mathlib.Core.List.{List, [], _∷_}
-use lib.Dec.{eqb}
-use lib.ListN.{length, drop}
-use borrow.Author.Tests.{eqb-true, eqb-false, eq-eqb, ne-eqb}
+use lib.Dec.{eqb, ltb}
+use lib.ListN.{length, take, drop}
+use borrow.Author.Tests.{eqb-true, eqb-false, eq-eqb, ne-eqb, ltb-true, ltb-false, lt-ltb, le-ltb}
 use Rattle.checks.specs.Order.{pick, Checks, firstOf, noneHolds, firstHolds}
-use Rattle.checks.proofs.Bools.{true-false, refuted}
+use Rattle.checks.proofs.Bools.{true-false, not-false, and-true, or-true, refuted}
 use Rattle.checks.proofs.Laws.{either, number-first, first-number}
 use Rattle.refusals.proofs.Chains.{decided}
+use Rattle.sets.specs.Limits.{portCount}
 use Rattle.sets.specs.Sets.{inSet}
 use Rattle.sets.proofs.Anywhere.{any-is, any-found}
 use Rattle.address.specs.declared.Address.{Address}
+use Rattle.header.specs.Limits.{longestHeader}
+use Rattle.header.specs.Build.{sourceFlag, formatOf}
 use Rattle.header.specs.Read.{headerOf}
 use Rattle.header.specs.declared.Header.{Header}
 use Rattle.meaning.specs.Asked.{isAssigned}
+use Rattle.meaning.specs.Flood.{isFlooded, unmarked}
 use Rattle.meaning.specs.Names.{aimOf}
 use Rattle.meaning.specs.declared.Aim.{Aim}
 use Rattle.meaning.specs.declared.Aim.the-variants.{Node}
@@ -26,19 +30,23 @@ use Rattle.routes.specs.Routes.{candidate}
 use Rattle.routes.specs.Search.{longerMask}
 use Rattle.routes.specs.declared.Route.{Route}
 use Rattle.routes.proofs.Candidates.{candidate-within}
-use Rattle.state.specs.Relay.{Relay, portIn, routeIn}
+use Rattle.state.specs.Relay.{Relay, portIn, routeIn, portSetUp}
 use Rattle.verdict.specs.Numbers.{localNumber, onwardNumber}
 use Rattle.judge.specs.Ending.{endingOf}
 use Rattle.judge.specs.declared.Ending.{Ending}
 use Rattle.page.specs.Table.{Ports, firstRow, Decides, GivenBy, stepRows, destinationIs, equalsPort, isLimited, broadcastOfOurs, isMulticast, isOurs, localRows, localHalf, matches, someMatches, bestPort, bestCode, Line, notAsked, refused, wanted, isHost, onwardRows, onwardLine, hasRoom, copyRows, lineNumber, GivesNumber, lineGrants, lineCode, Verdict, judged, refusedWith, verdictBy}
 use Rattle.page.specs.Ends.{Agrees, Chooses}
-use Rattle.page.proofs.Rows.{row-decides, every-row, every-check}
+use Rattle.page.proofs.Rows.{row-decides, every-row, every-check, only-row}
 use Rattle.page.proofs.Verdict.{ends, masks-choose, steps-numbers}
 
 -- ---- a line's number
+-- a number of the rows on copies, or none
+abbrev pub isCopied : ℕ → Bool
+isCopied n = eqb n 0 || (eqb n 10 || (eqb n 13 || (eqb n 14 || (eqb n 15 || eqb n 1))))
+
 module _ (r : Relay) (at : ℕ) (h : Header) (ports : Ports) (code : ℕ) where
   -- the last row of copies always holds
-  never-zero : firstOf (copyRows r at h ports code) ≡ 0 → ⊥
+  pub never-zero : firstOf (copyRows r at h ports code) ≡ 0 → ⊥
   unfolding copyRows
   never-zero e = true-false (decided (copyRows r at h ports code) refl .0 .0 e .1 .1 .1 .1 .0)
 
@@ -46,17 +54,12 @@ module _ (r : Relay) (at : ℕ) (h : Header) (ports : Ports) (code : ℕ) where
   copies-say n = (λ e. number-first (copyRows r at h ports code) n (λ z. never-zero (e ∙ z)) e, first-number (copyRows r at h ports code) n)
 
   -- copies give 10, 13, 14, 15 and 1 alone
-  copies-not-9 : firstOf (copyRows r at h ports code) ≢ 9
+  pub copies-known : isCopied (firstOf (copyRows r at h ports code)) ≡ true
   unfolding copyRows
-  copies-not-9 =
-      every-check (λ (m : ℕ). m ≢ 9) (copyRows r at h ports code)
-      ((λ z. omega arith), ((λ z. omega arith), ((λ z. omega arith), ((λ z. omega arith), ((λ z. omega arith), tt))))) (λ z. omega arith)
+  copies-known = every-check (λ (m : ℕ). isCopied m ≡ true) (copyRows r at h ports code) (refl, (refl, (refl, (refl, (refl, tt))))) refl
 
-  copies-not-11 : firstOf (copyRows r at h ports code) ≢ 11
-  unfolding copyRows
-  copies-not-11 =
-      every-check (λ (m : ℕ). m ≢ 11) (copyRows r at h ports code)
-      ((λ z. omega arith), ((λ z. omega arith), ((λ z. omega arith), ((λ z. omega arith), ((λ z. omega arith), tt))))) (λ z. omega arith)
+  pub copies-not : (n : ℕ) → isCopied n ≡ false → firstOf (copyRows r at h ports code) ≢ n
+  copies-not n other e = true-false (sym copies-known ∙ ap isCopied e ∙ other)
 
 gives-is : (r : Relay) (at : ℕ) (h : Header) (n : ℕ) (line : Line) → (lineNumber r at h line ≡ n) ↔ GivesNumber r at h n line
 gives-is r at h n notAsked = (λ e. e, λ e. e)
@@ -89,10 +92,23 @@ half-none false t = refl
 by-number : {m k n : ℕ} {D : Type 0} → m ≡ k → (k ≡ n) ↔ D → (m ≡ n) ↔ D
 by-number e d = (λ f. d .0 (sym e ∙ f), λ f. e ∙ d .1 f)
 
+-- 28's test
+unmarked-is : (flooded : Bool) (source format : ℕ)
+    → ((flooded && (eqb source 0 || eqb format 0)) ≡ true) ↔ ((flooded ≡ true) × ((source ≡ 0) ⊎ (format ≡ 0)))
+unmarked-is flooded source format = (
+  λ e. (let both = and-true flooded (eqb source 0 || eqb format 0) e in
+      (both .0, ⊎-elim (λ u. inl (eqb-true source 0 u)) (λ u. inr (eqb-true format 0 u)) (or-true (eqb source 0) (eqb format 0) (both .1)))),
+  λ d. rw (d .0) (⊎-elim (λ (u : source ≡ 0). rw (eq-eqb source 0 u)) (λ (u : format ≡ 0). rw (eq-eqb format 0 u) (either-true (eqb source 0))) (d .1)),
+)
+  where
+    either-true : (t : Bool) → (t || true) ≡ true
+    either-true true = refl
+    either-true false = refl
+
 -- ---- the whole call
-module _ (r : Relay) (at : ℕ) (octets : List ℕ) (room : ℕ) where
+module _ (r : Relay) (at second : ℕ) (octets : List ℕ) (room : ℕ) where
   abbrev rows : Checks
-  rows = stepRows r at octets room
+  rows = stepRows r at second octets room
 
   abbrev h : Header
   h = headerOf octets
@@ -102,11 +118,11 @@ module _ (r : Relay) (at : ℕ) (octets : List ℕ) (room : ℕ) where
   x = aimOf (portIn r at .address .0) (h .fields .addresses)
 
   abbrev ending : Ending
-  ending = endingOf r at octets room
+  ending = endingOf r at second octets room
 
   module _ (more : Route → Route → Bool) where
     abbrev verdict : Verdict
-    verdict = verdictBy more r at octets room
+    verdict = verdictBy more r at second octets room
 
     refusal-is : verdict .refusal ≡ firstOf rows
     unfolding verdictBy judged
@@ -124,15 +140,41 @@ module _ (r : Relay) (at : ℕ) (octets : List ℕ) (room : ℕ) where
     unfolding verdictBy
     refused-is n = ap (λ (t : Bool). pick t (judged more r at x h) (refusedWith (firstOf rows))) (ne-eqb (firstOf rows) 0 n)
 
+  pub refusal-number : ending .refusal ≡ firstOf rows
+  refusal-number = ends longerMask r (masks-choose r) at second octets room .refusal ∙ refusal-is longerMask
+
   -- Steps 1 to 6: each number exactly where its row decides.
   pub refusal-exactly : GivenBy rows (ending .refusal)
-  refusal-exactly =
-      let is : ending .refusal ≡ firstOf rows = ends longerMask r (masks-choose r) at octets room .refusal ∙ refusal-is longerMask in
-      subst (GivenBy rows) (sym is) (decided rows (steps-numbers r at octets room))
+  refusal-exactly = subst (GivenBy rows) (sym refusal-number) (decided rows (steps-numbers r at second octets room))
+
+  -- 29: the second is under the last accepted one, and neither 16 nor 17 stands before.
+  pub past-exactly : (ending .refusal ≡ 29) ↔ (((portSetUp r at ≡ true) × (portCount * longestHeader ≤ room)) × (second < r .memory .last))
+  unfolding stepRows
+  past-exactly = by-number refusal-number (
+    λ e. (let d = row .0 e in
+        ((not-false (portSetUp r at) (d .0 .0), ltb-false room _ (d .0 .1 .0)), ltb-true second (r .memory .last) (d .1))),
+    λ d. row .1 ((ap not (d .0 .0), (le-ltb room _ (d .0 .1), tt)), lt-ltb second (r .memory .last) (d .1)),
+  )
+    where
+      row : (firstOf rows ≡ 29) ↔ (noneHolds (take 2 rows) × (ltb second (r .memory .last) ≡ true))
+      row = only-row (take 2 rows) (drop 3 rows) (ltb second (r .memory .last)) 29 (λ z. omega arith) refl refl
+
+  -- 28: the datagram is flooded, it has no source or no timestamp, and no step before refuses.
+  pub unmarked-exactly : (ending .refusal ≡ 28)
+      ↔ (noneHolds (take 12 rows)
+      × ((isFlooded (h .fields) ≡ true) × ((sourceFlag (h .fields .addresses) ≡ 0) ⊎ (formatOf (h .fields .stamp) ≡ 0))))
+  unfolding stepRows
+  unmarked-exactly = by-number refusal-number (
+    λ e. (let d = row .0 e in (d .0, unmarked-is (isFlooded (h .fields)) _ _ .0 (d .1))),
+    λ d. row .1 (d .0, unmarked-is (isFlooded (h .fields)) _ _ .1 (d .1)),
+  )
+    where
+      row : (firstOf rows ≡ 28) ↔ (noneHolds (take 12 rows) × (unmarked (h .fields) ≡ true))
+      row = only-row (take 12 rows) [] (unmarked (h .fields)) 28 (λ z. omega arith) refl refl
 
   -- no row holds exactly where their number is 0
-  passed : (firstOf rows ≡ 0) ↔ noneHolds rows
-  passed = decided rows (steps-numbers r at octets room) .0
+  pub passed : (firstOf rows ≡ 0) ↔ noneHolds rows
+  passed = decided rows (steps-numbers r at second octets room) .0
 
   -- a half that has a number other than 0 was judged
   was-judged : (n m : ℕ) → n ≢ 0 → m ≡ n → (firstOf rows ≢ 0 → m ≡ 0) → noneHolds rows
@@ -154,12 +196,12 @@ module _ (r : Relay) (at : ℕ) (octets : List ℕ) (room : ℕ) where
   local = localNumber (ending .ruling .local)
 
   local-none : firstOf rows ≢ 0 → local ≡ 0
-  local-none n = ends longerMask r (masks-choose r) at octets room .ruling .local ∙ ap (λ (v : Verdict). v .local) (refused-is longerMask n)
+  local-none n = ends longerMask r (masks-choose r) at second octets room .ruling .local ∙ ap (λ (v : Verdict). v .local) (refused-is longerMask n)
 
   pub local-number : noneHolds rows → local ≡ localHalf r at x (h .fields)
   unfolding judged
   local-number none =
-      ends longerMask r (masks-choose r) at octets room .ruling .local ∙ ap (λ (v : Verdict). v .local) (judged-is longerMask (passed .1 none))
+      ends longerMask r (masks-choose r) at second octets room .ruling .local ∙ ap (λ (v : Verdict). v .local) (judged-is longerMask (passed .1 none))
 
   abbrev ours : Bool
   ours = isOurs r at x (h .fields)
@@ -194,12 +236,12 @@ module _ (r : Relay) (at : ℕ) (octets : List ℕ) (room : ℕ) where
     onward = onwardNumber (ending .ruling .onward)
 
     onward-none : firstOf rows ≢ 0 → onward ≡ 0
-    onward-none n = ends more r chooses at octets room .ruling .onward ∙ ap (λ (v : Verdict). v .onward) (refused-is more n)
+    onward-none n = ends more r chooses at second octets room .ruling .onward ∙ ap (λ (v : Verdict). v .onward) (refused-is more n)
 
     pub onward-number : noneHolds rows → onward ≡ lineNumber r at h (onwardLine more r at x (h .fields))
     unfolding judged
     onward-number none =
-        ends more r chooses at octets room .ruling .onward ∙ ap (λ (v : Verdict). v .onward) (judged-is more (passed .1 none))
+        ends more r chooses at second octets room .ruling .onward ∙ ap (λ (v : Verdict). v .onward) (judged-is more (passed .1 none))
 
     -- What the route asks of a header is what the line says.
     pub code-number : noneHolds rows → verdict more .code ≡ lineCode (onwardLine more r at x (h .fields))
@@ -218,7 +260,7 @@ module _ (r : Relay) (at : ℕ) (octets : List ℕ) (room : ℕ) where
         let decides = row-decides (GivesNumber r at h n) (onwardRows r at x (h .fields)) (wanted (bestPort more r x) (bestCode more r x)) in
         (λ e. decides .0 (gives .0 (sym (onward-number none) ∙ e)), λ d. onward-number none ∙ gives .1 (decides .1 d))
 
-    -- So of any call: 9, 10, 11, 13, 14, 15 and 1 exactly where no step refuses and their line decides.
+    -- So of any call: 9, 10, 11, 13, 14, 15, 30 and 1 exactly where no step refuses and their line decides.
     pub onward-given : (n : ℕ) → n ≢ 0 → (onward ≡ n) ↔ (noneHolds rows × LineGives n)
     onward-given n some = in-any-call some onward-none (λ none. onward-exactly none n)
 
@@ -234,39 +276,48 @@ module _ (r : Relay) (at : ℕ) (octets : List ℕ) (room : ℕ) where
     -- the numbers that lines have themselves
     abbrev Known : Line → Type 0
     Known notAsked = Unit
-    Known (refused m) = (m ≡ 9) ⊎ (m ≡ 11)
+    Known (refused m) = (m ≡ 9) ⊎ ((m ≡ 11) ⊎ (m ≡ 30))
     Known (wanted ports code) = Unit
 
     known : Known line
     unfolding onwardLine
     known =
         every-row Known (onwardRows r at x (h .fields)) (wanted (bestPort more r x) (bestCode more r x))
-        (tt, (tt, (inl refl, (tt, (tt, (tt, (inr refl, (tt, (inr refl, (tt, (tt, (inr refl, tt)))))))))))) tt
+        (tt, (tt, (inl refl, (tt, (thirty, (eleven, (tt, (tt, (tt, (tt, (eleven, (tt, (eleven, (tt, (tt, (eleven, tt)))))))))))))))) tt
+      where
+        eleven : Known (refused 11)
+        eleven = inr (inl refl)
+
+        thirty : Known (refused 30)
+        thirty = inr (inr refl)
 
     not-asked-line : (l : Line) → Known l → (lineNumber r at h l ≡ 0) ↔ (l ≡ notAsked)
     not-asked-line l k = (there l k, λ e. ap (lineNumber r at h) e)
       where
         there : (k : Line) → Known k → lineNumber r at h k ≡ 0 → k ≡ notAsked
         there notAsked n e = refl
-        there (refused m) n e = absurd (⊎-elim (λ (f : m ≡ 9). omega (arith, e, f)) (λ (f : m ≡ 11). omega (arith, e, f)) n)
+        there (refused m) n e =
+            absurd (⊎-elim (λ (f : m ≡ 9). omega (arith, e, f)) (⊎-elim (λ (f : m ≡ 11). omega (arith, e, f)) (λ (f : m ≡ 30). omega (arith, e, f))) n)
         there (wanted ports code) n e = absurd (never-zero r at h ports code e)
 
-    copies-line : (n : ℕ) → n ≢ 0 → n ≢ 9 → n ≢ 11 → (l : Line) → Known l
+    copies-line : (n : ℕ) → n ≢ 0 → n ≢ 9 → n ≢ 11 → n ≢ 30 → (l : Line) → Known l
         → (lineNumber r at h l ≡ n) ↔ ((ports : Ports) × (code : ℕ) × (l ≡ wanted ports code) × firstHolds (copyRows r at h ports code) n)
-    copies-line n zero nine eleven l k = (there l k, λ d. ap (lineNumber r at h) (d .2) ∙ copies-say r at h (d .0) (d .1) n .1 (d .3))
+    copies-line n zero nine eleven thirty l k = (there l k, λ d. ap (lineNumber r at h) (d .2) ∙ copies-say r at h (d .0) (d .1) n .1 (d .3))
       where
         there : (l : Line) → Known l → lineNumber r at h l ≡ n → (ports : Ports) × (code : ℕ) × (l ≡ wanted ports code) × firstHolds (copyRows r at h ports code) n
         there notAsked k e = absurd (zero (sym e))
-        there (refused m) k e = absurd (⊎-elim (λ (f : m ≡ 9). nine (sym e ∙ f)) (λ (f : m ≡ 11). eleven (sym e ∙ f)) k)
+        there (refused m) k e =
+            absurd (⊎-elim (λ (f : m ≡ 9). nine (sym e ∙ f)) (⊎-elim (λ (f : m ≡ 11). eleven (sym e ∙ f)) (λ (f : m ≡ 30). thirty (sym e ∙ f))) k)
         there (wanted ports code) k e = (ports, code, refl, copies-say r at h ports code n .0 e)
 
-    eleven-line : (l : Line) → (lineNumber r at h l ≡ 11) ↔ (l ≡ refused 11)
-    eleven-line l = (there l, λ e. ap (lineNumber r at h) e)
+    -- a number that copies do not give is the line's own
+    own-line : (n : ℕ) → isCopied n ≡ false → (l : Line) → (lineNumber r at h l ≡ n) ↔ (l ≡ refused n)
+    own-line n other l = (there l, λ e. ap (lineNumber r at h) e)
       where
-        there : (l : Line) → lineNumber r at h l ≡ 11 → l ≡ refused 11
-        there notAsked e = absurd (omega arith)
+        there : (l : Line) → lineNumber r at h l ≡ n → l ≡ refused n
+        there notAsked e = true-false (ap isCopied e ∙ other)
         there (refused m) e = ap refused e
-        there (wanted ports code) e = absurd (copies-not-11 r at h ports code e)
+        there (wanted ports code) e = absurd (copies-not r at h ports code n other e)
 
     -- Not asked, where no step refuses: such a line decides.
     pub not-asked-exactly : noneHolds rows → (onward ≡ 0) ↔ (line ≡ notAsked)
@@ -274,23 +325,27 @@ module _ (r : Relay) (at : ℕ) (octets : List ℕ) (room : ℕ) where
 
     -- 11: such a line decides.
     pub eleven-exactly : (onward ≡ 11) ↔ (noneHolds rows × (line ≡ refused 11))
-    eleven-exactly = in-any-call (λ z. omega arith) onward-none (λ none. by-number (onward-number none) (eleven-line line))
+    eleven-exactly = in-any-call (λ z. omega arith) onward-none (λ none. by-number (onward-number none) (own-line 11 refl line))
+
+    -- 30: such a line decides.
+    pub thirty-exactly : (onward ≡ 30) ↔ (noneHolds rows × (line ≡ refused 30))
+    thirty-exactly = in-any-call (λ z. omega arith) onward-none (λ none. by-number (onward-number none) (own-line 30 refl line))
 
     -- 10, 13, 14, 15 and 1: ports are wanted, and the number's row on copies decides.
-    pub wanted-exactly : (n : ℕ) → n ≢ 0 → n ≢ 9 → n ≢ 11
+    pub wanted-exactly : (n : ℕ) → n ≢ 0 → n ≢ 9 → n ≢ 11 → n ≢ 30
         → (onward ≡ n) ↔ (noneHolds rows × ((ports : Ports) × (code : ℕ) × (line ≡ wanted ports code) × firstHolds (copyRows r at h ports code) n))
-    wanted-exactly n zero nine eleven =
-        in-any-call zero onward-none (λ none. by-number (onward-number none) (copies-line n zero nine eleven line known))
+    wanted-exactly n zero nine eleven thirty =
+        in-any-call zero onward-none (λ none. by-number (onward-number none) (copies-line n zero nine eleven thirty line known))
 
     -- ---- the copies
     module _ (p : ℕ) (inside : p < 8) where
       abbrev agrees : Agrees (ending .ruling) (verdict more)
-      agrees = ends more r chooses at octets room .ruling
+      agrees = ends more r chooses at second octets room .ruling
 
       granted-none : firstOf rows ≢ 0 → inSet p (ending .ruling .granted) ≡ false
       granted-none n = agrees .granted p inside ∙ ap (λ (v : Verdict). v .granted p) (refused-is more n)
 
-      granted-line : noneHolds rows → inSet p (ending .ruling .granted) ≡ lineGrants r at h line p
+      pub granted-line : noneHolds rows → inSet p (ending .ruling .granted) ≡ lineGrants r at h line p
       unfolding judged
       granted-line none = agrees .granted p inside ∙ ap (λ (v : Verdict). v .granted p) (judged-is more (passed .1 none))
 
@@ -307,7 +362,7 @@ module _ (r : Relay) (at : ℕ) (octets : List ℕ) (room : ℕ) where
 
   module _ (p : ℕ) (inside : p < 8) where
     abbrev by-masks : Agrees (ending .ruling) (verdict longerMask)
-    by-masks = ends longerMask r (masks-choose r) at octets room .ruling
+    by-masks = ends longerMask r (masks-choose r) at second octets room .ruling
 
     abbrev Shared : Verdict → Type 0
     Shared v = (v .took p ≡ (v .granted p && hasRoom r p)) × (v .dropped p ≡ (v .granted p && not (hasRoom r p)))
@@ -334,7 +389,7 @@ module _ (r : Relay) (at : ℕ) (octets : List ℕ) (room : ℕ) where
   below-host : lineNumber r at h (firstRow below routed) ≢ 9
   below-host =
       every-row (λ (line : Line). lineNumber r at h line ≢ 9) below routed
-      (zero, (no _ 0, (zero, (eleven, (no _ 0, (eleven, (zero, (no _ 0, (eleven, tt))))))))) (no _ _)
+      (zero, (thirty, (eleven, (no _ 0, (zero, (no _ 0, (zero, (eleven, (no _ 0, (eleven, (zero, (no _ 0, (eleven, tt))))))))))))) (no _ _)
     where
       zero : _≢_ {A = ℕ} 0 9
       zero z = omega arith
@@ -342,8 +397,11 @@ module _ (r : Relay) (at : ℕ) (octets : List ℕ) (room : ℕ) where
       eleven : _≢_ {A = ℕ} 11 9
       eleven z = omega arith
 
+      thirty : _≢_ {A = ℕ} 30 9
+      thirty z = omega arith
+
       no : (ports : Ports) (code : ℕ) → firstOf (copyRows r at h ports code) ≢ 9
-      no = copies-not-9 r at h
+      no ports code = copies-not r at h ports code 9 refl
 
   nine-case : (first host heard : Bool) (rest : Line) → lineNumber r at h rest ≢ 9 → (first ≡ true → heard ≡ true)
       → (lineNumber r at h (pick first notAsked (pick (host && heard) notAsked (pick host (refused 9) rest))) ≡ 9)
@@ -372,13 +430,13 @@ module _ (r : Relay) (at : ℕ) (octets : List ℕ) (room : ℕ) where
       in-any-call (λ z. omega arith) (onward-none longerMask (masks-choose r)) λ none.
       by-number (onward-number longerMask (masks-choose r) none) nine-line
 
-  -- ---- 11, where the route line decides: a router, and an address that is no port's, no broadcast of ours and no group's
-  module _ (a : Address) (named : x ≡ Node a) (router : isHost r ≡ false) (first : (equalsPort r (Node a) || isLimited a) ≡ false)
+  -- ---- 11, where the route line decides: a router, a datagram that is not flooded, and an address that is no port's, no broadcast of ours and no group's
+  module _ (a : Address) (named : x ≡ Node a) (router : isHost r ≡ false) (not-flooded : isFlooded (h .fields) ≡ false) (first : (equalsPort r (Node a) || isLimited a) ≡ false)
       (not-ours : broadcastOfOurs r (Node a) ≡ false) (no-group : isMulticast a ≡ false) where
     route-line : onwardLine longerMask r at (Node a) (h .fields)
         ≡ pick (not (someMatches r (Node a))) (refused 11) (wanted (bestPort longerMask r (Node a)) (bestCode longerMask r (Node a)))
     unfolding onwardLine
-    route-line = simp (first, router, not-ours, no-group)
+    route-line = simp (first, router, not-flooded, not-ours, no-group)
 
     no-match : (someMatches r (Node a) ≡ false) ↔ ((q : ℕ) → candidate (routeIn r q) a ≡ false)
     unfolding someMatches
@@ -391,7 +449,7 @@ module _ (r : Relay) (at : ℕ) (octets : List ℕ) (room : ℕ) where
     )
 
     eleven-case : (some : Bool) (ports : Ports) (code : ℕ) → (lineNumber r at h (pick (not some) (refused 11) (wanted ports code)) ≡ 11) ↔ (some ≡ false)
-    eleven-case true ports code = (λ e. absurd (copies-not-11 r at h ports code e), λ d. true-false d)
+    eleven-case true ports code = (λ e. absurd (copies-not r at h ports code 11 refl e), λ d. true-false d)
     eleven-case false ports code = (λ e. refl, λ d. refl)
 
     -- "'No route', 11, is said exactly when no up entry matches" (page 02, W-204).

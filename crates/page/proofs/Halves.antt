@@ -3,9 +3,9 @@ use Prim.Native.Nat.{ℕ, _<_}
 use mathlib.Core.Path.{_≡_, refl, sym, ap, ap₂, subst, _∙_}
 use mathlib.Core.Bool.{Bool, true, false, not, _&&_, _||_, or-false, Bool·not-not}
 use lib.Dec.{eqb}
-use lib.ListN.{length}
 use Rattle.checks.specs.Order.{pick, firstOf}
 use Rattle.checks.proofs.Bools.{true-false, refuted, and-true}
+use Rattle.checks.proofs.Laws.{either}
 use Rattle.sets.specs.Sets.{inSet, onlyPort}
 use Rattle.sets.proofs.Anywhere.{any-is}
 use Rattle.address.specs.Class.{classOf}
@@ -14,6 +14,8 @@ use Rattle.address.specs.declared.PathAddress.{PathAddress}
 use Rattle.address.specs.declared.Class.{Class}
 use Rattle.address.specs.declared.Class.the-variants as class
 use Rattle.header.specs.declared.Header.{Header}
+use Rattle.meaning.specs.Flood.{isFlooded}
+use Rattle.meaning.specs.Names.{badAim}
 use Rattle.meaning.specs.declared.Aim.{Aim}
 use Rattle.meaning.specs.declared.Aim.the-variants.{Node, Path, Uncarried}
 use Rattle.routes.specs.declared.Route.{Route}
@@ -23,35 +25,38 @@ use Rattle.survey.specs.declared.Sought.{Sought}
 use Rattle.lookup.specs.Lookup.{groupFound, pathFound, groupSays, pathSays, groupPlace, pathPlace}
 use Rattle.lookup.specs.ForTarget.{placeFor, wayFor}
 use Rattle.verdict.specs.Numbers.{localNumber}
-use Rattle.verdict.specs.Rule.{grantedOf, rulingOf, routeLine, codeOf, unheardBy, classTarget, overBroadcast, targetOf, hereBy, oursBy, localOf, routerLine, hostLine, lineOf}
+use Rattle.verdict.specs.Rule.{exceptBy, grantedOf, rulingOf, pathLine, codeOf, unheardBy, classTarget, overBroadcast, targetOf, hereBy, oursBy, localOf, routerLine, hostLine, plainLine, floodLine, lineOf, wayUnder}
 use Rattle.verdict.specs.declared.Target.{Target}
 use Rattle.verdict.specs.declared.Target.the-variants as target
 use Rattle.verdict.specs.declared.Place.{Place}
 use Rattle.verdict.specs.declared.Place.the-variants.{Missing}
 use Rattle.verdict.specs.declared.Way.{Way}
 use Rattle.verdict.specs.declared.Way.the-variants.{Lost}
+use Rattle.verdict.specs.declared.Flood.{Flood}
+use Rattle.verdict.specs.declared.Flood.the-variants.{Plain}
 use Rattle.verdict.specs.declared.Case.{Case}
 use Rattle.verdict.specs.declared.Survey.{Survey}
 use Rattle.verdict.specs.declared.Local.{Local}
-use Rattle.verdict.specs.declared.Obstacle.the-variants.{NoRoute}
 use Rattle.verdict.specs.declared.Wish.{Wish}
-use Rattle.verdict.specs.declared.Wish.the-variants.{Refused}
-use Rattle.judge.specs.Ruling.{caseOf, soughtOf, targetAsked, codeFor, legFor, surveyFor, ruledBy, ruleTarget, ruleAim}
+use Rattle.floods.specs.Memory.{floodOf}
+use Rattle.judge.specs.Ruling.{caseOf, soughtOf, targetAsked, floodFor, codeFor, legFor, surveyFor, ruledBy, ruleTarget, ruleAim}
 use Rattle.judge.specs.Ending.{arrivalAt}
-use Rattle.page.specs.Table.{somePort, without, nothingBut, destinationIs, equalsPort, isLimited, broadcastOf, broadcastOfOurs, isMulticast, hasGroup, hasPath, isSubscribed, isHere, localRows, matches, someMatches, bestPort, bestCode, Line, notAsked, refused, wanted, isHost, otherPorts, groupSet, groupPorts, onwardLine, halves, judged}
+use Rattle.page.specs.Table.{somePort, without, nothingBut, destinationIs, equalsPort, isLimited, broadcastOf, broadcastOfOurs, isMulticast, hasGroup, hasPath, isSubscribed, isHere, localRows, someMatches, bestPort, bestCode, Line, notAsked, refused, wanted, isHost, otherPorts, groupSet, groupPorts, pairHeld, someFree, onwardLine, halves, judged}
+use Rattle.page.specs.Memory.{lowestFree}
 use Rattle.page.specs.Ends.{Agrees, Chooses}
 use Rattle.survey.proofs.Bits.{only-in}
 use Rattle.page.proofs.Ports.{addressed-none, broadcast-none}
+use Rattle.page.proofs.Pairs.{pairsSay, floodBy, flood-is}
 use Rattle.page.proofs.Copies.{Coded, Same, same-coded, line-agrees}
 use Rattle.page.proofs.Best.{route-same}
 use Rattle.page.proofs.Local.{oursByName, local-is}
-use Rattle.page.proofs.Lines.{host-same, broadcast-same, group-same, path-same}
+use Rattle.page.proofs.Lines.{host-same, broadcast-same, flood-same, group-same, path-same}
 
 -- ---- the target, by the table's tests: a port's address, a broadcast of ours, limited broadcast, multicast
-abbrev byClass : Bool → Bool → Target
+abbrev pub byClass : Bool → Bool → Target
 byClass limited multicast = pick limited target.Here (pick multicast target.Group target.Route)
 
-abbrev byTests : Bool → Bool → Bool → Bool → Target
+abbrev pub byTests : Bool → Bool → Bool → Bool → Target
 byTests own ours limited multicast = pick own target.Here (pick ours (overBroadcast (byClass limited multicast)) (byClass limited multicast))
 
 class-is : (a : Address) → classTarget (classOf (a .0)) ≡ byClass (isLimited a) (isMulticast a)
@@ -84,8 +89,16 @@ module _ (r : Relay) (x : Aim) (none : (test : Address → Bool) → destination
   ours-none = unnamed (λ (p : ℕ). broadcastOf (portIn r p))
 
 module _ (more : Route → Route → Bool) (r : Relay) (chooses : Chooses more r) (at : ℕ) (inside : at < 8) (h : Header) (flag : h .fields .intermediate < 2) where
-  abbrev c : Case
-  c = caseOf (r .router) (onlyPort at) (h .fields)
+  -- what the pairs say of it, on this node
+  abbrev flood : Aim → Flood
+  flood x = floodFor r (arrivalAt r at) x h
+
+  abbrev c : Aim → Case
+  c x = caseOf (r .router) (onlyPort at) (h .fields) (flood x)
+
+  -- what its route asks for
+  abbrev asks : Aim → ℕ
+  asks x = codeFor r (flood x) x
 
   -- what is asked of the ports, and what they say
   abbrev sought : Aim → Sought
@@ -96,7 +109,7 @@ module _ (more : Route → Route → Bool) (r : Relay) (chooses : Chooses more r
 
   -- the ruling is the table's, and so is what the route asks for
   abbrev pub Ruled : Aim → Type 0
-  Ruled x = Agrees (ruleAim r x c (survey x)) (judged more r at x h) × Coded (codeFor r x) (onwardLine more r at x (h .fields))
+  Ruled x = Agrees (ruleAim r x (c x) (survey x)) (judged more r at x h) × Coded (asks x) (onwardLine more r at x (h .fields))
 
   abbrev noOther : Bool
   noOther = not (somePort (otherPorts r at))
@@ -112,17 +125,17 @@ module _ (more : Route → Route → Bool) (r : Relay) (chooses : Chooses more r
   ruled-agrees : (x : Aim) (t : Target) (p : Place) (w : Way)
       → eqb (oursBy t (hereBy p)) 0 ≡ not (oursByName r at x)
       → ((local : Local) → localNumber local ≡ here x
-      → Same (codeFor r x) (lineOf t p w c (survey x .ready) local) (onwardLine more r at x (h .fields)))
-      → Agrees (ruledBy t p w c (survey x)) (judged more r at x h) × Coded (codeFor r x) (onwardLine more r at x (h .fields))
+      → Same (asks x) (lineOf t p w (c x) (survey x .ready) local) (onwardLine more r at x (h .fields)))
+      → Agrees (ruledBy t p w (c x) (survey x)) (judged more r at x h) × Coded (asks x) (onwardLine more r at x (h .fields))
   unfolding ruledBy judged
   ruled-agrees x t p w ours line =
-      let local = localOf t p c in
-      let is = local-is r at x (h .fields) flag t p ours in
-      let wish = lineOf t p w c (survey x .ready) local in
+      let local = localOf t p (c x) in
+      let is = local-is r at x (h .fields) flag (flood x) t p ours in
+      let wish = lineOf t p w (c x) (survey x .ready) local in
       let same = line local is in (
-        subst (λ (n : ℕ). Agrees (rulingOf local (grantedOf wish c (survey x)) (survey x .full)) (halves r at h n (onwardLine more r at x (h .fields)))) is
-            (line-agrees r at x h (codeFor r x) local wish (onwardLine more r at x (h .fields)) same),
-        same-coded (codeFor r x) wish (onwardLine more r at x (h .fields)) same,
+        subst (λ (n : ℕ). Agrees (rulingOf local (grantedOf wish (c x) (survey x)) (survey x .full)) (halves r at h n (onwardLine more r at x (h .fields)))) is
+            (line-agrees r at x h (flood x) (asks x) local wish (onwardLine more r at x (h .fields)) same),
+        same-coded (asks x) wish (onwardLine more r at x (h .fields)) same,
       )
 
   -- ---- an address
@@ -164,56 +177,111 @@ module _ (more : Route → Route → Bool) (r : Relay) (chooses : Chooses more r
     node-ours false false false true = subscribed-none ∙ ap not (sym (or-false (isSubscribed r at a)))
     node-ours false false false false = refl
 
+    -- what the pairs say, by the table's tests
+    abbrev flooded : Bool
+    flooded = isFlooded (h .fields)
+
+    abbrev held : Bool
+    held = pairHeld r at (h .fields)
+
+    abbrev say : Bool → Bool → Flood
+    say pair free = pairsSay pair free (lowestFree r)
+
+    abbrev tested : Target
+    tested = byTests (equalsPort r (Node a)) (broadcastOfOurs r (Node a)) (isLimited a) (isMulticast a)
+
+    pub flood-node : flood (Node a) ≡ floodBy flooded (isHost r) tested (say held (someFree r))
+    flood-node =
+        flood-is r at (h .fields) (targetAsked r a) ∙ ap (λ (t : Target). floodBy flooded (isHost r) t (say held (someFree r))) asked-is
+
     module _ (local : Local) (is : localNumber local ≡ here (Node a)) where
-      abbrev line : Bool → Target → Wish
-      line host t = pick host (hostLine t local) (routerLine t (placeFor r t a arrival) (wayFor r t a) arrival (survey (Node a) .ready))
+      abbrev plain : Bool → Target → Wish
+      plain host t = pick host (hostLine t local) (routerLine t (placeFor r t a arrival) (wayFor r t a) arrival (survey (Node a) .ready))
+
+      abbrev line : Bool → Target → Flood → Wish
+      line host t f = floodLine f (exceptBy (survey (Node a) .ready) arrival) (plain host t)
 
       -- what the route asks for, where one is taken
-      abbrev code : Bool → Target → ℕ
-      code host t = pick host 0 (codeOf (wayFor r t a))
+      abbrev code : Bool → Target → Flood → ℕ
+      code host t f = pick host 0 (codeOf (wayUnder f (wayFor r t a)))
 
       -- the table's rows, where the destination is an address
-      abbrev rows : Bool → Bool → Bool → Bool → Bool → Line
-      rows own ours limited multicast host =
+      abbrev rows : (own ours limited multicast host flooded pair free : Bool) → Line
+      rows own ours limited multicast host flooded pair free =
           pick (own || limited) notAsked
           (pick (host && heard (Node a)) notAsked
           (pick host (refused 9)
+          (pick (flooded && pair) notAsked
+          (pick (flooded && not free) (refused 30)
+          (pick (flooded && noOther) (refused 11)
+          (pick (flooded && true) (wanted (otherPorts r at) 0)
           (pick (ours && noOther) notAsked
           (pick ours (wanted (otherPorts r at) 0)
           (pick (multicast && isSubscribed r at a && noOther) notAsked
           (pick (multicast && (not (hasGroup r a) || nothingBut at (groupSet r a))) (refused 11)
           (pick multicast (wanted (without at (groupPorts r (Node a))) 0)
-          (pick (not (someMatches r (Node a))) (refused 11) (wanted (bestPort more r (Node a)) (bestCode more r (Node a)))))))))))
+          (pick (not (someMatches r (Node a))) (refused 11) (wanted (bestPort more r (Node a)) (bestCode more r (Node a)))))))))))))))
 
-      node-line : (own ours limited multicast host : Bool)
-          → Same (code host (byTests own ours limited multicast)) (line host (byTests own ours limited multicast)) (rows own ours limited multicast host)
-      node-line true ours limited multicast true = tt
-      node-line true ours limited multicast false = tt
-      node-line false true true multicast true = tt
-      node-line false true true multicast false = tt
-      node-line false false true multicast true = tt
-      node-line false false true multicast false = tt
-      node-line false true false true true = host-same r at inside local _ is
-      node-line false true false false true = host-same r at inside local _ is
-      node-line false false false true true = host-same r at inside local _ is
-      node-line false false false false true = host-same r at inside local _ is
-      node-line false true false true false = broadcast-same r at inside (Node a) (sought (Node a))
-      node-line false true false false false = broadcast-same r at inside (Node a) (sought (Node a))
-      node-line false false false true false = group-same r at inside (Node a) (sought (Node a)) a
-      node-line false false false false false = route-same more r chooses a
+      abbrev SameLine : (own ours limited multicast host flooded pair free : Bool) → Type 0
+      SameLine own ours limited multicast host flooded pair free =
+          Same (code host (byTests own ours limited multicast) (floodBy flooded host (byTests own ours limited multicast) (say pair free)))
+          (line host (byTests own ours limited multicast) (floodBy flooded host (byTests own ours limited multicast) (say pair free)))
+          (rows own ours limited multicast host flooded pair free)
+
+      -- not flooded
+      plain-line : (own ours limited multicast host pair free : Bool) → SameLine own ours limited multicast host false pair free
+      plain-line true ours limited multicast true pair free = tt
+      plain-line true ours limited multicast false pair free = tt
+      plain-line false true true multicast true pair free = tt
+      plain-line false true true multicast false pair free = tt
+      plain-line false false true multicast true pair free = tt
+      plain-line false false true multicast false pair free = tt
+      plain-line false true false true true pair free = host-same r at inside local _ is
+      plain-line false true false false true pair free = host-same r at inside local _ is
+      plain-line false false false true true pair free = host-same r at inside local _ is
+      plain-line false false false false true pair free = host-same r at inside local _ is
+      plain-line false true false true false pair free = broadcast-same r at inside (Node a) (sought (Node a))
+      plain-line false true false false false pair free = broadcast-same r at inside (Node a) (sought (Node a))
+      plain-line false false false true false pair free = group-same r at inside (Node a) (sought (Node a)) a
+      plain-line false false false false false pair free = route-same more r chooses a
+
+      -- flooded, on a router: the pairs decide, but for what is for this node
+      flooded-line : (own ours limited multicast pair free : Bool) → SameLine own ours limited multicast false true pair free
+      flooded-line true ours limited multicast pair free = tt
+      flooded-line false true true multicast pair free = tt
+      flooded-line false false true multicast pair free = tt
+      flooded-line false true false true pair free = flood-same r at inside (Node a) (sought (Node a)) pair free _ _ _
+      flooded-line false true false false pair free = flood-same r at inside (Node a) (sought (Node a)) pair free _ _ _
+      flooded-line false false false true pair free = flood-same r at inside (Node a) (sought (Node a)) pair free _ _ _
+      flooded-line false false false false pair free = flood-same r at inside (Node a) (sought (Node a)) pair free _ _ _
+
+      -- a host looks no pair up
+      node-line : (own ours limited multicast host flooded pair free : Bool) → SameLine own ours limited multicast host flooded pair free
+      node-line own ours limited multicast host false pair free = plain-line own ours limited multicast host pair free
+      node-line own ours limited multicast true true pair free = plain-line own ours limited multicast true pair free
+      node-line own ours limited multicast false true pair free = flooded-line own ours limited multicast pair free
+
+      asked-line : Same (asks (Node a)) (line (isHost r) tested (flood (Node a))) (onwardLine more r at (Node a) (h .fields))
+      unfolding onwardLine
+      asked-line =
+          subst (λ (f : Flood). Same (code (isHost r) (targetAsked r a) f) (line (isHost r) tested f) (onwardLine more r at (Node a) (h .fields))) (sym flood-node)
+          (subst
+          (λ (t : Target).
+          Same (code (isHost r) t (floodBy flooded (isHost r) tested (say held (someFree r))))
+          (line (isHost r) tested (floodBy flooded (isHost r) tested (say held (someFree r))))
+          (onwardLine more r at (Node a) (h .fields)))
+          (sym asked-is)
+          (node-line (equalsPort r (Node a)) (broadcastOfOurs r (Node a)) (isLimited a) (isMulticast a) (isHost r) flooded held (someFree r)))
 
     node-agrees : Ruled (Node a)
-    unfolding ruleTarget lineOf onwardLine
+    unfolding ruleTarget lineOf plainLine
     node-agrees =
-        let t = byTests (equalsPort r (Node a)) (broadcastOfOurs r (Node a)) (isLimited a) (isMulticast a) in
         subst
         (λ (u : Target).
-        Agrees (ruleTarget r u a c (survey (Node a))) (judged more r at (Node a) h) × Coded (codeFor r (Node a)) (onwardLine more r at (Node a) (h .fields)))
+        Agrees (ruleTarget r u a (c (Node a)) (survey (Node a))) (judged more r at (Node a) h) × Coded (asks (Node a)) (onwardLine more r at (Node a) (h .fields)))
         (sym target-is)
-        (ruled-agrees (Node a) t (placeFor r t a arrival) (wayFor r t a) (node-ours (equalsPort r (Node a)) (broadcastOfOurs r (Node a)) (isLimited a) (isMulticast a))
-        (λ local is.
-        subst (λ (u : Target). Same (code local is (isHost r) u) (line local is (isHost r) t) (onwardLine more r at (Node a) (h .fields))) (sym asked-is)
-        (node-line local is (equalsPort r (Node a)) (broadcastOfOurs r (Node a)) (isLimited a) (isMulticast a) (isHost r))))
+        (ruled-agrees (Node a) tested (placeFor r tested a arrival) (wayFor r tested a)
+        (node-ours (equalsPort r (Node a)) (broadcastOfOurs r (Node a)) (isLimited a) (isMulticast a)) asked-line)
 
   -- ---- what is no address: of the lines above the path's the host's alone fits
   module _ (x : Aim) (none : (test : Address → Bool) → destinationIs x test ≡ false) (local : Local) (is : localNumber local ≡ here x)
@@ -248,27 +316,23 @@ module _ (more : Route → Route → Bool) (r : Relay) (chooses : Chooses more r
         by true = sym (Bool·not-not (eqb (pathIn r (pathFound r y) .here) 0))
         by false = refl
 
+    -- the pairs are not looked up for it: it has no source
+    pub path-plain : flood (Path y) ≡ Plain
+    unfolding floodOf
+    path-plain = either (λ (f : Flood). f ≡ Plain) (isFlooded (h .fields) && not (isHost r)) refl refl
+
     path-agrees : Ruled (Path y)
-    unfolding lineOf onwardLine
+    unfolding lineOf plainLine onwardLine
     path-agrees =
         ruled-agrees (Path y) target.Path (pathPlace r y) Lost
         (here-none ∙ ap not (sym (no-port (Path y) (λ test. refl) (isHere r y))))
-        (λ local is. no-address (Path y) (λ test. refl) local is _ _ (path-same r at inside y))
+        (λ local is.
+        subst (λ (f : Flood). Same 0 (floodLine f (exceptBy (survey (Path y) .ready) (onlyPort at)) (pick (isHost r) (unheardBy local) (pathLine (pathPlace r y) (onlyPort at)))) (onwardLine more r at (Path y) (h .fields)))
+        (sym path-plain)
+        (no-address (Path y) (λ test. refl) local is _ _ (path-same r at inside y)))
 
-  -- IPv6 addresses, which 8 refuses before
-  match-none : someMatches r Uncarried ≡ false
-  unfolding someMatches
-  match-none = refuted _ λ e. true-false (sym (any-is (matches r Uncarried) (length (r .routes)) .0 e .2))
-
-  uncarried-agrees : Ruled Uncarried
-  unfolding lineOf onwardLine routeLine
-  uncarried-agrees =
-      ruled-agrees Uncarried target.Route Missing Lost
-      (ap not (sym (no-port Uncarried (λ test. refl) false)))
-      (λ local is. no-address Uncarried (λ test. refl) local is (Refused NoRoute) (pick (not (someMatches r Uncarried)) (refused 11) (wanted (bestPort more r Uncarried) (bestCode more r Uncarried))) (rw match-none))
-
-  -- Whatever the destination names, receiving rules as the table says.
-  pub aim-agrees : (x : Aim) → Ruled x
-  aim-agrees (Node a) = node-agrees a
-  aim-agrees (Path y) = path-agrees y
-  aim-agrees Uncarried = uncarried-agrees
+  -- Whatever the destination names, receiving rules as the table says; IPv6 addresses are refused before.
+  pub aim-agrees : (x : Aim) → badAim x ≡ false → Ruled x
+  aim-agrees (Node a) good = node-agrees a
+  aim-agrees (Path y) good = path-agrees y
+  aim-agrees Uncarried good = true-false good

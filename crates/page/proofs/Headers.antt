@@ -1,4 +1,4 @@
--- The headers of the copies are those that W-214 gives them: for any relay, port, octets and room each port that took a copy gets its header, rewritten
+-- The headers of the copies are those that W-214 gives them: for any relay, port, second, octets and room each port that took a copy gets its header, rewritten
 -- exactly where the tables say so. Assumes nothing.
 use native.Mathlib.Omega.{arith}
 use Prim.Native.Nat.{ℕ, _<_}
@@ -15,6 +15,7 @@ use Rattle.sets.specs.Sets.{inSet}
 use Rattle.header.specs.Read.{headerOf}
 use Rattle.header.specs.declared.Fields.{Fields}
 use Rattle.header.specs.declared.Header.{Header}
+use Rattle.meaning.specs.Names.{badAim}
 use Rattle.meaning.specs.declared.Aim.{Aim}
 use Rattle.next_leg.specs.Leg.{adds, rewrites, nextSize, nextHeader}
 use Rattle.next_leg.specs.declared.Leg.{Leg}
@@ -24,7 +25,7 @@ use Rattle.routes.proofs.Longest.{Contiguous}
 use Rattle.state.specs.Relay.{Relay, portIn, portSetUp}
 use Rattle.survey.specs.Survey.{inDomain}
 use Rattle.verdict.specs.Rule.{exceptBy}
-use Rattle.judge.specs.Ruling.{soughtOf, codeFor, legFor, surveyFor, ruleOf, legsFor}
+use Rattle.judge.specs.Ruling.{soughtOf, floodFor, codeFor, legFor, surveyFor, ruleOf, legsFor}
 use Rattle.judge.specs.Ending.{refusedBy, ruledEnding, arrivalAt, endingOf}
 use Rattle.judge.specs.declared.Ending.{Ending}
 use Rattle.page.specs.Table.{Ports, somePort, nobody, aimAt, stepRows, moreOnes, Line, notAsked, refused, wanted, onwardLine, liesFar, hasRoom, lineGrants, lineCode, judged, refusedWith, verdictBy, verdictOf}
@@ -36,7 +37,7 @@ use Rattle.page.proofs.Copies.{Coded}
 use Rattle.page.proofs.Small.{aim-small}
 use Rattle.page.proofs.Halves.{Ruled, aim-agrees}
 use Rattle.page.proofs.Legs.{legs-rewritten, legs-header, legs-size}
-use Rattle.page.proofs.Verdict.{ending-by-steps, arrival-inside, flag-small, masks-choose, ones-choose}
+use Rattle.page.proofs.Verdict.{ending-by-steps, arrival-inside, aim-carried, flag-small, masks-choose, ones-choose}
 use Rattle.page.proofs.Exactly.{code-number}
 use Rattle.page.proofs.Sought.{granted-passed, line-passed}
 
@@ -57,7 +58,7 @@ module _ (r : Relay) (at : ℕ) (h : Header) (code : ℕ) where
   line-alone (wanted ports n) c some p q lp lq ep eq =
       c .1 some p q lp lq (granted-passed r at h p ports n ep .0) (granted-passed r at h q ports n eq .0)
 
-module _ (more : Route → Route → Bool) (r : Relay) (chooses : Chooses more r) (at : ℕ) (octets : List ℕ) (room : ℕ) where
+module _ (more : Route → Route → Bool) (r : Relay) (chooses : Chooses more r) (at second : ℕ) (octets : List ℕ) (room : ℕ) where
   abbrev h : Header
   h = headerOf octets
 
@@ -67,8 +68,12 @@ module _ (more : Route → Route → Bool) (r : Relay) (chooses : Chooses more r
   abbrev line : Line
   line = onwardLine more r at x (h .fields)
 
+  -- what the route asks for that the search takes
+  abbrev asked : ℕ
+  asked = codeFor r (floodFor r (arrivalAt r at) x h) x
+
   -- ---- where no step refuses
-  module _ (inside : at < 8) where
+  module _ (inside : at < 8) (carried : badAim x ≡ false) where
     abbrev leg : Leg
     leg = legFor r (arrivalAt r at) x h
 
@@ -78,8 +83,8 @@ module _ (more : Route → Route → Bool) (r : Relay) (chooses : Chooses more r
     abbrev domain : ℕ
     domain = surveyFor r (arrivalAt r at) x h .domain
 
-    ruled : Ruled more r chooses at inside h (flag-small r at octets room) x
-    ruled = aim-agrees more r chooses at inside h (flag-small r at octets room) x
+    ruled : Ruled more r chooses at inside h (flag-small r at second octets room) x
+    ruled = aim-agrees more r chooses at inside h (flag-small r at second octets room) x carried
 
     took-small : took < 256
     unfolding ruleOf
@@ -90,8 +95,8 @@ module _ (more : Route → Route → Bool) (r : Relay) (chooses : Chooses more r
     unfolding ruleOf judged
     grants p l is = and-true (lineGrants r at h line p) (hasRoom r p) (sym (ruled .0 .took p l) ∙ is) .0
 
-    code-is : (p : ℕ) → p < 8 → inSet p took ≡ true → codeFor r x ≡ lineCode line
-    code-is p l is = line-code r at h (codeFor r x) line (ruled .1) p (grants p l is)
+    code-is : (p : ℕ) → p < 8 → inSet p took ≡ true → asked ≡ lineCode line
+    code-is p l is = line-code r at h (asked) line (ruled .1) p (grants p l is)
 
     -- those in another domain: a port that took one is set up
     far-is : (p : ℕ) → p < 8 → inSet p (exceptBy took domain) ≡ (inSet p took && liesFar r at p)
@@ -103,7 +108,7 @@ module _ (more : Route → Route → Bool) (r : Relay) (chooses : Chooses more r
         by false e = refl
 
     -- where an element is added one port took a copy, and where this lies near none lies far
-    none-far : (p : ℕ) → p < 8 → inSet p took ≡ true → adds (codeFor r x) (h .fields) ≡ true → liesFar r at p ≡ false → exceptBy took domain ≡ 0
+    none-far : (p : ℕ) → p < 8 → inSet p took ≡ true → adds (asked) (h .fields) ≡ true → liesFar r at p ≡ false → exceptBy took domain ≡ 0
     unfolding somePort
     none-far p l is so near =
         eqb-true (exceptBy took domain) 0 (empty-is (exceptBy took domain) nobody (omega (arith, took-small)) (λ q k. far-is q k ∙ other q k))
@@ -112,7 +117,7 @@ module _ (more : Route → Route → Bool) (r : Relay) (chooses : Chooses more r
         other q k =
             refuted (inSet q took && liesFar r at q) λ e.
             let both = and-true (inSet q took) (liesFar r at q) e in
-            let same = line-alone r at h (codeFor r x) line (ruled .1) (added-asked (codeFor r x) (h .fields) so) q p k l (grants q k (both .0)) (grants p l is) in
+            let same = line-alone r at h (asked) line (ruled .1) (added-asked (asked) (h .fields) so) q p k l (grants q k (both .0)) (grants p l is) in
             true-false (sym (both .1) ∙ ap (liesFar r at) same ∙ near)
 
     judged-headers : HeadersAs r at octets (ruledEnding r (arrivalAt r at) h) (judged more r at x h)
@@ -129,19 +134,20 @@ module _ (more : Route → Route → Bool) (r : Relay) (chooses : Chooses more r
         }
       where
         coded : (p : ℕ) → p < 8 → (t : Bool) → inSet p took ≡ t
-            → (t && rewrites (liesFar r at p) (codeFor r x) (h .fields)) ≡ (t && rewrites (liesFar r at p) (lineCode line) (h .fields))
+            → (t && rewrites (liesFar r at p) (asked) (h .fields)) ≡ (t && rewrites (liesFar r at p) (lineCode line) (h .fields))
         coded p l true e = ap (λ (n : ℕ). rewrites (liesFar r at p) n (h .fields)) (code-is p l e)
         coded p l false e = refl
 
-  coded-line : (l : Line) → Coded (codeFor r x) l → (ports : Ports) (code : ℕ) → l ≡ wanted ports code → codeFor r x ≡ lineCode l
-  coded-line l c ports code e = subst (λ (k : Line). Coded (codeFor r x) k → codeFor r x ≡ lineCode k) (sym e) (λ d. d .0) c
+  coded-line : (l : Line) → Coded (asked) l → (ports : Ports) (code : ℕ) → l ≡ wanted ports code → asked ≡ lineCode l
+  coded-line l c ports code e = subst (λ (k : Line). Coded (asked) k → asked ≡ lineCode k) (sym e) (λ d. d .0) c
 
   -- Where ports are wanted, the verdict's code is what the route asks for that the search takes.
-  pub code-exactly : noneHolds (stepRows r at octets room) → (ports : Ports) (code : ℕ) → line ≡ wanted ports code
-      → verdictBy more r at octets room .code ≡ codeFor r x
+  pub code-exactly : noneHolds (stepRows r at second octets room) → (ports : Ports) (code : ℕ) → line ≡ wanted ports code
+      → verdictBy more r at second octets room .code ≡ asked
   code-exactly none ports code is =
-      code-number r at octets room more chooses none
-      ∙ sym (coded-line line (ruled (arrival-inside r at octets room (none-zero (stepRows r at octets room) none)) .1) ports code is)
+      let zero = none-zero (stepRows r at second octets room) none in
+      code-number r at second octets room more chooses none
+      ∙ sym (coded-line line (ruled (arrival-inside r at second octets room zero) (aim-carried r at second octets room zero) .1) ports code is)
 
   -- a refusal has no copy
   refused-headers : (n : ℕ) → HeadersAs r at octets (refusedBy n) (refusedWith n)
@@ -152,25 +158,25 @@ module _ (more : Route → Route → Bool) (r : Relay) (chooses : Chooses more r
         size = λ p l is. true-false (sym is ∙ in-none p);
       }
 
-  by-steps : (n : ℕ) (t : Bool) → eqb n 0 ≡ t → (n ≡ 0 → at < 8)
+  by-steps : (n : ℕ) (t : Bool) → eqb n 0 ≡ t → (n ≡ 0 → at < 8) → (n ≡ 0 → badAim x ≡ false)
       → HeadersAs r at octets (pick t (ruledEnding r (arrivalAt r at) h) (refusedBy n)) (pick t (judged more r at x h) (refusedWith n))
-  by-steps n true e inside = judged-headers (inside (eqb-true n 0 e))
-  by-steps n false e inside = refused-headers n
+  by-steps n true e inside carried = judged-headers (inside (eqb-true n 0 e)) (carried (eqb-true n 0 e))
+  by-steps n false e inside carried = refused-headers n
 
   -- Every copy gets its header, by any comparison that so chooses.
-  pub headers-as : HeadersAs r at octets (endingOf r at octets room) (verdictBy more r at octets room)
+  pub headers-as : HeadersAs r at octets (endingOf r at second octets room) (verdictBy more r at second octets room)
   unfolding verdictBy
   headers-as =
-      let n = firstOf (stepRows r at octets room) in
-      subst (λ (e : Ending). HeadersAs r at octets e (verdictBy more r at octets room)) (sym (ending-by-steps r at octets room))
-      (by-steps n (eqb n 0) refl (arrival-inside r at octets room))
+      let n = firstOf (stepRows r at second octets room) in
+      subst (λ (e : Ending). HeadersAs r at octets e (verdictBy more r at second octets room)) (sym (ending-by-steps r at second octets room))
+      (by-steps n (eqb n 0) refl (arrival-inside r at second octets room) (aim-carried r at second octets room))
 
 -- For any relay whatever, masks compared as numbers ..
-pub headers-of-any-relay : (r : Relay) (at : ℕ) (octets : List ℕ) (room : ℕ)
-    → HeadersAs r at octets (endingOf r at octets room) (verdictBy longerMask r at octets room)
+pub headers-of-any-relay : (r : Relay) (at second : ℕ) (octets : List ℕ) (room : ℕ)
+    → HeadersAs r at octets (endingOf r at second octets room) (verdictBy longerMask r at second octets room)
 headers-of-any-relay r = headers-as longerMask r (masks-choose r)
 
 -- .. and by the page's verdict, where they are ones and then zeros.
-pub headers-are-the-page : (r : Relay) → Contiguous (r .routes) → (at : ℕ) (octets : List ℕ) (room : ℕ)
-    → HeadersAs r at octets (endingOf r at octets room) (verdictOf r at octets room)
+pub headers-are-the-page : (r : Relay) → Contiguous (r .routes) → (at second : ℕ) (octets : List ℕ) (room : ℕ)
+    → HeadersAs r at octets (endingOf r at second octets room) (verdictOf r at second octets room)
 headers-are-the-page r contiguous = headers-as moreOnes r (ones-choose r contiguous)

@@ -1,11 +1,13 @@
--- That receiving does what the tables of page 01 say. To be read, each with the definitions that it cites: Verdict (receiving ends as the page
--- says, for any relay), Exactly (each number exactly where its row decides; some in the page's own words; the copies), Sought (the route taken; what a
--- port that is granted a copy has passed) and Headers (page 02, W-214: the header that each port gets).
--- The others serve these: Sets, sets of ports as tests; Ports, what one walk over the ports gathers; Copies, Best, Local
+-- That receiving does what the tables of pages 01 and 02 say. To be read, each with the definitions that it cites: Verdict (receiving ends as the page
+-- says, for any relay), Memory (and remembers what it says), Exactly (each number exactly where its row decides; some in the page's own words; the copies),
+-- Sought (the route taken; what a port that is granted a copy has passed), Floods (page 02, W-207: a flooded datagram) and Headers (page 02, W-214: the
+-- header that each port gets).
+-- The others serve these: Sets, sets of ports as tests; Ports, what one walk over the ports gathers; Pairs, what the pairs say; Copies, Best, Local
 -- and Lines, the tables one by one; Halves, both halves together; Rows, the law of all rows; Small, that sets have no port over 7; Legs, the headers
 -- port by port.
 pub mod Sets
 pub mod Ports
+pub mod Pairs
 pub mod Copies
 pub mod Best
 pub mod Local
@@ -14,7 +16,9 @@ pub mod Halves
 pub mod Small
 pub mod Legs
 pub mod Verdict
+pub mod Memory
 pub mod Rows
 pub mod Exactly
 pub mod Sought
+pub mod Floods
 pub mod Headers

@@ -17,17 +17,19 @@ use Rattle.survey.specs.Survey.{surveyOf}
 use Rattle.survey.specs.declared.Sought.{Sought}
 use Rattle.lookup.specs.Lookup.{groupFound, pathFound, groupSays, pathSays, groupPlace, pathPlace}
 use Rattle.verdict.specs.Numbers.{localNumber}
-use Rattle.verdict.specs.Rule.{exceptBy, broadcastLine, aloneBy, groupLine, pathLine, unheardBy}
+use Rattle.verdict.specs.Rule.{exceptBy, broadcastLine, aloneBy, groupLine, pathLine, unheardBy, floodLine, codeOf, wayUnder}
 use Rattle.verdict.specs.declared.Place.the-variants.{Missing}
 use Rattle.verdict.specs.declared.Local.{Local}
 use Rattle.verdict.specs.declared.Local.the-variants.{No, Delivered, Unknown}
 use Rattle.verdict.specs.declared.Obstacle.the-variants.{NoRoute}
+use Rattle.verdict.specs.declared.Way.{Way}
 use Rattle.verdict.specs.declared.Wish.{Wish}
 use Rattle.verdict.specs.declared.Wish.the-variants.{NotAsked, Refused, Wanted}
 use Rattle.judge.specs.Ruling.{destinationAsked}
 use Rattle.page.specs.Table.{somePort, without, nothingBut, hasGroup, hasPath, isSubscribed, isHere, Line, notAsked, refused, wanted, otherPorts, groupSet, pathSet, groupPorts, pathPorts}
 use Rattle.survey.proofs.Bits.{in-except, only-in}
 use Rattle.page.proofs.Sets.{only-is, nothing-is}
+use Rattle.page.proofs.Pairs.{pairsSay}
 use Rattle.page.proofs.Ports.{others-in, others-none}
 use Rattle.page.proofs.Copies.{Same, no-route}
 
@@ -68,6 +70,14 @@ module _ (r : Relay) (at : ℕ) (inside : at < 8) where
     -- a broadcast of ours
     pub broadcast-same : Same 0 (broadcastLine others) (pick noOther notAsked (wanted (otherPorts r at) 0))
     broadcast-same = pick-same _ _ _ _ _ _ (others-none r x q at) tt (no-route (otherPorts r at), λ p l. others-in r x q p l at)
+
+    -- a flood: what the pairs say decides, whatever the line were without it, and no route is taken
+    pub flood-same : (held free : Bool) (place : ℕ) (w : Way) (line : Wish)
+        → Same (codeOf (wayUnder (pairsSay held free place) w)) (floodLine (pairsSay held free place) others line)
+        (pick held notAsked (pick (not free) (refused 30) (pick noOther (refused 11) (wanted (otherPorts r at) 0))))
+    flood-same true free place w line = tt
+    flood-same false true place w line = pick-same _ _ _ _ _ _ (others-none r x q at) refl (no-route (otherPorts r at), λ p l. others-in r x q p l at)
+    flood-same false false place w line = refl
 
     -- a group
     module _ (a : Address) where

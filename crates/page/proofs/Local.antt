@@ -15,6 +15,7 @@ use Rattle.verdict.specs.Numbers.{localNumber}
 use Rattle.verdict.specs.Rule.{hereBy, oursBy, wantedHere, localOf}
 use Rattle.verdict.specs.declared.Target.{Target}
 use Rattle.verdict.specs.declared.Place.{Place}
+use Rattle.verdict.specs.declared.Flood.{Flood}
 use Rattle.verdict.specs.declared.Case.{Case}
 use Rattle.verdict.specs.declared.Local.the-variants.{No, Delivered, Unknown}
 use Rattle.judge.specs.Ruling.{caseOf}
@@ -36,9 +37,9 @@ flag-is zero h = refl
 flag-is (suc zero) h = refl
 flag-is (suc (suc n)) h = absurd (omega arith)
 
-module _ (r : Relay) (at : ℕ) (x : Aim) (f : Fields) (flag : f .intermediate < 2) where
+module _ (r : Relay) (at : ℕ) (x : Aim) (f : Fields) (flag : f .intermediate < 2) (flood : Flood) where
   abbrev c : Case
-  c = caseOf (r .router) (onlyPort at) f
+  c = caseOf (r .router) (onlyPort at) f flood
 
   local-case : (u t : Bool) → localNumber (pick (not u) No (pick (not t) Unknown Delivered)) ≡ firstOf ((u && not t, 26) ∷ (u, 1) ∷ [])
   unfolding firstOf

@@ -104,54 +104,54 @@ module _ (r : Relay) (a : Address) where
         port = sym (eqb-true p (routeIn r (at .0) .port) (both .1));
       }
 
-module _ (r : Relay) (at : ℕ) (octets : List ℕ) (room : ℕ) (a : Address) (sought : RouteSought r at octets room a) where
+module _ (r : Relay) (at second : ℕ) (octets : List ℕ) (room : ℕ) (a : Address) (sought : RouteSought r at second octets room a) where
   abbrev h : Header
   h = headerOf octets
 
   -- A router says 11 exactly where no route that is up matches.
-  pub sought-no-route : (onwardNumber (endingOf r at octets room .ruling .onward) ≡ 11) ↔ ((q : ℕ) → candidate (routeIn r q) a ≡ false)
+  pub sought-no-route : (onwardNumber (endingOf r at second octets room .ruling .onward) ≡ 11) ↔ ((q : ℕ) → candidate (routeIn r q) a ≡ false)
   sought-no-route =
-      exactly.no-route-exactly r at octets room a (sought .named) (sought .router) (sought .not-own) (sought .not-ours) (sought .no-group) (sought .judged)
+      exactly.no-route-exactly r at second octets room a (sought .named) (sought .router) (sought .not-flooded) (sought .not-own) (sought .not-ours) (sought .no-group) (sought .judged)
 
   sought-line : onwardLine moreOnes r at (Node a) (h .fields) ≡ pick (not (someMatches r (Node a))) (refused 11) (wanted (bestPort moreOnes r (Node a)) (bestCode moreOnes r (Node a)))
   unfolding onwardLine
-  sought-line = simp (sought .not-own, sought .router, sought .not-ours, sought .no-group)
+  sought-line = simp (sought .not-own, sought .router, sought .not-flooded, sought .not-ours, sought .no-group)
 
   wanted-case : (some : Bool) (ports : Ports) (code p : ℕ) → lineGrants r at h (pick (not some) (refused 11) (wanted ports code)) p ≡ true → ports p ≡ true
   wanted-case true ports code p e = granted-passed r at h p ports code e .0
   wanted-case false ports code p e = true-false (sym e)
 
   -- A port that is granted a copy is that of a matching route of which none has more ones.
-  pub sought-taken : Contiguous (r .routes) → (p : ℕ) → p < 8 → inSet p (endingOf r at octets room .ruling .granted) ≡ true → RouteTaken r a p
+  pub sought-taken : Contiguous (r .routes) → (p : ℕ) → p < 8 → inSet p (endingOf r at second octets room .ruling .granted) ≡ true → RouteTaken r a p
   sought-taken contiguous p inside granted =
-      let line = exactly.granted-exactly r at octets room moreOnes (ones-choose r contiguous) p inside .0 granted .1 in
+      let line = exactly.granted-exactly r at second octets room moreOnes (ones-choose r contiguous) p inside .0 granted .1 in
       let is = ap (λ (y : Aim). lineGrants r at h (onwardLine moreOnes r at y (h .fields)) p) (sought .named) ∙ ap (λ (l : Line). lineGrants r at h l p) sought-line in
       best-taken r a p (wanted-case (someMatches r (Node a)) (bestPort moreOnes r (Node a)) (bestCode moreOnes r (Node a)) p (sym is ∙ line))
 
 -- ---- a port that is granted a copy
-module _ (r : Relay) (at : ℕ) (octets : List ℕ) (room : ℕ) (p : ℕ) (inside : p < 8) where
+module _ (r : Relay) (at second : ℕ) (octets : List ℕ) (room : ℕ) (p : ℕ) (inside : p < 8) where
   module _ (more : Route → Route → Bool) (chooses : Chooses more r) where
     -- It has passed all that the tables ask, by the code of the verdict ..
-    pub granted-fits : inSet p (endingOf r at octets room .ruling .granted) ≡ true
-        → Passed r at (headerOf octets) (verdictBy more r at octets room .code) p
+    pub granted-fits : inSet p (endingOf r at second octets room .ruling .granted) ≡ true
+        → Passed r at (headerOf octets) (verdictBy more r at second octets room .code) p
     granted-fits granted =
-        let line = exactly.granted-exactly r at octets room more chooses p inside .0 granted in
-        rw (exactly.code-number r at octets room more chooses (line .0))
+        let line = exactly.granted-exactly r at second octets room more chooses p inside .0 granted in
+        rw (exactly.code-number r at second octets room more chooses (line .0))
         (line-passed r at (headerOf octets) p (onwardLine more r at (aimAt r at octets) (headerOf octets .fields)) (line .1))
 
     -- .. and so has one that took it.
-    pub took-fits : inSet p (endingOf r at octets room .ruling .took) ≡ true
-        → Passed r at (headerOf octets) (verdictBy more r at octets room .code) p
+    pub took-fits : inSet p (endingOf r at second octets room .ruling .took) ≡ true
+        → Passed r at (headerOf octets) (verdictBy more r at second octets room .code) p
     took-fits took =
-        granted-fits (and-true (inSet p (endingOf r at octets room .ruling .granted)) (hasRoom r p) (sym (exactly.took-exactly r at octets room p inside) ∙ took) .0)
+        granted-fits (and-true (inSet p (endingOf r at second octets room .ruling .granted)) (hasRoom r p) (sym (exactly.took-exactly r at second octets room p inside) ∙ took) .0)
 
   -- A one-octet path goes only to a port of the domain that it came from.
-  pub granted-in-domain : inSet p (endingOf r at octets room .ruling .granted) ≡ true → oneOctetPath (headerOf octets .fields .addresses) ≡ true
+  pub granted-in-domain : inSet p (endingOf r at second octets room .ruling .granted) ≡ true → oneOctetPath (headerOf octets .fields .addresses) ≡ true
       → domainOf (portIn r p .address) ≡ domainOf (portIn r at .address)
   granted-in-domain granted one =
       eqb-true (domainOf (portIn r p .address)) (domainOf (portIn r at .address))
       (not-false _ (granted-fits longerMask (masks-choose r) granted .bound one))
 
   -- A port that is granted a copy is set up.
-  pub granted-set-up : inSet p (endingOf r at octets room .ruling .granted) ≡ true → portSetUp r p ≡ true
+  pub granted-set-up : inSet p (endingOf r at second octets room .ruling .granted) ≡ true → portSetUp r p ≡ true
   granted-set-up granted = granted-fits longerMask (masks-choose r) granted .set-up

@@ -1,7 +1,7 @@
 -- Page 01's "One received datagram, step by step" as tables: in each the first row whose condition holds decides. Written from the page and
--- from page 02, W-204 ("Only routes that are up are now candidates"; 12 is given nowhere) and W-214 (headers rewritten for the next leg), not from the
--- code: a set of ports is a test of a port's number here, and nothing is gathered beforehand. proofs/Verdict.antt has that receiving does exactly
--- this. Assumes nothing.
+-- from page 02, W-204 ("Only routes that are up are now candidates"; 12 is given nowhere), W-214 (headers rewritten for the next leg) and W-207 (floods),
+-- not from the code: a set of ports is a test of a port's number here, and nothing is gathered beforehand. proofs/Verdict.antt has that receiving does
+-- exactly this. Assumes nothing.
 use Prim.Native.Nat.{ℕ, _*_, _/_, _^_}
 use mathlib.Core.Path.{_≡_}
 use mathlib.Core.Logic.{_⊎_, _↔_, _≢_}
@@ -10,7 +10,7 @@ use mathlib.Core.List.{List, [], _∷_}
 use lib.Dec.{eqb, ltb}
 use lib.ListN.{length}
 use Rattle.checks.specs.Order.{pick, Checks, firstOf, noneHolds, firstHolds}
-use Rattle.sets.specs.Limits.{portCount, groupPlaces, pathPlaces}
+use Rattle.sets.specs.Limits.{portCount, groupPlaces, pathPlaces, pairPlaces}
 use Rattle.sets.specs.Sets.{inSet, anyBelow, firstBelow}
 use Rattle.address.specs.Octets.{dotted}
 use Rattle.address.specs.Class.{familyOf, classOf, classNumber}
@@ -30,15 +30,17 @@ use Rattle.header.specs.declared.Octet.the-variants as octet
 use Rattle.queue.specs.Queue.{entryPlaces}
 use Rattle.networks.specs.Networks.{inNet10, domainOf, lastOf, subnetBroadcast}
 use Rattle.meaning.specs.Names.{aimOf, originOf, isBasic, isBound, notCarried, noDomain, badAim, badSource}
+use Rattle.meaning.specs.Flood.{isFlooded, unmarked, pairOf}
 use Rattle.meaning.specs.Asked.{isAssigned}
 use Rattle.meaning.specs.declared.Aim.{Aim}
 use Rattle.meaning.specs.declared.Aim.the-variants.{Node, Path, Uncarried}
 use Rattle.next_leg.specs.Leg.{nextLength}
+use Rattle.records.specs.Held.{holdsPair, isFree}
 use Rattle.records.specs.declared.Port.{Port}
 use Rattle.routes.specs.Routes.{candidate}
 use Rattle.routes.specs.declared.Route.{Route}
 use Rattle.lookup.specs.Lookup.{groupFound, pathFound}
-use Rattle.state.specs.Relay.{Relay, portIn, groupIn, pathIn, queueIn, routeIn, portSetUp}
+use Rattle.state.specs.Relay.{Relay, pairAt, portIn, groupIn, pathIn, queueIn, routeIn, portSetUp}
 
 -- ---- tables
 
@@ -89,13 +91,15 @@ aimAt r at octets = aimOf (portIn r at .address .0) (headerOf octets .fields .ad
 
 -- ---- steps 1 to 6. Before them a list of routes over 512 records ends the call by 21 (page 02, W-208): that is not of any relay, and is told where
 -- the list is lent (`heardEnding` of crate relay).
-unfoldable pub stepRows : Relay → ℕ → List ℕ → ℕ → Checks
-stepRows r at octets room =
+unfoldable pub stepRows : Relay → ℕ → ℕ → List ℕ → ℕ → Checks
+stepRows r at second octets room =
     let own = portIn r at .address in
     let f = headerOf octets .fields in
     -- "1. Port not set up, or over 7: 16." W-214: "50 octets for each of eight ports ..; 17 .. if fewer"
     (not (portSetUp r at), 16)
     ∷ (ltb room (portCount * longestHeader), 17)
+    -- W-207: "a second under the last accepted one (0 at first) refuses a datagram .. with 29, after 16 and 17"
+    ∷ (ltb second (r .memory .last), 29)
     -- "2. Fewer than 3 octets: 1. Version not the assigned one: 2. Octets end inside the control field: 1. Control bits that 003 does not
     -- allow: 4. Length field over the octets lent, or under the header's own length: 3."
     ∷ (ltb (length octets) 3, 1)
@@ -105,12 +109,14 @@ stepRows r at octets room =
     ∷ (misfit octets (placesOf octets), 3)
     -- "3. Checksum element present and not equal to the complement of the ones' complement sum ..: 5."
     ∷ (wrongChecksum octets (controlOf octets) (placesOf octets), 5)
-    -- "4. Routing requirements not 0, or IPv6 addresses: 8."
+    -- "4. Routing requirements not 0, or IPv6 addresses: 8." W-207: "no longer applies to the flood value of table 3-7"
     ∷ (notCarried f, 8)
     -- "5. One-octet address and the arrival port's address does not begin with 10: 7."
     ∷ (noDomain own (f .addresses), 7)
     -- "6. Invalid destination or path, or a source present and not unicast: 6."
     ∷ (badAim (aimOf (own .0) (f .addresses)) || badSource (originOf (own .0) (f .addresses)), 6)
+    -- W-207: "A flooded datagram needs a source address and a timestamp, else 28, after 6"
+    ∷ (unmarked f, 28)
     ∷ []
 
 -- ---- what a destination is
@@ -253,6 +259,18 @@ groupPorts r x p = destinationIs x (λ a. inSet p (groupSet r a))
 abbrev pub pathPorts : Relay → Aim → Ports
 pathPorts r x p = pathIs x (λ a. inSet p (pathSet r a))
 
+-- ---- a flood: W-207. What is flooded has a source, else 28; so a path, which has none, is not meant.
+abbrev pub floodedWith : Aim → Fields → Bool → Bool
+floodedWith x f test = destinationIs x (λ a. isFlooded f && test)
+
+-- "a held pair": one of the 64 places holds "source and timestamp, format included", the source as the arrival port fills it in
+unfoldable pub pairHeld : Relay → ℕ → Fields → Bool
+pairHeld r at f = anyBelow (λ (i : ℕ). holdsPair (pairAt (r .memory) i) (pairOf (portIn r at .address .0) f)) pairPlaces
+
+-- some place is free; else "all places held"
+unfoldable pub someFree : Relay → Bool
+someFree r = anyBelow (λ (i : ℕ). isFree (pairAt (r .memory) i)) pairPlaces
+
 -- "The first line that fits decides the wanted ports"
 abbrev pub onwardRows : Relay → ℕ → Aim → Fields → List (Bool × Line)
 onwardRows r at x f =
@@ -261,6 +279,11 @@ onwardRows r at x f =
     -- "host: not asked where the local half is delivered or 26, else 9;"
     ∷ (isHost r && not (eqb (localHalf r at x f) 0), notAsked)
     ∷ (isHost r, refused 9)
+    -- W-207: "Onward, on a router: not asked for a held pair ..; with all places held 30 ..; else .. every other set-up port is wanted, 11 if none"
+    ∷ (floodedWith x f (pairHeld r at f), notAsked)
+    ∷ (floodedWith x f (not (someFree r)), refused 30)
+    ∷ (floodedWith x f (noPort (otherPorts r at)), refused 11)
+    ∷ (floodedWith x f true, wanted (otherPorts r at) 0)
     -- "broadcast of ours: all other set-up ports; not asked if there are none;"
     ∷ (broadcastOfOurs r x && noPort (otherPorts r at), notAsked)
     ∷ (broadcastOfOurs r x, wanted (otherPorts r at) 0)
@@ -399,13 +422,13 @@ judged more r at x h = halves r at h (localHalf r at x (h .fields)) (onwardLine 
 abbrev pub refusedWith : ℕ → Verdict
 refusedWith n = record { refusal = n; local = 0; onward = 0; granted = nobody; took = nobody; dropped = nobody; code = 0 }
 
--- what becomes of these octets, come in by port `at`, with so much room for output, where `more` compares two routes
-unfoldable pub verdictBy : (Route → Route → Bool) → Relay → ℕ → List ℕ → ℕ → Verdict
-verdictBy more r at octets room =
-    let n = firstOf (stepRows r at octets room) in
+-- what becomes of these octets, come in by port `at` in this second, with so much room for output, where `more` compares two routes
+unfoldable pub verdictBy : (Route → Route → Bool) → Relay → ℕ → ℕ → List ℕ → ℕ → Verdict
+verdictBy more r at second octets room =
+    let n = firstOf (stepRows r at second octets room) in
     let h = headerOf octets in
     pick (eqb n 0) (judged more r at (aimOf (portIn r at .address .0) (h .fields .addresses)) h) (refusedWith n)
 
 -- the page's verdict: routes are compared by their mask ones
-abbrev pub verdictOf : Relay → ℕ → List ℕ → ℕ → Verdict
+abbrev pub verdictOf : Relay → ℕ → ℕ → List ℕ → ℕ → Verdict
 verdictOf = verdictBy moreOnes

@@ -4,7 +4,8 @@
 // one walk over the ports, and the onward half goes in stages. This crate says the same a second time, straight from page 01's "One received
 // datagram, step by step": lists of conditions in the page's order, of which the first that holds decides, and sets of ports as tests of a
 // port's number. A reader with the page in hand can tick them line by line. Then it proves that receiving answers exactly that, for any port,
-// octets and room, and so when each number is given; and that each port that takes a copy gets the header that page 02, W-214, gives it.
+// second, octets and room, and so when each number is given; that it remembers of a flooded datagram what page 02, W-207, says; and that each port
+// that takes a copy gets the header that W-214 gives it.
 //
 // The awkward case is the route line. The page counts a mask's ones, and the code compares masks as numbers. The two are the same where masks are
 // ones and then zeros, as 22 leaves them; so the tables take the comparison as an argument. With masks as numbers the theorem holds of any relay,

@@ -4,6 +4,7 @@ use Rattle.records.specs.declared.Port.{Port}
 use Rattle.records.specs.declared.OwnedPort.{OwnedPort}
 use Rattle.records.specs.declared.Group.{Group}
 use Rattle.records.specs.declared.PathPlace.{PathPlace}
+use Rattle.records.specs.declared.PairPlace.{PairPlace}
 
 -- a port that is not set up
 abbrev pub freshPort : Port
@@ -18,3 +19,7 @@ freshGroup = record { filled = 0; address = record { 0 = 0 }; send = 0; subscrib
 
 abbrev pub freshPath : PathPlace
 freshPath = record { filled = 0; path = record { 0 = 0 }; send = 0; here = 0 }
+
+-- a place that holds no pair (page 02, W-207)
+abbrev pub freshPair : PairPlace
+freshPair = record { pair = record { format = 0; source = record { 0 = 0 }; upper = 0; lower = 0 }; second = 0 }

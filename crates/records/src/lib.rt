@@ -1,4 +1,5 @@
-// The records of the relay's settings: a port and whose it is, a group place, a path place; and whether a place holds an address.
+// The records of the relay's settings: a port and whose it is, a group place, a path place; of what it keeps: a pair of source and timestamp; and whether
+// a place holds an address or a pair.
 //
 // Each field is a whole word, and the flags are numbers: a board or a state that C lends may hold any words, and each of them must be some
 // record. A flag says no by 0 and yes by anything else; settings write only 0 and 1. A set of ports has port p as 2^p. The record of
@@ -7,7 +8,7 @@ use address::Address;
 use address::Mask;
 use address::PathAddress;
 ghost use mathlib.Core.Path.{_≡_};
-ghost use Rattle.records.specs.Held.{holdsNumber, holdsGroup, holdsPath};
+ghost use Rattle.records.specs.Held.{holdsNumber, holdsGroup, holdsPath, holdsPair};
 
 // `ready` is 0 where the port is not set up.
 #[repr(C)]
@@ -43,6 +44,23 @@ pub struct PathPlace {
     pub here: u32,
 }
 
+// The source and the timestamp of a flooded datagram: the source as four octets, the format of the timestamp, and its octets, the P-field with the time's upper
+// part in one word, and the time's lower part in another.
+#[repr(C)]
+pub struct Pair {
+    pub format: u32,
+    pub source: Address,
+    pub upper: u32,
+    pub lower: u32,
+}
+
+// A pair that is kept, and the second in which it came. A format of 0 is a free place.
+#[repr(C)]
+pub struct PairPlace {
+    pub pair: Pair,
+    pub second: u32,
+}
+
 // Whether a place is filled, and by this address.
 fn holds(filled: u32, held: u32, wanted: u32) -> bool
     ensures { λ r. ⌜ r ≡ holdsNumber filled held wanted ⌝ }
@@ -65,4 +83,20 @@ pub fn holds_path(x: PathPlace, p: PathAddress) -> bool
     ensures { λ r. ⌜ r ≡ holdsPath x p ⌝ }
 {
     holds(x.filled, x.path.0, p.0)
+}
+
+// Whether a place holds this pair: format, source and all octets of the timestamp are the same.
+pub fn holds_pair(x: PairPlace, q: Pair) -> bool
+    ensures { λ r. ⌜ r ≡ holdsPair x q ⌝ }
+{
+    if x.pair.format != q.format {
+        return false;
+    }
+    if x.pair.source.0 != q.source.0 {
+        return false;
+    }
+    if x.pair.upper != q.upper {
+        return false;
+    }
+    x.pair.lower == q.lower
 }

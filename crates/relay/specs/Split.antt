@@ -19,15 +19,16 @@ use Rattle.judge.specs.declared.Asked.{Asked}
 use Rattle.judge.specs.declared.Ending.{Ending}
 use Rattle.judge.specs.Ending.{refusedBy}
 use Rattle.judge.specs.Asked.{refusedAsked, datagramAsked, searchedIn, addressIn, finishedOf}
+use Rattle.judge.specs.Remembered.{refusedMemory, rememberedBy}
 use Rattle.answers.specs.Answers.{receiveNumber}
 use Rattle.relay.specs.Outgoing.{sentOutput}
 use Rattle.relay.specs.Received.{receivedState}
 
 -- ---- before: a list over 512 records is refused by 21 even before the words are counted; words of the wrong number hold no port, 16
-unfoldable pub askedOf : List ℕ → List ℕ → ℕ → ℕ → List ℕ → ℕ → Asked
-askedOf b w count port octets room =
+unfoldable pub askedOf : List ℕ → List ℕ → ℕ → ℕ → ℕ → List ℕ → ℕ → Asked
+askedOf b w count port second octets room =
     pick (ltb routePlaces count) (refusedAsked 21)
-    (toldBoth (λ (x : Board) (s : State). datagramAsked (seated x s) (s .number) port octets room) (refusedAsked 16) b w)
+    (toldBoth (λ (x : Board) (s : State). datagramAsked (seated x s) (s .number) port second octets room) (refusedAsked 16) b w)
 
 -- what is asked of the list: the best route, where the route line decides
 abbrev pub queryOf : Asked → Query
@@ -51,21 +52,23 @@ endingAfter b w a s = finishedOf (seated (decodeBoard b) (decode w)) a (wayIn s)
 abbrev pub answerAfter : List ℕ → List ℕ → Asked → Scan → ℕ
 answerAfter b w a s = receiveNumber (endingAfter b w a s)
 
-abbrev pub wordsAfter : List ℕ → List ℕ → ℕ → Asked → Scan → Lent State
-wordsAfter b w slot a s = changedBoth (λ (x : Board) (y : State). receivedState x y (record { 0 = slot }) (endingAfter b w a s)) b w
+abbrev pub wordsAfter : List ℕ → List ℕ → ℕ → ℕ → Asked → Scan → Lent State
+wordsAfter b w slot second a s =
+    changedBoth (λ (x : Board) (y : State). receivedState x y (record { 0 = slot }) (rememberedBy second a (y .memory)) (endingAfter b w a s)) b w
 
 abbrev pub outputAfter : List ℕ → List ℕ → List ℕ → List ℕ → Asked → Scan → List ℕ
 outputAfter b w octets output a s = sentOutput (endingAfter b w a s) octets output
 
--- a refusal that counts: not 16, 17 or 21
+-- a refusal that counts, and whose second is accepted: not 16, 17, 21 or 29
 abbrev pub Counted : ℕ → Type 0
-Counted n = (n ≡ 16 → ⊥) × ((n ≡ 17 → ⊥) × (n ≡ 21 → ⊥))
+Counted n = (n ≡ 16 → ⊥) × ((n ≡ 17 → ⊥) × ((n ≡ 21 → ⊥) × (n ≡ 29 → ⊥)))
 
-abbrev pub wordsRefused : List ℕ → List ℕ → Slot → ℕ → Lent State
-wordsRefused b w slot n = changedBoth (λ (x : Board) (y : State). receivedState x y slot (refusedBy n)) b w
+abbrev pub wordsRefused : List ℕ → List ℕ → Slot → ℕ → ℕ → Lent State
+wordsRefused b w slot second n =
+    changedBoth (λ (x : Board) (y : State). receivedState x y slot (refusedMemory second n (y .memory)) (refusedBy n)) b w
 
--- what is asked was asked of these words and octets, with this room: by whatever count of routes, and whatever port
-pub record Following (b w octets : List ℕ) (room : ℕ) (a : Asked) : Type 0 where
+-- what is asked was asked of these words and octets, in this second and with this room: by whatever count of routes, and whatever port
+pub record Following (b w : List ℕ) (second : ℕ) (octets : List ℕ) (room : ℕ) (a : Asked) : Type 0 where
   pub count : ℕ
   pub port : ℕ
-  pub asked : a ≡ askedOf b w count port octets room
+  pub asked : a ≡ askedOf b w count port second octets room

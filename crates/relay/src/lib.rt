@@ -2,10 +2,11 @@
 //
 // To receive is to judge, to search the routes and then to do. Judging reads and writes nothing, `before`; what is to be sought in the list of
 // routes, if anything, is a query by value, `query_of`; with what the scan of the list found, the verdict is finished, counted, entered in the
-// queues of the ports that took a copy, and a header is written for each of them, `after`. The list itself is lent to none of the three.
+// queues of the ports that took a copy, a header is written for each of them, and the second and the pair of a flooded datagram are remembered, `after`. The list
+// itself is lent to none of the three.
 //
 // The awkward case is words of the wrong number, which hold no relay, and a list that is too long: both are refusals like others, but
-// nothing is counted. Nor is anything by 16 and 17 otherwise; every other refusal counts, and then the words are of the right number. The output is written
+// nothing is counted. Nor is anything by 16, 17 and 29 otherwise; every other refusal counts, and then the words are of the right number. The output is written
 // only where a port took an entry, a stretch for each such port, and then the header was read and there was room, which the verdict has tested.
 pub mod outgoing;
 
@@ -18,6 +19,7 @@ use listing::Query;
 use listing::Scan;
 use queue::Entry;
 use survey::Destination;
+use verdict::Flood;
 use verdict::Target;
 use verdict::Way;
 ghost use mathlib.Core.Path.{_≡_};
@@ -35,7 +37,7 @@ ghost use Rattle.state.specs.Seen.{Board};
 ghost use Rattle.state.specs.Layout.{boardWords, missionWords, decode};
 ghost use Rattle.lent_state.specs.View.{lent};
 ghost use Rattle.answers.specs.Answers.{receiveNumber};
-ghost use Rattle.judge.specs.Asked.{routeSought, addressIn};
+ghost use Rattle.judge.specs.Asked.{routeSought, unlessFlood, addressIn};
 ghost use Rattle.judge.specs.Ending.{outputRoom, refusedBy};
 ghost use Rattle.relay.specs.Outgoing.{sentOutput};
 ghost use Rattle.relay.specs.Received.{receivedState};
@@ -57,10 +59,11 @@ pub fn before(
     mission: &[u32],
     count: usize,
     port: u32,
+    second: u32,
     octets: &[u8],
     room: usize,
 ) -> Asked
-    ensures { λ r. ⌜ r ≡ askedOf (now (board .entry)) (now (mission .entry)) count port (now (octets .entry)) room ⌝ }
+    ensures { λ r. ⌜ r ≡ askedOf (now (board .entry)) (now (mission .entry)) count port second (now (octets .entry)) room ⌝ }
 {
     if (sets::ROUTES as usize) < count {
         return judge::refused(21);
@@ -71,7 +74,7 @@ pub fn before(
     if mission.len() != state_mission::MISSION_WORDS {
         return judge::refused(16);
     }
-    judge::judge(board, mission, port, octets, room)
+    judge::judge(board, mission, port, second, octets, room)
 }
 
 // 1 where a route is to be searched: nothing refuses, and the route line decides, on a router.
@@ -92,13 +95,25 @@ fn route_sought(target: Target, router: u32) -> u32
     }
 }
 
-fn searched_in(refusal: u32, target: Target, router: u32) -> u32
-    ensures { λ r. ⌜ r ≡ pick (eqb refusal 0) (routeSought target router) 0 ⌝ }
+// And none by a datagram that is flooded.
+fn unless_flood(flood: Flood, sought: u32) -> u32
+    ensures { λ r. ⌜ r ≡ unlessFlood flood sought ⌝ }
+{
+    match flood {
+        Flood::Plain => sought,
+        Flood::Unsent => 0,
+        Flood::Full => 0,
+        Flood::New(_) => 0,
+    }
+}
+
+fn searched_in(refusal: u32, target: Target, router: u32, flood: Flood) -> u32
+    ensures { λ r. ⌜ r ≡ pick (eqb refusal 0) (unlessFlood flood (routeSought target router)) 0 ⌝ }
 {
     if refusal != 0 {
         return 0;
     }
-    route_sought(target, router)
+    unless_flood(flood, route_sought(target, router))
 }
 
 // The address that it is searched for.
@@ -117,10 +132,11 @@ pub fn query_of(a: Asked) -> Query
 {
     let target = a.target;
     let case = a.case;
+    let flood = case.flood;
     let destination = a.destination;
     Query {
         refusal: a.refusal,
-        sought: searched_in(a.refusal, target, case.router),
+        sought: searched_in(a.refusal, target, case.router, flood),
         address: address_in(destination),
         mask: 0,
         mission: a.number,
@@ -138,12 +154,12 @@ fn way_in(s: Scan) -> Way
     Way::By(sets::only_port(s.port), s.capabilities)
 }
 
-// A refusal: counted, but for 16, 17 and 21.
-fn refuse(mission: &mut [u32], refusal: u32) -> u64
+// A refusal: counted, and its second accepted, but for 16, 17, 21 and 29.
+fn refuse(mission: &mut [u32], refusal: u32, second: u32) -> u64
     requires { ⌜ (Counted refusal → length (now mission) ≡ missionWords) ⌝ }
     ensures { λ r. ⌜ r ≡ receiveNumber (refusedBy refusal) ⌝ }
     ensures { λ _. ⌜ ((b : List ℕ) (slot : Slot) → (Counted refusal → length b ≡ boardWords)
-        → lent (now (mission .exit)) ≡ wordsRefused b (now (mission .entry)) slot refusal) ⌝ }
+        → lent (now (mission .exit)) ≡ wordsRefused b (now (mission .entry)) slot second refusal) ⌝ }
 {
     let e = judge::ended_by(refusal);
     let answer = answers::receive_number(e);
@@ -156,7 +172,11 @@ fn refuse(mission: &mut [u32], refusal: u32) -> u64
     if refusal == 21 {
         return answer;
     }
+    if refusal == 29 {
+        return answer;
+    }
     tally::count(mission, e);
+    state_pairs::put_last(mission, second);
     answer
 }
 
@@ -174,7 +194,7 @@ fn carry_out(
         × ((outputRoom ≤ length (now output))
         × (Sound header × ((header ≡ headerOf (now octets)) × ((placesOf (now octets) .size ≤ length (now octets)) × (renewal ≡ renewalOf (now octets)))))) ⌝ }
     ensures { λ r. ⌜ r ≡ receiveNumber e ⌝ }
-    ensures { λ _. ⌜ ((b : Board) → decode (now (mission .exit)) ≡ receivedState b (decode (now (mission .entry))) slot e) ⌝ }
+    ensures { λ _. ⌜ ((b : Board) → decode (now (mission .exit)) ≡ receivedState b (decode (now (mission .entry))) slot (decode (now (mission .entry)) .memory) e) ⌝ }
     ensures { λ _. ⌜ now (output .exit) ≡ sentOutput e (now (octets .entry)) (now (output .entry)) ⌝ }
 {
     let took = e.ruling.took;
@@ -197,25 +217,32 @@ pub fn after(
     board: &[u32],
     mission: &mut [u32],
     slot: u16,
+    second: u32,
     octets: &[u8],
     output: &mut [u8],
     a: Asked,
     s: Scan,
 ) -> u64
-    requires { ⌜ Following (now board) (now mission) (now octets) (length (now output)) a ⌝ }
+    requires { ⌜ Following (now board) (now mission) second (now octets) (length (now output)) a ⌝ }
     ensures { λ r. ⌜
         (r ≡ answerAfter (now (board .entry)) (now (mission .entry)) a s)
-        × ((lent (now (mission .exit)) ≡ wordsAfter (now (board .entry)) (now (mission .entry)) slot a s)
+        × ((lent (now (mission .exit)) ≡ wordsAfter (now (board .entry)) (now (mission .entry)) slot second a s)
         × (now (output .exit) ≡ outputAfter (now (board .entry)) (now (mission .entry)) (now (octets .entry)) (now (output .entry)) a s))
         ⌝ }
 {
     let refusal = a.refusal;
     if refusal != 0 {
-        return refuse(mission, refusal);
+        return refuse(mission, refusal, second);
     }
     let header = a.header;
+    let fields = header.fields;
     let renewal = a.renewal;
+    let arrival = a.arrival;
+    let case = a.case;
+    let flood = case.flood;
     let way = way_in(s);
     let e = judge::finishing::finish(board, mission, a, way);
-    carry_out(mission, Slot(slot), octets, output, e, header, renewal)
+    let answer = carry_out(mission, Slot(slot), octets, output, e, header, renewal);
+    floods::remember(mission, flood, arrival, fields, second);
+    answer
 }

@@ -2,3 +2,4 @@
 pub mod Loops
 pub mod Anywhere
 pub mod Members
+pub mod First

@@ -10,3 +10,5 @@ pub const ROUTES: usize = crate::ROUTES as usize;
 pub const GROUPS: usize = crate::GROUPS as usize;
 
 pub const PATHS: usize = crate::PATHS as usize;
+
+pub const PAIRS: usize = crate::PAIRS as usize;

@@ -18,7 +18,9 @@ pub const GROUPS: u32 = 16;
 
 pub const PATHS: u32 = 16;
 
-pub const COUNTERS: u32 = 15;
+pub const PAIRS: u32 = 64;
+
+pub const COUNTERS: u32 = 17;
 
 pub const MISSIONS: u32 = 2;
 

@@ -5,7 +5,7 @@ use mathlib.Core.Path.{_≡_, refl, ap}
 use lib.ListN.{length, getD, set, length-replicate, getD-replicate}
 use Rattle.queue.specs.Queue.{fresh as freshQueue}
 use Rattle.words.specs.Cut.{pieces}
-use Rattle.state.specs.Seen.{freshBoard, freshMission, freshState}
+use Rattle.state.specs.Seen.{freshBoard, freshMission, freshMemory, freshState}
 use Rattle.state.specs.Layout.{boardWords, boardOf, decodeBoard, freshBoardWords, missionWords, stateOf, decode, freshWords, queueOf}
 
 -- ---- the board
@@ -24,12 +24,12 @@ fresh-board-word i h = getD-replicate {A = ℕ} boardWords i 0 0 h
 -- ---- a mission's state
 module _ (n : ℕ) where
   pub fresh : decode (freshWords n) ≡ freshState n
-  unfolding decode stateOf freshWords freshState freshMission freshQueue pieces queueOf
+  unfolding decode stateOf freshWords freshState freshMission freshMemory freshQueue pieces queueOf
   fresh = refl
 
   pub fresh-length : length (freshWords n) ≡ missionWords
   unfolding freshWords
-  fresh-length = ap suc (length-replicate {A = ℕ} 407 0)
+  fresh-length = ap suc (length-replicate {A = ℕ} 730 0)
 
   -- words that are all 0, and then the number
   pub fresh-numbered : set (freshWords 0) 0 n ≡ freshWords n
@@ -39,4 +39,4 @@ module _ (n : ℕ) where
 pub fresh-zero : (i : ℕ) → i < missionWords → getD (freshWords 0) i 0 ≡ 0
 unfolding freshWords
 fresh-zero zero h = refl
-fresh-zero (suc i) h = getD-replicate {A = ℕ} 407 i 0 0 (le-of-suc-le-suc h)
+fresh-zero (suc i) h = getD-replicate {A = ℕ} 730 i 0 0 (le-of-suc-le-suc h)

@@ -11,8 +11,9 @@ use Rattle.queue.specs.declared.Queue.{Queue}
 use Rattle.records.specs.declared.OwnedPort.{OwnedPort}
 use Rattle.records.specs.declared.Group.{Group}
 use Rattle.records.specs.declared.PathPlace.{PathPlace}
-use Rattle.state.specs.Relay.{Mission, Relay, groupAt, pathAt, queueAt, groupIn, pathIn, queueIn, counterIn}
-use Rattle.state.specs.Relay.{putGroup, putPath, putQueue, withGroup, withPath, withQueue, withCounter, added}
+use Rattle.records.specs.declared.PairPlace.{PairPlace}
+use Rattle.state.specs.Relay.{Mission, Memory, Relay, pairAt, groupAt, pathAt, queueAt, groupIn, pathIn, queueIn, counterIn}
+use Rattle.state.specs.Relay.{putPair, putGroup, putPath, putQueue, withGroup, withPath, withQueue, withCounter, added}
 use Rattle.state.specs.Seen.{Board, ownedAt, putOwned}
 use Rattle.state.proofs.Sizes.{Sized, SizedBoard, many}
 
@@ -41,19 +42,23 @@ module _ (r : Relay) (s : Sized (r .mission)) (i : ℕ) where
   pub queue-back : (x : Queue) → i < 8 → queueIn (withQueue r i x) i ≡ x
   queue-back x h = put-queue-back (r .mission) s i x h
 
-module _ (cs : List ℕ) (s : length cs ≡ 15) (i : ℕ) where
-  pub counter-back : (x : ℕ) → i < 15 → counterIn (withCounter cs i x) i ≡ x
+module _ (k : Memory) (s : length (k .pairs) ≡ 64) (i : ℕ) where
+  pub pair-back : (x : PairPlace) → i < 64 → pairAt (putPair k i x) i ≡ x
+  pair-back x h = getD-set-same (k .pairs) i x _ (rw s h)
+
+module _ (cs : List ℕ) (s : length cs ≡ 17) (i : ℕ) where
+  pub counter-back : (x : ℕ) → i < 17 → counterIn (withCounter cs i x) i ≡ x
   counter-back x h = getD-set-same cs i x 0 (rw s h)
 
   -- A counter counts modulo 2^32: n more is n more, and comes round to 0 after 2^32 - 1.
-  pub counted : (n : ℕ) → i < 15 → counterIn (added cs i n) i ≡ (counterIn cs i + n) % 2 ^ 32
+  pub counted : (n : ℕ) → i < 17 → counterIn (added cs i n) i ≡ (counterIn cs i + n) % 2 ^ 32
   counted n h = counter-back _ h
 
-  pub counted-below : (n : ℕ) → i < 15 → counterIn cs i + n < 2 ^ 32 → counterIn (added cs i n) i ≡ counterIn cs i + n
+  pub counted-below : (n : ℕ) → i < 17 → counterIn cs i + n < 2 ^ 32 → counterIn (added cs i n) i ≡ counterIn cs i + n
   counted-below n h b = counted n h ∙ mod-eq-of-lt b
 
   -- One count after the other is the sum of both.
-  pub counted-twice : (m n : ℕ) → i < 15 → added (added cs i m) i n ≡ added cs i (m + n)
+  pub counted-twice : (m n : ℕ) → i < 17 → added (added cs i m) i n ≡ added cs i (m + n)
   counted-twice m n h =
       set-set cs i _ _
       ∙ ap (set cs i)
@@ -74,6 +79,9 @@ module _ (r : Relay) (i j : ℕ) (other : j ≢ i) where
 
   pub queue-left : (x : Queue) → queueIn (withQueue r i x) j ≡ queueIn r j
   queue-left x = getD-set-other (r .mission .queues) i j x _ other
+
+pub pair-left : (k : Memory) (i j : ℕ) → j ≢ i → (x : PairPlace) → pairAt (putPair k i x) j ≡ pairAt k j
+pair-left k i j other x = getD-set-other (k .pairs) i j x _ other
 
 pub counter-left : (cs : List ℕ) (i j : ℕ) → j ≢ i → (x : ℕ) → counterIn (withCounter cs i x) j ≡ counterIn cs j
 counter-left cs i j other x = getD-set-other cs i j x 0 other

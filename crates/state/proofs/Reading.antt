@@ -8,10 +8,11 @@ use Rattle.queue.specs.declared.Queue.{Queue}
 use Rattle.records.specs.declared.OwnedPort.{OwnedPort}
 use Rattle.records.specs.declared.Group.{Group}
 use Rattle.records.specs.declared.PathPlace.{PathPlace}
+use Rattle.records.specs.declared.PairPlace.{PairPlace}
 use Rattle.words.proofs.Sections.{record-read, word-read}
-use Rattle.state.specs.Relay.{groupAt, pathAt, queueAt, counterIn}
+use Rattle.state.specs.Relay.{groupAt, pathAt, queueAt, counterIn, pairAt}
 use Rattle.state.specs.Seen.{ownedAt}
-use Rattle.state.specs.Layout.{boardSections, boardOf, decodeBoard, ownedOf, sections, stateOf, decode, groupOf, pathOf, queueOf}
+use Rattle.state.specs.Layout.{boardSections, boardOf, decodeBoard, ownedOf, sections, stateOf, decode, groupOf, pathOf, queueOf, pairPlaceOf}
 
 -- the k words of record i, in records that begin at word a, as the code takes them
 abbrev pub taken : ℕ → ℕ → ℕ → List ℕ → List ℕ
@@ -26,6 +27,10 @@ module _ (w : List ℕ) where
   pub owned-read : (p : ℕ) (x : OwnedPort) → p < 8 → x ≡ ownedOf (taken 1 5 p w) → x ≡ ownedAt (decodeBoard w) p
   unfolding decodeBoard boardOf
   owned-read p x h e = record-read boardSections w 1 (omega arith) ownedOf 5 8 refl p _ x h e
+
+  pub lifetime-read : getD w 41 0 ≡ decodeBoard w .lifetime
+  unfolding decodeBoard boardOf
+  lifetime-read = word-read boardSections w 2 (omega arith) 0 (omega arith)
 
   -- ---- a mission's state
   pub number-read : getD w 0 0 ≡ decode w .number
@@ -44,6 +49,14 @@ module _ (w : List ℕ) where
   unfolding decode stateOf
   queue-read p x h e = record-read sections w 3 (omega arith) queueOf 33 8 refl p _ x h e
 
-  pub counter-read : (i : ℕ) → i < 15 → getD w (393 + i) 0 ≡ counterIn (decode w .counters) i
+  pub counter-read : (i : ℕ) → i < 17 → getD w (393 + i) 0 ≡ counterIn (decode w .counters) i
   unfolding decode stateOf
   counter-read i h = word-read sections w 4 (omega arith) i h
+
+  pub last-read : getD w 410 0 ≡ decode w .memory .last
+  unfolding decode stateOf
+  last-read = word-read sections w 5 (omega arith) 0 (omega arith)
+
+  pub pair-read : (i : ℕ) (x : PairPlace) → i < 64 → x ≡ pairPlaceOf (taken 411 5 i w) → x ≡ pairAt (decode w .memory) i
+  unfolding decode stateOf
+  pair-read i x h e = record-read sections w 6 (omega arith) pairPlaceOf 5 64 refl i _ x h e

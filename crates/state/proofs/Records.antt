@@ -11,8 +11,9 @@ use Rattle.queue.specs.declared.Queue.{Queue}
 use Rattle.records.specs.declared.OwnedPort.{OwnedPort}
 use Rattle.records.specs.declared.Group.{Group}
 use Rattle.records.specs.declared.PathPlace.{PathPlace}
+use Rattle.records.specs.declared.PairPlace.{PairPlace}
 use Rattle.words.proofs.Parts.{spelled-whole}
-use Rattle.state.specs.Layout.{ownedOf, ownedWords, groupOf, groupWords, pathOf, pathWords}
+use Rattle.state.specs.Layout.{ownedOf, ownedWords, groupOf, groupWords, pathOf, pathWords, pairPlaceOf, pairWords}
 use Rattle.state.specs.Layout.{entryOfWord, entryWord, queueOf, queueWords}
 
 -- ---- a record of single words
@@ -42,6 +43,15 @@ path-record x = refl
 
 pub path-length : (x : PathPlace) → length (pathWords x) ≡ 4
 path-length x = refl
+
+pub pair-words : (l : List ℕ) → length l ≡ 5 → pairWords (pairPlaceOf l) ≡ l
+pair-words l h = spelled-whole 5 l h
+
+pub pair-record : (x : PairPlace) → pairPlaceOf (pairWords x) ≡ x
+pair-record x = refl
+
+pub pair-length : (x : PairPlace) → length (pairWords x) ≡ 5
+pair-length x = refl
 
 -- ---- an entry
 entry-word : (w : ℕ) → entryWord (entryOfWord w) ≡ w

@@ -12,9 +12,9 @@ use Rattle.records.specs.declared.PathPlace.{PathPlace}
 use Rattle.words.specs.Cut.{cut}
 use Rattle.words.proofs.Pieces.{rows-length}
 use Rattle.state.specs.Relay.{Mission, putGroup, putPath, putQueue, withCounter}
-use Rattle.state.specs.Seen.{Board, putRouter, putOwned, portsSeen, allPorts}
+use Rattle.state.specs.Seen.{Board, putRouter, putOwned, putLifetime, portsSeen, allPorts}
 use Rattle.state.specs.Layout.{boardSections, boardOf, decodeBoard, ownedOf}
-use Rattle.state.specs.Layout.{sections, missionWords, stateOf, decode, groupOf, pathOf, queueOf}
+use Rattle.state.specs.Layout.{sections, missionWords, stateOf, decode, groupOf, pathOf, queueOf, pairPlaceOf}
 use Rattle.state.proofs.Words.{section-length}
 
 -- groups, paths, queues
@@ -41,9 +41,13 @@ module _ (w : List ℕ) where
   unfolding decodeBoard boardOf
   board-sized = rows-length ownedOf 5 8 (cut boardSections w 1)
 
-  pub counters-length : length w ≡ missionWords → length (decode w .counters) ≡ 15
+  pub counters-length : length w ≡ missionWords → length (decode w .counters) ≡ 17
   unfolding decode stateOf
   counters-length l = section-length w l 4 (omega arith) (omega arith)
+
+  pub pairs-length : length (decode w .memory .pairs) ≡ 64
+  unfolding decode stateOf
+  pairs-length = rows-length pairPlaceOf 5 64 (cut sections w 6)
 
   pub decode-sized : Sized (decode w .mission)
   unfolding decode stateOf
@@ -58,6 +62,9 @@ module _ (w : List ℕ) where
 module _ (b : Board) where
   pub router-sizes : (x : ℕ) → length (putRouter b x .ports) ≡ length (b .ports)
   router-sizes x = refl
+
+  pub lifetime-sizes : (x : ℕ) → length (putLifetime b x .ports) ≡ length (b .ports)
+  lifetime-sizes x = refl
 
   pub owned-sizes : (i : ℕ) (x : OwnedPort) → length (putOwned b i x .ports) ≡ length (b .ports)
   owned-sizes i x = rw length-set

@@ -1,9 +1,9 @@
--- Page 01's relay, "Numbers that hold everywhere" and "Settings": the settings and the queues, which the rules read. It is what one mission sees of
+-- Page 01's relay, "Numbers that hold everywhere" and "Settings": the settings, the queues and (page 02, W-207) the memory, which the rules read. It is what one mission sees of
 -- the board, of the list of routes and of its own state (specs/Seen.antt); the counters, which no rule reads, stand beside it. Each view reads one
 -- part, each update changes one.
--- The counters are fifteen, modulo 2^32, in this order: npInReceives, npInBadLength, npInBadVersion, npInBadAddress, npInBadChecksum,
+-- The counters are seventeen, modulo 2^32, in this order: npInReceives, npInBadLength, npInBadVersion, npInBadAddress, npInBadChecksum,
 -- unsupported, npInAddrErrors, npInUnknownProtos, npInDelivers, npForwHopDiscard, npForwDatagrams, npOutNoRoutes, npOutDiscards,
--- left domain, too big (page 01, "Refusal numbers"). Assumes nothing.
+-- left domain, too big (page 01, "Refusal numbers"), and those of 28 and of 30 (W-207). Assumes nothing.
 use Prim.Native.Nat.{ℕ, _+_, _%_, _^_}
 use mathlib.Core.Bool.{Bool, _&&_}
 use mathlib.Core.List.{List}
@@ -18,7 +18,8 @@ use Rattle.routes.specs.Routes.{emptyRoute}
 use Rattle.records.specs.declared.Port.{Port}
 use Rattle.records.specs.declared.Group.{Group}
 use Rattle.records.specs.declared.PathPlace.{PathPlace}
-use Rattle.records.specs.Fresh.{freshPort, freshGroup, freshPath}
+use Rattle.records.specs.declared.PairPlace.{PairPlace}
+use Rattle.records.specs.Fresh.{freshPort, freshGroup, freshPath, freshPair}
 use Rattle.records.specs.SetUp.{isSetUp}
 
 -- what is a mission's own, its number and counters aside
@@ -27,11 +28,17 @@ pub record Mission : Type 0 where
   pub paths : List PathPlace
   pub queues : List Queue
 
--- what the rules read: settings and queues; `router` is 0 for a host
+-- what a mission remembers of flooded datagrams: "the last accepted" second, and 64 places for pairs of source and timestamp (W-207)
+pub record Memory : Type 0 where
+  pub last : ℕ
+  pub pairs : List PairPlace
+
+-- what the rules read: settings, queues and memory; `router` is 0 for a host
 pub record Relay : Type 0 where
   pub router : ℕ
   pub ports : List Port
   pub mission : Mission
+  pub memory : Memory
   pub routes : List Route
 
 -- ---- views
@@ -44,6 +51,10 @@ pathAt m i = getD (m .paths) i freshPath
 
 abbrev pub queueAt : Mission → ℕ → Queue
 queueAt m p = getD (m .queues) p freshQueue
+
+-- of a memory
+abbrev pub pairAt : Memory → ℕ → PairPlace
+pairAt k i = getD (k .pairs) i freshPair
 
 -- of the relay
 abbrev pub portIn : Relay → ℕ → Port
@@ -77,10 +88,10 @@ readyOf ports = portSet (λ (p : ℕ). isSetUp (getD ports p freshPort)) portCou
 
 -- ---- one field anew
 abbrev pub allRoutes : Relay → List Route → Relay
-allRoutes r x = record { router = r .router; ports = r .ports; mission = r .mission; routes = x }
+allRoutes r x = record { router = r .router; ports = r .ports; mission = r .mission; memory = r .memory; routes = x }
 
 abbrev pub withMission : Relay → Mission → Relay
-withMission r x = record { router = r .router; ports = r .ports; mission = x; routes = r .routes }
+withMission r x = record { router = r .router; ports = r .ports; mission = x; memory = r .memory; routes = r .routes }
 
 abbrev pub allGroups : Mission → List Group → Mission
 allGroups m x = record { groups = x; paths = m .paths; queues = m .queues }
@@ -100,6 +111,13 @@ putPath m i x = allPaths m (set (m .paths) i x)
 
 abbrev pub putQueue : Mission → ℕ → Queue → Mission
 putQueue m p x = allQueues m (set (m .queues) p x)
+
+-- of a memory: the second, and one place
+abbrev pub putLast : Memory → ℕ → Memory
+putLast k x = record { last = x; pairs = k .pairs }
+
+abbrev pub putPair : Memory → ℕ → PairPlace → Memory
+putPair k i x = record { last = k .last; pairs = set (k .pairs) i x }
 
 abbrev pub withGroup : Relay → ℕ → Group → Relay
 withGroup r i x = withMission r (putGroup (r .mission) i x)

@@ -1,9 +1,9 @@
-// The operator's board in lent words: router or host, the ports and whose they are, and a fresh board.
+// The operator's board in lent words: router or host, the ports and whose they are, the lifetime of pairs, and a fresh board.
 //
-// The caller lends the whole board, 41 words, and each function works on the words of one part, so that nothing is copied that is
-// not asked for. The crates `state_mission`, `state_places` and `state_queues` do the same for a mission's words. Each promise is over
+// The caller lends the whole board, 42 words, and each function works on the words of one part, so that nothing is copied that is
+// not asked for. The crates `state_mission`, `state_places`, `state_queues` and `state_pairs` do the same for a mission's words. Each promise is over
 // `decodeBoard` alone: above this crate nobody sees a word, and the layout can change without a proof above it. What is required is the
-// length and a number in range, which the calls from C have tested. No board is bad: any 41 words hold some port in each place.
+// length and a number in range, which the calls from C have tested. No board is bad: any 42 words hold some port in each place.
 // A mission sees a port as it stands where it is its own, and else one that is not set up; a number over 1, which only words that no call
 // wrote can have, owns none. So the rules above, which ask a port whether it is set up, need not ask whose it is.
 pub mod ready;
@@ -18,7 +18,7 @@ ghost use Rattle.records.specs.Fresh.{freshPort};
 ghost use Rattle.records.specs.Owned.{seenPort};
 ghost use Rattle.state.specs.Layout.{boardWords, decodeBoard, ownedOf, ownedWords};
 ghost use Rattle.state.specs.Relay.{amongPorts};
-ghost use Rattle.state.specs.Seen.{ownedAt, putRouter, putOwned, freshBoard, portsSeen};
+ghost use Rattle.state.specs.Seen.{ownedAt, putRouter, putOwned, putLifetime, freshBoard, portsSeen};
 use address::Address;
 use address::Mask;
 use checks::Check;
@@ -26,7 +26,7 @@ use records::OwnedPort;
 use records::Port;
 
 // How many words the board has.
-pub const BOARD_WORDS: usize = 41;
+pub const BOARD_WORDS: usize = 42;
 
 // Where the sections begin.
 const ROUTER_AT: usize = 0;
@@ -34,6 +34,8 @@ const ROUTER_AT: usize = 0;
 const PORTS_AT: usize = 1;
 
 const PORT_WORDS: usize = 5;
+
+const LIFETIME_AT: usize = 41;
 
 // 0 for a host.
 pub fn router_of(board: &[u32]) -> u32
@@ -48,6 +50,22 @@ pub fn put_router(board: &mut [u32], x: u32)
     ensures { λ _. ⌜ decodeBoard (now (board .exit)) ≡ putRouter (decodeBoard (now (board .entry))) x ⌝ }
 {
     let at = ROUTER_AT;
+    board[at] = x;
+}
+
+// How old a pair may be before a sweep frees it, in seconds.
+pub fn lifetime_of(board: &[u32]) -> u32
+    requires { ⌜ length (now board) ≡ boardWords ⌝ }
+    ensures { λ r. ⌜ r ≡ decodeBoard (now (board .entry)) .lifetime ⌝ }
+{
+    board[LIFETIME_AT]
+}
+
+pub fn put_lifetime(board: &mut [u32], x: u32)
+    requires { ⌜ length (now board) ≡ boardWords ⌝ }
+    ensures { λ _. ⌜ decodeBoard (now (board .exit)) ≡ putLifetime (decodeBoard (now (board .entry))) x ⌝ }
+{
+    let at = LIFETIME_AT;
     board[at] = x;
 }
 

@@ -1,8 +1,8 @@
--- The counters that are moved: each is one of the fifteen, or none; and one move after the other. Assumes nothing.
+-- The counters that are moved: each is one of the seventeen, or none; and one move after the other. Assumes nothing.
 use native.Mathlib.Omega.{arith}
 use Prim.Native.Nat.{ℕ, _<_}
 use mathlib.Core.Path.{_≡_, refl}
-use mathlib.Core.Bool.{Bool, true, _&&_, _||_}
+use mathlib.Core.Bool.{Bool, true, _&&_}
 use mathlib.Core.List.{List, [], _∷_}
 use lib.Dec.{eqb, ltb}
 use borrow.Author.Tests.{ltb-true}
@@ -17,21 +17,23 @@ use Rattle.verdict.specs.declared.Local.the-variants.{No, Delivered, Unknown}
 use Rattle.verdict.specs.declared.Onward.{Onward}
 use Rattle.verdict.specs.declared.Onward.the-variants.{NotAsked, SentOn, Refused}
 use Rattle.verdict.specs.declared.Ruling.{Ruling}
+use Rattle.sets.specs.Limits.{counterCount}
+use Rattle.judge.specs.Remembered.{isUnheard}
 use Rattle.judge.specs.declared.Ending.{Ending}
 use Rattle.tally.specs.declared.Counter.{Counter}
 use Rattle.tally.specs.declared.Counter.the-variants.{At, Nothing}
 use Rattle.tally.specs.Tally.{CounterRow, numbered, inTable, Inside, counterFor, receiptCounter, localCounter, onwardCounter, discardCounter, rulingMoves, movesOf, countedAt, countedAll}
 
--- ---- each counter is one of the fifteen, or none
+-- ---- each counter is one of the seventeen, or none
 abbrev allInside : List CounterRow → Bool
 allInside [] = true
-allInside (row ∷ rows) = ltb (row .1) 15 && allInside rows
+allInside (row ∷ rows) = ltb (row .1) counterCount && allInside rows
 
 in-table : (rows : List CounterRow) (n : ℕ) → allInside rows ≡ true → Inside (inTable rows n)
 in-table [] n h = tt
 in-table (row ∷ rows) n h =
-    let both = and-true (ltb (row .1) 15) (allInside rows) h in
-    either Inside (eqb n (row .0)) (ltb-true (row .1) 15 (both .0)) (in-table rows n (both .1))
+    let both = and-true (ltb (row .1) counterCount) (allInside rows) h in
+    either Inside (eqb n (row .0)) (ltb-true (row .1) counterCount (both .0)) (in-table rows n (both .1))
 
 number-inside : (n : ℕ) → Inside (counterFor n)
 unfolding counterFor
@@ -50,7 +52,7 @@ onward-inside (Refused o) = number-inside (obstacleNumber o)
 -- the same of a counter that was told
 module _ {c : Counter} where
   pub receipt-told : (refusal : ℕ) → c ≡ receiptCounter refusal → Inside c
-  receipt-told refusal e = rw e (either Inside (eqb refusal 21 || (eqb refusal 16 || eqb refusal 17)) tt (omega arith))
+  receipt-told refusal e = rw e (either Inside (isUnheard refusal) tt (omega arith))
 
   pub number-told : (n : ℕ) → c ≡ counterFor n → Inside c
   number-told n e = rw e (number-inside n)
@@ -74,7 +76,7 @@ pub one-moved : (s : State) (place n : ℕ) {c : Counter} {a : State}
 unfolding countedAt
 one-moved s place n e is = rw e is
 
-pub place-inside : (place : ℕ) {c : Counter} → c ≡ At place → Inside c → place < 15
+pub place-inside : (place : ℕ) {c : Counter} → c ≡ At place → Inside c → place < counterCount
 place-inside place e h = rw e at h
 
 -- one after the other

@@ -1,7 +1,6 @@
 -- The counters that an ending moves: page 01, "Refusal numbers" and what stands below its table. The counters' order is that of a mission's state
 -- (specs/Relay.antt of the crate state). Assumes nothing.
 use Prim.Native.Nat.{ℕ, _<_}
-use mathlib.Core.Bool.{_||_}
 use mathlib.Core.List.{List, [], _∷_}
 use lib.Dec.{eqb}
 use Rattle.checks.specs.Order.{pick}
@@ -13,6 +12,8 @@ use Rattle.verdict.specs.declared.Local.the-variants.{No, Delivered, Unknown}
 use Rattle.verdict.specs.declared.Onward.{Onward}
 use Rattle.verdict.specs.declared.Onward.the-variants.{NotAsked, SentOn, Refused}
 use Rattle.verdict.specs.declared.Ruling.{Ruling}
+use Rattle.sets.specs.Limits.{counterCount}
+use Rattle.judge.specs.Remembered.{isUnheard}
 use Rattle.judge.specs.declared.Ending.{Ending}
 use Rattle.tally.specs.declared.Counter.{Counter}
 use Rattle.tally.specs.declared.Counter.the-variants.{At, Nothing}
@@ -39,6 +40,9 @@ numbered =
     ∷ (13, 13)
     ∷ (14, 14)
     ∷ (26, 7)
+    -- page 02, W-207: "28 and 30 each get a counter"
+    ∷ (28, 15)
+    ∷ (30, 16)
     ∷ []
 
 -- the counter of a number, where the table has one
@@ -49,9 +53,10 @@ inTable (row ∷ rows) n = pick (eqb n (row .0)) (At (row .1)) (inTable rows n)
 unfoldable pub counterFor : ℕ → Counter
 counterFor n = inTable numbered n
 
--- "These two count nothing. All later ends count one in npInReceives."; and 21, a list over 512 records, comes before both (page 02, W-208)
+-- "These two count nothing. All later ends count one in npInReceives."; 21, a list over 512 records, comes before both (page 02, W-208), and 29 "counts
+-- nothing" (W-207)
 abbrev pub receiptCounter : ℕ → Counter
-receiptCounter refusal = pick (eqb refusal 21 || (eqb refusal 16 || eqb refusal 17)) Nothing (At 0)
+receiptCounter refusal = pick (isUnheard refusal) Nothing (At 0)
 
 -- "npInDelivers counts deliveries"
 abbrev pub localCounter : Local → Counter
@@ -84,9 +89,9 @@ rulingMoves x =
 abbrev pub movesOf : Ending → List Move
 movesOf e = (receiptCounter (e .refusal), 1) ∷ (counterFor (e .refusal), 1) ∷ rulingMoves (e .ruling)
 
--- one of the fifteen, or none
+-- one of the seventeen, or none
 abbrev pub Inside : Counter → Type 0
-Inside (At place) = place < 15
+Inside (At place) = place < counterCount
 Inside Nothing = Unit
 
 -- n more at a counter, where there is one

@@ -1,6 +1,6 @@
 // The counters that an ending moves.
 //
-// There are fifteen of each mission, and each end of a call but three counts in the first. A refusal's number has its counter by page 01's table; the local
+// There are seventeen of each mission, and each end of a call but four counts in the first. A refusal's number has its counter by page 01's table; the local
 // half counts a delivery or an unknown TP-ID; the onward half counts a datagram sent on, once however many ports took it, or its number;
 // and each copy that was dropped counts by itself. A counter is told by its place; what does not count has none, and moves nothing.
 //
@@ -27,7 +27,7 @@ ghost use Rattle.tally.specs.Tally.{
   movesOf,
 };
 
-// A counter, by its place among the fifteen; or none.
+// A counter, by its place among the seventeen; or none.
 pub enum Counter {
     At(u32),
     Nothing,
@@ -53,11 +53,13 @@ fn counter_for(number: u32) -> Counter
         13 => Counter::At(13),
         14 => Counter::At(14),
         26 => Counter::At(7),
+        28 => Counter::At(15),
+        30 => Counter::At(16),
         _ => Counter::Nothing,
     }
 }
 
-// npInReceives, but for a call that 21, 16 or 17 ended.
+// npInReceives, but for a call that 21, 16, 17 or 29 ended.
 fn receipt_counter(refusal: u32) -> Counter
     ensures { λ r. ⌜ r ≡ receiptCounter refusal ⌝ }
 {
@@ -68,6 +70,9 @@ fn receipt_counter(refusal: u32) -> Counter
         return Counter::Nothing;
     }
     if refusal == 17 {
+        return Counter::Nothing;
+    }
+    if refusal == 29 {
         return Counter::Nothing;
     }
     Counter::At(0)

@@ -8,18 +8,20 @@ use lib.Bits.{and-le-l}
 use borrow.Author.Tests.{eqb-true, eqb-false}
 use Rattle.checks.specs.Order.{pick}
 use Rattle.checks.proofs.Bools.{true-false}
-use Rattle.verdict.specs.Rule.{hereBy, oursBy, localOf, exceptBy, unheardBy, groupLine, pathLine, routeLine, routerLine, hostLine, lineOf, copiesOf}
+use Rattle.verdict.specs.Rule.{hereBy, oursBy, localOf, exceptBy, unheardBy, groupLine, pathLine, routeLine, routerLine, hostLine, plainLine, floodLine, lineOf, copiesOf}
 use Rattle.verdict.specs.declared.Target.{Target}
 use Rattle.verdict.specs.declared.Target.the-variants.{Here, Broadcast, Group, Path, Route}
 use Rattle.verdict.specs.declared.Place.{Place}
 use Rattle.verdict.specs.declared.Place.the-variants.{Held, Missing}
 use Rattle.verdict.specs.declared.Way.{Way}
 use Rattle.verdict.specs.declared.Way.the-variants.{By, Lost}
+use Rattle.verdict.specs.declared.Flood.{Flood}
+use Rattle.verdict.specs.declared.Flood.the-variants.{Plain, Unsent, Full, New}
 use Rattle.verdict.specs.declared.Case.{Case}
 use Rattle.verdict.specs.declared.Local.{Local}
 use Rattle.verdict.specs.declared.Local.the-variants.{No, Delivered, Unknown}
 use Rattle.verdict.specs.declared.Obstacle.{Obstacle}
-use Rattle.verdict.specs.declared.Obstacle.the-variants.{NotForUs, NoRoute}
+use Rattle.verdict.specs.declared.Obstacle.the-variants.{NotForUs, NoRoute, PairsHeld}
 use Rattle.verdict.specs.declared.Wish.{Wish}
 use Rattle.verdict.specs.declared.Wish.the-variants.{NotAsked, Refused, Wanted}
 
@@ -28,7 +30,7 @@ pub copies-add-up : (local : Local) (granted full : ℕ) → copiesOf local gran
 unfolding copiesOf
 copies-add-up local granted full = omega (arith, and-le-l granted full)
 
--- ---- "no" with "not asked" never occurs
+-- ---- "no" with "not asked" never occurs but for a flooded datagram whose pair is held
 
 refused-asked : {X : Type 0} (o : Obstacle) → Refused o ≡ NotAsked → X
 refused-asked o e = true-false cc
@@ -87,13 +89,28 @@ line-case : (t : Bool) (a b : Wish) → (a ≡ NotAsked → ⊥) → (b ≡ NotA
 line-case true a b p q h = p h
 line-case false a b p q h = q h
 
--- a datagram that is not for this node is always asked of the onward half (page 01; our ruling: "no" with "not asked" cannot occur)
-pub no-is-asked : (t : Target) (p : Place) (w : Way) (c : Case) (ready : ℕ) → localOf t p c ≡ No → lineOf t p w c ready (localOf t p c) ≡ NotAsked → ⊥
-unfolding lineOf
-no-is-asked t p w c ready z h =
+plain-asked : (t : Target) (p : Place) (w : Way) (c : Case) (ready : ℕ) → localOf t p c ≡ No → plainLine t p w c ready (localOf t p c) ≡ NotAsked → ⊥
+unfolding plainLine
+plain-asked t p w c ready z h =
     let o = no-ours t p c z in
     line-case (eqb (c .router) 0) (hostLine t (localOf t p c)) (routerLine t p w (c .arrival) ready) (host-asked t p (localOf t p c) o z)
     (router-asked t p w (c .arrival) ready o) h
+
+flood-asked : (t : Bool) (others : ℕ) {X : Type 0} → pick t (Refused NoRoute) (Wanted others) ≡ NotAsked → X
+flood-asked true others h = refused-asked NoRoute h
+flood-asked false others h = wanted-asked others h
+
+line-asked : (f : Flood) (others : ℕ) (line : Wish) → (line ≡ NotAsked → ⊥) → floodLine f others line ≡ NotAsked → f ≡ Unsent
+line-asked Plain others line never h = absurd (never h)
+line-asked Unsent others line never h = refl
+line-asked Full others line never h = refused-asked PairsHeld h
+line-asked (New place) others line never h = flood-asked (eqb others 0) others h
+
+-- a datagram that is not for this node is always asked of the onward half (page 01), unless its pair is held (page 02, W-207)
+pub no-is-asked : (t : Target) (p : Place) (w : Way) (c : Case) (ready : ℕ) → localOf t p c ≡ No → lineOf t p w c ready (localOf t p c) ≡ NotAsked
+    → c .flood ≡ Unsent
+unfolding lineOf
+no-is-asked t p w c ready z h = line-asked (c .flood) (exceptBy ready (c .arrival)) _ (plain-asked t p w c ready z) h
 
 -- ---- the onward half does not depend on the TP-ID
 
@@ -115,11 +132,11 @@ host-same Path a b e = e
 host-same Route a b e = e
 
 -- two cases that differ in the TP-ID alone have the same line
-pub tpid-free : (t : Target) (p : Place) (w : Way) (c d : Case) (ready : ℕ) → c .arrival ≡ d .arrival → c .router ≡ d .router → c .intermediate ≡ d .intermediate
+pub tpid-free : (t : Target) (p : Place) (w : Way) (c d : Case) (ready : ℕ) → c .arrival ≡ d .arrival → c .router ≡ d .router → c .intermediate ≡ d .intermediate → c .flood ≡ d .flood
     → lineOf t p w c ready (localOf t p c) ≡ lineOf t p w d ready (localOf t p d)
-unfolding lineOf localOf
-tpid-free t p w c d ready a r i =
+unfolding lineOf plainLine localOf
+tpid-free t p w c d ready a r i f =
     let x = eqb (oursBy t (hereBy p)) 0 in
     let z : unheardBy (localOf t p c) ≡ unheardBy (localOf t p d) =
     unheard-case x (eqb (c .intermediate) 0) (eqb (c .assigned) 0) ∙ (rw i (sym (unheard-case x (eqb (d .intermediate) 0) (eqb (d .assigned) 0)))) in
-    rw (a, r, host-same t (localOf t p c) (localOf t p d) z)
+    rw (a, r, f, host-same t (localOf t p c) (localOf t p d) z)

@@ -14,8 +14,10 @@ use Rattle.verdict.specs.declared.Place.{Place}
 use Rattle.verdict.specs.declared.Place.the-variants.{Held, Missing}
 use Rattle.verdict.specs.declared.Way.{Way}
 use Rattle.verdict.specs.declared.Way.the-variants.{By, Lost}
+use Rattle.verdict.specs.declared.Flood.{Flood}
+use Rattle.verdict.specs.declared.Flood.the-variants.{Plain, Unsent, Full, New}
 use Rattle.verdict.specs.declared.Case.{Case}
-use Rattle.verdict.specs.declared.Obstacle.the-variants.{NotForUs, HopsUsedUp, NoRoute, LeavesDomain, TooBig, QueuesFull}
+use Rattle.verdict.specs.declared.Obstacle.the-variants.{NotForUs, HopsUsedUp, NoRoute, LeavesDomain, TooBig, QueuesFull, PairsHeld}
 use Rattle.verdict.specs.declared.Wish.{Wish}
 use Rattle.verdict.specs.declared.Wish.the-variants.{NotAsked, Refused, Wanted}
 use Rattle.verdict.specs.declared.Local.{Local}
@@ -123,8 +125,26 @@ hostLine Group local = unheardBy local
 hostLine Path local = unheardBy local
 hostLine Route local = unheardBy local
 
+unfoldable pub plainLine : Target → Place → Way → Case → ℕ → Local → Wish
+plainLine t p w c ready local = pick (eqb (c .router) 0) (hostLine t local) (routerLine t p w (c .arrival) ready)
+
+-- a flooded datagram, on a router (page 02, W-207): "not asked for a held pair, a port's address or limited broadcast; with all places held 30 ..; else the
+-- pair is kept .., every other set-up port is wanted, 11 if none"; `others` are the other ports set up
+abbrev pub floodLine : Flood → ℕ → Wish → Wish
+floodLine Plain others line = line
+floodLine Unsent others line = NotAsked
+floodLine Full others line = Refused PairsHeld
+floodLine (New place) others line = pick (eqb others 0) (Refused NoRoute) (Wanted others)
+
 unfoldable pub lineOf : Target → Place → Way → Case → ℕ → Local → Wish
-lineOf t p w c ready local = pick (eqb (c .router) 0) (hostLine t local) (routerLine t p w (c .arrival) ready)
+lineOf t p w c ready local = floodLine (c .flood) (exceptBy ready (c .arrival)) (plainLine t p w c ready local)
+
+-- a flood takes no route: W-214, "Copies without a route get no added elements"
+abbrev pub wayUnder : Flood → Way → Way
+wayUnder Plain w = w
+wayUnder Unsent w = Lost
+wayUnder Full w = Lost
+wayUnder (New place) w = Lost
 
 -- ---- with ports wanted: 10, 13, 14, in this order
 

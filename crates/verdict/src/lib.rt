@@ -7,7 +7,7 @@
 // set of ports is a number in which port p is 2 to the power of p.
 //
 // The awkward case is a number of page 01 that both halves use, 1: delivered in one, sent on in the other. So each half is a kind of its
-// own, and has its number (0, 1, 26; 0, 1, 9 to 11, 13 to 15) by a function.
+// own, and has its number (0, 1, 26; 0, 1, 9 to 11, 13 to 15, 30) by a function.
 pub mod copies;
 pub mod local_half;
 pub mod onward_half;
@@ -50,8 +50,18 @@ pub enum Way {
     Lost,
 }
 
+// What the pairs of a mission say of a datagram that is to be flooded by a router. Plain: it is not, and the lines of the onward half decide. Unsent: its pair
+// is held, or it is for this node alone. Full: every place holds another pair. New: its pair is kept, in this place.
+pub enum Flood {
+    Plain,
+    Unsent,
+    Full,
+    New(u32),
+}
+
 // What is asked of the rule besides: the arrival port as a set, whether the node is a router, whether intermediate delivery is asked
-// for, whether the TP-ID is assigned, whether it goes by a path of one octet, which is bound to its domain, and whether the hops are used up.
+// for, whether the TP-ID is assigned, whether it goes by a path of one octet, which is bound to its domain, whether the hops are used up, and what the
+// pairs say.
 pub struct Case {
     pub arrival: u32,
     pub router: u32,
@@ -59,6 +69,7 @@ pub struct Case {
     pub assigned: u32,
     pub bound: u32,
     pub spent: u32,
+    pub flood: Flood,
 }
 
 // The local half. Unknown: it would be delivered, and its TP-ID is not assigned.
@@ -76,6 +87,7 @@ pub enum Obstacle {
     LeavesDomain,
     TooBig,
     QueuesFull,
+    PairsHeld,
 }
 
 // What a line of the onward half makes of a datagram, before any queue is looked at: it is wanted on the ports of a set.
@@ -123,6 +135,7 @@ pub fn obstacle_number(obstacle: Obstacle) -> u32
         Obstacle::LeavesDomain => 13,
         Obstacle::TooBig => 14,
         Obstacle::QueuesFull => 15,
+        Obstacle::PairsHeld => 30,
     }
 }
 

@@ -1,10 +1,12 @@
 // The lines of the onward half: the first that fits says that nothing is asked, a number, or the ports that a datagram is wanted on.
 //
-// A router has a line for each target; a host sends nothing on, and says 9 of what is not delivered here.
+// A router has a line for each target; a host sends nothing on, and says 9 of what is not delivered here. What a router is to flood goes to every other port,
+// whatever its target, unless the pairs say otherwise.
 //
 // The awkward case is the multicast line: subscribed on the arrival port with no other port set up is "not asked" and comes before the
 // test of the group's set.
 use crate::Case;
+use crate::Flood;
 use crate::Local;
 use crate::Obstacle;
 use crate::Place;
@@ -12,7 +14,10 @@ use crate::Target;
 use crate::Way;
 use crate::Wish;
 ghost use mathlib.Core.Path.{_≡_};
-ghost use Rattle.verdict.specs.Rule.{broadcastLine, aloneBy, groupLine, pathLine, routeLine, routerLine, unheardBy, hostLine, lineOf};
+ghost use Prim.Native.Nat.{ℕ};
+ghost use Rattle.verdict.specs.declared.Flood.the-variants.{Plain, New};
+ghost use Rattle.verdict.specs.declared.Wish.{Wish};
+ghost use Rattle.verdict.specs.Rule.{broadcastLine, aloneBy, groupLine, pathLine, routeLine, routerLine, unheardBy, hostLine, plainLine, floodLine, lineOf};
 
 // A broadcast of ours goes to every other port that is set up; not asked if there is none.
 fn broadcast_line(set: u32) -> Wish
@@ -120,12 +125,45 @@ fn host_line(t: Target, local: Local) -> Wish
     }
 }
 
-// The first line of the onward half that fits.
-pub fn line_of(t: Target, p: Place, w: Way, c: Case, ready: u32, local: Local) -> Wish
-    ensures { λ r. ⌜ r ≡ lineOf t p w c ready local ⌝ }
+// The first line of the onward half that fits, no pair asked.
+fn plain_line(t: Target, p: Place, w: Way, c: Case, ready: u32, local: Local) -> Wish
+    ensures { λ r. ⌜ r ≡ plainLine t p w c ready local ⌝ }
 {
     if c.router == 0 {
         return host_line(t, local);
     }
     router_line(t, p, w, c.arrival, ready)
+}
+
+// A datagram that is flooded goes to every other port that is set up; 11 where there is none.
+fn every_other(others: u32) -> Wish
+    ensures { λ r. ⌜ ((place : ℕ) (line : Wish) → r ≡ floodLine (New place) others line) ⌝ }
+{
+    if others == 0 {
+        return Wish::Refused(Obstacle::NoRoute);
+    }
+    Wish::Wanted(others)
+}
+
+// What becomes of a datagram that a router floods, or would. One that is plain does not come here: the caller tells it apart by one test, since most are.
+fn flood_line(f: Flood, others: u32) -> Wish
+    ensures { λ r. ⌜ ((line : Wish) → (f ≡ Plain → ⊥) → r ≡ floodLine f others line) ⌝ }
+{
+    match f {
+        Flood::Plain => Wish::NotAsked,
+        Flood::Unsent => Wish::NotAsked,
+        Flood::Full => Wish::Refused(Obstacle::PairsHeld),
+        Flood::New(_) => every_other(others),
+    }
+}
+
+// The first line of the onward half that fits.
+pub fn line_of(t: Target, p: Place, w: Way, c: Case, ready: u32, local: Local) -> Wish
+    ensures { λ r. ⌜ r ≡ lineOf t p w c ready local ⌝ }
+{
+    let flood = c.flood;
+    let Flood::Plain = flood else {
+        return flood_line(flood, crate::except(ready, c.arrival));
+    };
+    plain_line(t, p, w, c, ready, local)
 }

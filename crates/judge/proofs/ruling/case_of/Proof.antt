@@ -3,8 +3,8 @@ use borrow.Author.Needs.{needs}
 use Rattle.judge.proofs.ruling.case_of.Statement.{statement}
 use Rattle.judge.proofs.ruling.case_of.Tie as tie
 
-cast-t6 : tie.Need-cast-t6
-cast-t6 c = search needs
+cast-t7 : tie.Need-cast-t7
+cast-t7 c = search needs
 
 assigned-of-requires : tie.Need-assigned-of-requires
 assigned-of-requires c κs = search needs
@@ -20,4 +20,4 @@ returns c = cc
 
 pub case-of-spec : {M : Type 1} → statement M
 case-of-spec =
-    tie.close (tie.spec cast-t6 assigned-of-requires is-bound-requires spent-of-requires returns)
+    tie.close (tie.spec cast-t7 assigned-of-requires is-bound-requires spent-of-requires returns)

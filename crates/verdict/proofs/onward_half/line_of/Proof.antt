@@ -1,20 +1,31 @@
--- `verdict::onward_half::line_of` meets its contract: each answer by what its callees ensure. Assumes nothing.
-use Rattle.verdict.proofs.onward_half.Laws.{of-host, of-router}
+-- `verdict::onward_half::line_of` meets its contract: by what the pairs say. Assumes nothing.
+use mathlib.Core.List.{[], _∷_}
+use types.Run.{miss}
+use mathlib.Core.Path.{sym}
+use Rattle.verdict.proofs.onward_half.Laws.{of-flood, of-flooded}
 use borrow.Author.Needs.{needs}
 use Rattle.verdict.proofs.onward_half.line_of.Statement.{statement}
 use Rattle.verdict.proofs.onward_half.line_of.Tie as tie
 
-host-line-requires : tie.Need-host-line-requires
-host-line-requires c κs = search needs
+enum-told : tie.Need-enum-told
+enum-told c = search needs
+
+except-requires : tie.Need-except-requires
+except-requires c κs = search needs
+
+flood-line-requires : tie.Need-flood-line-requires
+flood-line-requires c κs = search needs
 
 returns : tie.Need-returns
-returns c = of-host _ _ _ _ _ _ (c .before .if1 .taken) (c .host-line .ensures)
+returns c = of-flooded _ _ _ _ _ _ (λ e. miss (1 ∷ 2 ∷ 3 ∷ []) 0 tt (rw e at (c .before .before .match .keys2))) (c .before .except .ensures) (c .flood-line .ensures)
 
-router-line-requires : tie.Need-router-line-requires
-router-line-requires c κs = search needs
+plain-line-requires : tie.Need-plain-line-requires
+plain-line-requires c κs = search needs
 
 returns-2 : tie.Need-returns-2
-returns-2 c = of-router _ _ _ _ _ _ (c .before .if1 .left) (c .router-line .ensures)
+returns-2 c = of-flood _ _ _ _ _ _ (sym (c .before .enum-told .given .1)) (c .plain-line .ensures)
 
 pub line-of-spec : {M : Type 1} → statement M
-line-of-spec = tie.close (tie.spec host-line-requires returns router-line-requires returns-2)
+line-of-spec =
+    tie.close
+    (tie.spec enum-told except-requires flood-line-requires returns plain-line-requires returns-2)

@@ -1,0 +1,2 @@
+-- When two pairs are the same.
+pub mod Pairs
