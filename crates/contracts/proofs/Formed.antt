@@ -1,5 +1,5 @@
 -- Which boards and states words hold: those in which each list is as long as the layout says and each slot is one that its type holds (page 01,
--- "Numbers that hold everywhere"). Any 42 words hold such a board, any 731 such a state, and each of these has its words. Assumes nothing.
+-- "Numbers that hold everywhere"). Any 43 words hold such a board, any 732 such a state, and each of these has its words. Assumes nothing.
 use native.Mathlib.Omega.{arith}
 use native.Mathlib.Nat.{suc-mul, zero-mul}
 use Prim.Native.Nat.{ℕ, zero, suc, _+_, _*_, _<_}

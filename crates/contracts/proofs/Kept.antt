@@ -36,7 +36,7 @@ use Rattle.state.specs.Seen.{Board, State, freshBoard, freshState, putRouter, p
 use Rattle.state.specs.Layout.{freshBoardWords, freshWords}
 use Rattle.state.proofs.Fresh.{fresh, fresh-length, fresh-board}
 use Rattle.state.proofs.Sizes.{SizedBoard, board-sized, owned-sizes, lifetime-sizes, group-sizes, path-sizes, queue-sizes}
-use Rattle.refusals.specs.Lists.{portChecks, groupChecks, pathChecks, routerChecks, missionChecks, clearChecks}
+use Rattle.refusals.specs.Lists.{portChecks, groupChecks, pathChecks, flagChecks, missionChecks, clearChecks}
 use Rattle.adjust.specs.Settled.{newPort, newGroup, newPath}
 use Rattle.adjust.specs.Settled.{settledFresh, settledRouter, settledPort, settledGroup, settledPath, clearedGroup, clearedPath}
 use Rattle.taking.specs.Taking.{without, takenRelay}
@@ -132,7 +132,7 @@ module _ (q : Queue) (formed : FormedQueue q) where
 -- ---- the board
 module _ (b : Board) (sized : SizedBoard b) where
   pub set-router-kept : (router : ℕ) → SizedBoard (settledRouter b router)
-  set-router-kept router = either SizedBoard (eqb (firstOf (routerChecks router)) 0) {a = putRouter b router} {b = b} sized sized
+  set-router-kept router = either SizedBoard (eqb (firstOf (flagChecks router)) 0) {a = putRouter b router} {b = b} sized sized
 
   pub set-port-kept : (p : ℕ) (address : Address) (mask : Mask) (mtu mission : ℕ) → SizedBoard (settledPort b p address mask mtu mission)
   set-port-kept p address mask mtu mission =

@@ -18,7 +18,7 @@ use Rattle.state.specs.Relay.{Relay, Mission}
 use Rattle.state.specs.Seen.{Board, State, freshBoard, putLifetime, onMission, onMemory}
 use Rattle.state.specs.Layout.{boardWords, missionWords}
 use Rattle.lent_state.specs.View.{Lent, lent, lentBoard, toldBoard, changedBoard, told, changed, toldBoth, changedBoth, toldRelay, changedRelay}
-use Rattle.refusals.specs.Lists.{portChecks, routeChecks, clearRouteChecks, groupChecks, pathChecks, routerChecks, clearChecks, missionChecks}
+use Rattle.refusals.specs.Lists.{portChecks, routeChecks, clearRouteChecks, groupChecks, pathChecks, flagChecks, clearChecks, missionChecks}
 use Rattle.adjust.specs.Settled.{newRecord, settledFresh, settledRouter, settledPort, settledRoute, clearedRoute, settledGroup, settledPath, clearedGroup, clearedPath}
 use Rattle.floods.specs.Sweep.{sweepChecks, sweptMemory}
 use Rattle.taking.specs.Taking.{takenRelay}
@@ -206,7 +206,7 @@ promised (hj-fresh-board b) = onBoard (hj-fresh-board b) b (λ (x : Board). 0) (
 promised (hj-fresh-mission m number) =
     onState (hj-fresh-mission m number) m (λ (x : State). firstOf (missionChecks number)) (λ (x : State). settledFresh x number)
 promised (hj-set-router b router) =
-    onBoard (hj-set-router b router) b (λ (x : Board). firstOf (routerChecks router)) (λ (x : Board). settledRouter x router)
+    onBoard (hj-set-router b router) b (λ (x : Board). firstOf (flagChecks router)) (λ (x : Board). settledRouter x router)
 promised (hj-set-port b p address mask mtu mission) =
     onBoard (hj-set-port b p address mask mtu mission) b
     (λ (x : Board). firstOf (portChecks x p (record { 0 = address }) (record { 0 = mask }) mtu mission))

@@ -1,4 +1,4 @@
--- There is a trace for any steps that C can make: whatever words are lent first, 42 for a board and 731 for each mission, they are made fresh, and each
+-- There is a trace for any steps that C can make: whatever words are lent first, 43 for a board and 732 for each mission, they are made fresh, and each
 -- step after that has a result that its contract allows. Assumes nothing.
 use Prim.Native.Nat.{ℕ}
 use mathlib.Core.Path.{_≡_, refl, _∙_}

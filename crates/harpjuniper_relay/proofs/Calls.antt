@@ -46,7 +46,7 @@ module _ (l : List ℕ) (i : ℕ) {n : ℕ} where
   unfolding counterAnswer
   no-counter h e = simp (le-ltb i 17 h) e
 
-  pub counter : i < 17 → n ≡ counterIn l i → n ≡ counterAnswer l i
+  pub counter : i < 18 → n ≡ counterIn l i → n ≡ counterAnswer l i
   unfolding counterAnswer
   counter h e = simp (lt-ltb i 17 h) e
 

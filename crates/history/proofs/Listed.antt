@@ -57,7 +57,7 @@ use Rattle.judge.specs.declared.Ending.{Ending}
 use Rattle.taking.specs.declared.Taking.the-variants as taking
 use Rattle.routes.specs.declared.Record.{Record}
 use Rattle.state.specs.Seen.{Board}
-use Rattle.refusals.specs.Lists.{portChecks, routeChecks, clearRouteChecks, groupChecks, pathChecks, routerChecks, clearChecks}
+use Rattle.refusals.specs.Lists.{portChecks, routeChecks, clearRouteChecks, groupChecks, pathChecks, flagChecks, clearChecks}
 use Rattle.adjust.specs.Settled.{newRecord}
 use Rattle.history.specs.Seat.{Seat, relayIn, relayWith, heardBy}
 use Rattle.history.specs.Calls.{
@@ -400,7 +400,7 @@ pub number-row : (ns : List ℕ) (cs : Checks) → listed ns 0 ≡ true → allL
 number-row ns cs z h = rw (first-listed ns cs z h) refl
 
 pub order-listed : (b : Board) (o : Order) → stands (numbers (orderNumbers o) ∷ []) (number (firstOf (orderChecks b o))) ≡ true
-order-listed b (setRouter x) = number-row (0 ∷ 24 ∷ []) (routerChecks x) refl refl
+order-listed b (setRouter x) = number-row (0 ∷ 24 ∷ []) (flagChecks x) refl refl
 order-listed b (setPort p address mask mtu mission) =
     number-row (0 ∷ 21 ∷ 25 ∷ 22 ∷ 24 ∷ 35 ∷ []) (portChecks b p address mask mtu mission) refl refl
 order-listed b (setLifetime x) = number-row (0 ∷ []) [] refl refl

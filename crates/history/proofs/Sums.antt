@@ -48,7 +48,7 @@ tabled-at (suc n) f (suc i) h = tabled-at n (λ j. f (suc j)) i (omega arith)
 
 -- what moves give the seventeen
 abbrev given : List Move → List ℕ
-given moves = tabled 17 (sumAt moves)
+given moves = tabled 18 (sumAt moves)
 
 -- ---- what is written of each part of an ending: of a half and of the copies with 16, which counts nothing
 abbrev ofRefusal : ℕ → List ℕ
@@ -68,7 +68,7 @@ together n local onward took copies i =
     getD (ofRefusal n) i 0 + (getD (ofLocal local) i 0 + (getD (ofOnward onward took) i 0 + getD (ofDropped copies) i 0))
 
 -- the parts give to different counters
-parts : (n local onward took copies : ℕ) → tabled 17 (together n local onward took copies) ≡ counted (ended n local onward took) copies
+parts : (n local onward took copies : ℕ) → tabled 18 (together n local onward took copies) ≡ counted (ended n local onward took) copies
 parts n local onward took copies = simp (add-zero, zero-add)
 
 -- ---- the refusal is one of the page's numbers
@@ -165,13 +165,13 @@ discard-part set small =
     rw (ones-eight set small) (discard-case (eqb set 0) (portsIn 8 set) (λ z. ap (portsIn 8) (eqb-true set 0 z)))
 
 -- ---- one call
-module _ (i : ℕ) (inside : i < 17) where
+module _ (i : ℕ) (inside : i < 18) where
   part-at : (moves : List Move) (l : List ℕ) → given moves ≡ l → sumAt moves i ≡ getD l i 0
-  part-at moves l e = sym (tabled-at 17 (sumAt moves) i inside) ∙ ap (λ (x : List ℕ). getD x i 0) e
+  part-at moves l e = sym (tabled-at 18 (sumAt moves) i inside) ∙ ap (λ (x : List ℕ). getD x i 0) e
 
   parts-at : (n local onward took copies : ℕ) → together n local onward took copies i ≡ getD (counted (ended n local onward took) copies) i 0
   parts-at n local onward took copies =
-      sym (tabled-at 17 (together n local onward took copies) i inside)
+      sym (tabled-at 18 (together n local onward took copies) i inside)
       ∙ ap (λ (x : List ℕ). getD x i 0) (parts n local onward took copies)
 
   ending-gives : (seat : Seat) (rs : List Record) (port second : ℕ) (octets : List ℕ) (room : ℕ)
@@ -208,9 +208,9 @@ module _ (i : ℕ) (inside : i < 17) where
   all-calls (c ∷ cs) seat = rw (one-call seat c, all-calls cs (next seat c))
 
 -- What a call moves counter i by is what the page's table says of its outcome.
-pub moves-as-written : (seat : Seat) (c : Call) (i : ℕ) → i < 17 → sumAt (outcome seat c .moves) i ≡ givenBy i (outcome seat c)
+pub moves-as-written : (seat : Seat) (c : Call) (i : ℕ) → i < 18 → sumAt (outcome seat c .moves) i ≡ givenBy i (outcome seat c)
 moves-as-written seat c i inside = one-call i inside seat c
 
 -- After any history of mission m counter i is the sum of what the page's table says of each outcome, modulo 2^32.
-pub counted-as-written : (i : ℕ) → i < 17 → (m : ℕ) (cs : List Call) → counterIn (stateAfter m cs .counters) i ≡ sumOver (givenBy i) m cs % 2 ^ 32
+pub counted-as-written : (i : ℕ) → i < 18 → (m : ℕ) (cs : List Call) → counterIn (stateAfter m cs .counters) i ≡ sumOver (givenBy i) m cs % 2 ^ 32
 counted-as-written i inside m cs = counters i inside m cs ∙ ap (λ (n : ℕ). n % 2 ^ 32) (all-calls i inside cs (freshSeat m))

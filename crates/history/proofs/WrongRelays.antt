@@ -408,5 +408,5 @@ module _ (leaves : List Call → State) (kept : (cs : List Call) → leaves cs �
       (λ settings rs port slot second octets output i. ap (λ s. counterIn (s .counters) i) (wrong (ordered settings) (own (hears rs port slot second octets output))))
 
   -- Nor does it have counts other than those that the rules give over the history.
-  pub inventing-counts : (cs : List Call) (i : ℕ) → i < 17 → (counterIn (leaves cs .counters) i ≡ tally 0 cs i % 2 ^ 32 → ⊥) → ⊥
+  pub inventing-counts : (cs : List Call) (i : ℕ) → i < 18 → (counterIn (leaves cs .counters) i ≡ tally 0 cs i % 2 ^ 32 → ⊥) → ⊥
   inventing-counts cs i inside wrong = wrong (ap (λ s. counterIn (s .counters) i) (kept cs) ∙ counters i inside 0 cs)

@@ -94,8 +94,8 @@ lookRow (build fields size output) = numbers (0 ∷ 17 ∷ 19 ∷ 20 ∷ [])
 lookRow (class a) = numbers (0 ∷ 1 ∷ 2 ∷ 3 ∷ 4 ∷ 5 ∷ 6 ∷ [])
 lookRow (form p) = numbers (0 ∷ 1 ∷ [])
 lookRow (checksum octets) = below 65536
-lookRow boardSize = numbers (42 ∷ [])
-lookRow missionSize = numbers (731 ∷ [])
+lookRow boardSize = numbers (43 ∷ [])
+lookRow missionSize = numbers (732 ∷ [])
 
 abbrev pub endingRows : List Row
 endingRows =

@@ -16,7 +16,7 @@ use Rattle.routes.specs.Records.{emptyRecord}
 use Rattle.routes.specs.declared.Record.{Record}
 use Rattle.state.specs.Relay.{Relay, withGroup, withPath}
 use Rattle.state.specs.Seen.{Board, putRouter, putOwned, putLifetime}
-use Rattle.refusals.specs.Lists.{portChecks, routeChecks, clearRouteChecks, groupChecks, pathChecks, routerChecks, clearChecks}
+use Rattle.refusals.specs.Lists.{portChecks, routeChecks, clearRouteChecks, groupChecks, pathChecks, flagChecks, clearChecks}
 use Rattle.adjust.specs.Settled.{newPort, newRecord, newGroup, newPath, settled}
 
 -- ---- the operator's: "Only the operator writes ports, routes, lifetime, .. and router settings"
@@ -86,7 +86,7 @@ pub data Call : Type 0 where
 
 -- ---- what an order does: what may refuse it, in the page's order; any lifetime is taken (docs/DECISIONS.md)
 abbrev pub orderChecks : Board → Order → Checks
-orderChecks b (setRouter x) = routerChecks x
+orderChecks b (setRouter x) = flagChecks x
 orderChecks b (setPort p address mask mtu mission) = portChecks b p address mask mtu mission
 orderChecks b (setLifetime x) = []
 orderChecks b (setRoute rs i prefix mask port availability capabilities mission) =

@@ -1,4 +1,4 @@
--- The counters that are moved: each is one of the seventeen, or none; and one move after the other. Assumes nothing.
+-- The counters that are moved: each is one of the eighteen, or none; and one move after the other. Assumes nothing.
 use native.Mathlib.Omega.{arith}
 use Prim.Native.Nat.{ℕ, _<_}
 use mathlib.Core.Path.{_≡_, refl}
@@ -24,7 +24,7 @@ use Rattle.tally.specs.declared.Counter.{Counter}
 use Rattle.tally.specs.declared.Counter.the-variants.{At, Nothing}
 use Rattle.tally.specs.Tally.{CounterRow, numbered, inTable, Inside, counterFor, receiptCounter, localCounter, onwardCounter, discardCounter, rulingMoves, movesOf, countedAt, countedAll}
 
--- ---- each counter is one of the seventeen, or none
+-- ---- each counter is one of the eighteen, or none
 abbrev allInside : List CounterRow → Bool
 allInside [] = true
 allInside (row ∷ rows) = ltb (row .1) counterCount && allInside rows

@@ -89,7 +89,7 @@ rulingMoves x =
 abbrev pub movesOf : Ending → List Move
 movesOf e = (receiptCounter (e .refusal), 1) ∷ (counterFor (e .refusal), 1) ∷ rulingMoves (e .ruling)
 
--- one of the seventeen, or none
+-- one of the eighteen, or none
 abbrev pub Inside : Counter → Type 0
 Inside (At place) = place < counterCount
 Inside Nothing = Unit
