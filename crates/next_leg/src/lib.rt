@@ -187,7 +187,8 @@ fn is_rewritten(far: bool, code: u32, f: Fields) -> bool
     adds_any(code, f)
 }
 
-fn addresses_next(far: bool, arrival: Address, a: Addresses) -> Addresses
+// The addresses for a port: widened where it lies in another domain.
+pub fn addresses_next(far: bool, arrival: Address, a: Addresses) -> Addresses
     ensures { λ r. ⌜ r ≡ addressesNext far (arrival .0) a ⌝ }
 {
     if far {
@@ -212,7 +213,8 @@ fn hops_next(code: u32, hops: Octet) -> Octet
     Octet::Present(count - 1)
 }
 
-fn checksum_next(code: u32, on: u8) -> u8
+// Whether the header has a checksum then: where it had one, or the route asks for it.
+pub fn checksum_next(code: u32, on: u8) -> u8
     ensures { λ r. ⌜ r ≡ checksumNext code on ⌝ }
 {
     if asks_checksum(code) {
