@@ -189,7 +189,7 @@ fn echoed_count(mtu: usize, size: usize, count: usize) -> usize
 }
 
 // No reply: by the number that refuses the call, or by 0 where none is due.
-fn no_answer(refusal: u32) -> Answering
+pub fn no_answer(refusal: u32) -> Answering
     ensures { λ r. ⌜ r ≡ noAnswer refusal ⌝ }
 {
     let header = judge::no_header();
