@@ -201,7 +201,8 @@ pub fn read_message(s: &[u8]) -> Reading
     })
 }
 
-fn type_number(k: Kind) -> u8
+// The number that tells the messages apart.
+pub fn type_number(k: Kind) -> u8
     ensures { λ r. ⌜ r ≡ typeOf k ⌝ }
 {
     match k {
