@@ -78,6 +78,7 @@ use Rattle.history.specs.Calls.{
   setRouter,
   setPort,
   setLifetime,
+  setDrop,
   setRoute,
   clearRoute,
   orders,
@@ -85,6 +86,7 @@ use Rattle.history.specs.Calls.{
   portWord,
   routerFlag,
   lifetimeWord,
+  dropFlag,
   recordWord,
   Setting,
   setGroup,
@@ -109,7 +111,7 @@ use Rattle.history.specs.Calls.{
 use Rattle.history.specs.Calls as look
 use Rattle.history.specs.Seat.{Seat, freshSeat, stateOf, heardBy, memoryBy}
 use Rattle.history.specs.Outcome.{entry, ofTaking, outcome, next, runFrom, seatAfter}
-use Rattle.history.specs.Parts.{Part, theRouter, thePort, theLifetime, theGroup, thePath, About, settingIn}
+use Rattle.history.specs.Parts.{Part, theRouter, thePort, theLifetime, theDrop, theGroup, thePath, About, settingIn}
 use Rattle.history.specs.Line.{Copy, entryOf, takingOf, lineAt}
 use Rattle.history.specs.Marked.{Marked, markedCases}
 use Rattle.history.specs.Ranges.{Octets, EntryFits, CopyFits}
@@ -138,7 +140,7 @@ use Rattle.demands.proofs.Remembers.{before-memory, page-memory, sweep-
 
 -- ---- reading
 no-slot : (s n : List ℕ) → Passable (hj-read-words s n)
-no-slot s n b m rs p slot now l o e = true-false cc
+no-slot s n = (λ b m rs p slot now l o e. true-false cc, λ b m rs p slot l o e. true-false cc)
 
 reads : (s : List ℕ) → Reads s (readingOf (readOf s))
 reads s =
@@ -196,7 +198,7 @@ module _ (fields : Numbers) (size : ℕ) where
   builds : (lent : List ℕ) → Builds fields size lent (buildAnswer fields size (length lent)) (buildOutput fields size lent)
   builds lent =
       let c = hj-build-words (numbersWords fields) size lent in
-      let a = each-call-answers c (λ b m rs p slot now l o e. true-false cc) in
+      let a = each-call-answers c (λ b m rs p slot now l o e. true-false cc, λ b m rs p slot l o e. true-false cc) in
       let row = says-row c (a .0) (a .1) in
       (a .0, (a .1, (row .answer ∙ build-answer fields size (length lent), row .output ∙ build-output fields size lent)))
 
@@ -272,6 +274,7 @@ orders-decided : (b : Board) (o : Order) → Decided (orderChecks b o)
 orders-decided b (setRouter x) = decided (orderChecks b (setRouter x)) refl
 orders-decided b (setPort p address mask mtu mission) = decided (orderChecks b (setPort p address mask mtu mission)) refl
 orders-decided b (setLifetime x) = decided (orderChecks b (setLifetime x)) refl
+orders-decided b (setDrop x) = decided (orderChecks b (setDrop x)) refl
 orders-decided b (setRoute rs i prefix mask port availability capabilities mission) =
     decided (orderChecks b (setRoute rs i prefix mask port availability capabilities mission)) refl
 orders-decided b (clearRoute rs i) = decided (orderChecks b (clearRoute rs i)) refl
@@ -299,6 +302,7 @@ settings-back : (who : Customer) (steps : List Step) (part : Part) (word : ℕ) 
 settings-back who steps theRouter word x g = gives-row who steps (operator (views routerFlag)) x g .answer
 settings-back who steps (thePort p) word x g = gives-row who steps (operator (views (portWord p word))) x g .answer
 settings-back who steps theLifetime word x g = gives-row who steps (operator (views lifetimeWord)) x g .answer
+settings-back who steps theDrop word x g = gives-row who steps (operator (views dropFlag)) x g .answer
 settings-back who steps (theGroup i) word x g = gives-row who steps (own (looks (groupWord i word))) x g .answer
 settings-back who steps (thePath i) word x g = gives-row who steps (own (looks (pathWord i word))) x g .answer
 
