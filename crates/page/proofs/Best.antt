@@ -151,12 +151,27 @@ module _ (more : Route → Route → Bool) (r : Relay) (chooses : Chooses more r
     unfolding someMatches
     some-match = any-found (matches r (Node a)) place (length rs) inside fits
 
+  some-best : (p : ℕ) → bestPort more r (Node a) p ≡ true → someMatches r (Node a) ≡ true
+  unfolding bestPort isBest someMatches
+  some-best p h =
+      let at = any-is (λ (q : ℕ). best q && eqb p (routeAt rs q .port)) (length rs) .0 h in
+      let both = and-true (best (at .0)) (eqb p (routeAt rs (at .0) .port)) (at .2) in
+      any-found (matches r (Node a)) (at .0) (length rs) (at .1) (and-true (candidate (routeAt rs (at .0)) a) _ (both .0) .0)
+
   none-match : searchOf a rs ≡ No → someMatches r (Node a) ≡ false
   unfolding someMatches
   none-match e =
       refuted _ λ h.
       let at = any-is (matches r (Node a)) (length rs) .0 h in
       true-false (sym (at .2) ∙ search-no a rs .0 e (at .0))
+
+  -- A route has one port, so that no two ports are wanted.
+  pub one-port : Alone (bestPort more r (Node a))
+  one-port = by (searchOf a rs) refl
+    where
+      by : (f : Found) → searchOf a rs ≡ f → Alone (bestPort more r (Node a))
+      by (At place ones x) e = port-alone place ones x e
+      by No e = λ p q l k hp hq. true-false (sym (some-best p hp) ∙ none-match e)
 
   abbrev bestLine : Line
   bestLine = wanted (bestPort more r (Node a)) (bestCode more r (Node a))

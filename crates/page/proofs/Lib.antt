@@ -22,3 +22,4 @@ pub mod Exactly
 pub mod Sought
 pub mod Floods
 pub mod Headers
+pub mod Answered
