@@ -4,7 +4,7 @@ use native.Mathlib.Decide.{decLe}
 use native.Mathlib.Nat.{lt-of-not-le}
 use Prim.Native.Nat.{ℕ, _<_, _≤_}
 use mathlib.Core.Path.{_≡_, refl, sym, ap, subst, _∙_}
-use mathlib.Core.Logic.{⊎-elim, by-cases, _≢_}
+use mathlib.Core.Logic.{_↔_, ⊎-elim, by-cases, _≢_}
 use mathlib.Core.Bool.{Bool, true, false, not, _&&_, _||_}
 use mathlib.Core.List.{List}
 use lib.Dec.{eqb, ltb}
@@ -22,15 +22,27 @@ use Rattle.routes.specs.Search.{searchOf}
 use Rattle.routes.specs.declared.Route.{Route}
 use Rattle.routes.specs.declared.Found.{Found}
 use Rattle.routes.specs.declared.Found.the-variants.{At, No}
+use Rattle.routes.proofs.Candidates.{candidate-within}
 use Rattle.routes.proofs.Longest.{CandidateAt, maskAt, search-found, search-no, search-greatest, search-first}
 use Rattle.meaning.specs.declared.Aim.the-variants.{Node}
 use Rattle.lookup.specs.ForTarget.{wayOf}
-use Rattle.state.specs.Relay.{Relay}
+use Rattle.state.specs.Relay.{Relay, routeIn}
 use Rattle.verdict.specs.Rule.{routeLine, codeOf}
 use Rattle.page.specs.Table.{matches, someMatches, outdoes, isBest, bestPort, bestCode, Line, refused, wanted}
 use Rattle.page.specs.Ends.{Chooses}
 use Rattle.page.proofs.Sets.{only-is}
 use Rattle.page.proofs.Copies.{Alone, Same}
+
+-- No route matches exactly where none at any place is a candidate.
+pub no-match : (r : Relay) (a : Address) → (someMatches r (Node a) ≡ false) ↔ ((q : ℕ) → candidate (routeIn r q) a ≡ false)
+unfolding someMatches
+no-match r a = (
+  λ e q. refuted (candidate (routeIn r q) a) (λ is.
+      true-false (sym (any-found (matches r (Node a)) q (length (r .routes)) (candidate-within a (r .routes) q is) is) ∙ e)),
+  λ none. refuted _ (λ some.
+      let where-is = any-is (matches r (Node a)) (length (r .routes)) .0 some in
+      true-false (sym (where-is .2) ∙ none (where-is .0))),
+)
 
 module _ (more : Route → Route → Bool) (r : Relay) (chooses : Chooses more r) (a : Address) where
   abbrev rs : List Route
@@ -151,7 +163,7 @@ module _ (more : Route → Route → Bool) (r : Relay) (chooses : Chooses more r
     unfolding someMatches
     some-match = any-found (matches r (Node a)) place (length rs) inside fits
 
-  some-best : (p : ℕ) → bestPort more r (Node a) p ≡ true → someMatches r (Node a) ≡ true
+  pub some-best : (p : ℕ) → bestPort more r (Node a) p ≡ true → someMatches r (Node a) ≡ true
   unfolding bestPort isBest someMatches
   some-best p h =
       let at = any-is (λ (q : ℕ). best q && eqb p (routeAt rs q .port)) (length rs) .0 h in

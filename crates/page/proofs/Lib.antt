@@ -23,3 +23,5 @@ pub mod Sought
 pub mod Floods
 pub mod Headers
 pub mod Answered
+pub mod Going
+pub mod Replies
