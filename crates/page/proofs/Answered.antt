@@ -14,6 +14,7 @@ use Rattle.checks.proofs.Laws.{either, zero-none, none-zero}
 use Rattle.refusals.proofs.Chains.{areNumbers, numbered, decided}
 use Rattle.address.specs.Class.{classOf, classNumber}
 use Rattle.address.specs.declared.Address.{Address}
+use Rattle.address.specs.declared.PathAddress.{PathAddress}
 use Rattle.address.specs.declared.Class.{Class}
 use Rattle.address.specs.declared.Class.the-variants as class
 use Rattle.header.specs.Build.{sourceFlag, sizeOf}
@@ -167,7 +168,8 @@ asks-first e = (cc, cc)
 asks-message : (octets : List ℕ) (i q : ℕ) → askingIn (readingOf octets) ≡ Asks i q → Requests octets i q
 asks-message octets i q e = by (readingOf octets) refl e
   where
-    by-kind : (m : Message) (k : Kind) → m .kind ≡ k → readingOf octets ≡ reading.Good m → askingBy k (m .identifier) (m .sequence) ≡ Asks i q → Requests octets i q
+    by-kind : (m : Message) (k : Kind) → m .kind ≡ k → readingOf octets ≡ reading.Good m → askingBy k (m .identifier) (m .sequence) ≡ Asks i q
+        → Requests octets i q
     by-kind m kind.Request is reads f =
         let same = asks-first f in record { message = m; holds = reads; request = is; identifier = same .0; sequence = same .1 }
     by-kind m (kind.Reply s) is reads f = true-false cc
@@ -195,7 +197,8 @@ module _ (mtu size n : ℕ) (room : size + replySize ≤ mtu) where
   unfolding echoedCount
   counted = by (ltb n mostEchoed) refl
     where
-      last : (k : ℕ) → k ≤ n → k ≤ mostEchoed → (k ≡ n) ⊎ (k ≡ mostEchoed) → (u : Bool) → ltb k (mtu - size - replySize) ≡ u → Counted (pick u k (mtu - size - replySize))
+      last : (k : ℕ) → k ≤ n → k ≤ mostEchoed → (k ≡ n) ⊎ (k ≡ mostEchoed) → (u : Bool) → ltb k (mtu - size - replySize) ≡ u
+          → Counted (pick u k (mtu - size - replySize))
       last k a b (inl c) true e =
           let l = ltb-true k (mtu - size - replySize) e in
           record { within = a; short = b; fits = omega (arith, l, room); whole = inl c }
@@ -208,11 +211,12 @@ module _ (mtu size n : ℕ) (room : size + replySize ≤ mtu) where
 
       by : (t : Bool) → ltb n mostEchoed ≡ t → Counted (least (pick t n mostEchoed) (mtu - size - replySize))
       by true e = let l = ltb-true n mostEchoed e in last n (omega arith) (omega (arith, l)) (inl refl) (ltb n (mtu - size - replySize)) refl
-      by false e = let l = ltb-false n mostEchoed e in last mostEchoed (omega (arith, l)) (omega arith) (inr refl) (ltb mostEchoed (mtu - size - replySize)) refl
+      by false e =
+          let l = ltb-false n mostEchoed e in last mostEchoed (omega (arith, l)) (omega arith) (inr refl) (ltb mostEchoed (mtu - size - replySize)) refl
 
 -- ---- the addresses
 -- what has no source is a path
-path-sourceless : (port : ℕ) (y : Addresses) (p : _) → aimOf port y ≡ Path p → sourceFlag y ≡ 0
+path-sourceless : (port : ℕ) (y : Addresses) (p : PathAddress) → aimOf port y ≡ Path p → sourceFlag y ≡ 0
 unfolding aimOf
 path-sourceless port (BasicPath z) p e = refl
 path-sourceless port (ExtendedPath z) p e = refl
@@ -382,7 +386,8 @@ module _ (r : Relay) (number dropping at : ℕ) (octets : List ℕ) (room : ℕ)
           record {
             reads = reads;
             carried = carried;
-            delivered = ap (λ (x : Aim). localHalf r at x f) is ∙ sym local-number ∙ eqb-true (localNumber local) 1 (sym (delivered-is local) ∙ here .0);
+            delivered =
+                ap (λ (x : Aim). localHalf r at x f) is ∙ sym local-number ∙ eqb-true (localNumber local) 1 (sym (delivered-is local) ∙ here .0);
             control = eqb-true (f .tpid) scmp (control .0);
             message = m .message;
             holds = m .holds;
@@ -436,7 +441,9 @@ module _ (r : Relay) (number dropping at : ℕ) (octets : List ℕ) (room : ℕ)
         delivered-is local ∙ eq-eqb (localNumber local) 1 (local-number ∙ sym (ap (λ (x : Aim). localHalf r at x f) is) ∙ y .delivered) in
         let one : not (isToMany s d) ≡ true = to-one-is ∙ sym (ap (λ (x : Aim). equalsPort r x || not (goesToMany r x)) is) ∙ y .to-one in
         record {
-          is = test-is ∙ rw (eq-eqb dropping 0 (y .taken), here, eq-eqb (f .tpid) scmp (y .control), y .not-flooded, ne-eqb (sourceFlag (f .addresses)) 0 (y .source), y .hops, one);
+          is =
+              test-is
+              ∙ rw (eq-eqb dropping 0 (y .taken), here, eq-eqb (f .tpid) scmp (y .control), y .not-flooded, ne-eqb (sourceFlag (f .addresses)) 0 (y .source), y .hops, one);
           identifier = y .message .identifier;
           sequence = y .message .sequence;
           asks = message-asks (userData h octets) (y .message) (y .holds) (y .request);
@@ -459,12 +466,16 @@ module _ (r : Relay) (number dropping at : ℕ) (octets : List ℕ) (room : ℕ)
       aim-so : (x : Aim) → aimAt r at octets ≡ x → Agrees-so (aimAsked r number (arrivalAt r at) h k x)
       unfolding aimAsked pathAsked shows
       aim-so (Node d) is = (
-        λ e. (let z = made-when (test inside d is) (askingOf h octets) (asked inside d is) (s inside d is) mtu (sym (ap (λ (a : Answering). a .made) (heard-is inside d is)) ∙ e) in
+        λ e. (let made = sym (ap (λ (a : Answering). a .made) (heard-is inside d is)) ∙ e in
+            let z = made-when (test inside d is) (askingOf h octets) (asked inside d is) (s inside d is) mtu made in
             (shows inside d is good carried z, reply-is inside d is good carried z)),
         λ y. ap (λ (a : Answering). a .made)
             (heard-is inside d is ∙ when-made (test inside d is) (askingOf h octets) (asked inside d is) (s inside d is) mtu (asked-for inside d is y)),
       )
-      aim-so (Path p) is = none-so (pathAsked r number (arrivalAt r at) h k p) (unsourced-none (pathAsked r number (arrivalAt r at) h k p) (path-sourceless (own .0) (f .addresses) p is)) (λ y. y .source (path-sourceless (own .0) (f .addresses) p is))
+      aim-so (Path p) is =
+          let none = path-sourceless (own .0) (f .addresses) p is in
+          let a = pathAsked r number (arrivalAt r at) h k p in
+          none-so a (unsourced-none a none) (λ y. y .source none)
       aim-so Uncarried is =
           none-so (refusedAsked 6) (refused-none 6 (λ z. omega arith)) λ y.
           true-false (sym (ap badAim is) ∙ zero-none (arrivalChecks own f) (numbered (arrivalChecks own f) refl) (y .carried) .1 .1 .0)

@@ -120,7 +120,8 @@ module _ (r : Relay) (at : ℕ) (a : Answering) (room : ℕ) (arrived : a .arriv
     unfolding surveyWithin
     size-same p l =
         in-and p set (found .fitting)
-        ∙ ap₂ _&&_ (same p l) (gathered r (λ (q : ℕ). inSet q set && isFitting (portIn r q) sought) p l ∙ ap₂ (λ (s t : Bool). portSetUp r p && (s && t)) (same p l) (fits-is p))
+        ∙ ap₂ _&&_ (same p l)
+        (gathered r (λ (q : ℕ). inSet q set && isFitting (portIn r q) sought) p l ∙ ap₂ (λ (s t : Bool). portSetUp r p && (s && t)) (same p l) (fits-is p))
         ∙ wanted-twice (ports p) (portSetUp r p) (fitsAt p)
 
     full-same : (p : ℕ) → p < 8 → inSet p (found .full) ≡ (portSetUp r p && (ports p && not (hasRoom r p)))
@@ -167,13 +168,15 @@ module _ (r : Relay) (at : ℕ) (a : Answering) (room : ℕ) (arrived : a .arriv
     unfolding somePort
     none-passes test e p l = bools.refuted (test p) (λ h. bools.true-false (sym (any-found test p 8 l h) ∙ e))
 
-    took-agrees : (t : Bool) → somePort (withRoom r size) ≡ t → number ≡ rows true t → RepliesAs (replied (rulingOf No (Wanted fits) (found .full))) verdict
+    took-agrees : (t : Bool) → somePort (withRoom r size) ≡ t → number ≡ rows true t
+        → RepliesAs (replied (rulingOf No (Wanted fits) (found .full))) verdict
     unfolding rulingOf copiesOf
     took-agrees t e n = record {
       refusal = refl;
       local = refl;
       onward =
-          ap (λ (u : Bool). onwardNumber (pick u (onward.Refused QueuesFull) onward.SentOn)) (empty-is took (withRoom r size) (omega (arith, fits-small)) took-same ∙ ap not e)
+          ap (λ (u : Bool). onwardNumber (pick u (onward.Refused QueuesFull) onward.SentOn))
+          (empty-is took (withRoom r size) (omega (arith, fits-small)) took-same ∙ ap not e)
           ∙ last t ∙ sym n;
       granted = size-same;
       took = took-same;
