@@ -189,7 +189,7 @@ fn echoed_count(mtu: usize, size: usize, count: usize) -> usize
 }
 
 // No reply: by the number that refuses the call, or by 0 where none is due.
-fn no_answer(refusal: u32) -> Answering
+pub fn no_answer(refusal: u32) -> Answering
     ensures { λ r. ⌜ r ≡ noAnswer refusal ⌝ }
 {
     let header = judge::no_header();
@@ -312,7 +312,7 @@ fn answer_octets(board: &[u32], mission: &[u32], at: Arrival, mtu: u32, octets: 
 }
 
 // What is known before the search of the reply to octets that came in by a port, with so much room for it.
-pub fn answering(board: &[u32], mission: &[u32], port: u32, octets: &[u8], room: usize) -> Answering
+pub fn answer(board: &[u32], mission: &[u32], port: u32, octets: &[u8], room: usize) -> Answering
     requires { ⌜ (length (now board) ≡ boardWords) × (length (now mission) ≡ missionWords) ⌝ }
     ensures { λ r. ⌜
         r
