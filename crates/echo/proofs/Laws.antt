@@ -196,33 +196,36 @@ module _ (from n room : ℕ) where
   pub all-fits : from ≤ room → n ≤ room - from → Passed ≡ checkOf (ltb room (from + n))
   all-fits h k = rw (le-ltb room (from + n) (omega arith))
 
--- what a check of the size told, said of the kind
-pub told : (test : ℕ → Bool) (from n : ℕ) (k : Kind) {c x : Check} → from ≡ fixedSize k → c ≡ checkOf (test (from + n)) → c ≡ x → checkOf (test (fixedSize k + n)) ≡ x
-told test from n k e p q = rw (← e) (sym p ∙ q)
-
-module _ (m : Message) (echoed l : List ℕ) where
+-- by what the two checks told of a size from the kind
+module _ (m : Message) (echoed l : List ℕ) {from : ℕ} (is : from ≡ fixedSize (m .kind)) {c : Check} (told : c ≡ checkOf (ltb (length l) (from + length echoed))) where
   abbrev size : ℕ
   size = sizeWith m (length echoed)
 
-  pub no-room : checkOf (ltb (length l) size) ≡ Failed → (built.Refused 17 ≡ builtOf m (length echoed) (length l)) × (l ≡ builtOutput m echoed l)
+  room-told : c ≡ checkOf (ltb (length l) size)
+  room-told = rw is at told
+
+  pub no-room : c ≡ Failed → (built.Refused 17 ≡ builtOf m (length echoed) (length l)) × (l ≡ builtOutput m echoed l)
   unfolding builtOf builtOutput buildChecks firstOf
-  no-room h = let e = failed-true (ltb (length l) size) h in (simp e, simp e)
+  no-room h = let e = failed-true (ltb (length l) size) (sym room-told ∙ h) in (simp e, simp e)
 
-  module _ (room : checkOf (ltb (length l) size) ≡ Passed) where
+  module _ (passed : c ≡ Passed) where
+    roomed : ltb (length l) size ≡ false
+    roomed = passed-false (ltb (length l) size) (sym room-told ∙ passed)
+
     pub roomy : size ≤ length l
-    roomy = ltb-false (length l) size (passed-false _ room)
+    roomy = ltb-false (length l) size roomed
 
-    pub too-long : checkOf (tooMuchData size) ≡ Failed → (built.Refused 20 ≡ builtOf m (length echoed) (length l)) × (l ≡ builtOutput m echoed l)
-    unfolding builtOf builtOutput buildChecks firstOf
-    too-long h =
-        let a = passed-false (ltb (length l) size) room in
-        let b = failed-true (tooMuchData size) h in
-        (simp (a, b), simp (a, b))
+    module _ {d : Check} (told₂ : d ≡ checkOf (tooMuchData (from + length echoed))) where
+      data-told : d ≡ checkOf (tooMuchData size)
+      data-told = rw is at told₂
 
-    pub done : checkOf (tooMuchData size) ≡ Passed → (r : ℕ) (out : List ℕ) → r ≡ size → out ≡ fronted (messageOctets m echoed) l
-        → (built.Done r ≡ builtOf m (length echoed) (length l)) × (out ≡ builtOutput m echoed l)
-    unfolding builtOf builtOutput buildChecks firstOf
-    done h r out es eo =
-        let a = passed-false (ltb (length l) size) room in
-        let b = passed-false (tooMuchData size) h in
-        (simp (a, b) (ap built.Done es), simp (a, b) eo)
+      pub too-long : d ≡ Failed → (built.Refused 20 ≡ builtOf m (length echoed) (length l)) × (l ≡ builtOutput m echoed l)
+      unfolding builtOf builtOutput buildChecks firstOf
+      too-long h = let e = failed-true (tooMuchData size) (sym data-told ∙ h) in (simp (roomed, e), simp (roomed, e))
+
+      pub done : d ≡ Passed → {r : ℕ} {out : List ℕ} → r ≡ size → out ≡ fronted (messageOctets m echoed) l
+          → (built.Done r ≡ builtOf m (length echoed) (length l)) × (out ≡ builtOutput m echoed l)
+      unfolding builtOf builtOutput buildChecks firstOf
+      done h es eo =
+          let e = passed-false (tooMuchData size) (sym data-told ∙ h) in
+          (simp (roomed, e) (ap built.Done es), simp (roomed, e) eo)

@@ -16,10 +16,14 @@ octet-at-requires-2 : tie.Need-octet-at-requires-2
 octet-at-requires-2 c κs = search needs
 
 returns-2 : tie.Need-returns-2
-returns-2 c = is-request _ _ (sym (c .before .before .before .octet-at .ensures) ∙ c .before .before .if1 .left) (sym (c .before .octet-at2 .ensures) ∙ c .if2 .taken)
+returns-2 c =
+    let coded = c .before .before in
+    is-request _ _ (sym (coded .before .octet-at .ensures) ∙ coded .if1 .left) (sym (c .before .octet-at2 .ensures) ∙ c .if2 .taken)
 
 returns-3 : tie.Need-returns-3
-returns-3 c = is-reply _ _ (sym (c .before .before .before .before .octet-at .ensures) ∙ c .before .before .before .if1 .left) (sym (c .before .before .octet-at2 .ensures) ∙ c .if3 .taken)
+returns-3 c =
+    let coded = c .before .before .before in
+    is-reply _ _ (sym (coded .before .octet-at .ensures) ∙ coded .if1 .left) (sym (c .before .before .octet-at2 .ensures) ∙ c .if3 .taken)
 
 returns-4 : tie.Need-returns-4
 returns-4 c = rw (← c .before .before .octet-at2 .ensures) (is-other _ (octet (c .before .before .before .before .before .before .args .s .now) 1) (c .before .if2 .left) (c .if3 .left))

@@ -15,12 +15,17 @@ put-number-requires : tie.Need-put-number-requires
 put-number-requires c κs = omega (arith, kind-length (c .before .before .before .args .m .kind), c .before .before .before .pre)
 
 put-number-requires-2 : tie.Need-put-number-requires-2
-put-number-requires-2 c κs = omega (arith, kind-length (c .before .before .before .before .before .before .before .args .m .kind), c .before .before .before .before .before .before .before .pre, c .before .before .before .put-number .ensures .0, c .before .before .before .put-number .kept .0)
+put-number-requires-2 c κs =
+    let first = c .before .before .before in
+    let start = first .before .before .before .before in
+    omega (arith, kind-length (start .args .m .kind), start .pre, first .put-number .ensures .0, first .put-number .kept .0)
 
 put-number-requires-3 : tie.Need-put-number-requires-3
 put-number-requires-3 c κs =
-    omega
-    (arith, kind-length (c .before .before .before .before .before .before .before .before .before .before .before .args .m .kind), c .before .before .before .before .before .before .before .before .before .before .before .pre, c .before .before .before .before .before .before .before .put-number .ensures .0, c .before .before .before .before .before .before .before .put-number .kept .0, c .before .before .before .put-number2 .ensures .0, c .before .before .before .put-number2 .kept .0)
+    let second = c .before .before .before in
+    let first = second .before .before .before .before in
+    let start = first .before .before .before .before in
+    omega (arith, kind-length (start .args .m .kind), start .pre, first .put-number .ensures .0, first .put-number .kept .0, second .put-number2 .ensures .0, second .put-number2 .kept .0)
 
 cast-put-number-2 : tie.Need-cast-put-number-2
 cast-put-number-2 c = search needs
@@ -31,8 +36,7 @@ put-number-requires-4 c κs =
     let second = third .before .before .before .before in
     let first = second .before .before .before .before in
     let start = first .before .before .before .before in
-    omega
-    (arith, kind-length (start .args .m .kind), start .pre, first .put-number .ensures .0, first .put-number .kept .0, second .put-number2 .ensures .0, second .put-number2 .kept .0, third .put-number3 .ensures .0, third .put-number3 .kept .0)
+    omega (arith, kind-length (start .args .m .kind), start .pre, first .put-number .ensures .0, first .put-number .kept .0, second .put-number2 .ensures .0, second .put-number2 .kept .0, third .put-number3 .ensures .0, third .put-number3 .kept .0)
 
 cast-put-number-3 : tie.Need-cast-put-number-3
 cast-put-number-3 c = search needs

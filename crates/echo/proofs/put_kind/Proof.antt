@@ -11,7 +11,9 @@ enum-known-k : tie.Need-enum-known-k
 enum-known-k c = search needs
 
 put-seen-requires : tie.Need-put-seen-requires
-put-seen-requires c κs = kind-room (c .before .before .before .before .before .args .k) _ _ _ (c .before .before .k .given .1) (c .before .before .before .before .before .pre)
+put-seen-requires c κs =
+    let start = c .before .before .before .before .before in
+    kind-room (start .args .k) _ _ _ (c .before .before .k .given .1) (start .pre)
 
 returns : tie.Need-returns
 returns c = kind-none _ _ _ (c .enum-told .given .1)
@@ -20,7 +22,9 @@ same-length : tie.Need-same-length
 same-length c = search needs
 
 returns-2 : tie.Need-returns-2
-returns-2 c = kind-seen (c .before .before .before .before .before .before .before .before .args .k) _ _ _ _ _ (c .before .before .before .before .before .k .given .1) (c .before .before .put-seen .ensures)
+returns-2 c =
+    let bound = c .before .before .before .before .before in
+    kind-seen (bound .before .before .before .args .k) _ _ _ _ _ (bound .k .given .1) (c .before .before .put-seen .ensures)
 
 pub put-kind-spec : {M : Type 1} → statement M
 put-kind-spec =

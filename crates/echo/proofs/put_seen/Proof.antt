@@ -36,8 +36,14 @@ same-length c = search needs
 
 returns : tie.Need-returns
 returns c =
-    seen-put (c .before .before .before .before .before .before .before .before .before .before .before .before .before .before .before .before .before .before .before .before .before .before .before .before .before .args .s) _ _ _ _ _ _ _ _ _ _ _ _ (c .before .before .before .before .before .before .before .before .before .before .before .before .before .before .before .before .before .before .before .before .before .put-number .ensures) (c .before .before .before .before .before .before .before .before .before .before .before .before .before .before .before .before .put-number2 .ensures) (c .before .before .before .before .before .before .before .before .before .before .before .before .put-number3 .ensures)
-    (c .before .before .before .before .before .before .before .put-number4 .ensures) (c .before .before .put-number5 .ensures) (c .before .before .before .before .before .before .before .before .before .before .before .before .before .before .before .before .before .before .before .before .before .before .before .before .before .pre)
+    let last = c .before .before in
+    let fourth = last .before .before .before .before .before in
+    let third = fourth .before .before .before .before .before in
+    let second = third .before .before .before .before in
+    let first = second .before .before .before .before .before in
+    let start = first .before .before .before .before in
+    seen-put (start .args .s) _ _ _ _ _ _ _ _ _ _ _ _ (first .put-number .ensures) (second .put-number2 .ensures) (third .put-number3 .ensures)
+    (fourth .put-number4 .ensures) (last .put-number5 .ensures) (start .pre)
 
 pub put-seen-spec : {M : Type 1} → statement M
 put-seen-spec =

@@ -36,7 +36,9 @@ enum-told-2 : tie.Need-enum-told-2
 enum-told-2 c = search needs
 
 returns-2 : tie.Need-returns-2
-returns-2 c = no-echo (c .before .before .before .before .before .args .s .now) (c .before .before .before .if1 .left) (sym (c .before .before .check-type .ensures) ∙ c .enum-told2 .given .1)
+returns-2 c =
+    let checked = c .before .before in
+    no-echo (checked .before .before .before .args .s .now) (checked .before .if1 .left) (sym (checked .check-type .ensures) ∙ c .enum-told2 .given .1)
 
 check-whole-requires : tie.Need-check-whole-requires
 check-whole-requires c κs = search needs
@@ -48,7 +50,10 @@ enum-told-4 : tie.Need-enum-told-4
 enum-told-4 c = search needs
 
 returns-3 : tie.Need-returns-3
-returns-3 c = let typed = c .before .before .before in no-reply (c .before .before .before .before .before .before .before .before .args .s .now) (long typed) (type typed) (sym (c .before .before .check-whole .ensures) ∙ c .enum-told4 .given .1)
+returns-3 c =
+    let checked = c .before .before in
+    let typed = checked .before in
+    no-reply (typed .before .before .before .before .before .args .s .now) (long typed) (type typed) (sym (checked .check-whole .ensures) ∙ c .enum-told4 .given .1)
 
 check-sum-requires : tie.Need-check-sum-requires
 check-sum-requires c κs = search needs
@@ -61,9 +66,10 @@ enum-told-6 c = search needs
 
 returns-4 : tie.Need-returns-4
 returns-4 c =
-    let held = c .before .before .before in
+    let checked = c .before .before in
+    let held = checked .before in
     let typed = held .before .before .before in
-    no-sum (c .before .before .before .before .before .before .before .before .before .before .before .args .s .now) (long typed) (type typed) (whole held) (sym (c .before .before .check-sum .ensures) ∙ c .enum-told6 .given .1)
+    no-sum (typed .before .before .before .before .before .args .s .now) (long typed) (type typed) (whole held) (sym (checked .check-sum .ensures) ∙ c .enum-told6 .given .1)
 
 pair-at-requires : tie.Need-pair-at-requires
 pair-at-requires c κs = search needs
@@ -75,14 +81,15 @@ kind-in-requires : tie.Need-kind-in-requires
 kind-in-requires c κs =
     let held = c .before .before .before .before .before in
     let typed = held .before .before .before in
-    reply-room (c .before .before .before .before .before .before .before .before .before .before .before .before .before .args .s .now) (long typed) (type typed) (whole held)
+    reply-room (typed .before .before .before .before .before .args .s .now) (long typed) (type typed) (whole held)
 
 returns-5 : tie.Need-returns-5
 returns-5 c =
-    let held = c .before .before .before .before .before .before in
-    let typed = held .before .before .before in
     let summed = c .before .before .before in
-    read (c .before .before .before .before .before .before .before .before .before .before .before .before .before .before .args .s .now) (long typed) (type typed) (whole held) (sym (summed .before .before .check-sum .ensures) ∙ summed .enum-told5 .given .1) _ _ _ (c .before .before .pair-at .ensures) (c .before .pair-at2 .ensures) (c .kind-in .ensures)
+    let held = summed .before .before .before in
+    let typed = held .before .before .before in
+    read (typed .before .before .before .before .before .args .s .now) (long typed) (type typed) (whole held) (sym (summed .before .before .check-sum .ensures) ∙ summed .enum-told5 .given .1) _ _ _
+    (c .before .before .pair-at .ensures) (c .before .pair-at2 .ensures) (c .kind-in .ensures)
 
 pub read-message-spec : {M : Type 1} → statement M
 read-message-spec =

@@ -37,10 +37,10 @@ cast-result c = search needs
 
 returns : tie.Need-returns
 returns c =
-    let start = c .before .before .before .before .before in
-    let s = start .args .s .now in
-    asked s _ _ _ (λ i. c .before .before .before .before .shared-slice-known .given i .fits) (omega (arith, start .pre)) (c .before .before .before .pair-at .ensures) (c .before .ones-sum .ensures .0)
-    (c .brought-round .ensures)
+    let pair = c .before .before .before in
+    let start = pair .before .before in
+    asked (start .args .s .now) _ _ _ (λ i. pair .before .shared-slice-known .given i .fits) (omega (arith, start .pre)) (pair .pair-at .ensures)
+    (c .before .ones-sum .ensures .0) (c .brought-round .ensures)
 
 pub sum-asked-spec : {M : Type 1} → statement M
 sum-asked-spec =

@@ -31,9 +31,11 @@ slice-reshare-prefix-checksum c = search needs
 
 slice-aggregate-checksum : tie.Need-slice-aggregate-checksum
 slice-aggregate-checksum c =
-    let front = c .before .before .before .before .before .before .before in
+    let copied = c .before .before .before in
+    let front = copied .before .before .before .before in
     let start = front .before .before .before .before in
-    mid-room (front .put-fixed .last .0) (front .put-fixed .result) (length (start .args .echoed .now)) (c .before .before .before .copy .last .1 .0) (c .before .before .before .copy .kept .1 .0) (omega (arith, start .pre, front .put-fixed .ensures .0, front .put-fixed .kept))
+    mid-room (front .put-fixed .last .0) (front .put-fixed .result) (length (start .args .echoed .now)) (copied .copy .last .1 .0) (copied .copy .kept .1 .0)
+    (omega (arith, start .pre, front .put-fixed .ensures .0, front .put-fixed .kept))
 
 checksum-requires : tie.Need-checksum-requires
 checksum-requires c κs = search needs
@@ -43,24 +45,28 @@ cast-put-number c = search needs
 
 put-number-requires : tie.Need-put-number-requires
 put-number-requires c κs =
-    let front = c .before .before .before .before .before .before .before .before .before in
+    let copied = c .before .before .before .before .before in
+    let front = copied .before .before .before .before in
     let start = front .before .before .before .before in
-    omega
-    (arith, mid-length (front .put-fixed .last .0) (front .put-fixed .result) (length (start .args .echoed .now)) (c .before .before .before .before .before .copy .last .1 .0) (c .before .before .before .before .before .copy .kept .1 .0), kind-length (start .args .m .kind), start .pre, front .put-fixed .ensures .0, front .put-fixed .kept)
+    let n = length (start .args .echoed .now) in
+    let as-long = mid-length (front .put-fixed .last .0) (front .put-fixed .result) n (copied .copy .last .1 .0) (copied .copy .kept .1 .0) in
+    omega (arith, as-long, kind-length (start .args .m .kind), start .pre, front .put-fixed .ensures .0, front .put-fixed .kept)
 
 same-length : tie.Need-same-length
 same-length c = search needs
 
 returns : tie.Need-returns
 returns c =
-    let front = c .before .before .before .before .before .before .before .before .before .before .before .before in
+    let summed = c .before .before .before .before in
+    let copied = summed .before .before .before .before in
+    let front = copied .before .before .before .before in
     let start = front .before .before .before .before in
-    let m = start .args .m in
     let echoed = start .args .echoed .now in
-    let room : front .put-fixed .result + length echoed ≤ length (front .put-fixed .last .0) = omega (arith, start .pre, front .put-fixed .ensures .0, front .put-fixed .kept) in (
-      rw (front .put-fixed .ensures .0),
-      written m echoed _ _ _ _ _ _ (front .put-fixed .ensures .0) (start .pre) (front .put-fixed .ensures .1)
-          (mid-put _ _ _ _ echoed refl room (c .before .before .before .before .before .before .before .before .copy .ensures .1)) (c .before .before .before .before .checksum .ensures) (c .before .before .put-number .ensures .1),
+    let from-is = front .put-fixed .ensures .0 in
+    let room : front .put-fixed .result + length echoed ≤ length (front .put-fixed .last .0) = omega (arith, start .pre, from-is, front .put-fixed .kept) in
+    let put = mid-put _ _ _ _ echoed refl room (copied .copy .ensures .1) in (
+      rw from-is,
+      written (start .args .m) echoed _ _ _ _ _ _ from-is (start .pre) (front .put-fixed .ensures .1) put (summed .checksum .ensures) (c .before .before .put-number .ensures .1),
     )
 
 pub write-message-spec : {M : Type 1} → statement M
