@@ -57,6 +57,7 @@ use Rattle.history.specs.Calls.{
   setRouter,
   setPort,
   setLifetime,
+  setDrop,
   setRoute,
   clearRoute,
   orders,
@@ -69,6 +70,7 @@ use Rattle.history.specs.Calls.{
   MissionCall,
   sets,
   hears,
+  echoes,
   takes,
   sweeps,
   looks,
@@ -113,19 +115,24 @@ module _ {A : Type 0} (d : A) where
 -- ---- the flags of the board
 pub record BoardFlags (b : Board) : Type 0 where
   pub router : Flag (b .router)
+  pub drop : Flag (b .drop)
   pub ports : (p : ℕ) → Flag (ownedAt b p .port .ready) × Flag (ownedAt b p .mission)
 
 order-flags : (b : Board) → BoardFlags b → (o : Order) → firstOf (orderChecks b o) ≡ 0 → BoardFlags (boardWritten b o)
-order-flags b f (setRouter x) taken = record { router = flag-taken x .0 (decided (orderChecks b (setRouter x)) refl .0 .0 taken .0); ports = f .ports }
+order-flags b f (setRouter x) taken =
+    record { router = flag-taken x .0 (decided (orderChecks b (setRouter x)) refl .0 .0 taken .0); drop = f .drop; ports = f .ports }
 order-flags b f (setPort p address mask mtu mission) taken =
     let mine = not-false (isMission mission) (decided (portChecks b p address mask mtu mission) refl .0 .0 taken .1 .1 .1 .1 .0) in
     record {
       router = f .router;
+      drop = f .drop;
       ports =
           every-place freshOwned (λ (j : ℕ) (x : OwnedPort). Flag (x .port .ready) × Flag (x .mission)) (b .ports) p (newPort address mask mtu mission)
           (omega arith, ltb-true mission 2 mine) (f .ports);
     }
-order-flags b f (setLifetime x) taken = record { router = f .router; ports = f .ports }
+order-flags b f (setLifetime x) taken = record { router = f .router; drop = f .drop; ports = f .ports }
+order-flags b f (setDrop x) taken =
+    record { router = f .router; drop = flag-taken x .0 (decided (orderChecks b (setDrop x)) refl .0 .0 taken .0); ports = f .ports }
 order-flags b f (setRoute rs i prefix mask port availability capabilities mission) taken = f
 order-flags b f (clearRoute rs i) taken = f
 
@@ -170,6 +177,8 @@ own-flags : (seat : Seat) (c : MissionCall) → OwnFlags (seat .mission) → Own
 own-flags seat (sets s) f = settle-keeps (λ (x : Relay). OwnFlags (x .mission)) (relayIn seat) s f (written-flags (relayIn seat) f s)
 own-flags seat (hears rs port slot second octets output) f =
     same-flags (seat .mission) f _ (received-settings (relayIn seat) slot (heardBy seat rs port second octets (length output)))
+own-flags seat (echoes rs port slot octets output) f =
+    same-flags (seat .mission) f _ (received-settings (relayIn seat) slot (asEnding (repliedBy seat rs port octets (length output))))
 own-flags seat (takes port) f = same-flags (seat .mission) f _ (taken-settings (relayIn seat) port)
 own-flags seat (sweeps second) f = f
 own-flags seat (looks l) f = f
@@ -192,6 +201,7 @@ unfolding freshBoard
 fresh-board =
     record {
       router = omega arith;
+      drop = omega arith;
       ports = all-fresh freshOwned (λ (x : OwnedPort). Flag (x .port .ready) × Flag (x .mission)) (omega arith, omega arith) 8;
     }
 
@@ -303,6 +313,10 @@ module _ (p : ℕ) where
       let e = heardBy seat rs port second octets (length output) in
       ap (λ (t : Bool). pick t (copyOf p n seat port slot octets e ∷ []) [])
       (refuted (inSet p (e .ruling .took)) (λ t. true-false (sym (ending-up seat rs p port second octets (length output) t) ∙ h)))
+  enters-none seat n (own (echoes rs port slot octets output)) h =
+      let e = repliedBy seat rs port octets (length output) in
+      ap (λ (t : Bool). pick t (replyCopy n seat port slot octets (answeringBy seat rs port octets (length output)) e ∷ []) [])
+      (refuted (inSet p (e .ruling .took)) (λ t. true-false (sym (reply-up seat rs p port octets (length output) t) ∙ h)))
   enters-none seat n (own (takes port)) h = refl
   enters-none seat n (own (sweeps second)) h = refl
   enters-none seat n (own (looks l)) h = refl
@@ -338,7 +352,7 @@ in-range m cs =
     let o = all-own cs (freshSeat m) fresh-own in
     let k = all-memory cs (freshSeat m) fresh-memory in
     record {
-      flags = record { router = b .router; ports = b .ports; groups = o .groups; paths = o .paths };
+      flags = record { router = b .router; drop = b .drop; ports = b .ports; groups = o .groups; paths = o .paths };
       queues = λ p inside. queue-waits p inside m cs .sound .bounded .fits;
       idle = λ p inside h. waits-count entryOf (queue-waits p inside m cs) ∙ ap length (idle-line p m cs h);
       formats = k .formats;
@@ -363,6 +377,11 @@ module _ (p : ℕ) where
   enters-fits seat n (own (hears rs port slot second octets output)) passed =
       let e = heardBy seat rs port second octets (length output) in
       either (Each CopyFits) (inSet p (e .ruling .took)) (((ending-fits seat rs port second octets (length output) (passed .1 .0), passed .0), passed .1 .0), tt) tt
+  enters-fits seat n (own (echoes rs port slot octets output)) passed =
+      let e = repliedBy seat rs port octets (length output) in
+      let a = answeringBy seat rs port octets (length output) in
+      either (Each CopyFits) (inSet p (e .ruling .took))
+      (((reply-precedence seat rs port octets (length output) (passed .1), passed .0), own-octets a octets (passed .1)), tt) tt
   enters-fits seat n (own (takes port)) passed = tt
   enters-fits seat n (own (sweeps second)) passed = tt
   enters-fits seat n (own (looks l)) passed = tt
@@ -398,6 +417,7 @@ module _ (seat : Seat) where
   next-last (own (hears rs port slot second octets output)) passed h =
       hearing-so seat rs port second octets (λ e k. k .last < 2 ^ 32) (λ n un. h) (λ now n some heard. passed .1 .1)
       (λ now g is good. remembering-so (λ (k : Memory). k .last < 2 ^ 32) (seat .memory) second (passed .1 .1) _ _ (λ place new. passed .1 .1)) (length output)
+  next-last (own (echoes rs port slot octets output)) passed h = h
   next-last (own (takes port)) passed h = h
   next-last (own (sweeps second)) passed h = either (λ (k : Memory). k .last < 2 ^ 32) (eqb (firstOf (sweepChecks (seat .memory) second)) 0) passed h
   next-last (own (looks l)) passed h = h
@@ -409,6 +429,7 @@ module _ (seat : Seat) where
       by (setRouter x) p = h
       by (setPort q address mask mtu mission) p = h
       by (setLifetime x) p = p
+      by (setDrop x) p = h
       by (setRoute rs i prefix mask port availability capabilities mission) p = h
       by (clearRoute rs i) p = h
   next-lifetime (operator (views v)) passed h = h
