@@ -120,6 +120,11 @@ module _ (seat : Seat) (rs : List Record) (port : ℕ) (octets : List ℕ) (room
         by true long = none 21 refl
         by false short = answer-case short (eqb (firstOf (callChecks r port room)) 0) refl
 
+  -- nothing refuses the request
+  pub judged : (identifier sequence : ℕ) → Conditions identifier sequence → request .refusal ≡ 0
+  unfolding isAsked
+  judged identifier sequence c = eqb-true (request .refusal) 0 (and-true (eqb (request .refusal) 0) _ (c .asked) .0)
+
   abbrev a : Answering
   a = answeringBy seat rs port octets room
 
@@ -147,25 +152,27 @@ module _ (seat : Seat) (rs : List Record) (port : ℕ) (octets : List ℕ) (room
 
   -- ---- its ruling
   -- the ports of the set that it fits, and of these those whose queues are full
-  abbrev wanted : ℕ → ℕ → Survey
+  abbrev pub wanted : ℕ → ℕ → Survey
   wanted set code = wantedOf r set (soughtFor a code room)
 
-  abbrev granted : ℕ → ℕ → ℕ
+  abbrev pub granted : ℕ → ℕ → ℕ
   granted set code = bitAnd set (wanted set code .fitting)
 
-  module _ (P : Ruling → Type 0) (none : P noRuling) (no-route : P (unsent NoRoute)) (too-big : P (unsent TooBig))
-      (copies : (set code : ℕ) → P (copiesOf No (granted set code) (wanted set code .full))) where
-    among-so : (set code : ℕ) → P (among set code .ruling)
-    unfolding repliedAmong rulingOf
-    among-so set code = by (eqb (granted set code) 0)
-      where
-        by : (t : Bool) → P (rulingOf No (pick t (wish.Refused TooBig) (wish.Wanted (granted set code))) (wanted set code .full))
-        by true = too-big
-        by false = copies set code
+  -- what holds of one that fits no port, and of the copies, holds of it; and with what holds of none and without a route, of every reply
+  pub among-so : (P : Ruling → Type 0) (set code : ℕ) → P (unsent TooBig) → P (copiesOf No (granted set code) (wanted set code .full))
+      → P (among set code .ruling)
+  unfolding repliedAmong rulingOf
+  among-so P set code too-big copies = by (eqb (granted set code) 0)
+    where
+      by : (t : Bool) → P (rulingOf No (pick t (wish.Refused TooBig) (wish.Wanted (granted set code))) (wanted set code .full))
+      by true = too-big
+      by false = copies
 
-    pub ruling-so : P (repliedBy seat rs port octets room .ruling)
-    unfolding rulingOf
-    ruling-so = reply-so (λ (e : Replied). P (e .ruling)) (λ n is. none) (λ made. no-route) (λ made set code is. among-so set code)
+  pub ruling-so : (P : Ruling → Type 0) → P noRuling → P (unsent NoRoute) → P (unsent TooBig)
+      → ((set code : ℕ) → P (copiesOf No (granted set code) (wanted set code .full))) → P (repliedBy seat rs port octets room .ruling)
+  unfolding rulingOf
+  ruling-so P none no-route too-big copies =
+      reply-so (λ (e : Replied). P (e .ruling)) (λ n is. none) (λ made. no-route) (λ made set code is. among-so P set code too-big (copies set code))
 
   -- ---- each port takes the copy that it is granted where fewer than 32 wait, and else drops it
   module _ (p : ℕ) (inside : p < 8) (set code : ℕ) where
@@ -187,7 +194,7 @@ module _ (seat : Seat) (rs : List Record) (port : ℕ) (octets : List ℕ) (room
     pub granted-in : inSet p (granted set code) ≡ (inSet p set && (setUp && (inSet p set && isFitting (portIn r p) (soughtFor a code room))))
     granted-in = in-and p set (wanted set code .fitting) ∙ ap (λ (t : Bool). inSet p set && t) fitting-in
 
-    took-in : inSet p (exceptBy (granted set code) (wanted set code .full)) ≡ (inSet p (granted set code) && roomy)
+    pub took-in : inSet p (exceptBy (granted set code) (wanted set code .full)) ≡ (inSet p (granted set code) && roomy)
     took-in =
         in-except p (granted set code) (wanted set code .full)
         ∙ ap₂ (λ (t u : Bool). t && not u) granted-in full-in
@@ -269,7 +276,7 @@ module _ (seat : Seat) (rs : List Record) (port : ℕ) (octets : List ℕ) (room
 
   among-row : (set code : ℕ) → stands replyRows (ofReply (among set code) .answer) ≡ true
   unfolding repliedAmong
-  among-row set code = among-so Row refl refl refl copied-row set code
+  among-row set code = among-so Row set code refl (copied-row set code)
 
   -- Every answer to a request stands in the table's rows of a reply.
   pub every-reply-is-listed : stands replyRows (ofReply (repliedBy seat rs port octets room) .answer) ≡ true
@@ -317,13 +324,51 @@ module _ (seat : Seat) (rs : List Record) (port : ℕ) (octets : List ℕ) (room
 
   among-untaken : (set code : ℕ) → isRefusal (ofReply (among set code) .answer) ≡ true → among set code .ruling .took ≡ 0
   unfolding repliedAmong
-  among-untaken set code = among-so Untaken (λ refused. refl) (λ refused. refl) (λ refused. refl) copied-untaken set code
+  among-untaken set code = among-so Untaken set code (λ refused. refl) (copied-untaken set code)
 
   pub reply-took-none : isRefusal (ofReply (repliedBy seat rs port octets room) .answer) ≡ true → repliedBy seat rs port octets room .ruling .took ≡ 0
   unfolding rulingOf
   reply-took-none =
       reply-so (λ (e : Replied). isRefusal (ofReply e .answer) ≡ true → e .ruling .took ≡ 0) (λ n is refused. refl) (λ made refused. refl)
       (λ made set code is. among-untaken set code)
+
+-- ---- a port that took it
+module _ (seat : Seat) (rs : List Record) (p : ℕ) (inside : p < 8) (port : ℕ) (octets : List ℕ) (room : ℕ) where
+  -- it is of the set of a route, and the reply was made
+  pub record TookBy (e : Replied) : Type 0 where
+    pub made : answeringBy seat rs port octets room .made ≡ 0 → ⊥
+    pub set : ℕ
+    pub code : ℕ
+    pub way : wayFor (relayWith seat rs) Route (answeringBy seat rs port octets room .destination) ≡ By set code
+    pub is : e ≡ among seat rs port octets room set code
+    pub granted : inSet p (granted seat rs port octets room set code) ≡ true
+
+  none-took : {A : Type 0} → inSet p 0 ≡ true → A
+  none-took h = true-false (sym h ∙ in-none p)
+
+  copies-took : (set code : ℕ)
+      → inSet p (copiesOf No (granted seat rs port octets room set code) (wanted seat rs port octets room set code .full) .took) ≡ true
+      → inSet p (granted seat rs port octets room set code) ≡ true
+  unfolding copiesOf
+  copies-took set code h = and-true (inSet p (granted seat rs port octets room set code)) _ (sym (took-in seat rs port octets room p inside set code) ∙ h) .0
+
+  among-took : (set code : ℕ) → inSet p (among seat rs port octets room set code .ruling .took) ≡ true → inSet p (granted seat rs port octets room set code) ≡ true
+  among-took set code =
+      among-so seat rs port octets room (λ (x : Ruling). inSet p (x .took) ≡ true → inSet p (granted seat rs port octets room set code) ≡ true)
+      set code none-took (copies-took set code)
+
+  pub took-by : inSet p (repliedBy seat rs port octets room .ruling .took) ≡ true → TookBy (repliedBy seat rs port octets room)
+  unfolding rulingOf
+  took-by =
+      reply-so seat rs port octets room (λ (e : Replied). inSet p (e .ruling .took) ≡ true → TookBy e)
+      (λ n is. none-took) (λ made. none-took)
+      (λ made set code way took. record { made = made; set = set; code = code; way = way; is = refl; granted = among-took set code took })
+
+  -- it is set up
+  pub took-set-up : inSet p (repliedBy seat rs port octets room .ruling .took) ≡ true → isSetUp (portIn (relayWith seat rs) p) ≡ true
+  took-set-up took =
+      let t = took-by took in
+      granted-up seat rs port octets room p inside (t .set) (t .code) (t .granted) .0
 
 -- What is granted to a port is taken or dropped there.
 pub reply-fair : (seat : Seat) (p : ℕ) (inside : p < 8) (rs : List Record) (port : ℕ) (octets : List ℕ) (room : ℕ)
