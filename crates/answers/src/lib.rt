@@ -1,10 +1,10 @@
 // What C is told of a call on datagrams, as one number.
 //
 // Receiving answers eight bits for each part, from the lowest on: the refusal, the local half, the onward half, the ports that took an entry,
-// those that dropped it, the octets of the header that came, those of the header that was rewritten, and the ports that got it. Answering an echo request gives the same of
-// its reply, which has no local half, and then the octets of the reply in sixteen bits. Taking answers the refusal above 32 bits of entry: the precedence above the
-// slot. The awkward case is a part over 255, which no ending has: each is taken modulo 256 all the same, so that no part can reach into the
-// next.
+// those that dropped it, the octets of the header that came, those of the header that was rewritten, and the ports that got it. Answering an echo request
+// answers the first five of its reply, which has no local half, and then its octets in sixteen bits. Taking answers the refusal above 32 bits of entry: the
+// precedence above the slot. The awkward case is a part over 255, which no ending has: each is taken modulo 256 all the same, so that no part can reach into
+// the next.
 use judge::Ending;
 use taking::Taking;
 use verdict::Ruling;

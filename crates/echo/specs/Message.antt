@@ -83,14 +83,21 @@ messageOf s = record { identifier = number s 4 2; sequence = number s 6 2; kind 
 abbrev pub unsummed : List ℕ → List ℕ
 unsummed s = take 2 s ++ (0 ∷ 0 ∷ drop 4 s)
 
+-- neither message: another type, or another code
+abbrev pub otherType : List ℕ → Bool
+otherType s = not ((isRequestType s || isReplyType s) && eqb (octet s 1) echoCode)
+
+-- a reply without all of its fixed part
+abbrev pub cutReply : List ℕ → Bool
+cutReply s = isReplyType s && ltb (length s) replySize
+
+-- a checksum that is not that of the message with the field as zero
+abbrev pub wrongSum : List ℕ → Bool
+wrongSum s = not (eqb (number s 2 2) (checksumOf (unsummed s)))
+
 -- the checks, in their order: under 8 octets 1; type or code 4; a reply under 26 octets 1; the checksum 5 (docs/DECISIONS.md)
 unfoldable pub echoChecks : List ℕ → Checks
-echoChecks s =
-    (ltb (length s) requestSize, 1)
-    ∷ (not ((isRequestType s || isReplyType s) && eqb (octet s 1) echoCode), 4)
-    ∷ (isReplyType s && ltb (length s) replySize, 1)
-    ∷ (not (eqb (number s 2 2) (checksumOf (unsummed s))), 5)
-    ∷ []
+echoChecks s = (ltb (length s) requestSize, 1) ∷ (otherType s, 4) ∷ (cutReply s, 1) ∷ (wrongSum s, 5) ∷ []
 
 abbrev pub readingBy : ℕ → Message → Reading
 readingBy n m = pick (eqb n 0) (Good m) (Refused n)

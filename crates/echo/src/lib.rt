@@ -9,12 +9,12 @@
 use checks::Check;
 use header::Built;
 ghost use mathlib.Core.Path.{_≡_};
-ghost use mathlib.Core.Bool.{false, not, _&&_, _||_};
+ghost use mathlib.Core.Bool.{false};
 ghost use Prim.Native.Nat.{_+_, _≤_};
-ghost use lib.Dec.{eqb, ltb};
+ghost use lib.Dec.{ltb};
 ghost use lib.ListN.{length};
 ghost use Rattle.checks.specs.Order.{checkOf};
-ghost use Rattle.octets.specs.Octets.{octet, number, pasted, fronted};
+ghost use Rattle.octets.specs.Octets.{number, pasted, fronted};
 ghost use Rattle.checksum.specs.Sum.{around, checksumOf};
 ghost use Rattle.echo.specs.Message.{
   typeOf,
@@ -28,9 +28,10 @@ ghost use Rattle.echo.specs.Message.{
   seenOf,
   kindOf,
   isRequestType,
-  isReplyType,
-  messageOf,
   unsummed,
+  otherType,
+  cutReply,
+  wrongSum,
   readingOf,
 };
 ghost use Rattle.echo.specs.Built.{builtOf, builtOutput};
@@ -89,23 +90,24 @@ pub fn fixed_size(k: Kind) -> usize
 
 // An echo message of either type (4).
 fn check_type(s: &[u8]) -> Check
-    ensures { λ r. ⌜
-        r ≡ checkOf (not ((isRequestType (now (s .entry)) || isReplyType (now (s .entry))) && eqb (octet (now (s .entry)) 1) 0))
-        ⌝ }
+    ensures { λ r. ⌜ r ≡ checkOf (otherType (now (s .entry))) ⌝ }
 {
     if octets::octet_at(s, 1) != 0 {
         return Check::Failed;
     }
-    match octets::octet_at(s, 0) {
-        8 => Check::Passed,
-        0 => Check::Passed,
-        _ => Check::Failed,
+    let number = octets::octet_at(s, 0);
+    if number == REQUEST_TYPE {
+        return Check::Passed;
     }
+    if number == REPLY_TYPE {
+        return Check::Passed;
+    }
+    Check::Failed
 }
 
 // A reply has its fixed part whole (1).
 fn check_whole(s: &[u8]) -> Check
-    ensures { λ r. ⌜ r ≡ checkOf (isReplyType (now (s .entry)) && ltb (length (now (s .entry))) replySize) ⌝ }
+    ensures { λ r. ⌜ r ≡ checkOf (cutReply (now (s .entry))) ⌝ }
 {
     if octets::octet_at(s, 0) != REPLY_TYPE {
         return Check::Passed;
@@ -144,7 +146,7 @@ fn sum_asked(s: &[u8]) -> u16
 // The checksum is what it should be (5).
 fn check_sum(s: &[u8]) -> Check
     requires { ⌜ requestSize ≤ length (now s) ⌝ }
-    ensures { λ r. ⌜ r ≡ checkOf (not (eqb (number (now (s .entry)) 2 2) (checksumOf (unsummed (now (s .entry)))))) ⌝ }
+    ensures { λ r. ⌜ r ≡ checkOf (wrongSum (now (s .entry))) ⌝ }
 {
     if pair_at(s, CHECKSUM_AT) != sum_asked(s) {
         return Check::Failed;

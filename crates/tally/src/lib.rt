@@ -1,10 +1,12 @@
-// The counters that an ending moves, and those that a reply does.
+// The counters that an ending moves; those of a reply are in reply.rt.
 //
 // There are eighteen of each mission, and each end of a call but four counts in the first. A refusal's number has its counter by page 01's table; the local
 // half counts a delivery or an unknown TP-ID; the onward half counts a datagram sent on, once however many ports took it, or its number;
-// and each copy that was dropped counts by itself. A reply counts as one that was made, and by its number where it does not go. A counter is told by its place; what does not count has none, and moves nothing.
+// and each copy that was dropped counts by itself. A counter is told by its place; what does not count has none, and moves nothing.
 //
 // The awkward case is 15, every queue full: the number itself has no counter, its copies have.
+pub mod reply;
+
 use judge::Ending;
 use verdict::Local;
 use verdict::Onward;
@@ -25,9 +27,6 @@ ghost use Rattle.tally.specs.Tally.{
   countedAll,
   rulingMoves,
   movesOf,
-  madeCounter,
-  unsentCounter,
-  replyMoves,
 };
 
 // A counter, by its place among the eighteen; or none.
@@ -153,38 +152,4 @@ pub fn count(mission: &mut [u32], e: Ending)
     count_at(mission, receipt_counter(e.refusal), 1);
     count_at(mission, counter_for(e.refusal), 1);
     count_ruling(mission, ruling);
-}
-
-// npOutRequests for a reply that was made, whether it goes or not.
-fn made_counter(onward: Onward) -> Counter
-    ensures { λ r. ⌜ r ≡ madeCounter onward ⌝ }
-{
-    match onward {
-        Onward::NotAsked => Counter::Nothing,
-        Onward::SentOn => Counter::At(17),
-        Onward::Refused(_) => Counter::At(17),
-    }
-}
-
-// The number's for one that does not go.
-fn unsent_counter(onward: Onward) -> Counter
-    ensures { λ r. ⌜ r ≡ unsentCounter onward ⌝ }
-{
-    match onward {
-        Onward::NotAsked => Counter::Nothing,
-        Onward::SentOn => Counter::Nothing,
-        Onward::Refused(obstacle) => counter_for(verdict::obstacle_number(obstacle)),
-    }
-}
-
-// All that a reply counts.
-pub fn count_reply(mission: &mut [u32], ruling: Ruling)
-    requires { ⌜ length (now mission) ≡ missionWords ⌝ }
-    ensures { λ _. ⌜ decode (now (mission .exit)) ≡ onCounters (λ l. countedAll l (replyMoves ruling)) (decode (now (mission .entry))) ⌝ }
-{
-    let onward = ruling.onward;
-    let dropped = ports_in(ruling.dropped);
-    count_at(mission, made_counter(onward), 1);
-    count_at(mission, unsent_counter(onward), 1);
-    count_at(mission, discard_counter(ruling.dropped), dropped);
 }
