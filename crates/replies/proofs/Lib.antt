@@ -1,0 +1,4 @@
+-- The laws of replies. Assumes nothing.
+pub mod Chosen
+pub mod Making
+pub mod Going
