@@ -43,7 +43,7 @@ use Rattle.state.proofs.Seen.{seen-set-up}
 use Rattle.judge.specs.Ending.{refusedBy, callChecks, headerEnding, octetsEnding, ruledEnding, arrivalAt, endingOf}
 use Rattle.judge.specs.declared.Ending.{Ending}
 use Rattle.history.specs.Seat.{Seat, freshSeat, relayIn, relayWith, heardBy}
-use Rattle.history.specs.Calls.{sets, hears, takes, sweeps, looks, Call, operator, own}
+use Rattle.history.specs.Calls.{sets, hears, echoes, takes, sweeps, looks, Call, operator, own}
 use Rattle.history.specs.Outcome.{next, runFrom, seatAfter}
 use Rattle.history.specs.Ranges.{Octets}
 use Rattle.history.specs.Line.{Copy, copyOf, sentOf, takenBy, lineBy, lineFrom, lineAt}
