@@ -6,3 +6,4 @@ pub mod Answered
 pub mod Written
 pub mod Made
 pub mod Goes
+pub mod Routes
