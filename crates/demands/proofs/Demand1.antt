@@ -77,6 +77,7 @@ use Rattle.history.specs.Transport.{SameButTpid, SameButLocal, localBy}
 use Rattle.history.proofs.Answered.{every-answer-is-listed}
 use Rattle.history.proofs.Untaken.{took-none}
 use Rattle.history.proofs.Refusals.{nobody-took, output-as-lent}
+use Rattle.history.proofs.Replying.{reply-took-none}
 use Rattle.history.proofs.Sums.{moves-as-written}
 use Rattle.history.proofs.Transport as transport
 use Rattle.demands.specs.Trace.{Customer, Step, operates, flies, stepOf, Words, missionOf, made, wordsAfter, seatOf, relayOf, Gives}
@@ -188,7 +189,7 @@ module _ (who : Customer) (steps : List Step) where
   own-leaves (sets s) x g h = all-unchanged _ _ (quiet-leaves (sets s) refl x g h)
   own-leaves (hears rs p slot second octets output) x g h =
       heard-unchanged rs p slot second octets output x g (took-none seat rs p second octets (length output) h)
-  own-leaves (echoes rs p slot octets output) x g h = replied-unchanged rs p slot octets output x g (untaken seat rs p octets (length output) h)
+  own-leaves (echoes rs p slot octets output) x g h = replied-unchanged rs p slot octets output x g (reply-took-none seat rs p octets (length output) h)
   own-leaves (takes p) x g h = all-unchanged _ _ (quiet-leaves (takes p) refl x g h)
   own-leaves (sweeps second) x g h = all-unchanged _ _ (quiet-leaves (sweeps second) refl x g h)
   own-leaves (looks l) x g h = all-unchanged _ _ (quiet-leaves (looks l) refl x g h)

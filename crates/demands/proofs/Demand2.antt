@@ -115,7 +115,7 @@ use Rattle.history.specs.Parts.{Part, theRouter, thePort, theLifetime, theDrop,
 use Rattle.history.specs.Line.{Copy, entryOf, takingOf, lineAt}
 use Rattle.history.specs.Marked.{Marked, markedCases}
 use Rattle.history.specs.Ranges.{Octets, EntryFits, CopyFits}
-use Rattle.history.proofs.Domain.{WasRead, set-up-small, NamesTheSame, goesOf, goes-out, waiting-copies-name-the-same}
+use Rattle.history.proofs.Domain.{WasRead, set-up-small, NamesTheSame, waiting-copies-name-the-same}
 use Rattle.history.proofs.Heard.{heard-is}
 use Rattle.history.proofs.Holds.{holds-until-changed}
 use Rattle.history.proofs.Keys.{keys-unique}
@@ -565,8 +565,7 @@ module _ (who : Customer) (steps : List Step) where
     goes-case true is nobody out e handed = true-false cc
     goes-case true is (one c others) out e handed =
         let inside = is-port r p is in
-        let names = (rw out at (chosen-each (rankBy entryOf) (NamesTheSame (portIn r p)) (lineAt p m h) (waiting-copies-name-the-same p inside m h))) .0 in
-        let came = (rw out at fits) .0 .1 in
+        let names = (rw out at (chosen-each (rankBy entryOf) (NamesTheSame (portIn r p)) (lineAt p m h) (waiting-copies-name-the-same p inside m h (history-passed who steps (g .begun .passed))))) .0 in
         record {
           copy = c;
           others = others;
@@ -574,8 +573,8 @@ module _ (who : Customer) (steps : List Step) where
           entry = cc handed;
           came = names .came;
           read = names .read;
-          goes = goesOf names;
-          reads = goes-out names came .0;
+          goes = names .goes;
+          reads = names .reads;
           domain = names .domain;
           aim = names .aim;
           origin = names .origin;

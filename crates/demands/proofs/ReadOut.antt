@@ -86,6 +86,7 @@ use Rattle.demands.specs.Trace.{Customer, numberOf, Step, operates, flie
 use Rattle.demands.specs.ReadOut.{takenOut, lookOut, ownOut, readOut}
 use Rattle.demands.proofs.Fitting.{value-out, refusal-out, history-passed, port-out, group-out, path-out, pair-out, record-out}
 use Rattle.demands.proofs.Told.{gives-row, setting-told, order-seen}
+use Rattle.demands.proofs.Replied.{reply-back}
 
 -- where a test decides between a value and a refusal
 either-out : (t : Bool) (value n : ℕ) → (t ≡ true → value < 2 ^ 32) → n < 2 ^ 32 → refusalIn (pick t value (refusalNumber n)) ≡ pick t 0 n
@@ -242,7 +243,7 @@ module _ (who : Customer) (steps : List Step) where
       ap (ownOut c) (gives-row who steps (own c) x g .answer) ∙ rw (back .refusal, back .local, back .onward, back .took)
   own-out (echoes rs p slot octets output) x g =
       let c = echoes rs p slot octets output in
-      let back = reply-back seat rs p octets (length output) in
+      let back = reply-back seat rs p octets output in
       ap (ownOut c) (gives-row who steps (own c) x g .answer) ∙ rw (back .at-0, back .at-16, back .at-24)
   own-out (takes p) x g =
       let line = lineAt p m h in

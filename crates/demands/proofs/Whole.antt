@@ -7,7 +7,7 @@ use mathlib.Core.Logic.{_⊎_, ⊎-elim}
 use mathlib.Core.List.{List}
 use lib.ListN.{length, replicate}
 use lib.Dec.{eqb}
-use borrow.Author.Tests.{eq-eqb}
+use borrow.Author.Tests.{eq-eqb, not-true}
 use Rattle.checks.specs.Order.{pick, firstOf}
 use Rattle.checks.specs.Answer.{refusalNumber}
 use Rattle.checks.proofs.Bools.{true-false}
@@ -15,8 +15,10 @@ use Rattle.address.specs.declared.Slot.{Slot}
 use Rattle.header.specs.Read.{readOf}
 use Rattle.header.specs.declared.Read.{Read}
 use Rattle.header.specs.declared.Read.the-variants as read
-use Rattle.echo.specs.Message.{readingOf as echoOf}
-use Rattle.echo.specs.Built.{buildChecks, builtOf, builtOutput}
+use Rattle.header.specs.Build.{builtBy, outputBy}
+use Rattle.header.specs.declared.Built.the-variants as built
+use Rattle.echo.specs.Message.{messageOctets, readingOf as echoOf}
+use Rattle.echo.specs.Built.{sizeWith, buildChecks, builtOf, builtOutput}
 use Rattle.echo.specs.declared.Kind.the-variants.{Reply}
 use Rattle.echo.specs.declared.Message.{Message}
 use Rattle.echo.specs.declared.Reading.{Reading}
@@ -119,6 +121,7 @@ use Rattle.demands.specs.ReadOut.{hearsNothing}
 use Rattle.demands.specs.Demand1.{NoBoard, NoMission, OperatorLacks, MissionLacks, HasLong}
 use Rattle.demands.proofs.Lane.{madeBy}
 use Rattle.demands.proofs.Promised.{promisedBy, nextState}
+use Rattle.demands.proofs.ReadOut.{message-refusal}
 use Rattle.demands.proofs.Held.{either-way, same-promise, quiet-taking}
 
 -- Where a call's promise is that of a look, all is left as it was lent.
@@ -165,7 +168,7 @@ unfolding builtOutput builtOf
 unbuilt k echoed output h = by (firstOf (buildChecks k (length echoed) (length output))) h
   where
     by : (n : ℕ) → not (eqb n 0) ≡ true → outputBy (builtBy n (sizeWith k (length echoed))) (messageOctets k echoed) output ≡ output
-    by n some = rw (not-true-is some)
+    by n some = ap (λ (t : Bool). outputBy (pick t (built.Done (sizeWith k (length echoed))) (built.Refused n)) (messageOctets k echoed) output) (not-true (eqb n 0) some)
 
 -- what is written of a reply that no port took
 pub reply-unwritten : (a : Answering) (e : Replied) (octets output : List ℕ) → e .ruling .took ≡ 0 → repliedOutput a e octets output ≡ output
@@ -256,7 +259,7 @@ module _ (b m : List ℕ) (x : Seat) (l : List ℕ) (board : lentBoard b ≡ Hel
   look-left (class a) h = refl
   look-left (form p) h = refl
   look-left (checksum octets) h = refl
-  look-left (readEcho octets) h = same-promise refl refl refl refl refl (refused-message (echoOf octets) h)
+  look-left (readEcho octets) h = same-promise refl refl refl refl refl (refused-message (echoOf octets) (ap (λ (n : ℕ). not (eqb n 0)) (message-refusal octets) ∙ h))
   look-left (buildRequest i n echoed output) h =
       same-promise refl refl refl refl (unbuilt (requestOf i n) echoed output h) refl
   look-left (buildReply i n seen echoed output) h =

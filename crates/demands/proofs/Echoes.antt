@@ -1,0 +1,1 @@
+-- What is promised of echo messages is kept. Assumes nothing.
