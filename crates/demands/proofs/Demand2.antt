@@ -134,7 +134,7 @@ use Rattle.demands.proofs.Held.{reading-left, reading-answer, build-ans
 use Rattle.demands.proofs.Traced.{history-more, board-is, held-words}
 use Rattle.demands.proofs.Told.{gives-row, gives-board, counters, setting-told, order-told}
 use Rattle.demands.proofs.Fitting.{history-passed}
-use Rattle.demands.proofs.ReadOut.{read-out}
+use Rattle.demands.proofs.ReadOut.{told-refusal, told-value, read-out}
 use Rattle.demands.proofs.Output.{told, was, takes-some, header-found, as-many, others-stay}
 use Rattle.demands.proofs.Remembers.{before-memory, page-memory, sweep-memory, sweep-own}
 
@@ -211,14 +211,7 @@ module _ (fields : Numbers) (size : ℕ) where
   abbrev checks : ℕ → Checks
   checks room = (noRoom room, 17) ∷ (fieldsOut fields, 19) ∷ (tooMuchData size, 20) ∷ []
 
-  -- a refusal stands above 32 bits of value; a header has at most 50 octets
-  answer-case : (n m value : ℕ) (t : Bool) → eqb m 0 ≡ t → (m ≡ 0 → value < 2 ^ 32) → n ≢ 0 → (pick t value (refusalNumber m) ≡ refusalNumber n) ↔ (m ≡ n)
-  answer-case n m value true e small some = (
-    λ is. absurd (let low = small (eqb-true m 0 e) in some (omega (arith, is, low))),
-    λ is. absurd (some (sym is ∙ eqb-true m 0 e)),
-  )
-  answer-case n m value false e small some = (λ is. omega (arith, is), λ is. ap refusalNumber is)
-
+  -- a header has at most 50 octets
   module _ (words : Words fields) (room : ℕ) where
     built-small : firstOf (numbersChecks fields size room) ≡ 0 → sizeOf (fieldsFrom fields) < 2 ^ 32
     unfolding numbersChecks
@@ -231,21 +224,17 @@ module _ (fields : Numbers) (size : ℕ) where
     unfolding buildAnswer numbersChecks
     refused-is n some =
         let m = firstOf (checks room) in
-        let is = answer-case n m (sizeOf (fieldsFrom fields)) (eqb m 0) refl built-small some in
+        let is = told-refusal n m (sizeOf (fieldsFrom fields)) (eqb m 0) refl built-small some in
         let by = decided (checks room) refl .1 n some in
         (λ e. by .0 (is .0 e), λ h. is .1 (by .1 h))
 
     -- where the answer is below 2^32, nothing was refused
-    passed-case : (m value : ℕ) (t : Bool) → eqb m 0 ≡ t → pick t value (refusalNumber m) < 2 ^ 32 → m ≡ 0
-    passed-case m value true e low = eqb-true m 0 e
-    passed-case m value false e low = omega (arith, low)
-
     passed : buildAnswer fields size room < 2 ^ 32 → noneHolds (checks room)
     unfolding buildAnswer numbersChecks
     passed low =
         let m = firstOf (checks room) in
         decided (checks room) refl .0 .0
-        (passed-case m (sizeOf (fieldsFrom fields)) (eqb m 0) refl low)
+        (told-value m (sizeOf (fieldsFrom fields)) (eqb m 0) refl low)
 
 build-then-read : (fields : Numbers) (size : ℕ) (lent left userData : List ℕ) (answer : ℕ) → Words fields → Builds fields size lent answer left
     → answer < 2 ^ 32 → size ≤ length userData

@@ -22,6 +22,7 @@ pub mod Demand1
 pub mod Demand2
 pub mod Demand3
 pub mod Floods
+pub mod Messages
 pub mod Echoes
 pub mod Apart
 pub mod WrongRelays

@@ -2,12 +2,13 @@
 use native.Mathlib.Omega.{arith}
 use Prim.Native.Nat.{ℕ, _%_, _^_, _<_}
 use mathlib.Core.Path.{_≡_, refl, sym, ap, _∙_}
+use mathlib.Core.Logic.{_↔_, _≢_}
 use mathlib.Core.Bool.{Bool, true, false}
 use mathlib.Core.List.{List, [], _∷_}
 use lib.ListN.{length}
 use lib.Dec.{eqb, ltb}
 use borrow.Author.Tests.{eqb-true, ltb-true, ltb-false, ne-eqb}
-use Rattle.checks.specs.Order.{pick, Checks, firstOf}
+use Rattle.checks.specs.Order.{pick, firstOf}
 use Rattle.checks.specs.Answer.{refusalNumber}
 use Rattle.header.specs.Build.{sizeOf, builtBy}
 use Rattle.header.specs.Limits.{noRoom, mostData, tooMuchData}
@@ -145,6 +146,18 @@ build-out fields size room words =
     omega (arith, most))
     (build-low (noRoom room) (fieldsOut fields) (tooMuchData size))
 
+-- a value, or a refusal above its 32 bits: which refusal it is, and that there is none
+pub told-refusal : (n m value : ℕ) (t : Bool) → eqb m 0 ≡ t → (m ≡ 0 → value < 2 ^ 32) → n ≢ 0 → (pick t value (refusalNumber m) ≡ refusalNumber n) ↔ (m ≡ n)
+told-refusal n m value true e small some = (
+  λ is. absurd (let low = small (eqb-true m 0 e) in some (omega (arith, is, low))),
+  λ is. absurd (some (sym is ∙ eqb-true m 0 e)),
+)
+told-refusal n m value false e small some = (λ is. omega (arith, is), λ is. ap refusalNumber is)
+
+pub told-value : (m value : ℕ) (t : Bool) → eqb m 0 ≡ t → pick t value (refusalNumber m) < 2 ^ 32 → m ≡ 0
+told-value m value true e low = eqb-true m 0 e
+told-value m value false e low = omega (arith, low)
+
 -- echo messages: what is read is refused by the first check that holds, and what is built has at most 8,141 octets
 pub message-refusal : (s : List ℕ) → readRefusal (echoOf s) ≡ firstOf (echoChecks s)
 unfolding echoOf
@@ -171,15 +184,21 @@ built-as k n room = by (firstOf (buildChecks k n room)) (eqb (firstOf (buildChec
     by m true e = rw e
     by m false e = rw e
 
-pub message-out : (k : Message) (n room : ℕ) → refusalIn (builtAnswer (builtOf k n room)) ≡ firstOf (buildChecks k n room)
+pub message-small : (k : Message) (n room : ℕ) → firstOf (buildChecks k n room) ≡ 0 → sizeWith k n < 2 ^ 32
 unfolding buildChecks
+message-small k n room z =
+    let none = decided (buildChecks k n room) refl .0 .0 z in
+    let most = ltb-false mostData (sizeWith k n) (none .1 .0) in
+    omega (arith, most)
+
+message-numbers : (k : Message) (n room : ℕ) → firstOf (buildChecks k n room) < 2 ^ 32
+unfolding buildChecks
+message-numbers k n room = message-low (ltb room (sizeWith k n)) (tooMuchData (sizeWith k n))
+
+message-out : (k : Message) (n room : ℕ) → refusalIn (builtAnswer (builtOf k n room)) ≡ firstOf (buildChecks k n room)
 message-out k n room =
-    let checks : Checks = (ltb room (sizeWith k n), 17) ∷ (tooMuchData (sizeWith k n), 20) ∷ [] in
-    let m = firstOf checks in
-    ap refusalIn (built-as k n room)
-    ∙ answer-out (eqb m 0) m (sizeWith k n) refl
-    (λ z. let none = decided checks refl .0 .0 z in let most = ltb-false mostData (sizeWith k n) (none .1 .0) in omega (arith, most))
-    (message-low (ltb room (sizeWith k n)) (tooMuchData (sizeWith k n)))
+    let m = firstOf (buildChecks k n room) in
+    ap refusalIn (built-as k n room) ∙ answer-out (eqb m 0) m (sizeWith k n) refl (message-small k n room) (message-numbers k n room)
 
 module _ (who : Customer) (steps : List Step) where
   abbrev h : List Call

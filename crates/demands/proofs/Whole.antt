@@ -162,7 +162,7 @@ refused-message (reading.Refused n) h = refl
 refused-message (reading.Good k) h = true-false (sym h)
 
 -- and of one that is not built
-unbuilt : (k : Message) (echoed output : List ℕ) → not (eqb (firstOf (buildChecks k (length echoed) (length output))) 0) ≡ true
+pub unbuilt : (k : Message) (echoed output : List ℕ) → not (eqb (firstOf (buildChecks k (length echoed) (length output))) 0) ≡ true
     → builtOutput k echoed output ≡ output
 unfolding builtOutput builtOf
 unbuilt k echoed output h = by (firstOf (buildChecks k (length echoed) (length output))) h
