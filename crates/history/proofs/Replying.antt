@@ -9,21 +9,24 @@ use lib.Bits.{bitAnd, and-le-l, and-le-r}
 use lib.Dec.{eqb, ltb}
 use borrow.Author.Tests.{eqb-true, eqb-false}
 use Rattle.checks.specs.Order.{pick, firstOf}
-use Rattle.checks.proofs.Bools.{true-false, and-true}
+use Rattle.checks.proofs.Bools.{true-false, and-true, refuted}
 use Rattle.checks.proofs.Laws.{either}
-use Rattle.sets.specs.Sets.{inSet}
+use Rattle.sets.specs.Sets.{inSet, onlyPort}
 use Rattle.sets.proofs.Loops.{portSet-below}
 use Rattle.header.specs.Onward.{foundOf}
 use Rattle.records.specs.SetUp.{isSetUp}
 use Rattle.routes.specs.declared.Record.{Record}
 use Rattle.state.specs.Relay.{Relay, portIn, queueIn}
-use Rattle.survey.specs.Survey.{isFitting, isFull, surveyWithin, wantedOf}
+use Rattle.survey.specs.Survey.{inDomain, isFitting, isFull, surveyWithin, wantedOf}
 use Rattle.survey.specs.declared.Sought.{Sought}
 use Rattle.survey.proofs.Bits.{in-none, in-and, in-except, in-gathered}
-use Rattle.lookup.specs.ForTarget.{wayFor}
+use Rattle.lookup.specs.ForTarget.{wayOf, wayFor}
+use Rattle.routes.specs.Search.{searchOf}
+use Rattle.routes.specs.declared.Found.{Found}
+use Rattle.routes.specs.declared.Found.the-variants.{At, No as NotFound}
 use Rattle.lent_state.specs.View.{tooLong}
 use Rattle.verdict.specs.Numbers.{onwardNumber}
-use Rattle.verdict.specs.Rule.{exceptBy, copiesOf, rulingOf}
+use Rattle.verdict.specs.Rule.{localOf, exceptBy, copiesOf, rulingOf}
 use Rattle.verdict.specs.declared.Local.the-variants.{No}
 use Rattle.verdict.specs.declared.Obstacle.{Obstacle}
 use Rattle.verdict.specs.declared.Obstacle.the-variants.{NoRoute, TooBig, QueuesFull}
@@ -38,8 +41,10 @@ use Rattle.verdict.specs.declared.Wish.the-variants as wish
 use Rattle.judge.specs.Asked.{octetsAsked}
 use Rattle.judge.specs.Ending.{noRuling, arrivalAt}
 use Rattle.judge.specs.declared.Asked.{Asked}
+use Rattle.page.specs.Table.{somePort}
+use Rattle.page.proofs.Sets.{empty-is, only-is}
 use Rattle.page.proofs.Small.{Small}
-use Rattle.replies.specs.Request.{askingOf}
+use Rattle.replies.specs.Request.{isDelivered, asksInHeader, askingOf}
 use Rattle.replies.specs.Reply.{noAnswer, madeOf, hasRoom, askedBy, isAsked, answerTo}
 use Rattle.replies.specs.Replied.{callChecks, destinationSurvey, soughtFor, answeringOf, noReply, repliedAmong, repliedBy as byWay, repliedTo}
 use Rattle.replies.specs.declared.Answering.{Answering}
@@ -120,6 +125,14 @@ module _ (seat : Seat) (rs : List Record) (port : ℕ) (octets : List ℕ) (room
         by true long = none 21 refl
         by false short = answer-case short (eqb (firstOf (callChecks r port room)) 0) refl
 
+  -- it asks in its header
+  pub asking : (identifier sequence : ℕ) → Conditions identifier sequence → asksInHeader (request .header .fields) ≡ true
+  unfolding isAsked
+  asking identifier sequence c =
+      let undropped = and-true (eqb (seat .board .drop) 0) _ (and-true (eqb (request .refusal) 0) _ (c .asked) .1) in
+      let delivered = and-true (isDelivered (localOf (request .target) (request .place) (request .case))) _ (undropped .1) in
+      and-true (asksInHeader (request .header .fields)) _ (delivered .1) .0
+
   -- nothing refuses the request
   pub judged : (identifier sequence : ℕ) → Conditions identifier sequence → request .refusal ≡ 0
   unfolding isAsked
@@ -190,6 +203,11 @@ module _ (seat : Seat) (rs : List Record) (port : ℕ) (octets : List ℕ) (room
     full-in : inSet p (wanted set code .full) ≡ (setUp && (inSet p set && not roomy))
     unfolding surveyWithin
     full-in = in-gathered (λ (i : ℕ). isSetUp (portIn r i) && (inSet i set && isFull (queueIn r i .count))) p 8 inside
+
+    pub domain-in : inSet p (wanted set code .domain) ≡ (setUp && (inSet p set && inDomain (portIn r p) (soughtFor a code room)))
+    unfolding surveyWithin
+    domain-in =
+        in-gathered (λ (i : ℕ). isSetUp (portIn r i) && (inSet i set && inDomain (portIn r i) (soughtFor a code room))) p 8 inside
 
     pub granted-in : inSet p (granted set code) ≡ (inSet p set && (setUp && (inSet p set && isFitting (portIn r p) (soughtFor a code room))))
     granted-in = in-and p set (wanted set code .fitting) ∙ ap (λ (t : Bool). inSet p set && t) fitting-in
@@ -333,6 +351,20 @@ module _ (seat : Seat) (rs : List Record) (port : ℕ) (octets : List ℕ) (room
       (λ made set code is. among-untaken set code)
 
 -- ---- a port that took it
+none-took : {A : Type 0} (p : ℕ) → inSet p 0 ≡ true → A
+none-took p h = true-false (sym h ∙ in-none p)
+
+module _ (seat : Seat) (rs : List Record) (port : ℕ) (octets : List ℕ) (room : ℕ) (p : ℕ) (inside : p < 8) (set code : ℕ) where
+  copies-took : inSet p (copiesOf No (granted seat rs port octets room set code) (wanted seat rs port octets room set code .full) .took) ≡ true
+      → inSet p (granted seat rs port octets room set code) ≡ true
+  unfolding copiesOf
+  copies-took h = and-true (inSet p (granted seat rs port octets room set code)) _ (sym (took-in seat rs port octets room p inside set code) ∙ h) .0
+
+  among-took : inSet p (among seat rs port octets room set code .ruling .took) ≡ true → inSet p (granted seat rs port octets room set code) ≡ true
+  among-took =
+      among-so seat rs port octets room (λ (x : Ruling). inSet p (x .took) ≡ true → inSet p (granted seat rs port octets room set code) ≡ true)
+      set code (none-took p) copies-took
+
 module _ (seat : Seat) (rs : List Record) (p : ℕ) (inside : p < 8) (port : ℕ) (octets : List ℕ) (room : ℕ) where
   -- it is of the set of a route, and the reply was made
   pub record TookBy (e : Replied) : Type 0 where
@@ -343,26 +375,63 @@ module _ (seat : Seat) (rs : List Record) (p : ℕ) (inside : p < 8) (port : ℕ
     pub is : e ≡ among seat rs port octets room set code
     pub granted : inSet p (granted seat rs port octets room set code) ≡ true
 
-  none-took : {A : Type 0} → inSet p 0 ≡ true → A
-  none-took h = true-false (sym h ∙ in-none p)
-
-  copies-took : (set code : ℕ)
-      → inSet p (copiesOf No (granted seat rs port octets room set code) (wanted seat rs port octets room set code .full) .took) ≡ true
-      → inSet p (granted seat rs port octets room set code) ≡ true
-  unfolding copiesOf
-  copies-took set code h = and-true (inSet p (granted seat rs port octets room set code)) _ (sym (took-in seat rs port octets room p inside set code) ∙ h) .0
-
-  among-took : (set code : ℕ) → inSet p (among seat rs port octets room set code .ruling .took) ≡ true → inSet p (granted seat rs port octets room set code) ≡ true
-  among-took set code =
-      among-so seat rs port octets room (λ (x : Ruling). inSet p (x .took) ≡ true → inSet p (granted seat rs port octets room set code) ≡ true)
-      set code none-took (copies-took set code)
-
   pub took-by : inSet p (repliedBy seat rs port octets room .ruling .took) ≡ true → TookBy (repliedBy seat rs port octets room)
   unfolding rulingOf
   took-by =
       reply-so seat rs port octets room (λ (e : Replied). inSet p (e .ruling .took) ≡ true → TookBy e)
-      (λ n is. none-took) (λ made. none-took)
-      (λ made set code way took. record { made = made; set = set; code = code; way = way; is = refl; granted = among-took set code took })
+      (λ n is. none-took p) (λ made. none-took p)
+      (λ made set code way took. record { made = made; set = set; code = code; way = way; is = refl; granted = among-took seat rs port octets room p inside set code took })
+
+  -- it is the route's port, and so no other took it: the header that goes is the one for its domain
+  module _ (set code : ℕ) (way : wayFor (relayWith seat rs) Route (answeringBy seat rs port octets room .destination) ≡ By set code)
+      (took : inSet p (among seat rs port octets room set code .ruling .took) ≡ true) where
+    abbrev reply : Replied
+    reply = among seat rs port octets room set code
+
+    abbrev near : Bool
+    near = inDomain (portIn (relayWith seat rs) p) (soughtFor (answeringBy seat rs port octets room) code room)
+
+    up : (isSetUp (portIn (relayWith seat rs) p) ≡ true) × (inSet p set ≡ true)
+    up =
+        let g = granted-up seat rs port octets room p inside set code (among-took seat rs port octets room p inside set code took) in
+        (g .0, g .1 .0)
+
+    alone : (x : Found) → wayOf x ≡ By set code → (k : ℕ) → k < 8 → inSet k set ≡ true → k ≡ p
+    alone (At place ones route) is k h in-set =
+        let one : onlyPort (route .port) ≡ set = cc in
+        let mine = eqb-true p (route .port) (sym (only-is p (route .port) inside) ∙ ap (inSet p) one ∙ up .1) in
+        let its = eqb-true k (route .port) (sym (only-is k (route .port) h) ∙ ap (inSet k) one ∙ in-set) in
+        its ∙ sym mine
+    alone NotFound is k h in-set = true-false cc
+
+    domain-is : inSet p (wanted seat rs port octets room set code .domain) ≡ near
+    domain-is = domain-in seat rs port octets room p inside set code ∙ rw (up .0, up .1)
+
+    none-far : near ≡ true → (k : ℕ) → k < 8 → inSet k (reply .far) ≡ false
+    unfolding repliedAmong
+    none-far here k h =
+        refuted (inSet k (reply .far)) (λ is.
+        let both = and-true (inSet k (reply .ruling .took)) _ (sym (in-except k (reply .ruling .took) (wanted seat rs port octets room set code .domain)) ∙ is) in
+        let given = among-took seat rs port octets room k h set code (both .0) in
+        let same = alone (searchOf (answeringBy seat rs port octets room .destination) (relayWith seat rs .routes)) way k h
+        (granted-up seat rs port octets room k h set code given .1 .0) in
+        true-false (sym (both .1) ∙ ap not (ap (λ (i : ℕ). inSet i (wanted seat rs port octets room set code .domain)) same ∙ domain-is ∙ here)))
+
+    far-small : reply .far < 256
+    unfolding repliedAmong
+    far-small = omega (arith, among-so seat rs port octets room Small set code (none-small (onward.Refused TooBig)) (copies-small seat rs port octets room set code) .took)
+
+    pub far-is : not (eqb (reply .far) 0) ≡ not near
+    unfolding repliedAmong somePort
+    far-is = by near refl
+      where
+        by : (t : Bool) → near ≡ t → not (eqb (reply .far) 0) ≡ not t
+        by true here = ap not (empty-is (reply .far) (λ (k : ℕ). false) far-small (none-far here))
+        by false away =
+            ap not (refuted (eqb (reply .far) 0) (λ z.
+            let is : inSet p (reply .far) ≡ true =
+            in-except p (reply .ruling .took) (wanted seat rs port octets room set code .domain) ∙ rw (took, domain-is, away) refl in
+            true-false (sym is ∙ ap (inSet p) (eqb-true (reply .far) 0 z) ∙ in-none p)))
 
   -- it is set up
   pub took-set-up : inSet p (repliedBy seat rs port octets room .ruling .took) ≡ true → isSetUp (portIn (relayWith seat rs) p) ≡ true

@@ -1,18 +1,53 @@
--- A reply's octets. Assumes nothing.
+-- A reply's octets (page 02, W-203 and W-214): they are octets; as it is made they read as the header that it is made of, and as it goes out as one that names, at the
+-- port by which it goes, what the other names at the port of the request. Assumes nothing.
 use native.Mathlib.Omega.{arith}
-use Prim.Native.Nat.{ℕ, zero, suc, _+_, _/_, _%_, _<_}
-use mathlib.Core.Path.{_≡_, refl, sym, ap, _∙_}
+use Prim.Native.Nat.{ℕ, zero, suc, _+_, _-_, _/_, _%_, _^_, _≤_, _<_}
+use mathlib.Core.Path.{_≡_, refl, sym, ap, subst, _∙_}
+use mathlib.Core.Bool.{Bool, true, false, not, _&&_}
 use mathlib.Core.List.{List, [], _∷_, _++_}
-use lib.ListN.{getD, take, drop}
+use lib.Dec.{eqb, ltb}
+use lib.ListN.{getD, length, take, drop, length-take, length-drop}
+use lib.Bits.{bitAnd}
+use lib.Seq.{drop-append-seam}
+use borrow.Author.Tests.{ltb-true, ltb-false}
+use Rattle.checks.specs.Order.{pick, firstOf}
+use Rattle.checks.proofs.Bools.{true-false, and-true, refuted, not-false}
+use Rattle.checks.proofs.Laws.{either}
+use Rattle.sets.specs.Sets.{inSet, onlyPort}
 use Rattle.octets.specs.Octets.{octets}
-use Rattle.header.specs.Build.{headerOctets}
-use Rattle.header.proofs.BuiltLaws.{append-small, header-small}
-use Rattle.echo.specs.Message.{seenOctets, kindOctets, fixedOctets, messageOctets}
+use Rattle.address.specs.declared.Address.{Address}
+use Rattle.header.specs.Limits.{mostData}
+use Rattle.header.specs.Range.{addressesFit, qosFits, InRange}
+use Rattle.header.specs.Read.{readOf}
+use Rattle.header.specs.Build.{sourceFlag, sizeOf, headerOctets}
+use Rattle.header.specs.declared.Addresses.{Addresses}
+use Rattle.header.specs.declared.Addresses.the-variants.{BasicPath, ExtendedPath, BasicEndSystem, ExtendedEndSystem, Ipv6}
+use Rattle.header.specs.declared.Qos.{Qos}
+use Rattle.header.specs.declared.Qos.the-variants as qos
+use Rattle.header.specs.declared.Fields.{Fields}
+use Rattle.header.specs.declared.Header.{Header}
+use Rattle.header.specs.declared.Read.the-variants.{Good}
+use Rattle.header.proofs.Answers.{read-in-range, read-bounds}
+use Rattle.header.proofs.BuiltLaws.{append-small, header-small, header-length}
+use Rattle.header.proofs.Trip.{read-built}
+use Rattle.echo.specs.Message.{requestSize, replySize, fixedSize, seenOctets, kindOctets, fixedOctets, messageOctets}
 use Rattle.echo.specs.declared.Kind.{Kind}
 use Rattle.echo.specs.declared.Kind.the-variants.{Request, Reply}
 use Rattle.echo.specs.declared.Message.{Message}
-use Rattle.replies.specs.Replied.{echoedOf, messageSize, ownReply}
+use Rattle.echo.proofs.Trip.{written-length}
+use Rattle.meaning.specs.Flood.{isFlooded}
+use Rattle.meaning.specs.Names.{aimOf, originOf, isBasic, isBound, filledIn}
+use Rattle.networks.specs.Networks.{domainOf}
+use Rattle.next_leg.specs.Leg.{asksChecksum, dataOf, widened, addressesNext, nextFields}
+use Rattle.next_leg.proofs.Made.{checksum-case}
+use Rattle.next_leg.proofs.Names.{same-aim, same-origin, stays-home}
+use Rattle.verdict.specs.declared.Survey.{Survey}
+use Rattle.judge.specs.declared.Asked.{Asked}
+use Rattle.replies.specs.Request.{scmp, asksInHeader, isOwned}
+use Rattle.replies.specs.Reply.{replyAddresses, replyQos, replyFields, least, mostEchoed, echoedCount, madeOf, isAsked}
+use Rattle.replies.specs.Replied.{wireFields, echoedOf, messageSize, ownReply, wireHeader, wireReply}
 use Rattle.replies.specs.declared.Answering.{Answering}
+use Rattle.replies.specs.declared.sending.Replied.{Replied}
 use Rattle.history.specs.Ranges.{Octets}
 
 -- ---- they are octets
@@ -50,3 +85,170 @@ pub own-octets : (a : Answering) (request : List ℕ) → Octets request → Oct
 own-octets a request small =
     append-small (headerOctets (a .fields) (messageSize a)) (messageOctets (a .message) (echoedOf a request)) (header-small (a .fields) (messageSize a))
     (message-small (a .message) (echoedOf a request) (take-small (a .count) (drop (a .from) request) (drop-small (a .from) request small)))
+
+-- ---- the fields are in range
+reply-addresses-fit : (arrival : Address) (own : Bool) (a : Addresses) → arrival .0 < 2 ^ 32 → addressesFit a → addressesFit (replyAddresses arrival own a)
+reply-addresses-fit arrival own (BasicPath z) h fits = fits
+reply-addresses-fit arrival own (ExtendedPath p) h fits = fits
+reply-addresses-fit arrival own (BasicEndSystem d s) h fits = (fits .1, either (λ (n : ℕ). n < 256) own (fits .0) (omega arith))
+reply-addresses-fit arrival own (ExtendedEndSystem d s) h fits = (fits .1, either (λ (x : Address). x .0 < 256 ^ 4) own (fits .0) (omega (arith, h)))
+reply-addresses-fit arrival own (Ipv6 d s) h fits = fits
+
+reply-qos-fits : (q : Qos) → qosFits q → qosFits (replyQos q)
+reply-qos-fits qos.Absent fits = tt
+reply-qos-fits (qos.Present precedence routing program) fits = (fits .0, (omega arith, omega arith))
+
+reply-in-range : (arrival : Address) (own : Bool) (f : Fields) → arrival .0 < 2 ^ 32 → InRange f → InRange (replyFields arrival own f)
+unfolding replyFields
+reply-in-range arrival own f h r =
+    record {
+      tpid = omega arith;
+      addresses = reply-addresses-fit arrival own (f .addresses) h (r .addresses);
+      qos = reply-qos-fits (f .qos) (r .qos);
+      hops = omega arith;
+      stamp = tt;
+      expanded = tt;
+      checksum = omega arith;
+      intermediate = omega arith;
+    }
+
+widened-fits : (arrival : ℕ) (a : Addresses) → arrival < 2 ^ 32 → addressesFit a → addressesFit (widened arrival a)
+widened-fits arrival (BasicPath z) h fits = fits
+widened-fits arrival (ExtendedPath p) h fits = fits
+widened-fits arrival (BasicEndSystem d s) h fits = (omega (arith, h, fits .0), omega (arith, h, fits .1))
+widened-fits arrival (ExtendedEndSystem d s) h fits = fits
+widened-fits arrival (Ipv6 d s) h fits = fits
+
+wire-in-range : (far : Bool) (arrival code : ℕ) (f : Fields) → arrival < 2 ^ 32 → InRange f → InRange (wireFields far arrival code f)
+unfolding wireFields
+wire-in-range far arrival code f h r =
+    record {
+      tpid = r .tpid;
+      addresses = either addressesFit far (widened-fits arrival (f .addresses) h (r .addresses)) (r .addresses);
+      qos = r .qos;
+      hops = r .hops;
+      stamp = r .stamp;
+      expanded = r .expanded;
+      checksum = checksum-case (asksChecksum code) (f .checksum) (r .checksum);
+      intermediate = r .intermediate;
+    }
+
+-- ---- a reply with such fields, so much data, and all of it there
+pub record Sound (a : Answering) (request : List ℕ) : Type 0 where
+  pub range : InRange (a .fields)
+  pub arrival : a .arrival .0 < 2 ^ 32
+  pub count : a .count ≤ mostEchoed
+  pub enough : a .count ≤ length (echoedOf a request)
+  pub reply : (a .message .kind ≡ Request) → ⊥
+  pub free : isBound (a .fields .addresses) ≡ 1 → ⊥
+
+-- the header that it is made with, and the one that it goes out with
+abbrev pub madeHeader : Answering → Header
+madeHeader a = record { fields = a .fields; length = sizeOf (a .fields) + messageSize a; size = sizeOf (a .fields) }
+
+abbrev pub wiredHeader : Bool → ℕ → Answering → Header
+wiredHeader far code a =
+    record {
+      fields = wireFields far (a .arrival .0) code (a .fields);
+      length = sizeOf (wireFields far (a .arrival .0) code (a .fields)) + messageSize a;
+      size = sizeOf (wireFields far (a .arrival .0) code (a .fields));
+    }
+
+module _ (a : Answering) (request : List ℕ) (s : Sound a request) where
+  abbrev message : List ℕ
+  message = messageOctets (a .message) (echoedOf a request)
+
+  kind-size : (k : Kind) → (k ≡ Request → ⊥) → replySize ≤ fixedSize k
+  kind-size Request other = absurd (other refl)
+  kind-size (Reply x) other = omega arith
+
+  whole : messageSize a ≤ length message
+  whole = omega (arith, s .enough, written-length (a .message) (echoedOf a request), kind-size (a .message .kind) (s .reply))
+
+  few : messageSize a ≤ mostData
+  few = omega (arith, s .count)
+
+  -- As it is made it reads as the header that it is made of,
+  pub reply-reads : readOf (ownReply a request) ≡ Good (madeHeader a)
+  reply-reads = read-built (a .fields) (messageSize a) message (s .range) few whole
+
+  -- behind which the message stands,
+  pub reply-message : drop (sizeOf (a .fields)) (ownReply a request) ≡ message
+  reply-message =
+      ap (λ (n : ℕ). drop n (ownReply a request)) (sym (header-length (a .fields) (messageSize a) (s .range .checksum)))
+      ∙ drop-append-seam (headerOctets (a .fields) (messageSize a)) message
+
+  -- and as it goes out it reads as that header with what W-214 changes.
+  pub wire-reads : (far : Bool) (code : ℕ)
+      → readOf (headerOctets (wireFields far (a .arrival .0) code (a .fields)) (messageSize a) ++ message) ≡ Good (wiredHeader far code a)
+  wire-reads far code =
+      read-built (wireFields far (a .arrival .0) code (a .fields)) (messageSize a) message (wire-in-range far (a .arrival .0) code (a .fields) (s .arrival) (s .range)) few whole
+
+  module _ (out : ℕ) (code : ℕ) (far : Bool) (home : far ≡ false → domainOf (record { 0 = out }) ≡ domainOf (a .arrival)) where
+    bound : isBound (a .fields .addresses) ≡ 1 → far ≡ false
+    bound b = absurd (s .free b)
+
+    pub wire-aim : aimOf out (wireFields far (a .arrival .0) code (a .fields) .addresses) ≡ aimOf (a .arrival .0) (a .fields .addresses)
+    unfolding wireFields nextFields
+    wire-aim = same-aim out (a .arrival .0) code far (a .fields) home bound
+
+    pub wire-origin : originOf out (wireFields far (a .arrival .0) code (a .fields) .addresses) ≡ originOf (a .arrival .0) (a .fields .addresses)
+    unfolding wireFields nextFields
+    wire-origin = same-origin out (a .arrival .0) code far (a .fields) home bound
+
+    pub wire-home : isBasic (wireFields far (a .arrival .0) code (a .fields) .addresses) ≡ 1 → far ≡ false
+    unfolding wireFields nextFields
+    wire-home = stays-home (a .arrival .0) code far (a .fields) bound
+
+-- ---- a reply that is made is so, where the request was read, came in by a port whose address has 32 bits, and asks in its header
+least-under : (a b : ℕ) → (least a b ≤ a) × (least a b ≤ b)
+least-under a b = by (ltb a b) refl
+  where
+    by : (t : Bool) → ltb a b ≡ t → (pick t a b ≤ a) × (pick t a b ≤ b)
+    by true e = (omega arith, omega (arith, ltb-true a b e))
+    by false e = (omega (arith, ltb-false a b e), omega arith)
+
+sourced-free : (arrival : Address) (own : Bool) (a : Addresses) → not (eqb (sourceFlag a) 0) ≡ true → isBound (replyAddresses arrival own a) ≡ 1 → ⊥
+sourced-free arrival own (BasicPath z) h b = true-false (sym h)
+sourced-free arrival own (ExtendedPath p) h b = omega (arith, b)
+sourced-free arrival own (BasicEndSystem d s) h b = omega (arith, b)
+sourced-free arrival own (ExtendedEndSystem d s) h b = omega (arith, b)
+sourced-free arrival own (Ipv6 d s) h b = omega (arith, b)
+
+module _ (request : Asked) (named : Survey) (mtu identifier sequence : ℕ) (octets : List ℕ) (small : Octets octets)
+    (read : readOf octets ≡ Good (request .header)) (here : request .arrival .0 < 2 ^ 32) (asks : asksInHeader (request .header .fields) ≡ true) where
+  abbrev answer : Answering
+  answer = madeOf request named mtu identifier sequence
+
+  count-under : (answer .count ≤ dataOf (request .header) - requestSize) × (answer .count ≤ mostEchoed)
+  unfolding echoedCount
+  count-under =
+      let n = dataOf (request .header) - requestSize in
+      let first = least-under n mostEchoed in
+      let second = least-under (least n mostEchoed) (mtu - sizeOf (answer .fields) - replySize) in
+      (omega (arith, first .0, second .0), omega (arith, first .1, second .0))
+
+  all-there : answer .count ≤ length (echoedOf answer octets)
+  all-there =
+      let bounds = read-bounds octets (request .header) small read in
+      rw (length-take (answer .count) (drop (answer .from) octets), length-drop (answer .from) octets)
+      (omega (arith, count-under .0, bounds .1 .1 .0, bounds .1 .1 .1 .0))
+
+  source : not (eqb (sourceFlag (request .header .fields .addresses)) 0) ≡ true
+  unfolding asksInHeader
+  source =
+      let f = request .header .fields in
+      let plain = and-true (not (isFlooded f)) _ (and-true (eqb (f .tpid) scmp) _ asks .1) in
+      and-true (not (eqb (sourceFlag (f .addresses)) 0)) _ (plain .1) .0
+
+  pub made-sound : Sound answer octets
+  unfolding replyFields
+  made-sound =
+      record {
+        range = reply-in-range (request .arrival) (isOwned named) (request .header .fields) here (read-in-range octets (request .header) small read);
+        arrival = here;
+        count = count-under .1;
+        enough = all-there;
+        reply = λ e. true-false cc;
+        free = sourced-free (request .arrival) (isOwned named) (request .header .fields .addresses) source;
+      }
