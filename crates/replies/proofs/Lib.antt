@@ -2,3 +2,5 @@
 pub mod Chosen
 pub mod Making
 pub mod Going
+pub mod Answered
+pub mod Written
