@@ -4,3 +4,5 @@ pub mod Making
 pub mod Going
 pub mod Answered
 pub mod Written
+pub mod Made
+pub mod Goes
