@@ -12,7 +12,7 @@ use lib.Dec.{eqb, ltb, leb}
 use borrow.Author.Tests.{eqb-true, ltb-true, ltb-false, ne-eqb, lt-leb}
 use Rattle.checks.specs.Order.{pick, firstOf}
 use Rattle.checks.proofs.Bools.{true-false, and-true, not-false}
-use Rattle.checks.proofs.Laws.{either, zero-none}
+use Rattle.checks.proofs.Laws.{either}
 use Rattle.sets.specs.Sets.{inSet}
 use Rattle.address.specs.Class.{classNumber, between, familyOf, classIn, classOf}
 use Rattle.address.specs.Octets.{dotted}
@@ -45,7 +45,6 @@ use Rattle.state.proofs.Seen.{seen-set-up}
 use Rattle.judge.specs.Ending.{refusedBy, callChecks as heardChecks, headerEnding, octetsEnding, ruledEnding, arrivalAt, endingOf}
 use Rattle.judge.specs.declared.Ending.{Ending}
 use Rattle.relay.specs.Received.{newEntry}
-use Rattle.replies.specs.Reply.{isAsked}
 use Rattle.replies.specs.Replied.{callChecks, wireFields, ownReply, wireHeader}
 use Rattle.replies.specs.declared.Answering.{Answering}
 use Rattle.replies.specs.declared.sending.Replied.{Replied}
@@ -57,12 +56,13 @@ use Rattle.history.specs.Ranges.{Octets, Passed}
 use Rattle.history.specs.Line.{Copy, copyOf, replyCopy, sentOf, takenBy, lineBy, lineFrom, lineAt}
 use Rattle.page.specs.Table.{oneOctet, liesFar, hasRoom, verdictBy}
 use Rattle.survey.proofs.Bits.{in-none}
+use Rattle.page.proofs.Answered.{made-exactly, made-tells}
 use Rattle.page.proofs.Exactly.{took-exactly}
+use Rattle.page.proofs.Replies.{reply-granted, reply-shared, reply-wired}
 use Rattle.page.proofs.Headers.{headers-of-any-relay}
 use Rattle.page.proofs.Verdict.{masks-choose}
 use Rattle.history.proofs.Heard.{heard-so}
-use Rattle.history.proofs.Requests.{was-asked}
-use Rattle.history.proofs.Replying.{request, named, judged, asking, answer-so, among, took-by, far-is}
+use Rattle.history.proofs.Replying.{answer, reply, both-so}
 use Rattle.history.proofs.Wire.{Sound, madeHeader, wiredHeader, made-sound, reply-reads, reply-message, wire-reads, wire-aim, wire-origin, wire-home}
 use Rattle.history.proofs.Ports.{seen-stays}
 use Rattle.history.proofs.Meaning.{has-passed, arrival-set-up, stays-in-its-domain, names-the-same}
@@ -210,28 +210,14 @@ module _ (p : ℕ) (inside : p < 8) where
   -- ---- a reply: the copy that enters
   module _ (seat : Seat) (rs : List Record) (n port : ℕ) (slot : Slot) (octets : List ℕ) (room : ℕ) (small : Octets octets) (k : Kept seat) where
     abbrev a : Answering
-    a = answeringBy seat rs port octets room
+    a = answer seat rs port octets room
 
-    -- one that is made is sound, and came in by this port
-    made-so : (a .made ≡ 0 → ⊥) → Sound a octets × (a .arrival ≡ portIn (relayIn seat) port .address)
-    unfolding isAsked callChecks
-    made-so =
-        answer-so seat rs port octets room
-        (λ (x : Answering). (x .made ≡ 0 → ⊥) → Sound x octets × (x .arrival ≡ portIn (relayIn seat) port .address))
-        (λ m is made. absurd (made refl))
-        (λ identifier sequence c made.
-        let r = relayWith seat rs in
-        let q = request seat rs port octets room in
-        let was = was-asked r (seat .number) (arrivalAt r port) octets (judged seat rs port octets room identifier sequence c) in
-        let up = not-false (portSetUp r port) (zero-none (callChecks r port room) ((λ z. omega arith), ((λ z. omega arith), tt)) (c .call) .0) in
-        let here : q .arrival .0 < 2 ^ 32 = subst (λ (x : Address). x .0 < 2 ^ 32) (sym (was .arrival)) (set-up-small seat k port up) in (
-          made-sound q (named seat rs port octets room) (portIn r port .mtu) identifier sequence octets small (was .read) here (asking seat rs port octets room identifier sequence c),
-          was .arrival,
-        ))
+    abbrev e : Replied
+    e = reply seat rs port octets room
 
     -- its copy, as if its request had come in by a port with this address
-    abbrev copyFrom : Replied → Address → Copy
-    copyFrom e arrival =
+    abbrev copyFrom : Address → Copy
+    copyFrom arrival =
         record {
           turn = n;
           arrival = arrival;
@@ -241,21 +227,25 @@ module _ (p : ℕ) (inside : p < 8) where
           entry = newEntry slot (asEnding e);
         }
 
-    reply-named : inSet p (repliedBy seat rs port octets room .ruling .took) ≡ true
-        → NamesTheSame (portIn (relayIn seat) p) (replyCopy n seat port slot octets a (repliedBy seat rs port octets room))
-    reply-named took =
-        let t = took-by seat rs p inside port octets room took in
-        let so = made-so (t .made) in
-        let s = so .0 in
-        let e = among seat rs port octets room (t .set) (t .code) in
+    page-reply : inSet p (e .ruling .took) ≡ true → NamesTheSame (portIn (relayIn seat) p) (replyCopy n seat port slot octets a e)
+    unfolding callChecks
+    page-reply took =
+        let r = relayWith seat rs in
+        let granted = reply-shared r (seat .number) (seat .board .drop) port octets room p inside (inl took) in
+        let made = reply-granted r (seat .number) (seat .board .drop) port octets room longerMask (masks-choose r) p inside .0 granted .0 in
+        let told = made-tells r (seat .number) (seat .board .drop) port octets room made in
+        let up = not-false (portSetUp r port) (made-exactly r (seat .number) (seat .board .drop) port octets room .0 made .0 .0) in
+        let s = made-sound r (seat .board .drop) port octets a (told .0) (told .1) small (set-up-small seat k port up) in
         let far = not (eqb (e .far) 0) in
         let code = e .code in
         let out = portIn (relayIn seat) p .address .0 in
         let lies : far ≡ not (eqb (domainOf (portIn (relayIn seat) p .address)) (domainOf (a .arrival))) =
-        far-is seat rs p inside port octets room (t .set) (t .code) (t .way) (subst (λ (x : Replied). inSet p (x .ruling .took) ≡ true) (t .is) took) in
+        reply-wired r (seat .number) (seat .board .drop) port octets room .far p inside took
+        ∙ ap (λ (x : Address). not (eqb (domainOf (portIn (relayIn seat) p .address)) (domainOf x))) (sym (told .1 .arrival)) in
         let home : far ≡ false → domainOf (portIn (relayIn seat) p .address) ≡ domainOf (a .arrival) =
         λ near. eqb-true (domainOf (portIn (relayIn seat) p .address)) (domainOf (a .arrival)) (not-false _ (sym lies ∙ near)) in
-        rw (t .is) (subst (λ (x : Address). NamesTheSame (portIn (relayIn seat) p) (copyFrom e x)) (so .1) (record {
+        subst (λ (x : Address). NamesTheSame (portIn (relayIn seat) p) (copyFrom x)) (told .1 .arrival)
+        (record {
           came = madeHeader a;
           read = reply-reads a octets s;
           size = refl;
@@ -269,7 +259,14 @@ module _ (p : ℕ) (inside : p < 8) where
           aim = wire-aim a octets s out code far home;
           origin = wire-origin a octets s out code far home;
           domain = λ one. home (wire-home a octets s out code far home (eqb-true _ 1 one));
-        }))
+        })
+
+    new-reply : inSet p (repliedBy seat rs port octets room .ruling .took) ≡ true
+        → NamesTheSame (portIn (relayIn seat) p) (replyCopy n seat port slot octets (answeringBy seat rs port octets room) (repliedBy seat rs port octets room))
+    new-reply =
+        both-so seat rs port octets room
+        (λ (x : Answering) (y : Replied). inSet p (y .ruling .took) ≡ true → NamesTheSame (portIn (relayIn seat) p) (replyCopy n seat port slot octets x y))
+        (λ long z. true-false (sym z ∙ in-none p)) (λ short. page-reply)
 
   enters-case : (t : Bool) (seat : Seat) (c : Copy) → (t ≡ true → NamesTheSame (portIn (relayIn seat) p) c) → AllNamed seat (pick t (c ∷ []) [])
   enters-case true seat c f = (f refl, tt)
@@ -284,7 +281,7 @@ module _ (p : ℕ) (inside : p < 8) where
   entered-named n seat k (own (echoes rs port slot octets output)) passed =
       let e = repliedBy seat rs port octets (length output) in
       enters-case (inSet p (e .ruling .took)) seat (replyCopy n seat port slot octets (answeringBy seat rs port octets (length output)) e)
-      (reply-named seat rs n port slot octets (length output) (passed .1) k)
+      (new-reply seat rs n port slot octets (length output) (passed .1) k)
   entered-named n seat k (own (takes port)) passed = tt
   entered-named n seat k (own (sweeps second)) passed = tt
   entered-named n seat k (own (looks l)) passed = tt

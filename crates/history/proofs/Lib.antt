@@ -17,7 +17,6 @@ pub mod Keys
 pub mod Holds
 pub mod Refusals
 pub mod Listed
-pub mod Requests
 pub mod Replying
 pub mod Wire
 pub mod Answered

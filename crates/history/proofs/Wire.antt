@@ -1,24 +1,20 @@
 -- A reply's octets (page 02, W-203 and W-214): they are octets; as it is made they read as the header that it is made of, and as it goes out as one that names, at the
 -- port by which it goes, what the other names at the port of the request. Assumes nothing.
 use native.Mathlib.Omega.{arith}
-use Prim.Native.Nat.{ℕ, zero, suc, _+_, _-_, _/_, _%_, _^_, _≤_, _<_}
+use Prim.Native.Nat.{ℕ, zero, suc, _+_, _/_, _%_, _^_, _≤_, _<_}
 use mathlib.Core.Path.{_≡_, refl, sym, ap, subst, _∙_}
-use mathlib.Core.Bool.{Bool, true, false, not, _&&_}
+use mathlib.Core.Logic.{_≢_}
+use mathlib.Core.Bool.{Bool, true, false}
 use mathlib.Core.List.{List, [], _∷_, _++_}
-use lib.Dec.{eqb, ltb}
-use lib.ListN.{getD, length, take, drop, length-take, length-drop}
-use lib.Bits.{bitAnd}
+use lib.ListN.{length, take, drop, length-take, length-drop}
 use lib.Seq.{drop-append-seam}
-use borrow.Author.Tests.{ltb-true, ltb-false}
-use Rattle.checks.specs.Order.{pick, firstOf}
-use Rattle.checks.proofs.Bools.{true-false, and-true, refuted, not-false}
+use Rattle.checks.proofs.Bools.{true-false}
 use Rattle.checks.proofs.Laws.{either}
-use Rattle.sets.specs.Sets.{inSet, onlyPort}
 use Rattle.octets.specs.Octets.{octets}
 use Rattle.address.specs.declared.Address.{Address}
 use Rattle.header.specs.Limits.{mostData}
 use Rattle.header.specs.Range.{addressesFit, qosFits, InRange}
-use Rattle.header.specs.Read.{readOf}
+use Rattle.header.specs.Read.{headerOf, readOf}
 use Rattle.header.specs.Build.{sourceFlag, sizeOf, headerOctets}
 use Rattle.header.specs.declared.Addresses.{Addresses}
 use Rattle.header.specs.declared.Addresses.the-variants.{BasicPath, ExtendedPath, BasicEndSystem, ExtendedEndSystem, Ipv6}
@@ -30,24 +26,22 @@ use Rattle.header.specs.declared.Read.the-variants.{Good}
 use Rattle.header.proofs.Answers.{read-in-range, read-bounds}
 use Rattle.header.proofs.BuiltLaws.{append-small, header-small, header-length}
 use Rattle.header.proofs.Trip.{read-built}
-use Rattle.echo.specs.Message.{requestSize, replySize, fixedSize, seenOctets, kindOctets, fixedOctets, messageOctets}
+use Rattle.echo.specs.Message.{replySize, fixedSize, seenOctets, kindOctets, fixedOctets, messageOctets}
 use Rattle.echo.specs.declared.Kind.{Kind}
 use Rattle.echo.specs.declared.Kind.the-variants.{Request, Reply}
 use Rattle.echo.specs.declared.Message.{Message}
 use Rattle.echo.proofs.Trip.{written-length}
-use Rattle.meaning.specs.Flood.{isFlooded}
-use Rattle.meaning.specs.Names.{aimOf, originOf, isBasic, isBound, filledIn}
+use Rattle.meaning.specs.Names.{aimOf, originOf, isBasic, isBound}
+use Rattle.state.specs.Relay.{Relay, portIn}
 use Rattle.networks.specs.Networks.{domainOf}
-use Rattle.next_leg.specs.Leg.{asksChecksum, dataOf, widened, addressesNext, nextFields}
+use Rattle.next_leg.specs.Leg.{asksChecksum, widened, nextFields}
 use Rattle.next_leg.proofs.Made.{checksum-case}
 use Rattle.next_leg.proofs.Names.{same-aim, same-origin, stays-home}
-use Rattle.verdict.specs.declared.Survey.{Survey}
-use Rattle.judge.specs.declared.Asked.{Asked}
-use Rattle.replies.specs.Request.{scmp, asksInHeader, isOwned}
-use Rattle.replies.specs.Reply.{replyAddresses, replyQos, replyFields, least, mostEchoed, echoedCount, madeOf, isAsked}
-use Rattle.replies.specs.Replied.{wireFields, echoedOf, messageSize, ownReply, wireHeader, wireReply}
+use Rattle.page.specs.Table.{aimAt, equalsPort}
+use Rattle.page.specs.Replies.{RequestAnswered, ReplyTo}
+use Rattle.replies.specs.Reply.{replyAddresses, replyQos, replyFields, mostEchoed}
+use Rattle.replies.specs.Replied.{wireFields, echoedOf, messageSize, ownReply}
 use Rattle.replies.specs.declared.Answering.{Answering}
-use Rattle.replies.specs.declared.sending.Replied.{Replied}
 use Rattle.history.specs.Ranges.{Octets}
 
 -- ---- they are octets
@@ -139,7 +133,7 @@ pub record Sound (a : Answering) (request : List ℕ) : Type 0 where
   pub arrival : a .arrival .0 < 2 ^ 32
   pub count : a .count ≤ mostEchoed
   pub enough : a .count ≤ length (echoedOf a request)
-  pub reply : (a .message .kind ≡ Request) → ⊥
+  pub reply : a .message .kind ≡ Request → ⊥
   pub free : isBound (a .fields .addresses) ≡ 1 → ⊥
 
 -- the header that it is made with, and the one that it goes out with
@@ -200,55 +194,38 @@ module _ (a : Answering) (request : List ℕ) (s : Sound a request) where
     unfolding wireFields nextFields
     wire-home = stays-home (a .arrival .0) code far (a .fields) bound
 
--- ---- a reply that is made is so, where the request was read, came in by a port whose address has 32 bits, and asks in its header
-least-under : (a b : ℕ) → (least a b ≤ a) × (least a b ≤ b)
-least-under a b = by (ltb a b) refl
-  where
-    by : (t : Bool) → ltb a b ≡ t → (pick t a b ≤ a) × (pick t a b ≤ b)
-    by true e = (omega arith, omega (arith, ltb-true a b e))
-    by false e = (omega (arith, ltb-false a b e), omega arith)
+-- ---- a reply that is made is so: what page 02 says of it (crate page), where the request's octets are octets and the address of its port has 32 bits
+sourced-free : (arrival : Address) (own : Bool) (a : Addresses) → sourceFlag a ≢ 0 → isBound (replyAddresses arrival own a) ≡ 1 → ⊥
+sourced-free arrival own (BasicPath z) source b = source refl
+sourced-free arrival own (ExtendedPath p) source b = omega (arith, b)
+sourced-free arrival own (BasicEndSystem d s) source b = omega (arith, b)
+sourced-free arrival own (ExtendedEndSystem d s) source b = omega (arith, b)
+sourced-free arrival own (Ipv6 d s) source b = omega (arith, b)
 
-sourced-free : (arrival : Address) (own : Bool) (a : Addresses) → not (eqb (sourceFlag a) 0) ≡ true → isBound (replyAddresses arrival own a) ≡ 1 → ⊥
-sourced-free arrival own (BasicPath z) h b = true-false (sym h)
-sourced-free arrival own (ExtendedPath p) h b = omega (arith, b)
-sourced-free arrival own (BasicEndSystem d s) h b = omega (arith, b)
-sourced-free arrival own (ExtendedEndSystem d s) h b = omega (arith, b)
-sourced-free arrival own (Ipv6 d s) h b = omega (arith, b)
-
-module _ (request : Asked) (named : Survey) (mtu identifier sequence : ℕ) (octets : List ℕ) (small : Octets octets)
-    (read : readOf octets ≡ Good (request .header)) (here : request .arrival .0 < 2 ^ 32) (asks : asksInHeader (request .header .fields) ≡ true) where
-  abbrev answer : Answering
-  answer = madeOf request named mtu identifier sequence
-
-  count-under : (answer .count ≤ dataOf (request .header) - requestSize) × (answer .count ≤ mostEchoed)
-  unfolding echoedCount
-  count-under =
-      let n = dataOf (request .header) - requestSize in
-      let first = least-under n mostEchoed in
-      let second = least-under (least n mostEchoed) (mtu - sizeOf (answer .fields) - replySize) in
-      (omega (arith, first .0, second .0), omega (arith, first .1, second .0))
-
-  all-there : answer .count ≤ length (echoedOf answer octets)
+module _ (r : Relay) (dropping at : ℕ) (octets : List ℕ) (a : Answering) (y : RequestAnswered r dropping at octets) (told : ReplyTo r at octets (y .message) a)
+    (small : Octets octets) (here : portIn r at .address .0 < 2 ^ 32) where
+  all-there : a .count ≤ length (echoedOf a octets)
   all-there =
-      let bounds = read-bounds octets (request .header) small read in
-      rw (length-take (answer .count) (drop (answer .from) octets), length-drop (answer .from) octets)
-      (omega (arith, count-under .0, bounds .1 .1 .0, bounds .1 .1 .1 .0))
+      let bounds = read-bounds octets (headerOf octets) small (y .reads) in
+      rw (length-take (a .count) (drop (a .from) octets), length-drop (a .from) octets)
+      (omega (arith, told .from, told .within, bounds .1 .1 .0, bounds .1 .1 .1 .0))
 
-  source : not (eqb (sourceFlag (request .header .fields .addresses)) 0) ≡ true
-  unfolding asksInHeader
-  source =
-      let f = request .header .fields in
-      let plain = and-true (not (isFlooded f)) _ (and-true (eqb (f .tpid) scmp) _ asks .1) in
-      and-true (not (eqb (sourceFlag (f .addresses)) 0)) _ (plain .1) .0
+  is-reply : (k : Kind) → a .message .kind ≡ k → k ≡ Request → ⊥
+  is-reply k is e = true-false (cc (told .seen, is, e))
 
-  pub made-sound : Sound answer octets
+  free : isBound (a .fields .addresses) ≡ 1 → ⊥
   unfolding replyFields
+  free b =
+      sourced-free (portIn r at .address) (equalsPort r (aimAt r at octets)) (headerOf octets .fields .addresses) (y .source)
+      (sym (ap (λ (f : Fields). isBound (f .addresses)) (told .fields)) ∙ b)
+
+  pub made-sound : Sound a octets
   made-sound =
       record {
-        range = reply-in-range (request .arrival) (isOwned named) (request .header .fields) here (read-in-range octets (request .header) small read);
-        arrival = here;
-        count = count-under .1;
+        range = subst InRange (sym (told .fields)) (reply-in-range (portIn r at .address) _ (headerOf octets .fields) here (read-in-range octets (headerOf octets) small (y .reads)));
+        arrival = subst (λ (x : Address). x .0 < 2 ^ 32) (sym (told .arrival)) here;
+        count = told .short;
         enough = all-there;
-        reply = λ e. true-false cc;
-        free = sourced-free (request .arrival) (isOwned named) (request .header .fields .addresses) source;
+        reply = is-reply (a .message .kind) refl;
+        free = free;
       }
