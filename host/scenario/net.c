@@ -11,7 +11,8 @@
  *
  * Time is counted, not waited for: a datagram is on the wire for 8 bits an
  * octet, and arrives whole. Nothing else takes time. A wire sends one datagram
- * after the other, and each way by itself.
+ * after the other, and each way by itself. On a link that is cut a wire is as
+ * busy as ever, and what is on it is lost: the sender does not notice.
  *
  * The awkward case is a node's own datagram: the relay judges what arrives and
  * has no call for what begins here. So its own stand in a line before the wire,
@@ -19,15 +20,17 @@
  */
 #include "net.h"
 
-#include <stdio.h>
-#include <stdlib.h>
-
+#include "answers.h"
 #include "beside.h"
 #include "copies.h"
 #include "expect.h"
 #include "foretold.h"
 #include "meaning.h"
+#include "messages.h"
+#include "replies.h"
+#include "slots.h"
 #include "told.h"
+#include "told_echo.h"
 
 /* ---- A wire begins ----------------------------------------------------- */
 
@@ -71,6 +74,7 @@ static void occupy(uint32_t node, uint32_t port, bool own, hj_answer entry)
     struct wire *wire = &nodes[node].wires[port];
 
     wire->busy = true;
+    wire->lost = wire->cut;
     wire->until =
         now + wire_microseconds(wire->flying.length, wire->bits_per_second);
     copies_start(&wire->flying);
@@ -114,53 +118,44 @@ void net_start_wires(void)
 
 /* ---- A datagram arrives ------------------------------------------------ */
 
-/* There is one: each slot in use has an entry that waits. */
-static uint16_t free_slot(const struct node *node, uint32_t mission)
+/* What is delivered is handed on. Of control messages there are echoes alone. */
+static void deliver(uint32_t at, uint32_t port, const struct datagram *came)
 {
-    for (uint16_t slot = 0; slot < SLOTS; slot++) {
-        if (node->slots[mission][slot].copies == 0)
-            return slot;
+    hj_message message;
+
+    if (!message_of(came, &message))
+        return;
+    if (message.type == HJ_ECHO_REQUEST) {
+        answer_echo(at, port, came);
+        return;
     }
-    fputs("rehearsal: more entries wait than the ports can hold\n", stderr);
-    exit(1);
-}
-
-/* Counts each port's copy, and answers how many entries wait with the slot. */
-static uint32_t count_copies(struct node *node, hj_verdict verdict)
-{
-    uint32_t copies = 0;
-
-    for (uint32_t port = 0; port < HJ_PORTS; port++) {
-        uint32_t took = hj_took(verdict) >> port & 1;
-
-        node->wires[port].took += took;
-        node->wires[port].dropped += hj_dropped(verdict) >> port & 1;
-        copies += took;
-    }
-    return copies;
+    replies_note(at, port, came, &message);
+    told_reply(came, &message);
 }
 
 static void arrive(uint32_t at, uint32_t port, const struct datagram *came)
 {
     struct node *node = &nodes[at];
     uint32_t mission = node_mission(node, port);
-    uint16_t slot = free_slot(node, mission);
+    uint16_t slot = slots_free(node, mission);
     struct kept *kept = &node->slots[mission][slot];
     uint32_t before[HJ_COUNTERS];
     hj_arrival arrival = {port, slot, second_now()};
 
-    for (uint32_t counter = 0; counter < HJ_COUNTERS; counter++)
-        before[counter] = node_counter(node, mission, counter);
+    node_counters(node, mission, before);
+    kept->reply = false;
     kept->came = *came;
     kept->verdict = hj_receive(LENT_BOARD(node), LENT_MISSION(node, mission),
                                LENT_ROUTES(node), arrival, came->octets,
                                came->length, kept->output, sizeof kept->output);
-    kept->copies = count_copies(node, kept->verdict);
+    slots_count(node, kept);
     beside_receive(node, arrival, kept);
     expect_note(at, port, kept);
     told_arrival(at, port, kept, before);
     meaning_hold(at, port, kept);
     foretold_enter(at, slot, kept);
+    if (hj_local(kept->verdict) == HJ_DELIVERED)
+        deliver(at, port, came);
 }
 
 static void note_sooner(struct wire *wire, struct wire **soonest)
@@ -169,9 +164,24 @@ static void note_sooner(struct wire *wire, struct wire **soonest)
         *soonest = wire;
 }
 
-bool net_step(uint64_t latest)
+/* What was on a wire comes to its end: it arrives, or it was lost. */
+static void end_wire(struct wire *wire)
 {
     static struct datagram came;
+    const struct wire *back = &nodes[wire->peer].wires[wire->peer_port];
+
+    now = wire->until;
+    came = wire->flying;
+    wire->busy = false;
+    if (wire->lost)
+        told_lost(back->peer, back->peer_port);
+    else
+        arrive(wire->peer, wire->peer_port, &came);
+    net_start_wires();
+}
+
+bool net_step(uint64_t latest)
+{
     struct wire *soonest = NULL;
 
     for (uint32_t node = 0; node < node_count; node++) {
@@ -180,10 +190,6 @@ bool net_step(uint64_t latest)
     }
     if (soonest == NULL || soonest->until > latest)
         return false;
-    now = soonest->until;
-    came = soonest->flying;
-    soonest->busy = false;
-    arrive(soonest->peer, soonest->peer_port, &came);
-    net_start_wires();
+    end_wire(soonest);
     return true;
 }

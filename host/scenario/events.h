@@ -1,13 +1,10 @@
 /*
- * events.h: the words of a scenario that send, let time pass and tell; each
- * reads the rest of its line.
+ * events.h: the words of a scenario that let time pass and tell; each reads the
+ * rest of its line.
  */
 #ifndef EVENTS_H
 #define EVENTS_H
 
-void event_send(void);
-void event_hold(void);
-void event_release(void);
 void event_take(void);
 void event_sweep(void);
 void event_wait(void);

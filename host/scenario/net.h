@@ -12,7 +12,7 @@ void net_take(uint32_t node, uint32_t port);
 void net_start_wires(void);
 /* As long as it takes. */
 #define EVER UINT64_MAX
-/* The next arrival; false where there is none up to that moment. */
+/* The next arrival, or loss; false where there is none up to that moment. */
 bool net_step(uint64_t latest);
 
 #endif

@@ -92,19 +92,9 @@ void copies_start(const struct datagram *flying)
 static bool sends_on(const struct node *node, uint32_t port,
                      uint64_t destination)
 {
-    uint32_t mission = node_mission(node, port);
-
-    if (hj_value(hj_get_router(LENT_BOARD(node))) == 0 ||
-        hj_class((uint32_t)destination) == HJ_LIMITED_BROADCAST)
-        return false;
-    for (uint32_t own = 0; own < HJ_PORTS; own++) {
-        hj_port found = hj_get_port(LENT_BOARD(node), own);
-
-        if (found.ready && found.mission == mission &&
-            found.address == destination)
-            return false;
-    }
-    return true;
+    return hj_value(hj_get_router(LENT_BOARD(node))) != 0 &&
+           hj_class((uint32_t)destination) != HJ_LIMITED_BROADCAST &&
+           !node_has(node, node_mission(node, port), destination);
 }
 
 /* Sends so many copies on by every other port; answers on how many wires. */

@@ -18,11 +18,11 @@
 #define MOST_ANSWERS 200
 #define WIDTH 62
 
-/* One answer as it is shown, and the headers written; all else is zeros. */
+/* One answer as it is shown, and the octets written; all else is zeros. */
 struct answer {
     char text[120];
     hj_verdict verdict;
-    uint8_t output[HJ_OUTPUT_ROOM];
+    uint8_t output[HJ_OUTPUT_ROOM + MOST_USER_DATA];
 };
 
 static struct {
@@ -67,6 +67,21 @@ void beside_receive(const struct node *node, hj_arrival arrival,
     for (uint32_t port = 0; port < HJ_PORTS; port++)
         memcpy(answer->output + HJ_HEADER_ROOM * port,
                hj_header(kept->output, port), hj_header_octets(verdict, port));
+}
+
+void beside_echo(const struct node *node, hj_arrival arrival,
+                 const struct kept *kept)
+{
+    struct answer *answer = next_answer(node, arrival.port);
+    hj_verdict verdict = kept->verdict;
+
+    snprintf(answer->text, sizeof answer->text,
+             "port %u, slot %u: an echo: onward %u, took %u, dropped %u",
+             (unsigned)arrival.port, (unsigned)arrival.slot,
+             (unsigned)hj_onward(verdict), (unsigned)hj_took(verdict),
+             (unsigned)hj_dropped(verdict));
+    answer->verdict = verdict;
+    memcpy(answer->output, kept->came.octets, hj_reply_octets(verdict));
 }
 
 void beside_take(const struct node *node, uint32_t port, hj_answer entry)

@@ -1,6 +1,6 @@
 /*
- * settings.c: the words that set up nodes, ports, links, routes, groups, paths
- * and the lifetime of floods. Whether a setting is good is the library's to
+ * settings.c: the words that set up nodes, ports, links, routes, groups, paths,
+ * the lifetime of floods and echo drop. Whether a setting is good is the library's to
  * say: its number is told, and the line is refused.
  */
 #include "settings.h"
@@ -165,6 +165,15 @@ void set_lifetime(void)
         line_number("a lifetime in seconds, 0 to 4294967295", 0, UINT32_MAX);
 
     taken(hj_set_lifetime(LENT_BOARD(node), lifetime));
+}
+
+void set_echo_drop(void)
+{
+    static const char *const SWITCH[] = {"off", "on", NULL};
+    struct node *node = &nodes[line_node()];
+    uint32_t drop = line_choice("'on' or 'off'", SWITCH);
+
+    taken(hj_set_echo_drop(LENT_BOARD(node), drop));
 }
 
 /* Forgets what was granted to the mission's ports. What waits there would be

@@ -12,7 +12,7 @@ const char *const COUNTER_NAMES[HJ_COUNTERS] = {
     "npInAddrErrors",   "npInUnknownProtos", "npInDelivers",
     "npForwHopDiscard", "npForwDatagrams",   "npOutNoRoutes",
     "npOutDiscards",    "left-domain",       "too-big",
-    "flood-unmarked",   "pairs-held"};
+    "flood-unmarked",   "pairs-held",        "npOutRequests"};
 
 static const char *const NUMBERS[HJ_PORT_SET_UP + 1] = {
     [HJ_SHORT] = "too short",

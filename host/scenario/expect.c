@@ -15,12 +15,13 @@
 #include "line.h"
 #include "meaning.h"
 #include "names.h"
+#include "replies.h"
 
 #define MOST_DELIVERIES 1024
 
 static struct delivery {
     uint32_t node;
-    char text[MOST_DATA + 1];
+    char text[MOST_USER_DATA + 1];
 } deliveries[MOST_DELIVERIES];
 
 static uint32_t delivered, expected, failed;
@@ -205,12 +206,13 @@ void expect(void)
     static const char *const KINDS[] = {
         "refused", "delivered", "nothing", "arrivals", "sent",
         "named",   "header",    "took",    "dropped",  "counter",
-        "pairs",   "waiting",   "order",   NULL};
+        "pairs",   "waiting",   "order",   "reply",    "replies",
+        NULL};
     static bool (*const HOLDS[])(uint32_t) = {
         expect_refused, expect_delivered, expect_nothing, expect_arrivals,
         expect_sent,    expect_named,     expect_header,  expect_took,
         expect_dropped, expect_counter,   expect_pairs,   expect_waiting,
-        expect_order};
+        expect_order,   replies_expect_one, replies_expect_count};
     char line[1000];
     uint32_t node, kind;
     bool holds;
@@ -218,8 +220,8 @@ void expect(void)
     line_copy(line, sizeof line);
     node = line_node();
     kind = line_choice("refused, delivered, nothing, arrivals, sent, named, "
-                       "header, took, dropped, counter, pairs, waiting or "
-                       "order",
+                       "header, took, dropped, counter, pairs, waiting, order, "
+                       "reply or replies",
                        KINDS);
     holds = HOLDS[kind](node);
     line_end();

@@ -16,8 +16,10 @@
 #define MOST_NAME 20
 /* Routing requirements of a flooded datagram (table 3-7). */
 #define FLOODED 3
-/* Characters of user data in one datagram. */
+/* Octets of data in one datagram that a scenario sends. */
 #define MOST_DATA 400
+/* Octets of user data in any: an echo message has its own before the data. */
+#define MOST_USER_DATA (HJ_REPLY_OCTETS + MOST_DATA)
 /* Datagrams of a node's own that may stand before one of its wires. */
 #define MOST_OWN 64
 /* One for each entry that can wait on all ports, and one that arrives. */
@@ -26,12 +28,14 @@
 struct datagram {
     uint32_t header; /* octets of the header, at the front */
     uint32_t length; /* octets of header and data */
-    uint8_t octets[HJ_HEADER_ROOM + MOST_DATA];
+    uint8_t octets[HJ_HEADER_ROOM + MOST_USER_DATA];
 };
 
-/* What a node keeps under a slot: the datagram, and a header for each port. */
+/* What a node keeps under a slot: a datagram that came, and a header for each
+ * port; or a reply to an echo, which goes out as it stands. */
 struct kept {
-    struct datagram came;
+    bool reply;
+    struct datagram came; /* or the reply */
     hj_verdict verdict;
     uint8_t output[HJ_OUTPUT_ROOM];
     uint32_t copies; /* entries that wait with this slot; 0: free */
@@ -40,6 +44,7 @@ struct kept {
 /* The wire that a port sends on, and what is known of the port's copies. */
 struct wire {
     bool linked, held, busy;
+    bool cut, lost; /* the link; what is on the wire */
     uint32_t peer, peer_port, bits_per_second;
     uint64_t until; /* when what is on the wire arrives */
     struct datagram flying;
@@ -79,6 +84,11 @@ bool node_carries(const struct node *node, uint32_t mission);
 
 uint32_t node_counter(const struct node *node, uint32_t mission,
                       uint32_t counter);
+/* All of them, HJ_COUNTERS. */
+void node_counters(const struct node *node, uint32_t mission,
+                   uint32_t *counters);
+/* Whether a port of the mission's has the address. */
+bool node_has(const struct node *node, uint32_t mission, uint64_t address);
 /* What is kept under a slot that a port handed out, or may. */
 const struct kept *node_kept(const struct node *node, uint32_t port,
                              uint32_t slot);

@@ -12,6 +12,7 @@ void set_route(void);
 void set_group(void);
 void set_path(void);
 void set_lifetime(void);
+void set_echo_drop(void);
 void set_fresh(void);
 
 #endif

@@ -7,6 +7,9 @@
  * has to name the destination and the source, or the path, that the datagram
  * named at the port by which it came. The relay is asked for the addresses of
  * its ports alone, and not for what it filled in.
+ *
+ * A reply to an echo is no copy. It has to name who asked, as the request named
+ * him where it came, and to come from an address of the mission's own (W-203).
  */
 #include "meaning.h"
 
@@ -49,6 +52,18 @@ static bool names_the_same(const hj_fields *one, const hj_fields *two)
            one->source_low == two->source_low;
 }
 
+/* A reply names the request's source as its destination, and has a source that
+ * is the mission's own. */
+static bool names_the_asker(uint32_t node, uint32_t port,
+                            const hj_fields *reply, const hj_fields *request)
+{
+    uint32_t mission = node_mission(&nodes[node], port);
+
+    return reply->has_source &&
+           reply->destination_low == request->source_low &&
+           node_has(&nodes[node], mission, reply->source_low);
+}
+
 /* A copy also has to be as long as its length field says. */
 static void hold(uint32_t node, uint32_t port, const struct kept *kept,
                  const hj_fields *came)
@@ -59,7 +74,8 @@ static void hold(uint32_t node, uint32_t port, const struct kept *kept,
     kept_copy(kept, port, &copy);
     named = meaning_at(&nodes[node], port, &copy);
     if (hj_read(copy.octets, copy.length).length == copy.length &&
-        names_the_same(&named, came)) {
+        (kept->reply ? names_the_asker(node, port, &named, came)
+                     : names_the_same(&named, came))) {
         same++;
         return;
     }
@@ -73,12 +89,26 @@ static void hold(uint32_t node, uint32_t port, const struct kept *kept,
     puts("");
 }
 
-void meaning_hold(uint32_t node, uint32_t port, const struct kept *kept)
+/* What came by the port, and what is kept because of it. */
+static void hold_each(uint32_t node, uint32_t port,
+                      const struct datagram *datagram, const struct kept *kept)
 {
-    hj_fields came = meaning_at(&nodes[node], port, &kept->came);
+    hj_fields came = meaning_at(&nodes[node], port, datagram);
 
     for (uint32_t taker = 0; taker < HJ_PORTS; taker++) {
         if (hj_took(kept->verdict) >> taker & 1)
             hold(node, taker, kept, &came);
     }
+}
+
+void meaning_hold(uint32_t node, uint32_t port, const struct kept *kept)
+{
+    hold_each(node, port, &kept->came, kept);
+}
+
+void meaning_hold_reply(uint32_t node, uint32_t port,
+                        const struct datagram *request,
+                        const struct kept *reply)
+{
+    hold_each(node, port, request, reply);
 }

@@ -35,6 +35,24 @@ uint32_t node_counter(const struct node *node, uint32_t mission,
     return hj_value(hj_counter(LENT_MISSION(node, mission), counter));
 }
 
+void node_counters(const struct node *node, uint32_t mission,
+                   uint32_t *counters)
+{
+    for (uint32_t counter = 0; counter < HJ_COUNTERS; counter++)
+        counters[counter] = node_counter(node, mission, counter);
+}
+
+bool node_has(const struct node *node, uint32_t mission, uint64_t address)
+{
+    for (uint32_t port = 0; port < HJ_PORTS; port++) {
+        hj_port found = hj_get_port(LENT_BOARD(node), port);
+
+        if (found.ready && found.mission == mission && found.address == address)
+            return true;
+    }
+    return false;
+}
+
 uint32_t node_pairs(const struct node *node, uint32_t mission)
 {
     uint32_t held = 0;
@@ -53,13 +71,18 @@ const struct kept *node_kept(const struct node *node, uint32_t port,
 
 uint32_t kept_copy_octets(const struct kept *kept, uint32_t port)
 {
-    uint32_t data = kept->came.length - hj_data_from(kept->verdict);
-
-    return hj_header_octets(kept->verdict, port) + data;
+    if (kept->reply)
+        return kept->came.length;
+    return hj_header_octets(kept->verdict, port) + kept->came.length -
+           hj_data_from(kept->verdict);
 }
 
 void kept_copy(const struct kept *kept, uint32_t port, struct datagram *copy)
 {
+    if (kept->reply) {
+        *copy = kept->came;
+        return;
+    }
     copy->header = hj_header_octets(kept->verdict, port);
     copy->length = kept_copy_octets(kept, port);
     memcpy(copy->octets, hj_header(kept->output, port), copy->header);

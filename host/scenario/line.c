@@ -17,7 +17,7 @@
 
 #include "nodes.h"
 
-static const char *file_name;
+static const char *program_name, *file_name;
 static unsigned line_at;
 static char *next;
 
@@ -28,9 +28,14 @@ static char *skip_blanks(char *at)
     return at;
 }
 
-bool line_begin(const char *file, unsigned number, char *text)
+void line_file(const char *program, const char *file)
 {
+    program_name = program;
     file_name = file;
+}
+
+bool line_begin(unsigned number, char *text)
+{
     line_at = number;
     next = skip_blanks(text);
     return line_more();
@@ -39,8 +44,8 @@ bool line_begin(const char *file, unsigned number, char *text)
 void line_refuse(const char *expected, const char *found)
 {
     fflush(stdout);
-    fprintf(stderr, "rehearsal: %s, line %u: expected %s, found ", file_name,
-            line_at, expected);
+    fprintf(stderr, "%s: %s, line %u: expected %s, found ", program_name,
+            file_name, line_at, expected);
     if (found != NULL)
         fprintf(stderr, "'%.*s'\n", (int)strcspn(found, "\r\n"), found);
     else

@@ -10,10 +10,16 @@
 #include <inttypes.h>
 #include <stdio.h>
 
+#include "messages.h"
 #include "names.h"
 
 static bool is_quiet;
-static uint32_t sent_unseen, arrived_unseen, dropped_unseen;
+static uint32_t sent_unseen, arrived_unseen, dropped_unseen, lost_unseen;
+
+bool told_is_quiet(void)
+{
+    return is_quiet;
+}
 
 static void told_set(uint32_t ports)
 {
@@ -32,9 +38,10 @@ void told_quiet(bool quiet)
     is_quiet = quiet;
     if (!quiet)
         printf("              (not shown: %" PRIu32 " sent, %" PRIu32
-               " arrivals, %" PRIu32 " of them dropped by a full port)\n",
-               sent_unseen, arrived_unseen, dropped_unseen);
-    sent_unseen = arrived_unseen = dropped_unseen = 0;
+               " arrivals, %" PRIu32 " of them dropped by a full port; %" PRIu32
+               " lost)\n",
+               sent_unseen, arrived_unseen, dropped_unseen, lost_unseen);
+    sent_unseen = arrived_unseen = dropped_unseen = lost_unseen = 0;
 }
 
 void told_scene(const char *title)
@@ -56,10 +63,22 @@ static void at_now(void)
     printf("%5" PRIu64 ".%04" PRIu64 " s  ", tenths / 10000, tenths % 10000);
 }
 
+static void told_message(const hj_message *message)
+{
+    printf("echo %s %" PRIu32 ".%" PRIu32,
+           message->type == HJ_ECHO_REQUEST ? "request" : "reply",
+           message->identifier, message->sequence);
+}
+
 void told_data(const struct datagram *datagram)
 {
-    printf("\"%.*s\"", (int)(datagram->length - datagram->header),
-           (const char *)datagram->octets + datagram->header);
+    hj_message message;
+
+    if (message_of(datagram, &message))
+        told_message(&message);
+    else
+        printf("\"%.*s\"", (int)(datagram->length - datagram->header),
+               (const char *)datagram->octets + datagram->header);
 }
 
 static void address(uint64_t number, uint32_t extended)
@@ -147,6 +166,26 @@ void told_start(uint32_t node, uint32_t port, bool own, hj_answer entry)
     puts("");
 }
 
+void told_wire(uint32_t node, uint32_t port, const char *what)
+{
+    if (!is_quiet)
+        printf("   (%s port %" PRIu32 " %s)\n", nodes[node].name, port, what);
+}
+
+void told_lost(uint32_t node, uint32_t port)
+{
+    const struct wire *wire = &nodes[node].wires[port];
+
+    lost_unseen += is_quiet;
+    if (is_quiet)
+        return;
+    at_now();
+    printf("%s port %" PRIu32 " to %s port %" PRIu32 ": ", nodes[node].name,
+           port, nodes[wire->peer].name, wire->peer_port);
+    told_data(&wire->flying);
+    puts(" is LOST, the link is cut");
+}
+
 void told_refused_take(uint32_t node, uint32_t port, uint32_t number)
 {
     at_now();
@@ -192,7 +231,7 @@ static void onward_half(hj_verdict verdict)
         printf("REFUSED (%" PRIu32 "), %s", onward, number_name(onward));
 }
 
-static void ports_of(hj_verdict verdict)
+void told_ports(hj_verdict verdict)
 {
     if (hj_took(verdict) != 0) {
         printf("; taken by port ");
@@ -240,8 +279,8 @@ static void headers_of(const struct node *node, hj_verdict verdict)
     }
 }
 
-static void counters_moved(const struct node *node, uint32_t mission,
-                           const uint32_t *before)
+void told_counters(const struct node *node, uint32_t mission,
+                   const uint32_t *before)
 {
     const char *between = "";
 
@@ -278,7 +317,7 @@ void told_arrival(uint32_t node, uint32_t port, const struct kept *kept,
         local_half(hj_local(verdict));
         onward_half(verdict);
     }
-    ports_of(verdict);
+    told_ports(verdict);
     headers_of(&nodes[node], verdict);
-    counters_moved(&nodes[node], node_mission(&nodes[node], port), before);
+    told_counters(&nodes[node], node_mission(&nodes[node], port), before);
 }

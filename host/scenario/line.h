@@ -9,8 +9,10 @@
 #include <stddef.h>
 #include <stdint.h>
 
+/* Which program reads which file; said where a line is refused. */
+void line_file(const char *program, const char *file);
 /* Cuts a line into words, in place; false where nothing stands in it. */
-bool line_begin(const char *file, unsigned number, char *text);
+bool line_begin(unsigned number, char *text);
 /* Says where the line is wrong and what was expected; ends with status 2. */
 void line_refuse(const char *expected, const char *found);
 /* What is left of the line, as it was written. */
