@@ -49,7 +49,9 @@ GENERATE := $(call program,generate,calls datagram floods form settings text wor
 COVERAGE := $(call program,coverage,answered arriving calls settings trace)
 LEDGER := $(call program,ledger,answered arriving calls trace)
 BENCH := $(call program,bench,arriving calls library plainly trace)
-REHEARSAL := $(call program,rehearsal) $(wildcard host/scenario/*.c)
+SCENARIO := $(wildcard host/scenario/*.c)
+REHEARSAL := $(call program,rehearsal) $(SCENARIO)
+SILENT_LEG := $(call program,silent-leg) $(SCENARIO)
 FLOOD := $(call program,flood,settings)
 SOAK := $(call program,soak,calls datagram floods form library plainly settings world)
 PLAIN := $(wildcard host/plain/plain_*.c)
@@ -126,6 +128,7 @@ endif
 
 build/replay: $(REPLAY)
 build/rehearsal: $(REHEARSAL)
+build/silent-leg: $(SILENT_LEG)
 build/calls: tests/calls.c
 build/relay_calls: tests/relay_calls.c
 build/leg_calls: tests/leg_calls.c
@@ -146,7 +149,7 @@ build/rehearsal_wrong build/flood_wrong: wrapped := take receive_at sweep counte
 build/soak_faulty: wrapped := class take counter waiting search set_port receive_at \
 	sweep set_lifetime get_lifetime last_second pair_word
 
-LINKED := $(addprefix build/,replay rehearsal rehearsal_wrong calls relay_calls leg_calls \
+LINKED := $(addprefix build/,replay rehearsal silent-leg rehearsal_wrong calls relay_calls leg_calls \
 	flood_calls bench flight_loop settings_batch soak soak_faulty flood flood_wrong readme)
 $(LINKED): $(LIBRARY) $(HEADERS) scripts/emulated build/from | tools
 	$(link) $(wrapped:%=-Wl,--wrap=hj_%) $(filter %.c,$^) $(LIBRARY)

@@ -44,8 +44,10 @@ bool line_begin(unsigned number, char *text)
 void line_refuse(const char *expected, const char *found)
 {
     fflush(stdout);
-    fprintf(stderr, "%s: %s, line %u: expected %s, found ", program_name,
-            file_name, line_at, expected);
+    fprintf(stderr, "%s: %s", program_name, file_name);
+    if (line_at > 0)
+        fprintf(stderr, ", line %u", line_at);
+    fprintf(stderr, ": expected %s, found ", expected);
     if (found != NULL)
         fprintf(stderr, "'%.*s'\n", (int)strcspn(found, "\r\n"), found);
     else

@@ -11,7 +11,8 @@
 
 /* Which program reads which file; said where a line is refused. */
 void line_file(const char *program, const char *file);
-/* Cuts a line into words, in place; false where nothing stands in it. */
+/* Cuts a line into words, in place; false where nothing stands in it. Number 0
+ * is for words that stand in no file. */
 bool line_begin(unsigned number, char *text);
 /* Says where the line is wrong and what was expected; ends with status 2. */
 void line_refuse(const char *expected, const char *found);

@@ -40,9 +40,9 @@ void replies_note(uint32_t node, uint32_t port, const struct datagram *came,
     reply->node = node;
     reply->source =
         (uint32_t)meaning_at(&nodes[node], port, came).source_low;
-    reply->octets = came->length;
     reply->data = message_data(came, message);
     reply->says = *message;
+    reply->came = *came;
     count++;
 }
 

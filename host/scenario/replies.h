@@ -7,9 +7,9 @@
 struct reply {
     uint32_t node;   /* that it came back to */
     uint32_t source; /* who answered, as four octets */
-    uint32_t octets; /* of the datagram */
     uint32_t data;   /* octets of data that it brings back */
     hj_message says;
+    struct datagram came;
 };
 
 /* A scene begins: what came back before is not looked at any more. */
