@@ -16,49 +16,60 @@
 
 /* ---- By the settings --------------------------------------------------- */
 
-/* What the relay at the end of the leg answers. */
-static void tell_answer(const struct step *step)
-{
-    const struct node *node = &nodes[step->peer];
-    uint32_t onward = hj_onward(step->echo);
-    uint32_t port = way_port(hj_took(step->echo));
-    bool drops = hj_value(hj_get_echo_drop(LENT_BOARD(node))) == 1;
-
-    printf("   By its settings %s ", node->name);
-    if (onward == HJ_NO_REPLY)
-        printf("makes no reply%s.\n", drops ? ": echo drop is on" : "");
-    else if (onward != HJ_SENT_ON)
-        printf("makes a reply that does not go out: %" PRIu32 ", %s.\n", onward,
-               number_name(onward));
-    else
-        printf("answers, and the reply goes back by port %" PRIu32 ".\n", port);
-}
-
-/* Of a leg by which the request goes, where nothing is heard from its end. */
-static const char *conclusion(const struct step *step)
-{
-    if (hj_onward(step->echo) != HJ_SENT_ON)
-        return "So it would be silent by a good link too.";
-    if (way_port(hj_took(step->echo)) != step->peer_port)
-        return "So this link is silent, or the way back by that port.";
-    return "So the link itself is silent, on the way out or on the way back.";
-}
-
-/* Why the relay at the end of the last leg of the way sends nothing on. */
-static void tell_end(const struct step *step)
+/* Why the relay at the end of a way does not send on what came there. */
+static void tell_end(const struct step *step, const char *what)
 {
     const char *name = nodes[step->peer].name;
     uint32_t onward = hj_onward(step->verdict);
 
     printf("   By its settings %s ", name);
     if (onward == HJ_SENT_ON)
-        printf("sends it on by port %" PRIu32 ", which has no link.\n",
+        printf("sends %s on by port %" PRIu32 ", which has no link.\n", what,
                way_port(hj_took(step->verdict)));
     else if (onward == HJ_NOT_ASKED)
-        puts("does not send it on: it is a host, or it is meant.");
+        printf("does not send %s on: it is a host, or it is meant.\n", what);
     else
-        printf("does not send it on: %" PRIu32 ", %s.\n", onward,
+        printf("does not send %s on: %" PRIu32 ", %s.\n", what, onward,
                number_name(onward));
+}
+
+/* Whether the reply comes back to the node that asked; where it ends else. */
+static bool comes_back(const struct step *step, uint32_t asker)
+{
+    static struct way back;
+    const struct step *end;
+
+    way_find(step->peer, way_port(hj_took(step->echo)), &step->reply, &back);
+    end = &back.steps[back.count];
+    if (back.count == 0) {
+        puts("   That port has no link.");
+        return false;
+    }
+    if (end->peer == asker && hj_local(end->verdict) == HJ_DELIVERED)
+        return true;
+    tell_end(end, "the reply");
+    return false;
+}
+
+/* What the relay at the end of the leg answers; whether it would be heard. */
+static bool tell_answer(const struct step *step, uint32_t asker)
+{
+    const struct node *node = &nodes[step->peer];
+    uint32_t onward = hj_onward(step->echo);
+    bool drops = hj_value(hj_get_echo_drop(LENT_BOARD(node))) == 1;
+
+    printf("   By its settings %s ", node->name);
+    if (onward == HJ_SENT_ON) {
+        printf("answers, and the reply goes back by port %" PRIu32 ".\n",
+               way_port(hj_took(step->echo)));
+        return comes_back(step, asker);
+    }
+    if (onward == HJ_NO_REPLY)
+        printf("makes no reply%s.\n", drops ? ": echo drop is on" : "");
+    else
+        printf("makes a reply that does not go out: %" PRIu32 ", %s.\n", onward,
+               number_name(onward));
+    return false;
 }
 
 static void tell_settings(const struct way *way, uint32_t leg)
@@ -66,13 +77,18 @@ static void tell_settings(const struct way *way, uint32_t leg)
     const struct step *step = &way->steps[leg];
 
     if (leg > way->count) {
-        tell_end(&way->steps[way->count]);
+        tell_end(&way->steps[way->count], "the request");
         return;
     }
-    printf("   By its settings %s sends it by port %" PRIu32 ".\n",
+    printf("   By its settings %s sends the request by port %" PRIu32 ".\n",
            nodes[step->node].name, step->port);
-    tell_answer(step);
-    printf("   %s\n", conclusion(step));
+    if (!tell_answer(step, way->steps[1].node))
+        puts("   So it would be silent by a good link too.");
+    else if (way_port(hj_took(step->echo)) != step->peer_port)
+        puts("   So this link is silent, or the way back by that port.");
+    else
+        puts("   So the link itself is silent, on the way out or on the way "
+             "back.");
 }
 
 /* ---- By the echoes ----------------------------------------------------- */
@@ -85,7 +101,7 @@ static void tell_skipped(uint32_t leg, const struct way *way)
            "no way back.\n",
            leg);
     if (way != NULL && leg <= way->count)
-        tell_answer(&way->steps[leg]);
+        (void)tell_answer(&way->steps[leg], way->steps[1].node);
 }
 
 static void tell_all_skipped(const struct legs *legs, const struct way *way)

@@ -114,7 +114,7 @@ static int on_net(const struct asked *asked, struct known *known)
         return 2;
     route = read_route(asked);
     probes_build(&route, asked->octets, 255, &request);
-    way_find(route.node, route.port, &request, 255, &way);
+    way_find(route.node, route.port, &request, &way);
     know_links(&way, known);
     know_rates(asked, known);
     probes_send(&route, asked);

@@ -1,5 +1,5 @@
 /*
- * way.c: the way a request should go, by the settings. Each relay is asked as
+ * way.c: the way a datagram should go, by the settings. Each relay is asked as
  * it stands, by the library's own calls (hj_receive, hj_echo), but on a copy of
  * the mission's state, so that nothing is counted and nothing waits.
  *
@@ -13,7 +13,7 @@
 /* What arrives at the end of a leg, judged and answered there. */
 static void judge(struct step *step, struct kept *kept)
 {
-    static uint8_t reply[HJ_MOST_LENGTH];
+    static uint8_t output[HJ_MOST_LENGTH];
     const struct node *node = &nodes[step->peer];
     uint32_t mission = node_mission(node, step->peer_port);
     hj_mission copy = node->missions[mission];
@@ -26,8 +26,11 @@ static void judge(struct step *step, struct kept *kept)
     copy = node->missions[mission];
     step->echo = hj_echo(LENT_BOARD(node), &copy, HJ_MISSION_WORDS,
                          LENT_ROUTES(node), step->peer_port, 0,
-                         kept->came.octets, kept->came.length, reply,
-                         sizeof reply);
+                         kept->came.octets, kept->came.length, output,
+                         sizeof output);
+    step->reply.length = hj_reply_octets(step->echo);
+    step->reply.header = hj_read(output, step->reply.length).header;
+    memcpy(step->reply.octets, output, step->reply.length);
     kept->verdict = step->verdict;
 }
 
@@ -40,18 +43,21 @@ uint32_t way_port(uint32_t set)
     return port;
 }
 
-void way_find(uint32_t node, uint32_t port, const struct datagram *request,
-              uint32_t most, struct way *way)
+void way_find(uint32_t node, uint32_t port, const struct datagram *sent,
+              struct way *way)
 {
     static struct kept kept;
-    struct datagram next = *request;
+    struct datagram next = *sent;
 
     way->count = 0;
-    while (way->count < most && nodes[node].wires[port].linked) {
+    while (way->count < MOST_LEGS && nodes[node].wires[port].linked) {
         struct step *step = &way->steps[++way->count];
         const struct wire *wire = &nodes[node].wires[port];
 
-        *step = (struct step){node, port, wire->peer, wire->peer_port, 0, 0};
+        step->node = node;
+        step->port = port;
+        step->peer = wire->peer;
+        step->peer_port = wire->peer_port;
         kept.came = next;
         judge(step, &kept);
         if (hj_took(step->verdict) == 0)

@@ -8,11 +8,12 @@
 #include "legs.h"
 #include "scenario/nodes.h"
 
-/* One leg, and what the relay at its end would say to the request there. */
+/* One leg, and what the relay at its end would say to what comes there. */
 struct step {
     uint32_t node, port, peer, peer_port;
     hj_verdict verdict; /* hj_receive's */
     hj_verdict echo;    /* hj_echo's */
+    struct datagram reply; /* that it would send; no octets where none */
 };
 
 struct way {
@@ -22,9 +23,9 @@ struct way {
 
 /* The port of a set that has one. */
 uint32_t way_port(uint32_t set);
-/* Follows a request that a node sends by a port, as far as the relays send it
- * on over links, and at most so many legs. Nothing moves. */
-void way_find(uint32_t node, uint32_t port, const struct datagram *request,
-              uint32_t most, struct way *way);
+/* Follows a request or a reply that a node sends by a port, as far as the relays
+ * send it on over links. Nothing moves. It has a hop count, or may not end. */
+void way_find(uint32_t node, uint32_t port, const struct datagram *sent,
+              struct way *way);
 
 #endif
