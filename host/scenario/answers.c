@@ -4,7 +4,7 @@
  * port like any other entry until a take hands it out.
  *
  * Where no reply is made, hj_echo gives no number. The story has to say why all
- * the same, so the cause is looked for here, in the request and in the settings;
+ * the same, so the cause is looked for here, in the request and the settings;
  * the last one is left where no other holds.
  */
 #include "answers.h"

@@ -84,7 +84,7 @@ static void hold(uint32_t node, uint32_t port, const struct kept *kept,
            port);
     told_data(&kept->came);
     told_addresses(&named);
-    printf("; it came");
+    printf(kept->reply ? "; the request came" : "; it came");
     told_addresses(came);
     puts("");
 }

@@ -16,7 +16,7 @@ void meaning_hold(uint32_t node, uint32_t port, const struct kept *kept);
 void meaning_hold_reply(uint32_t node, uint32_t port,
                         const struct datagram *request,
                         const struct kept *reply);
-/* Copies and replies that name what they have to; those, and all that do not. */
+/* Copies and replies that name what they have to; those, and all others. */
 uint32_t meaning_same(void);
 uint32_t meaning_count(void);
 

@@ -118,7 +118,7 @@ void net_start_wires(void)
 
 /* ---- A datagram arrives ------------------------------------------------ */
 
-/* What is delivered is handed on. Of control messages there are echoes alone. */
+/* What is delivered is handed on. There are no control messages but echoes. */
 static void deliver(uint32_t at, uint32_t port, const struct datagram *came)
 {
     hj_message message;

@@ -1,7 +1,7 @@
 /*
  * settings.c: the words that set up nodes, ports, links, routes, groups, paths,
- * the lifetime of floods and echo drop. Whether a setting is good is the library's to
- * say: its number is told, and the line is refused.
+ * the lifetime of floods and echo drop. Whether a setting is good is the
+ * library's to say: its number is told, and the line is refused.
  */
 #include "settings.h"
 

@@ -12,7 +12,8 @@ struct performance {
 };
 
 /* Performs the lines. Answers 0, or 2 where the file cannot be read or has no
- * such scene, which was said. A line that is not understood ends the program. */
+ * such scene, which was said. A line that is not understood ends the program.
+ */
 int words_perform(const struct performance *asked);
 
 #endif

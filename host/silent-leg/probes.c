@@ -1,8 +1,9 @@
 /*
- * probes.c: the requests have hop counts 1, 2, 3 and so on, and the hop count as
- * their sequence number. Each asks one relay more than the one before it. They
- * have intermediate delivery, no precedence, so that they overtake nothing, and
- * as timestamp the net's clock in milliseconds, which the replies bring back.
+ * probes.c: the requests have hop counts 1, 2, 3 and so on, and the hop count
+ * as their sequence number. Each asks one relay more than the one before it.
+ * They have intermediate delivery, no precedence, so that they overtake
+ * nothing, and as timestamp the net's clock in milliseconds, which the replies
+ * bring back.
  *
  * A relay that does not answer is no reason to stop: those behind it may. So
  * PATIENCE requests more are sent behind the last leg that answered.

@@ -10,7 +10,7 @@ struct route {
     uint32_t node, port, source, destination;
 };
 
-/* The first request of them, with another hop count. */
+/* One of them. */
 void probes_build(const struct route *route, uint32_t octets, uint32_t hops,
                   struct datagram *request);
 /* Sends them one after the other, each when all is quiet again, and takes in

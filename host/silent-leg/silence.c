@@ -4,8 +4,8 @@
  * A relay that is silent while one behind it answers got its requests, since it
  * sent them on: the silence is its own. Behind the last that answers it may be
  * the leg, out or back, or what stands at its end, or the one before it does
- * not send on. Echoes alone cannot tell these apart. With a scenario the relays'
- * settings are known (way.h), and what they rule out is said.
+ * not send on. Echoes alone cannot tell these apart. With a scenario the
+ * relays' settings are known (way.h), and what they rule out is said.
  */
 #include "silence.h"
 
@@ -114,9 +114,9 @@ static void tell_all_skipped(const struct legs *legs, const struct way *way)
 
 static void tell_meanings(const struct legs *legs, uint32_t leg)
 {
-    puts("   It can mean: the leg is silent, on the way out or on the way back; "
-         "what is at\n   its end drops echo requests or has no route back; or "
-         "the relay before it\n   does not send on.");
+    puts("   It can mean: the leg is silent, on the way out or on the way "
+         "back; what is at\n   its end drops echo requests or has no route "
+         "back; or the relay before it\n   does not send on.");
     if (legs->furthest > leg)
         puts("   If one relay alone dropped them, any behind it would answer; "
              "none does.");

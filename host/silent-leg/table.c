@@ -1,8 +1,8 @@
 /*
  * table.c: one row for each leg. The octets are those that were sent and that
- * came back, at the place where the requests begin or were captured. The seconds
- * are how long both of them occupy that leg, by its bit rate alone; a reply
- * brings none along (its field for the rate is 0).
+ * came back, at the place where the requests begin or were captured. The
+ * seconds are how long both of them occupy that leg, by its bit rate alone; a
+ * reply brings no rate along (its field for it is 0).
  */
 #include "table.h"
 

@@ -23,8 +23,8 @@ struct way {
 
 /* The port of a set that has one. */
 uint32_t way_port(uint32_t set);
-/* Follows a request or a reply that a node sends by a port, as far as the relays
- * send it on over links. Nothing moves. It has a hop count, or may not end. */
+/* Follows a request or a reply that a node sends by a port, as far as the
+ * relays send it on over links, at most MOST_LEGS. Nothing moves. */
 void way_find(uint32_t node, uint32_t port, const struct datagram *sent,
               struct way *way);
 
