@@ -91,10 +91,10 @@ def request(sequence, hops, destination="10.9.9.14", source="10.1.1.4", identifi
     return datagram(destination, source, hops, message(8, fixed), intermediate=intermediate)
 
 
-def reply(sequence, seen, source, destination="10.1.1.4", identifier=7, stamp=None, mtu=1500):
+def reply(sequence, seen, source, destination="10.1.1.4", identifier=7, stamp=None, mtu=1500, hops=64):
     fixed = identifier.to_bytes(2, "big") + sequence.to_bytes(2, "big")
     fixed += bytes([seen, 0 if stamp is None else 3]) + (stamp or 0).to_bytes(8, "big") + mtu.to_bytes(4, "big")
-    return datagram(destination, source, 60, message(0, fixed + b"\0\0\0\0"))
+    return datagram(destination, source, hops, message(0, fixed + b"\0\0\0\0"))
 
 
 def lines(*datagrams):
