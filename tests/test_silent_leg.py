@@ -216,6 +216,8 @@ class Net(unittest.TestCase):
         self.assertEqual((status, len(rows(output))), (1, 5))
         self.assertIn("\nThe way goes round a ring: the same relay answers at the ends of legs 2 and 4.\n", output)
         self.assertTrue(output.endswith("\nNo request went further than leg 5; what is behind it is not known.\n"))
+        output = run_net("route Mid 0 10.3.3.0 255.255.255.0 0 up\n", "hops=60")[1]
+        self.assertEqual((len(rows(output)), rows(output)[59][:6]), (60, ("60", "10.2.2.4", "60", "1", "1", "1")))
 
     def test_the_greatest_hop_count(self):
         status, output, _ = run_net("", "hops=2")

@@ -20,6 +20,11 @@
 
 #include <string.h>
 
+uint32_t legs_number(const struct echo *request, const struct echo *reply)
+{
+    return request->fields.hop_count - reply->says.hop_count + 1;
+}
+
 bool legs_are_one_way(const struct echo *one, const struct echo *other)
 {
     return one->says.identifier == other->says.identifier &&
@@ -46,7 +51,7 @@ static void ask(struct legs *legs, const struct echo *request)
 static void answer(struct legs *legs, const struct echo *request,
                    const struct echo *reply)
 {
-    uint32_t number = request->fields.hop_count - reply->says.hop_count + 1;
+    uint32_t number = legs_number(request, reply);
     struct leg *leg = &legs->of[number];
 
     if (!request->fields.intermediate) {

@@ -22,6 +22,8 @@ struct legs {
     uint32_t unanswered;          /* without intermediate delivery */
 };
 
+/* From the end of which leg the reply to the request comes. */
+uint32_t legs_number(const struct echo *request, const struct echo *reply);
 /* Whether two requests belong to one way: identifier, source, destination. */
 bool legs_are_one_way(const struct echo *one, const struct echo *other);
 /* The legs of the way that the request goes. */

@@ -10,6 +10,7 @@
  */
 #include "probes.h"
 
+#include "scenario/expect.h"
 #include "scenario/messages.h"
 #include "scenario/net.h"
 #include "scenario/replies.h"
@@ -37,6 +38,13 @@ void probes_build(const struct route *route, uint32_t octets, uint32_t hops,
         message_request(IDENTIFIER, (uint16_t)hops, octets, message), request);
 }
 
+/* What was delivered before is forgotten; there is no room for all of it. */
+static void begin(void)
+{
+    expect_scene();
+    replies_scene();
+}
+
 /* The net runs until it is quiet. */
 static void run(void)
 {
@@ -44,31 +52,51 @@ static void run(void)
         continue;
 }
 
-static void take_replies(uint32_t node)
+/* How far the requests were answered. */
+struct heard {
+    uint32_t leg;
+    bool arrived;
+};
+
+/* A reply that was taken in. */
+static void hear(struct heard *heard, const struct echo *reply)
+{
+    const struct echo *request = echoes_request_of(reply);
+    uint32_t leg = request != NULL ? legs_number(request, reply) : 0;
+
+    if (leg > heard->leg)
+        heard->leg = leg;
+    heard->arrived = heard->arrived || (request != NULL &&
+                                        echoes_is_destination(request, reply));
+}
+
+static void take_replies(uint32_t node, struct heard *heard)
 {
     for (uint32_t i = 0; i < replies_count(); i++) {
         const struct reply *reply = reply_at(i);
 
-        if (reply->node == node)
-            (void)echoes_take(reply->came.octets, reply->came.length);
+        if (reply->node != node)
+            continue;
+        (void)echoes_take(reply->came.octets, reply->came.length);
+        if (replies.count > 0)
+            hear(heard, &replies.first[replies.count - 1]);
     }
 }
 
 void probes_send(const struct route *route, const struct asked *asked)
 {
-    static struct legs legs;
     static struct datagram request;
+    struct heard heard = {0, false};
 
     for (uint32_t hops = 1; hops <= asked->hops; hops++) {
-        replies_scene();
+        begin();
         probes_build(route, asked->octets, hops, &request);
         (void)echoes_take(request.octets, request.length);
         (void)net_send(route->node, route->port, &request);
         net_start_wires();
         run();
-        take_replies(route->node);
-        legs_find(&requests.first[0], &legs);
-        if (legs.arrived || hops == legs.last + PATIENCE)
+        take_replies(route->node, &heard);
+        if (heard.arrived || hops == heard.leg + PATIENCE)
             return;
     }
 }
