@@ -125,7 +125,7 @@ class Story(unittest.TestCase):
         output = run(STORY, *WAY)[1]
         for row, rate in zip(rows(output), (64000, 2400, 2400, 64000)):
             self.assertEqual(row[6:9], ("26", "39", f"{(26 + 39) * 8 / rate:.4f}"))
-        self.assertIn(f"There and back over 4 legs: {65 * 8 * (2 / 64000 + 2 / 2400):.4f} s on the links.\n", output)
+        self.assertIn(f"There and back on each of these legs: {65 * 8 * (2 / 64000 + 2 / 2400):.4f} s in all.\n", output)
 
     def test_before_the_unit_had_a_route_back(self):
         status, output, _ = run(STORY, *WAY, "scene=26")
@@ -229,6 +229,14 @@ class Net(unittest.TestCase):
         output = run_net("", "rates=100,200", "octets=5")[1]
         self.assertEqual([row[6:9] for row in rows(output)],
                          [("31", "44", f"{75 * 8 / rate:.4f}") for rate in (100, 200, 4000)])
+
+    def test_octets_that_a_route_adds(self):
+        """A checksum that Near's route asks for is on legs 2 and 3; the unit's is on its own reply."""
+        output = run_net("route Near 0 10.0.0.0 255.0.0.0 1 up asks checksum\n"
+                         "route Unit 0 0.0.0.0 0.0.0.0 0 up asks both\n")[1]
+        self.assertEqual([row[6:9] for row in rows(output)],
+                         [(str(one), str(other), f"{(one + other) * 8 / rate:.4f}")
+                          for one, other, rate in ((26, 39, 8000), (28, 39, 800), (28, 41, 4000))])
 
     def test_the_story_is_passed_over(self):
         """Nothing of it is sent or expected; but a word that there is not is found."""

@@ -93,6 +93,8 @@ static void know_links(const struct way *way, struct known *known)
 
         known[leg].bits =
             nodes[step->node].wires[step->port].bits_per_second;
+        known[leg].request = step->octets;
+        known[leg].reply = step->reply.length;
         snprintf(known[leg].text, sizeof known[leg].text,
                  "%s port %" PRIu32 " to %s port %" PRIu32,
                  nodes[step->node].name, step->port, nodes[step->peer].name,

@@ -1,8 +1,8 @@
 /*
- * table.c: one row for each leg. The octets are those that were sent and that
- * came back, at the place where the requests begin or were captured. The
- * seconds are how long both of them occupy that leg, by its bit rate alone; a
- * reply brings no rate along (its field for it is 0).
+ * table.c: one row for each leg. The octets are those on that leg, where the
+ * net is known; else those of the datagrams as they were captured. The seconds
+ * are how long request and reply occupy the leg, by its bit rate alone; a reply
+ * brings no rate along (its field for it is 0).
  */
 #include "table.h"
 
@@ -27,7 +27,6 @@ const char *table_address(uint64_t address, uint32_t extended)
     return at;
 }
 
-/* How long so many octets are on a leg; room for 12 characters. */
 static void write_seconds(uint64_t microseconds, char *text, size_t room)
 {
     uint64_t tenths = (microseconds + 50) / 100;
@@ -36,30 +35,43 @@ static void write_seconds(uint64_t microseconds, char *text, size_t room)
              tenths % 10000);
 }
 
-/* There and back on one leg. */
-static uint64_t both_ways(const struct leg *leg, uint32_t bits)
+static uint32_t request_octets(const struct leg *leg,
+                               const struct known *known)
 {
-    return wire_microseconds(leg->request->octets, bits) +
-           wire_microseconds(leg->reply->octets, bits);
+    return known->request > 0 ? known->request : leg->request->octets;
 }
 
-static void print_answered(const struct leg *leg, uint32_t bits)
+static uint32_t reply_octets(const struct leg *leg, const struct known *known)
+{
+    return known->reply > 0 ? known->reply : leg->reply->octets;
+}
+
+/* There and back on one leg; 0 where its rate is not known. */
+static uint64_t both_ways(const struct leg *leg, const struct known *known)
+{
+    if (known->bits == 0 || leg->reply == NULL)
+        return 0;
+    return wire_microseconds(request_octets(leg, known), known->bits) +
+           wire_microseconds(reply_octets(leg, known), known->bits);
+}
+
+static void print_answered(const struct leg *leg, const struct known *known)
 {
     const hj_fields *fields = &leg->reply->fields;
     const hj_message *says = &leg->reply->says;
     char seconds[24] = "-";
     char stamp[24] = "-";
 
-    if (bits != 0)
-        write_seconds(both_ways(leg, bits), seconds, sizeof seconds);
+    if (known->bits != 0)
+        write_seconds(both_ways(leg, known), seconds, sizeof seconds);
     if ((says->format & 3) != HJ_STAMP_NONE)
         snprintf(stamp, sizeof stamp, "%" PRIu64, says->stamp);
     printf("%-15s %4" PRIu32 " %4" PRIu32 "  %3" PRIu32 "/%-3" PRIu32
            " %7" PRIu32 " %5" PRIu32 " %9s %5" PRIu32 " %9s",
            table_address(fields->source_low, fields->extended),
            leg->request->fields.hop_count, says->hop_count, leg->answered,
-           leg->asked, leg->request->octets, leg->reply->octets, seconds,
-           says->mtu, stamp);
+           leg->asked, request_octets(leg, known), reply_octets(leg, known),
+           seconds, says->mtu, stamp);
 }
 
 static void print_row(const struct leg *leg, uint32_t number,
@@ -67,7 +79,7 @@ static void print_row(const struct leg *leg, uint32_t number,
 {
     printf("%3" PRIu32 "  ", number);
     if (leg->reply != NULL)
-        print_answered(leg, known->bits);
+        print_answered(leg, known);
     else
         printf("%-15s %4s %4s  %3" PRIu32 "/%-3" PRIu32 " %7s %5s %9s %5s %9s",
                leg->asked > 0 ? "silent" : "not asked", "-", "-",
@@ -75,21 +87,20 @@ static void print_row(const struct leg *leg, uint32_t number,
     printf(*known->text != '\0' ? "  %s\n" : "\n", known->text);
 }
 
-/* The last that answered, there and back over all its legs. */
-static void print_whole(const struct legs *legs, const struct known *known)
+/* The sum of the seconds, where each row up to the last answer has some. */
+static void print_sum(const struct legs *legs, const struct known *known)
 {
-    uint64_t whole = 0;
+    uint64_t sum = 0;
     char seconds[24];
 
     for (uint32_t leg = 1; leg <= legs->last; leg++) {
-        if (known[leg].bits == 0)
+        if (both_ways(&legs->of[leg], &known[leg]) == 0)
             return;
-        whole += both_ways(&legs->of[legs->last], known[leg].bits);
+        sum += both_ways(&legs->of[leg], &known[leg]);
     }
-    write_seconds(whole, seconds, sizeof seconds);
+    write_seconds(sum, seconds, sizeof seconds);
     if (legs->last > 0)
-        printf("There and back over %" PRIu32 " %s: %s s on the links.\n",
-               legs->last, legs->last == 1 ? "leg" : "legs", seconds);
+        printf("There and back on each of these legs: %s s in all.\n", seconds);
 }
 
 void table_print(const struct legs *legs, const struct known *known)
@@ -107,5 +118,5 @@ void table_print(const struct legs *legs, const struct known *known)
            *known[1].text != '\0' ? "  link" : "");
     for (uint32_t leg = 1; leg <= rows; leg++)
         print_row(&legs->of[leg], leg, &known[leg]);
-    print_whole(legs, known);
+    print_sum(legs, known);
 }

@@ -6,8 +6,9 @@
 
 /* What is known of a leg beside what the replies say. */
 struct known {
-    uint32_t bits;  /* a second; 0 where it is not known */
-    char text[100]; /* which link it is; empty where it is not known */
+    uint32_t bits; /* a second; 0 where they are not known, as below */
+    uint32_t request, reply; /* octets on this leg */
+    char text[100];          /* which link it is; empty where it is not known */
 };
 
 /* An address as it stands in the fields, of one octet or of four. */

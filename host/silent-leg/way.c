@@ -58,6 +58,7 @@ void way_find(uint32_t node, uint32_t port, const struct datagram *sent,
         step->port = port;
         step->peer = wire->peer;
         step->peer_port = wire->peer_port;
+        step->octets = next.length;
         kept.came = next;
         judge(step, &kept);
         if (hj_took(step->verdict) == 0)

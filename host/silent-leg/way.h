@@ -11,6 +11,7 @@
 /* One leg, and what the relay at its end would say to what comes there. */
 struct step {
     uint32_t node, port, peer, peer_port;
+    uint32_t octets;    /* of what goes over it */
     hj_verdict verdict; /* hj_receive's */
     hj_verdict echo;    /* hj_echo's */
     struct datagram reply; /* that it would send; no octets where none */
