@@ -5,7 +5,7 @@
  */
 #include "harpjuniper.h"
 
-#define MIXED_LAST 11
+#define MIXED_LAST 13
 
 #ifndef MIXED
 #define MIXED 0
@@ -55,5 +55,10 @@ int mixed(void)
     return hj_set_lifetime(MISSION, 0) != 0;
 #elif MIXED == 11 /* and the last second the mission's */
     return hj_refusal(hj_last_second(BOARD)) != 0;
+#elif MIXED == 12 /* echo drop is the board's, for both missions */
+    return hj_set_echo_drop(MISSION, 1) != 0;
+#elif MIXED == 13 /* the two words of an echo swapped */
+    return hj_ended_by(hj_echo(MISSION, BOARD, ROUTES, 0, 0, octets, 0, octets,
+                               0)) != 0;
 #endif
 }

@@ -12,7 +12,7 @@ import unittest
 
 ROOT = os.path.dirname(os.path.dirname(os.path.abspath(__file__)))
 PROGRAMS = [f"build/{name}" for name in ("replay", "plain", "generate", "coverage", "ledger", "bench", "soak",
-                                         "flood", "rehearsal")]
+                                         "flood", "rehearsal", "silent-leg")]
 PROGRAMS.append("scripts/bench")
 # Those that take no argument but the options.
 WITHOUT_ARGUMENTS = ("build/replay", "build/plain", "build/ledger")
@@ -68,6 +68,7 @@ class Options(unittest.TestCase):
         runs = [(program, "--help") for program in PROGRAMS[:-1]]
         runs += [("build/replay",), ("build/plain",), ("build/ledger",), ("build/bench", "stack"),
                  ("build/flood", "nodes=2", "links=1"), ("build/rehearsal", "scenarios/biocide.txt"),
+                 ("build/silent-leg", "scenarios/biocide.txt", "ControlRoom", "0", "10.2.2.14"),
                  ("build/generate", "headers=1", "builds=0", "addresses=0", "checksums=0", "histories=0"),
                  ("build/coverage", "headers=0", "builds=0", "addresses=0", "checksums=0", "histories=0")]
         for program, *words in runs:
@@ -140,7 +141,8 @@ class Files(unittest.TestCase):
         for name, uses in self.uses().items():
             for other in uses:
                 folder, of = name.split("/")[0], other.split("/")[0]
-                self.assertIn(of, {folder, "harpjuniper"} | ({"shared", "plain"} if folder != "plain" else set()),
+                common = {"shared", "plain", "scenario"} if folder != "plain" else set()
+                self.assertIn(of, {folder, "harpjuniper"} | common,
                               f"{name} uses {other}")
 
 
