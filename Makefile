@@ -45,7 +45,7 @@ endif
 # Each program has a folder below host/, and takes from host/shared what is named here.
 program = $(wildcard host/$(1)/*.c) $(patsubst %,host/shared/%.c,options $(2))
 REPLAY := $(call program,replay,calls library text trace)
-GENERATE := $(call program,generate,calls datagram floods form settings text world)
+GENERATE := $(call program,generate,calls datagram echoes floods form message settings text world)
 COVERAGE := $(call program,coverage,answered arriving calls settings trace)
 LEDGER := $(call program,ledger,answered arriving calls trace)
 BENCH := $(call program,bench,arriving calls library plainly trace)

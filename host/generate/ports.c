@@ -21,7 +21,8 @@ static uint32_t port_mask(uint32_t address, struct random *random)
 
 static uint32_t choose_mtu(struct random *random)
 {
-    static const uint32_t SMALL[] = {1, 12, 16, 20, 24, 32, 40, 576};
+    static const uint32_t SMALL[] = {1,  12, 16, 20, 24, 32, 33, 34,
+                                     39, 40, 41, 48, 60, 576};
 
     switch (random_below(random, 8)) {
     case 0:
