@@ -46,7 +46,7 @@ endif
 program = $(wildcard host/$(1)/*.c) $(patsubst %,host/shared/%.c,options $(2))
 REPLAY := $(call program,replay,calls library text trace)
 GENERATE := $(call program,generate,calls datagram echoes floods form message settings text world)
-COVERAGE := $(call program,coverage,answered arriving calls settings trace)
+COVERAGE := $(call program,coverage,answered arriving calls form settings trace)
 LEDGER := $(call program,ledger,answered arriving calls trace)
 BENCH := $(call program,bench,arriving calls library plainly trace)
 REHEARSAL := $(call program,rehearsal)

@@ -1,7 +1,8 @@
 /*
  * messages.c: `read_echo` lines of twelve kinds, from good messages down to
  * random octets, and for each three of them a `build_echo` line. Most are
- * short; one in 200 stands at the longest that is built.
+ * short; some stand at the longest that is built, where half of the lines that
+ * build have too little room.
  */
 #include "messages.h"
 
@@ -10,23 +11,24 @@
 
 #define MOST_BUILT 8141
 
-static size_t choose_data(size_t fixed, struct random *random)
+/* Few data, and of so many one at the edge. */
+static size_t choose_data(size_t fixed, uint32_t rare, struct random *random)
 {
-    if (random_one_in(random, 200))
-        return MOST_BUILT + 2 - fixed - random_below(random, 5);
+    if (random_one_in(random, rare))
+        return MOST_BUILT + 1 - fixed - random_below(random, 3);
     return random_below(random, 12);
 }
 
 static void make_request(struct message *message, struct random *random)
 {
     message_write(message, MESSAGE_REQUEST,
-                  choose_data(MESSAGE_REQUEST_OCTETS, random), random);
+                  choose_data(MESSAGE_REQUEST_OCTETS, 200, random), random);
 }
 
 static void make_reply(struct message *message, struct random *random)
 {
     message_write(message, MESSAGE_REPLY,
-                  choose_data(MESSAGE_REPLY_OCTETS, random), random);
+                  choose_data(MESSAGE_REPLY_OCTETS, 200, random), random);
 }
 
 static void make_random(struct message *message, struct random *random)
@@ -64,7 +66,7 @@ static uint32_t choose_room(uint32_t octets, struct random *random)
 {
     static const uint32_t MORE[] = {0, 0, 0, 0, 1, 2, 100};
 
-    if (random_one_in(random, 6))
+    if (random_one_in(random, octets > 1000 ? 2 : 6))
         return octets - 1;
     return random_one_in(random, 12) ? random_below(random, octets)
                                      : octets + PICK(MORE);
@@ -74,7 +76,7 @@ static void write_build(struct random *random)
 {
     static const uint16_t EDGES[] = {0, 1, 255, 256, 32768, 65535};
     static uint8_t data[MESSAGE_MOST];
-    size_t count = choose_data(MESSAGE_REQUEST_OCTETS, random);
+    size_t count = choose_data(MESSAGE_REQUEST_OCTETS, 25, random);
     uint32_t numbers[3]; /* room, identifier, sequence */
 
     random_octets(random, data, (uint32_t)count);
