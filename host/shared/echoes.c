@@ -170,7 +170,7 @@ static size_t limit(const struct world *world, const struct form *form,
     return mtu > fixed ? mtu - fixed : 0;
 }
 
-/* Data to a limit or two off it, as much as the datagram holds; mostly few. */
+/* Data to a limit or one off it, as much as the datagram holds; mostly few. */
 static size_t choose_data(const struct world *world, const struct form *form,
                           uint32_t arrival, struct random *random)
 {
@@ -179,10 +179,10 @@ static size_t choose_data(const struct world *world, const struct form *form,
                   form_write(form, 0, header);
     size_t data = limit(world, form, arrival, random);
 
-    if (!random_one_in(random, data > LONG ? 100 : 2))
+    if (!random_one_in(random, data > LONG ? 40 : 2))
         return random_below(random, 6);
-    data += random_below(random, 5);
-    data = data < 2 ? 0 : data - 2;
+    data += random_below(random, 3);
+    data = data < 1 ? 0 : data - 1;
     return data < most ? data : most;
 }
 
