@@ -46,7 +46,7 @@ static const char HELP[] =
     "    checksums  30000    checksum lines\n"
     "    messages   60000    read_echo lines, and a third as many build_echo\n"
     "                        lines\n"
-    "    histories  4320     histories of a whole relay\n"
+    "    histories  4680     histories of a whole relay\n"
     "\n"
     "Status: 0 written; 2 bad usage, or the output failed.\n";
 
@@ -59,7 +59,7 @@ int main(int count, char **arguments)
         [ADDRESSES] = {"addresses", 200000},
         [CHECKSUMS] = {"checksums", 30000},
         [MESSAGES] = {"messages", 60000},
-        [HISTORIES] = {"histories", 4320},
+        [HISTORIES] = {"histories", 4680},
     };
     static const struct program PROGRAM = {"generate", HELP, true};
     int status = options_status(&PROGRAM, arguments + (count > 0));

@@ -27,7 +27,7 @@
 #include "shared/world.h"
 
 #define QUEUE 32
-#define CALLS 264
+#define CALLS 270
 #define SEARCHES 16 /* at the end */
 
 struct shape {
@@ -54,7 +54,7 @@ static const struct shape SHAPES[] = {
     /* between domains */
     {1, DOMAINS, 7, 3, 16, 8, 8, 20, 3, 2, 6, 12, 12},
     /* outside net 10 */
-    {1, INTERNET, 4, 0, 12, 6, 4, 20, 3, 1, 6, 12, 12},
+    {1, INTERNET, 4, 0, 12, 6, 4, 20, 3, 1, 6, 12, 24},
     /* hardly emptied: queues fill */
     {1, ONE_DOMAIN, 3, 0, 12, 8, 8, 2, 1, 2, 10, 12, 12},
     /* every place written */
@@ -71,6 +71,8 @@ static const struct shape SHAPES[] = {
     {1, ONE_DOMAIN, 5, 2, 6, 4, 4, 25, 2, 10, 70, 24, 4},
     /* more pairs than places, hardly swept */
     {1, DOMAINS, 4, 0, 4, 4, 4, 25, 0, 0, 95, WORLD_PAIRS, 0},
+    /* echo requests above all */
+    {1, DOMAINS, 6, 2, 16, 4, 4, 25, 3, 1, 4, 12, 80},
 };
 
 /* Whose call comes next. */

@@ -1,5 +1,5 @@
 /*
- * messages.c: `read_echo` lines of twelve kinds, from good messages down to
+ * messages.c: `read_echo` lines of thirteen kinds, from good messages down to
  * random octets, and for each three of them a `build_echo` line. Most are
  * short; some stand at the longest that is built, where half of the lines that
  * build have too little room.
@@ -22,13 +22,13 @@ static size_t choose_data(size_t fixed, uint32_t rare, struct random *random)
 static void make_request(struct message *message, struct random *random)
 {
     message_write(message, MESSAGE_REQUEST,
-                  choose_data(MESSAGE_REQUEST_OCTETS, 200, random), random);
+                  choose_data(MESSAGE_REQUEST_OCTETS, 80, random), random);
 }
 
 static void make_reply(struct message *message, struct random *random)
 {
     message_write(message, MESSAGE_REPLY,
-                  choose_data(MESSAGE_REPLY_OCTETS, 200, random), random);
+                  choose_data(MESSAGE_REPLY_OCTETS, 80, random), random);
 }
 
 static void make_random(struct message *message, struct random *random)
@@ -37,12 +37,19 @@ static void make_random(struct message *message, struct random *random)
     random_octets(random, message->octets, (uint32_t)message->count);
 }
 
+/* Tries the order of the checks. */
+static void truncate_and_change(struct message *message, struct random *random)
+{
+    message_truncate(message, random);
+    message_change_form(message, random);
+}
+
 static void write_read(uint64_t number, struct random *random)
 {
     static const struct {
         treat_message *make;
         treat_message *spoil;
-    } KINDS[12] = {{make_request, message_keep},
+    } KINDS[13] = {{make_request, message_keep},
                    {make_reply, message_keep},
                    {make_request, message_truncate},
                    {make_reply, message_truncate},
@@ -53,11 +60,12 @@ static void write_read(uint64_t number, struct random *random)
                    {make_request, message_zero_due},
                    {make_reply, message_zero_due},
                    {make_reply, message_spoil},
+                   {make_reply, truncate_and_change},
                    {make_random, message_keep}};
     static struct message message;
 
-    KINDS[number % 12].make(&message, random);
-    KINDS[number % 12].spoil(&message, random);
+    KINDS[number % 13].make(&message, random);
+    KINDS[number % 13].spoil(&message, random);
     line_octets(CALL_READ_ECHO, NULL, message.octets, message.count);
 }
 
@@ -76,7 +84,7 @@ static void write_build(struct random *random)
 {
     static const uint16_t EDGES[] = {0, 1, 255, 256, 32768, 65535};
     static uint8_t data[MESSAGE_MOST];
-    size_t count = choose_data(MESSAGE_REQUEST_OCTETS, 25, random);
+    size_t count = choose_data(MESSAGE_REQUEST_OCTETS, 16, random);
     uint32_t numbers[3]; /* room, identifier, sequence */
 
     random_octets(random, data, (uint32_t)count);

@@ -179,7 +179,7 @@ static size_t choose_data(const struct world *world, const struct form *form,
                   form_write(form, 0, header);
     size_t data = limit(world, form, arrival, random);
 
-    if (!random_one_in(random, data > LONG ? 40 : 2))
+    if (!random_one_in(random, data > LONG ? 30 : 2))
         return random_below(random, 6);
     data += random_below(random, 3);
     data = data < 1 ? 0 : data - 1;
@@ -220,7 +220,7 @@ void echoes_request(const struct world *world, uint32_t arrival,
 uint32_t echoes_room(const struct world *world, uint32_t arrival,
                      struct random *random)
 {
-    static const uint32_t MORE[] = {0, 0, 0, 0, 1, 2, 2, 5, 6, 7, 8, 100};
+    static const uint32_t MORE[] = {0, 0, 0, 1, 1, 1, 2, 2, 5, 6, 7, 7, 8, 100};
     uint32_t mtu = world->ports[arrival % WORLD_PORTS].mtu;
 
     if (mtu > 0 && random_one_in(random, 24))
