@@ -51,7 +51,7 @@ LEDGER := $(call program,ledger,answered arriving calls trace)
 BENCH := $(call program,bench,arriving calls library plainly trace)
 REHEARSAL := $(call program,rehearsal)
 FLOOD := $(call program,flood,settings)
-SOAK := $(call program,soak,calls datagram floods form library plainly settings world)
+SOAK := $(call program,soak,calls datagram echoes floods form library message plainly settings world)
 PLAIN := $(wildcard host/plain/plain_*.c)
 HEADERS := $(wildcard $(INCLUDE)/*.h host/*/*.h host/*/*.def tests/*.h)
 

@@ -11,8 +11,8 @@
  * would show nothing; this is what says that it did not.
  *
  * What is counted of headers, addresses and checksums stands in headers.c and
- * its lists, of echo messages in messages.c, and what is counted of the relay in
- * relay.c and its lists.
+ * its lists, of echo messages in messages.c, and what is counted of the relay
+ * in relay.c and its lists.
  */
 #include <stdio.h>
 

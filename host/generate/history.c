@@ -1,8 +1,8 @@
 /*
  * history.c: histories of the whole relay. A history is `new`, the settings of
  * a node of some shape, and then datagrams, echo requests, takes, sweeps and
- * changes of settings, with the counters, the queues and the pairs looked at, and routes
- * searched for, now and then and at its end.
+ * changes of settings, with the counters, the queues and the pairs looked at,
+ * and routes searched for, now and then and at its end.
  *
  * Two missions share the node, and their calls come in any order. The shapes
  * say how many of the ports are the second one's; where it has none, its calls

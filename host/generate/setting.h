@@ -1,4 +1,4 @@
-/* setting.h: a setting of any kind, and that of the lifetime and of echo drop. */
+/* setting.h: a setting of any kind, and those of the lifetime and echo drop. */
 #ifndef SETTING_H
 #define SETTING_H
 
