@@ -144,7 +144,8 @@ build/flood_wrong: $(FLOOD) tests/wrong_relay.c
 build/soak_faulty: $(SOAK) $(PLAIN) tests/soak_faults.c
 build/rehearsal_wrong build/flood_wrong: wrapped := take receive_at sweep counter
 build/soak_faulty: wrapped := class take counter waiting search set_port receive_at \
-	sweep set_lifetime get_lifetime last_second pair_word
+	sweep set_lifetime get_lifetime last_second pair_word echo read_echo_words \
+	build_request build_reply set_echo_drop get_echo_drop
 
 LINKED := $(addprefix build/,replay rehearsal rehearsal_wrong calls relay_calls leg_calls \
 	flood_calls bench flight_loop settings_batch soak soak_faulty flood flood_wrong readme)

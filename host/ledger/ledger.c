@@ -5,10 +5,10 @@
  *     ledger < ANSWERED
  *
  * Each mission has its own books. For each port: what took an entry, one copy
- * per port and receipt and each with a header, and the replies to echo requests,
- * is what was handed out by takes and what waits (`waiting` lines). Each entry
- * handed out is the oldest of the highest precedence that waits, by a plain
- * list. Each header says what the octets that came said (headers.c), and each
+ * per port and receipt and each with a header, and the replies to echo
+ * requests, is what was handed out by takes and what waits (`waiting` lines).
+ * Each entry handed out is the oldest of the highest precedence that waits, by
+ * a plain list. Each header says what the octets that came said (headers.c), and each
  * reply what answers its request (replies.c). Between two frees of a pair at
  * most one of its floods goes on, and what is kept is what a `pairs` line says
  * (floods.c). Each counter of a `counters` line is what the answers since `new`

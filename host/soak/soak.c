@@ -4,13 +4,13 @@
  *     soak [seed=N] [calls=N]
  *
  * The run goes round by threes. First a history: a fresh board and two fresh
- * missions, settings, and then datagrams, echo requests, takes, sweeps and other
- * calls of both, each made on host/plain too, which must answer the same; at its
- * end every number that can be asked is compared, and the ledger of each
+ * missions, settings, and then datagrams, echo requests, takes, sweeps and
+ * other calls of both, each made on host/plain too, which must answer the same;
+ * at its end every number that can be asked is compared, and the ledger of each
  * mission's ports must close. Then what it left, with a few words changed, and
  * calls on it. Then garbage words and records, and calls on them. One call in
- * eight is lent words of a wrong number, one in six of those with a list another
- * list, of the next length in turn, and others are lent nothing.
+ * eight is lent words of a wrong number, one in six of those with a list
+ * another list, of the next length in turn, and others are lent nothing.
  *
  * After each call the board, both missions' states, the list, the octets and
  * the output, with the guards around them, must be what is due (rules.c). The
