@@ -130,6 +130,7 @@ build/calls: tests/calls.c
 build/relay_calls: tests/relay_calls.c
 build/leg_calls: tests/leg_calls.c
 build/flood_calls: tests/flood_calls.c
+build/echo_calls: tests/echo_calls.c
 build/bench: $(BENCH) $(PLAIN)
 build/flight_loop: examples/flight_loop.c
 build/settings_batch: examples/settings_batch.c
@@ -148,7 +149,7 @@ build/soak_faulty: wrapped := class take counter waiting search set_port receive
 	build_request build_reply set_echo_drop get_echo_drop
 
 LINKED := $(addprefix build/,replay rehearsal rehearsal_wrong calls relay_calls leg_calls \
-	flood_calls bench flight_loop settings_batch soak soak_faulty flood flood_wrong readme)
+	flood_calls echo_calls bench flight_loop settings_batch soak soak_faulty flood flood_wrong readme)
 $(LINKED): $(LIBRARY) $(HEADERS) scripts/emulated build/from | tools
 	$(link) $(wrapped:%=-Wl,--wrap=hj_%) $(filter %.c,$^) $(LIBRARY)
 	$(emulate)
@@ -210,11 +211,12 @@ host-tests: build/calls build/relay_calls build/leg_calls build/test_plain \
 	build/ledger build/generate build/coverage build/bench build/flight_loop \
 	build/settings_batch build/rehearsal build/rehearsal_wrong build/soak \
 	build/soak_faulty build/flood build/flood_wrong build/coverage-plain/plain \
-	build/flood_calls
+	build/flood_calls build/echo_calls
 	build/calls
 	build/relay_calls
 	build/leg_calls
 	build/flood_calls
+	build/echo_calls
 	build/test_plain
 	build/test_relay
 	build/test_missions
