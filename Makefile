@@ -207,7 +207,7 @@ readme: build/readme
 
 host-tests: build/calls build/relay_calls build/leg_calls build/test_plain \
 	build/test_relay build/test_missions build/test_legs build/replay build/plain \
-	build/test_floods \
+	build/test_floods build/test_echo \
 	build/ledger build/generate build/coverage build/bench build/flight_loop \
 	build/settings_batch build/rehearsal build/rehearsal_wrong build/soak \
 	build/soak_faulty build/flood build/flood_wrong build/coverage-plain/plain \
@@ -222,6 +222,7 @@ host-tests: build/calls build/relay_calls build/leg_calls build/test_plain \
 	build/test_missions
 	build/test_legs
 	build/test_floods
+	build/test_echo
 	build/flight_loop > build/flight_loop.output
 	diff examples/flight_loop.expected build/flight_loop.output
 	build/settings_batch > build/settings_batch.output
