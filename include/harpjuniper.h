@@ -669,8 +669,8 @@ uint32_t hj_mission_words(void);
 
 /*
  * Makes a fresh board of the words, whatever they held: a host, no port set up,
- * a lifetime of 0, and echo drop off. Made fresh in the midst of a relay's life,
- * it takes the ports away and leaves what waits on them (docs/STATES.md).
+ * a lifetime of 0, and echo drop off. Made fresh in the midst of a relay's
+ * life, it takes the ports away and leaves what waits on them (docs/STATES.md).
  *
  * Returns
  *   HJ_DONE (0)         done;

@@ -15,17 +15,16 @@
 #define MISSION &mission, HJ_MISSION_WORDS
 #define ROUTES routes, HJ_ROUTES
 
+hj_board board;
+hj_mission mission;
+hj_record routes[HJ_ROUTES];
+uint8_t octets[HJ_OUTPUT_ROOM];
+hj_arrival arrival;
+
 int mixed(void);
 
 int mixed(void)
 {
-    static hj_board board;
-    static hj_mission mission;
-    static hj_record routes[HJ_ROUTES];
-    static uint8_t octets[HJ_OUTPUT_ROOM];
-    hj_arrival arrival = {0, 0, 0};
-
-    (void)board, (void)mission, (void)routes, (void)octets, (void)arrival;
 #if MIXED == 0
     return hj_refusal(hj_take(BOARD, MISSION, 0)) +
            hj_ended_by(hj_receive(BOARD, MISSION, ROUTES, arrival, octets, 0,
