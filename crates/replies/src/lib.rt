@@ -312,7 +312,7 @@ fn answer_octets(board: &[u32], mission: &[u32], at: Arrival, mtu: u32, octets: 
 }
 
 // What is known before the search of the reply to octets that came in by a port, with so much room for it.
-pub fn answering(board: &[u32], mission: &[u32], port: u32, octets: &[u8], room: usize) -> Answering
+pub fn answer(board: &[u32], mission: &[u32], port: u32, octets: &[u8], room: usize) -> Answering
     requires { ⌜ (length (now board) ≡ boardWords) × (length (now mission) ≡ missionWords) ⌝ }
     ensures { λ r. ⌜
         r

@@ -132,5 +132,7 @@ pub fn asking_of(h: Header, octets: &[u8]) -> Asking
     requires { ⌜ (h .size ≤ h .length) × (h .length ≤ length (now octets)) ⌝ }
     ensures { λ r. ⌜ r ≡ askingOf h (now (octets .entry)) ⌝ }
 {
-    asking_in(echo::read_message(&octets[h.size..h.length]))
+    let from = h.size;
+    let to = h.length;
+    asking_in(echo::read_message(&octets[from..to]))
 }

@@ -198,7 +198,8 @@ pub fn write_reply(a: Answering, e: Replied, octets: &[u8], output: &mut [u8])
         &mut header,
     );
     bytes::copy(&header[..size], output);
-    let to = a.from + a.count;
+    let from = a.from;
+    let to = from + a.count;
     let message = a.message;
-    echo::write_message(message, &octets[a.from..to], &mut output[size..]);
+    echo::write_message(message, &octets[from..to], &mut output[size..]);
 }

@@ -1,0 +1,6 @@
+-- The laws of replies. Assumes nothing.
+pub mod Chosen
+pub mod Making
+pub mod Going
+pub mod Answered
+pub mod Written
