@@ -1,6 +1,6 @@
--- Page 02's rules of echo replies (W-203), in the words of the page's tables: which datagrams are answered, what the reply is made of, and what becomes of it (page
--- 01: "it takes the route line, on a host too, with 11 to 15"; W-204 gives 12 no more, and 13 is a path's, which no reply has). How the pages are read: docs/DECISIONS.md.
--- proofs/Replies.antt has that answering does exactly this. Assumes nothing.
+-- Page 02's rules of echo replies (W-203), in the words of the page's tables: which datagrams are answered, what the reply is made of, and what becomes of it
+-- (page 01: "it takes the route line, on a host too, with 11 to 15"; W-204 gives 12 no more, and 13 is a path's, which no reply has). How the pages are read:
+-- docs/DECISIONS.md. proofs/Answered.antt and proofs/Replies.antt have that answering does exactly this. Assumes nothing.
 use Prim.Native.Nat.{ℕ, _+_, _-_, _≤_, _<_}
 use mathlib.Core.Path.{_≡_}
 use mathlib.Core.Logic.{_⊎_, _≢_}
