@@ -9,7 +9,7 @@ use Rattle.header.specs.declared.Built.{Built}
 use lib.Seq.{sets}
 use Rattle.words.proofs.Parts.{all-stored}
 use Rattle.echo.specs.Message.{typeOf, fixedSize, readingOf}
-use Rattle.echo.specs.Built.{builtOf}
+use Rattle.echo.specs.Built.{builtOf, builtOutput}
 use Rattle.echo.specs.declared.Seen.{Seen}
 use Rattle.echo.specs.declared.Kind.{Kind}
 use Rattle.echo.specs.declared.Kind.the-variants.{Request, Reply}
@@ -46,5 +46,7 @@ module _ (s lent : List ℕ) where
 
 -- ---- building
 
-pub answered : (m : Message) (n room x : ℕ) (b : Built) → b ≡ builtOf m n room → x ≡ builtAnswer b → x ≡ builtAnswer (builtOf m n room)
-answered m n room x b e p = rw (← e) p
+-- of a message that was made
+pub answered : (m made : Message) (echoed lent : List ℕ) (x : ℕ) (b : Built) (out : List ℕ) → made ≡ m → b ≡ builtOf made (length echoed) (length lent)
+    → out ≡ builtOutput made echoed lent → x ≡ builtAnswer b → (x ≡ builtAnswer (builtOf m (length echoed) (length lent))) × (out ≡ builtOutput m echoed lent)
+answered m made echoed lent x b out em eb eo ex = rw (← em) (rw (← eb) ex, eo)
