@@ -24,7 +24,8 @@ size-fits Request = omega arith
 size-fits (Reply x) = omega arith
 
 -- all words were stored, one by one
-pub message-written : (m : Message) (l : List ℕ) (t f : ℕ) (x : Seen) → t ≡ typeOf (m .kind) → f ≡ fixedSize (m .kind) → x ≡ seenIn (m .kind) → length l ≡ messageCount
+pub message-written : (m : Message) (l : List ℕ) (t f : ℕ) (x : Seen) → t ≡ typeOf (m .kind) → f ≡ fixedSize (m .kind) → x ≡ seenIn (m .kind)
+    → length l ≡ messageCount
     → sets l 0 (t ∷ m .identifier ∷ m .sequence ∷ f ∷ x .hops ∷ x .format ∷ x .stamp / 4294967296 ∷ x .stamp % 4294967296 ∷ x .mtu ∷ x .rate ∷ []) ≡ messageWords m
 unfolding messageWords
 message-written m l t f x et ef ex count = rw (et, ef, ex) (all-stored l (messageWords m) count)

@@ -1,7 +1,7 @@
 // What C calls to read and to build echo messages.
 //
-// A message that was read stands in ten lent words, as the fields of a header do (crate harpjuniper); what is built is asked for in plain numbers, since there are few
-// of them. None requires anything: whatever octets, lengths, numbers or words come, the answer is the one that the definitions state. An answer that
+// A message that was read stands in ten lent words, as the fields of a header do (crate harpjuniper); what is built is asked for in plain numbers, since
+// there are few of them. None requires anything: whatever octets, lengths, numbers or words come, the answer is the one that the definitions state. An answer that
 // is a refusal or a value is one number of 64 bits, the refusal above the value.
 //
 // The awkward case is a request, which has no numbers of what was seen: their words are 0, and the type tells it from a reply that has them 0.
