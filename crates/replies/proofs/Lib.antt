@@ -4,3 +4,6 @@ pub mod Making
 pub mod Going
 pub mod Answered
 pub mod Written
+pub mod Made
+pub mod Goes
+pub mod Routes
