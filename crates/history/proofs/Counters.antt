@@ -31,7 +31,7 @@ then-more a b c d e =
     ap (λ (x : ℕ). (x + d) % 2 ^ 32) e ∙ mod-add-mod (a + c) (2 ^ 32) d ∙ ap (λ (x : ℕ). x % 2 ^ 32) (add-assoc a c d)
 
 -- ---- one counter among eighteen
-module _ (i : ℕ) (inside : i < 17) where
+module _ (i : ℕ) (inside : i < 18) where
   pub record Fit (l : List ℕ) : Type 0 where
     pub eighteen : length l ≡ 18
     pub small : counterIn l i < 2 ^ 32

@@ -17,6 +17,8 @@ pub mod Keys
 pub mod Holds
 pub mod Refusals
 pub mod Listed
+pub mod Replying
+pub mod Wire
 pub mod Answered
 pub mod Small
 pub mod ReadBack

@@ -65,6 +65,7 @@ use Rattle.history.specs.Calls.{
   setRouter,
   setPort,
   setLifetime,
+  setDrop,
   setRoute,
   clearRoute,
   Setting,
@@ -90,11 +91,11 @@ abbrev pub endNumbers : List ℕ
 endNumbers = 0 ∷ refusals
 
 -- ---- the first check that fails gives a number of its list
-abbrev allListed : List ℕ → Checks → Bool
+abbrev pub allListed : List ℕ → Checks → Bool
 allListed xs [] = true
 allListed xs (c ∷ cs) = listed xs (c .1) && allListed xs cs
 
-first-listed : (xs : List ℕ) (cs : Checks) → listed xs 0 ≡ true → allListed xs cs ≡ true → listed xs (firstOf cs) ≡ true
+pub first-listed : (xs : List ℕ) (cs : Checks) → listed xs 0 ≡ true → allListed xs cs ≡ true → listed xs (firstOf cs) ≡ true
 unfolding firstOf
 first-listed xs [] z h = z
 first-listed xs (c ∷ cs) z h =
@@ -404,6 +405,7 @@ order-listed b (setRouter x) = number-row (0 ∷ 24 ∷ []) (flagChecks x) refl 
 order-listed b (setPort p address mask mtu mission) =
     number-row (0 ∷ 21 ∷ 25 ∷ 22 ∷ 24 ∷ 35 ∷ []) (portChecks b p address mask mtu mission) refl refl
 order-listed b (setLifetime x) = number-row (0 ∷ []) [] refl refl
+order-listed b (setDrop x) = number-row (0 ∷ 24 ∷ []) (flagChecks x) refl refl
 order-listed b (setRoute rs i prefix mask port availability capabilities mission) =
     number-row (0 ∷ 21 ∷ 22 ∷ 24 ∷ 23 ∷ []) (routeChecks b rs i (newRecord prefix mask port availability capabilities mission)) refl refl
 order-listed b (clearRoute rs i) = number-row (0 ∷ 21 ∷ []) (clearRouteChecks rs i) refl refl

@@ -43,13 +43,14 @@ use Rattle.taking.specs.declared.Taking.{Taking}
 use Rattle.taking.specs.declared.Taking.the-variants.{Handed, Refused}
 use Rattle.tally.specs.Tally.{receiptCounter, rulingMoves, movesOf, counterFor, countedAt}
 use Rattle.history.specs.Seat.{Seat, relayIn, relayWith, heardBy}
-use Rattle.history.specs.Calls.{Order, setRouter, setPort, orders, views, setPath, sets, hears, takes, sweeps, looks, Call, operator, own}
-use Rattle.history.specs.Outcome.{Answer, number, ended, entry, Outcome, ofTaking, outcome, seatAfter}
+use Rattle.history.specs.Calls.{Order, setRouter, setPort, orders, views, setPath, sets, hears, echoes, takes, sweeps, looks, Call, operator, own}
+use Rattle.history.specs.Outcome.{Answer, number, ended, replied, entry, Outcome, ofTaking, outcome, seatAfter}
 use Rattle.history.specs.Tally.{sumAt, tally, stateAfter}
 use Rattle.history.specs.Marked.{ordered, port, routerWithPorts, A, B, C, D, allRoutes, withoutA, datagram, heard, sentBy, notSent}
 use Rattle.history.proofs.Counters.{counters}
 use Rattle.survey.proofs.Bits.{in-none}
 use Rattle.history.proofs.Fair.{fair}
+use Rattle.history.proofs.Replying.{reply-fair}
 use Rattle.history.proofs.Refusals.{heard-grants-nothing, counts-nothing}
 use Rattle.history.proofs.Marked.{opened, marked-cases}
 
@@ -184,6 +185,7 @@ cases =
 abbrev portsOf : Answer → ℕ
 portsOf (number n) = 0
 portsOf (ended refusal local onward took) = took
+portsOf (replied refusal onward took) = took
 portsOf (entry e) = 0
 
 pub ended-by : {refusal local onward took refusal' local' onward' took' : ℕ} → ended refusal local onward took ≡ ended refusal' local' onward' took' → refusal ≡ refusal'
@@ -210,6 +212,7 @@ module _ (n : ℕ) (refuses : n ≡ 0 → ⊥) (i : ℕ) (none : sumAt ((receipt
       let is = ended-by e in
       let bare = heard-grants-nothing seat rs p second octets (length output) (λ z. refuses (sym is ∙ z)) in
       unmoved-by n (heardBy seat rs p second octets (length output)) i is bare none
+  unmoved-at seat (own (echoes rs p slot octets output)) local onward took e = true-false cc
   unmoved-at seat (own (takes p)) local onward took e = unmoved-taking p (takeOutcome (relayIn seat) p) i
   unmoved-at seat (own (sweeps second)) local onward took e = refl
   unmoved-at seat (own (looks l)) local onward took e = refl
@@ -229,6 +232,8 @@ module _ (seat : Seat) (p : ℕ) (inside : p < 8) (room : queueAt (seat .mission
   not-dropped (own (sets s)) drops = none-dropped drops
   not-dropped (own (hears rs q slot second octets output)) drops =
       true-false (sym (lt-ltb (queueAt (seat .mission) p .count) 32 room) ∙ fair seat p inside rs q second octets (length output) .full drops)
+  not-dropped (own (echoes rs q slot octets output)) drops =
+      true-false (sym (lt-ltb (queueAt (seat .mission) p .count) 32 room) ∙ reply-fair seat p inside rs q octets (length output) .full drops)
   not-dropped (own (takes q)) drops = no-taking-drops q (takeOutcome (relayIn seat) q) drops
   not-dropped (own (sweeps second)) drops = none-dropped drops
   not-dropped (own (looks l)) drops = none-dropped drops
