@@ -57,6 +57,7 @@ use Rattle.history.specs.Calls.{
   class,
   sets,
   hears,
+  echoes,
   takes,
   sweeps,
   looks,

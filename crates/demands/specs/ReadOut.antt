@@ -7,7 +7,7 @@ use lib.ListN.{replicate, take, drop}
 use lib.Dec.{eqb}
 use Rattle.checks.specs.Order.{pick}
 use Rattle.sets.specs.Sets.{inSet}
-use Rattle.answers.specs.Answers.{partAt, refusalIn, slotIn, precedenceIn}
+use Rattle.answers.specs.Answers.{partAt, wideAt, refusalIn, slotIn, precedenceIn}
 use Rattle.numbers.specs.InWords.{numbersWords}
 use Rattle.numbers.specs.declared.Numbers.{Numbers}
 use Rattle.queue.specs.declared.Entry.{Entry}
@@ -19,10 +19,11 @@ use Rattle.harpjuniper_reads.specs.Back.{portAnswer, groupAnswer, pathAnswer}
 use Rattle.contracts.specs.Promised.{Result, hj-read-words, hj-build-words}
 use Rattle.contracts.specs.Contracts.{Says}
 use Rattle.history.specs.Seat.{Seat}
-use Rattle.history.specs.Parts.{Part, theRouter, thePort, theLifetime, theGroup, thePath}
+use Rattle.history.specs.Parts.{Part, theRouter, thePort, theLifetime, theDrop, theGroup, thePath}
 use Rattle.history.specs.Calls.{
   routerFlag,
   lifetimeWord,
+  dropFlag,
   portWord,
   OperatorCall,
   orders,
@@ -40,11 +41,15 @@ use Rattle.history.specs.Calls.{
   class,
   form,
   checksum,
+  readEcho,
+  buildRequest,
+  buildReply,
   boardSize,
   missionSize,
   MissionCall,
   sets,
   hears,
+  echoes,
   takes,
   sweeps,
   looks,
@@ -74,6 +79,9 @@ lookOut (build fields size output) n = refusalIn n
 lookOut (class a) n = n
 lookOut (form p) n = n
 lookOut (checksum octets) n = n
+lookOut (readEcho octets) n = n
+lookOut (buildRequest i k echoed output) n = refusalIn n
+lookOut (buildReply i k seen echoed output) n = refusalIn n
 lookOut boardSize n = n
 lookOut missionSize n = n
 
@@ -84,6 +92,7 @@ operatorOut (views v) n = outcome.number (refusalIn n)
 abbrev pub ownOut : MissionCall → ℕ → outcome.Answer
 ownOut (sets s) n = outcome.number n
 ownOut (hears rs p slot second octets output) n = outcome.ended (partAt 0 n) (partAt 8 n) (partAt 16 n) (partAt 24 n)
+ownOut (echoes rs p slot octets output) n = outcome.replied (partAt 0 n) (partAt 16 n) (partAt 24 n)
 ownOut (takes p) n = takenOut n
 ownOut (sweeps second) n = outcome.number n
 ownOut (looks l) n = outcome.number (lookOut l n)
@@ -133,13 +142,21 @@ headerOut x p = take (headerOctets x p) (drop (stretchOf p) (x .left .output))
 abbrev pub wireBy : Result → List ℕ → ℕ → List ℕ
 wireBy x octets p = headerOut x p ++ drop (dataFrom x) octets
 
--- whether a call hears no datagram
+-- whether a call hears no datagram and answers no echo request
 abbrev pub hearsNothing : MissionCall → Bool
 hearsNothing (sets s) = true
 hearsNothing (hears rs p slot second octets output) = false
+hearsNothing (echoes rs p slot octets output) = false
 hearsNothing (takes p) = true
 hearsNothing (sweeps second) = true
 hearsNothing (looks l) = true
+
+-- the octets of a reply (hj_reply_octets), and the reply itself, which stands at the front of the output
+abbrev pub replyOctets : Result → ℕ
+replyOctets x = wideAt 40 (x .answer)
+
+abbrev pub replyOut : Result → List ℕ
+replyOut x = take (replyOctets x) (x .left .output)
 
 -- ---- what the words of a mission hold: its settings and queues, what it remembers, and one of its counters
 abbrev pub ownIn : List ℕ → Mission
@@ -169,6 +186,7 @@ abbrev pub asksFor : Customer → Part → ℕ → Step
 asksFor who theRouter word = operates (views routerFlag)
 asksFor who (thePort p) word = operates (views (portWord p word))
 asksFor who theLifetime word = operates (views lifetimeWord)
+asksFor who theDrop word = operates (views dropFlag)
 asksFor who (theGroup i) word = flies who (looks (groupWord i word))
 asksFor who (thePath i) word = flies who (looks (pathWord i word))
 
@@ -176,6 +194,7 @@ abbrev pub partTold : Seat → Part → ℕ → ℕ
 partTold x theRouter word = x .board .router
 partTold x (thePort p) word = portAnswer (x .board) p word
 partTold x theLifetime word = x .board .lifetime
+partTold x theDrop word = x .board .drop
 partTold x (theGroup i) word = groupAnswer (x .mission) i word
 partTold x (thePath i) word = pathAnswer (x .mission) i word
 

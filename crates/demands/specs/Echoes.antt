@@ -1,0 +1,146 @@
+-- Echo messages, for each of two customers by itself: page 02, W-203, said of what C calls. After any steps, whatever the other customer does between them, hj_echo answers by the
+-- page's list of what gets a reply; the reply that goes is the one that 003 and the page lay out, and names on the wire whom it should; it counts as
+-- the page says, and nothing else does; and no relay answers it. Proved in proofs/Echoes.antt. Assumes nothing.
+use Prim.Native.Nat.{ℕ, _+_, _%_, _^_, _<_, _≤_}
+use mathlib.Core.Path.{_≡_}
+use mathlib.Core.Logic.{_↔_, _≢_}
+use mathlib.Core.Bool.{Bool, true, false, _||_}
+use mathlib.Core.List.{List, [], _∷_, _++_}
+use lib.ListN.{length, take, drop, getD}
+use Rattle.checks.specs.Order.{pick}
+use Rattle.address.specs.declared.Address.{Address}
+use Rattle.address.specs.declared.Slot.{Slot}
+use Rattle.header.specs.Limits.{lengthLimit}
+use Rattle.header.specs.Read.{readOf}
+use Rattle.header.specs.declared.Header.{Header}
+use Rattle.header.specs.declared.Read.the-variants as read
+use Rattle.echo.specs.Message.{readingOf, echoedIn}
+use Rattle.echo.specs.declared.Reading.the-variants as reading
+use Rattle.meaning.specs.Names.{aimOf, originOf}
+use Rattle.meaning.specs.declared.Aim.the-variants.{Node}
+use Rattle.meaning.specs.declared.Origin.the-variants.{From}
+use Rattle.queue.specs.Queue.{entryPlaces}
+use Rattle.routes.specs.Routes.{candidate}
+use Rattle.routes.specs.declared.Record.{Record}
+use Rattle.sets.specs.Limits.{portCount, counterCount}
+use Rattle.sets.specs.Sets.{inSet}
+use Rattle.state.specs.Relay.{Relay, portIn, routeIn}
+use Rattle.lent_state.specs.View.{tooLong}
+use Rattle.replies.specs.Request.{userData}
+use Rattle.replies.specs.Replied.{callChecks, answeringOf, wireFields, wireReply, echoedOf}
+use Rattle.replies.specs.declared.Answering.{Answering}
+use Rattle.page.specs.Table.{GivenBy, aimAt, equalsPort, oneOctet, liesFar}
+use Rattle.page.specs.Sought.{RouteTaken}
+use Rattle.page.specs.Replies.{RequestAnswered, ReplyTo, ReplyVerdict, replyVerdict}
+use Rattle.contracts.specs.Promised.{Result, lentTo, hj-echo}
+use Rattle.contracts.specs.Contracts.{Says}
+use Rattle.history.specs.Calls.{echoes, waiting, looks}
+use Rattle.history.specs.Outcome.{replied, ownOutcome}
+use Rattle.history.specs.Sums.{counted, portsIn}
+use Rattle.history.specs.Line.{Copy, takenOwn}
+use Rattle.demands.specs.Trace.{Customer, numberOf, Step, flies, missionOf, made, wordsAfter, historyOf, boardOf, seatOf, relayOf, relayFor, Gives}
+use Rattle.demands.specs.ReadOut.{endedBy, localIn, onwardIn, tookIn, droppedIn, replyOctets, replyOut, counterAt}
+
+-- the reply that the relay r makes, if any, to octets that came in by port `at`
+abbrev pub replyMade : Customer → List Step → List Record → ℕ → List ℕ → List ℕ → Answering
+replyMade who steps rs at octets output = answeringOf (relayFor who steps rs) (numberOf who) (boardOf steps .drop) at octets (length output)
+
+-- ---- what C is told of an echo request, where a is that reply
+pub record AnsweredAs (r : Relay) (dropping at : ℕ) (octets output : List ℕ) (a : Answering) (x : Result) : Type 0 where
+  -- "the caller lends room, at least the arrival port's MTU, else 17": 16 exactly where the port is not set up, or not the customer's
+  pub refusal : GivenBy (callChecks r at (length output)) (endedBy x)
+  -- a reply is made exactly where the page's list of conditions holds; "gets none" is told as 0
+  pub answered : endedBy x ≡ 0 → (onwardIn x ≢ 0) ↔ RequestAnswered r dropping at octets
+  -- and then it is the one that the page lays out,
+  pub reply : endedBy x ≡ 0 → (q : RequestAnswered r dropping at octets) → ReplyTo r at octets (q .message) a
+  -- which goes by the page's rows: 11, 14, 15, or the port that took it
+  pub onward : onwardIn x ≡ replyVerdict r at a (length output) .onward
+  pub took : (p : ℕ) → p < portCount → inSet p (tookIn x) ≡ replyVerdict r at a (length output) .took p
+  pub dropped : (p : ℕ) → p < portCount → inSet p (droppedIn x) ≡ replyVerdict r at a (length output) .dropped p
+  pub no-local : localIn x ≡ 0
+  -- "the fields ..": where a port took it the output begins with the reply, and every other octet stays as lent
+  pub written : tookIn x ≢ 0 → x .left .output ≡ replyOut x ++ drop (replyOctets x) output
+  pub unwritten : tookIn x ≡ 0 → (replyOctets x ≡ 0) × (x .left .output ≡ output)
+
+-- ---- the reply as the system behind port p, which took it, reads it
+pub record ReplyOnTheWire (r : Relay) (at p : ℕ) (octets output : List ℕ) (a : Answering) (x : Result) : Type 0 where
+  pub goes : Header
+  pub reads : readOf (replyOut x) ≡ read.Good goes
+  -- its header is the reply's own, with W-214's changes for this port and no others
+  pub fields : goes .fields ≡ wireFields (liesFar r at p) (portIn r at .address .0) (replyVerdict r at a (length output) .code) (a .fields)
+  -- "Size is tested against MTU and 8,191 after the rewrite, a reply's also against the room lent"
+  pub long : goes .length ≡ replyOctets x
+  pub fits : replyOctets x ≤ portIn r p .mtu
+  pub short : replyOctets x < lengthLimit
+  pub room : replyOctets x ≤ length output
+  -- its destination names the request's source,
+  pub aim : aimOf (portIn r p .address .0) (goes .fields .addresses) ≡ Node (a .destination)
+  -- and its source an address of ours: "the request's destination if a port has it, else the arrival port's address"
+  pub from-own : (d : Address) → aimAt r at octets ≡ Node d → equalsPort r (Node d) ≡ true
+      → originOf (portIn r p .address .0) (goes .fields .addresses) ≡ From d
+  pub from-arrival : equalsPort r (aimAt r at octets) ≡ false
+      → originOf (portIn r p .address .0) (goes .fields .addresses) ≡ From (portIn r at .address)
+  -- an address of one octet goes out into no other domain
+  pub domain : oneOctet (goes .fields .addresses) ≡ true → liesFar r at p ≡ false
+  -- its user data are the message, with the request's data as far as they are not cut
+  pub message : readingOf (userData goes (replyOut x)) ≡ reading.Good (a .message)
+  pub echoed : echoedIn (a .message) (userData goes (replyOut x)) ≡ echoedOf a octets
+
+-- what port p has of a reply that it took: its entry has the slot, and the request's precedence
+abbrev pub replyPlaced : Customer → List Step → ℕ → ℕ → Slot → List ℕ → Answering → Result → List Copy → Type 0
+replyPlaced who steps p at slot octets a x l =
+    (c : Copy)
+    × ((l ≡ c ∷ [])
+    × ((c .turn ≡ length (historyOf who steps))
+    × ((c .arrival ≡ portIn (relayOf who steps) at .address)
+    × ((c .entry ≡ record { slot = slot; precedence = a .precedence }) × (c .header ++ drop (c .size) (c .octets) ≡ replyOut x)))))
+
+pub record Echoes : Type 0 where
+  -- what hj_echo answers, and the reply; a list over 512 records is refused by 21 (demand 1)
+  pub answers : (who : Customer) (steps : List Step) (rs : List Record) (at : ℕ) (slot : Slot) (octets output : List ℕ) (x : Result)
+      → Gives steps (flies who (echoes rs at slot octets output)) x → tooLong rs ≡ false
+      → AnsweredAs (relayFor who steps rs) (boardOf steps .drop) at octets output (replyMade who steps rs at octets output) x
+  pub on-the-wire : (who : Customer) (steps : List Step) (rs : List Record) (at : ℕ) (slot : Slot) (octets output : List ℕ) (x : Result)
+      → Gives steps (flies who (echoes rs at slot octets output)) x → tooLong rs ≡ false → (p : ℕ) → p < portCount → inSet p (tookIn x) ≡ true
+      → ReplyOnTheWire (relayFor who steps rs) at p octets output (replyMade who steps rs at octets output) x
+  -- "the route line": the one taken matches the request's source, no matching entry that is up has more mask bits, and 11 is said exactly when none matches
+  pub route-taken : (who : Customer) (steps : List Step) (rs : List Record) (at : ℕ) (slot : Slot) (octets output : List ℕ) (p : ℕ) (x : Result)
+      → Gives steps (flies who (echoes rs at slot octets output)) x → tooLong rs ≡ false → p < portCount
+      → (inSet p (tookIn x) || inSet p (droppedIn x)) ≡ true
+      → RouteTaken (relayFor who steps rs) (replyMade who steps rs at octets output .destination) p
+  pub no-route : (who : Customer) (steps : List Step) (rs : List Record) (at : ℕ) (slot : Slot) (octets output : List ℕ) (x : Result)
+      → Gives steps (flies who (echoes rs at slot octets output)) x → tooLong rs ≡ false → onwardIn x ≢ 0
+      → (onwardIn x ≡ 11)
+      ↔ ((q : ℕ) → candidate (routeIn (relayFor who steps rs) q) (replyMade who steps rs at octets output .destination) ≡ false)
+  -- a request that gets none, and a call that is refused, leave every word and octet: "None .. nothing is counted or written"
+  pub none-leaves : (who : Customer) (steps : List Step) (rs : List Record) (at : ℕ) (slot : Slot) (octets output : List ℕ) (x : Result)
+      (g : Gives steps (flies who (echoes rs at slot octets output)) x) → onwardIn x ≡ 0
+      → x .left ≡ lentTo (made (g .before) (flies who (echoes rs at slot octets output)))
+  -- "Demand 3 counts replies, refused too (demand 1 lets these counters move), in npOutRequests, never npForwDatagrams, 11 to 15 as page 01": each counter moves by
+  -- what the list `counted` has for it, by what C is told
+  pub counts : (who : Customer) (steps : List Step) (rs : List Record) (at : ℕ) (slot : Slot) (octets output : List ℕ) (x : Result)
+      (g : Gives steps (flies who (echoes rs at slot octets output)) x) (i : ℕ) → i < counterCount
+      → counterAt (missionOf who (wordsAfter (g .before) (flies who (echoes rs at slot octets output)) x)) i
+      ≡ (counterAt (missionOf who (g .before)) i
+      + getD (counted (replied (endedBy x) (onwardIn x) (tookIn x)) (portsIn portCount (droppedIn x))) i 0) % 2 ^ 32
+  -- "their copies join its sum": what is granted, taken and dropped of a reply is what C is told, in the sum of demand 3; it drops where 32 already waited, and waits
+  -- in its port's line as the copy of a datagram does
+  pub copies-told : (who : Customer) (steps : List Step) (rs : List Record) (p at : ℕ) (slot : Slot) (octets output : List ℕ) (x : Result) → p < portCount
+      → Gives steps (flies who (echoes rs at slot octets output)) x → tooLong rs ≡ false
+      → (inSet p (ownOutcome (seatOf who steps) (echoes rs at slot octets output) .granted)
+      ≡ replyVerdict (relayFor who steps rs) at (replyMade who steps rs at octets output) (length output) .granted p)
+      × ((inSet p (ownOutcome (seatOf who steps) (echoes rs at slot octets output) .took) ≡ inSet p (tookIn x))
+      × (inSet p (ownOutcome (seatOf who steps) (echoes rs at slot octets output) .dropped) ≡ inSet p (droppedIn x)))
+  pub dropped-by-32 : (who : Customer) (steps : List Step) (rs : List Record) (p at : ℕ) (slot : Slot) (octets output : List ℕ) (x y : Result) → p < portCount
+      → Gives steps (flies who (echoes rs at slot octets output)) x → inSet p (droppedIn x) ≡ true
+      → Gives steps (flies who (looks (waiting p))) y → y .answer ≡ entryPlaces
+  pub placed : (who : Customer) (steps : List Step) (rs : List Record) (p at : ℕ) (slot : Slot) (octets output : List ℕ) (x : Result)
+      → Gives steps (flies who (echoes rs at slot octets output)) x → tooLong rs ≡ false → p < portCount
+      → (inSet p (tookIn x) ≡ false → takenOwn p (length (historyOf who steps)) (seatOf who steps) (echoes rs at slot octets output) ≡ [])
+      × (inSet p (tookIn x) ≡ true
+      → replyPlaced who steps p at slot octets (replyMade who steps rs at octets output) x
+      (takenOwn p (length (historyOf who steps)) (seatOf who steps) (echoes rs at slot octets output)))
+  -- a reply is never a request: no relay, whatever its words, makes a reply to it, so that two cannot answer each other for ever
+  pub never-a-request : (who : Customer) (steps : List Step) (rs : List Record) (at : ℕ) (slot : Slot) (octets output : List ℕ) (x : Result)
+      → Gives steps (flies who (echoes rs at slot octets output)) x → tookIn x ≢ 0
+      → (b m : List ℕ) (ts : List Record) (q n : ℕ) (o : List ℕ) (y : Result) → Says (hj-echo b m ts q n (replyOut x) o) y → onwardIn y ≡ 0
