@@ -10,3 +10,4 @@ pub mod Routes
 pub mod Exactly
 pub mod Meaning
 pub mod ReadBack
+pub mod Unanswered

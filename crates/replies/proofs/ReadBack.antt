@@ -7,7 +7,7 @@ use mathlib.Core.Logic.{_≢_}
 use mathlib.Core.Bool.{Bool, true, false, not}
 use mathlib.Core.List.{List, [], _∷_, _++_}
 use lib.ListN.{length, getD, take, drop}
-use lib.Seq.{take-all, drop-at}
+use lib.Seq.{take-all, drop-at, getD-drop}
 use lib.Dec.{eqb}
 use Rattle.checks.specs.Order.{pick}
 use Rattle.checks.proofs.Bools.{true-false}
@@ -121,3 +121,34 @@ by-reading m echoed s e (Refused n) is = refl
 
 pub reply-asks-nothing : (m : Message) (echoed : List ℕ) (s : Seen) → m .kind ≡ kind.Reply s → askingIn (readingOf (messageOctets m echoed)) ≡ Nothing
 reply-asks-nothing m echoed s e = by-reading m echoed s e (readingOf (messageOctets m echoed)) refl
+
+-- ---- each octet is under 256, where the data's are
+abbrev pub Octets : List ℕ → Type 0
+Octets s = (i : ℕ) → getD s i 0 < 256
+
+one-small : (v : ℕ) → Octets (v % 256 ∷ [])
+one-small v zero = omega arith
+one-small v (suc i) = omega arith
+
+pub octets-small : (n v : ℕ) → Octets (octets n v)
+unfolding octets
+octets-small zero v i = omega arith
+octets-small (suc n) v i = append-small (octets n (v / 256)) (v % 256 ∷ []) (octets-small n (v / 256)) (one-small v) i
+
+kind-small : (k : Kind) → Octets (kindOctets k)
+unfolding seenOctets
+kind-small kind.Request = λ i. omega arith
+kind-small (kind.Reply s) = search (append-small, octets-small) depth 7
+
+pub message-small : (m : Message) (echoed : List ℕ) → Octets echoed → Octets (messageOctets m echoed)
+unfolding messageOctets fixedOctets
+message-small m echoed small = search (append-small, octets-small, kind-small, small) depth 9
+
+pub take-small : (n : ℕ) (l : List ℕ) → Octets l → Octets (take n l)
+take-small zero l small i = omega arith
+take-small (suc n) [] small i = omega arith
+take-small (suc n) (x ∷ l) small zero = small 0
+take-small (suc n) (x ∷ l) small (suc i) = take-small n l (λ j. small (suc j)) i
+
+pub drop-small : (n : ℕ) (l : List ℕ) → Octets l → Octets (drop n l)
+drop-small n l small i = subst⁻¹ (λ (x : ℕ). x < 256) (getD-drop n l i 0) (small (n + i))
