@@ -6,3 +6,5 @@ pub mod Answered
 pub mod Written
 pub mod Made
 pub mod Goes
+pub mod Routes
+pub mod Exactly
