@@ -9,7 +9,7 @@ use Rattle.header.specs.declared.Built.{Built}
 use lib.Seq.{sets}
 use Rattle.words.proofs.Parts.{all-stored}
 use Rattle.echo.specs.Message.{typeOf, fixedSize, readingOf}
-use Rattle.echo.specs.Built.{builtOf}
+use Rattle.echo.specs.Built.{builtOf, builtOutput}
 use Rattle.echo.specs.declared.Seen.{Seen}
 use Rattle.echo.specs.declared.Kind.{Kind}
 use Rattle.echo.specs.declared.Kind.the-variants.{Request, Reply}
@@ -24,7 +24,8 @@ size-fits Request = omega arith
 size-fits (Reply x) = omega arith
 
 -- all words were stored, one by one
-pub message-written : (m : Message) (l : List ℕ) (t f : ℕ) (x : Seen) → t ≡ typeOf (m .kind) → f ≡ fixedSize (m .kind) → x ≡ seenIn (m .kind) → length l ≡ messageCount
+pub message-written : (m : Message) (l : List ℕ) (t f : ℕ) (x : Seen) → t ≡ typeOf (m .kind) → f ≡ fixedSize (m .kind) → x ≡ seenIn (m .kind)
+    → length l ≡ messageCount
     → sets l 0 (t ∷ m .identifier ∷ m .sequence ∷ f ∷ x .hops ∷ x .format ∷ x .stamp / 4294967296 ∷ x .stamp % 4294967296 ∷ x .mtu ∷ x .rate ∷ []) ≡ messageWords m
 unfolding messageWords
 message-written m l t f x et ef ex count = rw (et, ef, ex) (all-stored l (messageWords m) count)
@@ -46,5 +47,7 @@ module _ (s lent : List ℕ) where
 
 -- ---- building
 
-pub answered : (m : Message) (n room x : ℕ) (b : Built) → b ≡ builtOf m n room → x ≡ builtAnswer b → x ≡ builtAnswer (builtOf m n room)
-answered m n room x b e p = rw (← e) p
+-- of a message that was made
+pub answered : (m made : Message) (echoed lent : List ℕ) (x : ℕ) (b : Built) (out : List ℕ) → made ≡ m → b ≡ builtOf made (length echoed) (length lent)
+    → out ≡ builtOutput made echoed lent → x ≡ builtAnswer b → (x ≡ builtAnswer (builtOf m (length echoed) (length lent))) × (out ≡ builtOutput m echoed lent)
+answered m made echoed lent x b out em eb eo ex = rw (← em) (rw (← eb) ex, eo)

@@ -1,2 +1,3 @@
--- What the calls return, over plain variables, and the proofs of the functions. Assumes nothing.
+-- The laws of echo messages as C calls them. To be read: Promises; Laws serves the proofs of the functions. Assumes nothing.
 pub mod Laws
+pub mod Promises

@@ -49,12 +49,15 @@ readLeft r lent = pick (eqb (length lent) messageCount) (leftBy r lent) lent
 
 -- ---- building
 
+abbrev pub messageWith : ℕ → ℕ → Kind → Message
+messageWith identifier sequence kind = record { identifier = identifier; sequence = sequence; kind = kind }
+
 abbrev pub requestOf : ℕ → ℕ → Message
-requestOf identifier sequence = record { identifier = identifier; sequence = sequence; kind = Request }
+requestOf identifier sequence = messageWith identifier sequence Request
 
 abbrev pub replyOf : ℕ → ℕ → ℕ → ℕ → ℕ → ℕ → ℕ → Message
 replyOf identifier sequence hops format stamp mtu rate =
-    record { identifier = identifier; sequence = sequence; kind = Reply (record { hops = hops; format = format; stamp = stamp; mtu = mtu; rate = rate }) }
+    messageWith identifier sequence (Reply (record { hops = hops; format = format; stamp = stamp; mtu = mtu; rate = rate }))
 
 -- the octets of the message, or the refusal above a value of 32 bits
 abbrev pub builtAnswer : Built → ℕ

@@ -1,7 +1,7 @@
 // What C calls to read and to build echo messages.
 //
-// A message that was read stands in ten lent words, as the fields of a header do (crate harpjuniper); what is built is asked for in plain numbers, since there are few
-// of them. None requires anything: whatever octets, lengths, numbers or words come, the answer is the one that the definitions state. An answer that
+// A message that was read stands in ten lent words, as the fields of a header do (crate harpjuniper); what is built is asked for in plain numbers, since
+// there are few of them. None requires anything: whatever octets, lengths, numbers or words come, the answer is the one that the definitions state. An answer that
 // is a refusal or a value is one number of 64 bits, the refusal above the value.
 //
 // The awkward case is a request, which has no numbers of what was seen: their words are 0, and the type tells it from a reply that has them 0.
@@ -20,6 +20,7 @@ ghost use Rattle.harpjuniper_messages.specs.Face.{
   messageWords,
   readAnswer,
   readLeft,
+  messageWith,
   requestOf,
   replyOf,
   builtAnswer,
@@ -94,6 +95,16 @@ fn built_answer(b: Built) -> u64
     }
 }
 
+fn message_with(identifier: u16, sequence: u16, kind: Kind) -> Message
+    ensures { λ r. ⌜ r ≡ messageWith identifier sequence kind ⌝ }
+{
+    Message {
+        identifier: identifier,
+        sequence: sequence,
+        kind: kind,
+    }
+}
+
 // Builds a request with these data at the front of the output.
 #[no_mangle]
 pub extern "C" fn hj_build_request(
@@ -105,11 +116,7 @@ pub extern "C" fn hj_build_request(
     ensures { λ r. ⌜ r ≡ builtAnswer (builtOf (requestOf identifier sequence) (length (now (echoed .entry))) (length (now (output .entry)))) ⌝ }
     ensures { λ _. ⌜ now (output .exit) ≡ builtOutput (requestOf identifier sequence) (now (echoed .entry)) (now (output .entry)) ⌝ }
 {
-    let m = Message {
-        identifier: identifier,
-        sequence: sequence,
-        kind: Kind::Request,
-    };
+    let m = message_with(identifier, sequence, Kind::Request);
     built_answer(echo::build_message(m, echoed, output))
 }
 
@@ -143,10 +150,6 @@ pub extern "C" fn hj_build_reply(
         mtu: mtu,
         rate: rate,
     };
-    let m = Message {
-        identifier: identifier,
-        sequence: sequence,
-        kind: Kind::Reply(seen),
-    };
+    let m = message_with(identifier, sequence, Kind::Reply(seen));
     built_answer(echo::build_message(m, echoed, output))
 }

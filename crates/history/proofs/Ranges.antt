@@ -12,13 +12,13 @@ use native.Mathlib.Nat.{div-eq-of-lt, lt-of-lt-of-le, lt-of-not-le}
 use native.Mathlib.Decide.{decLe}
 use mathlib.Core.Logic.{by-cases}
 use lib.Pow.{pow-mono}
-use borrow.Author.Tests.{ltb-true, ltb-false, lt-ltb}
+use borrow.Author.Tests.{ltb-true, ltb-false}
 use Rattle.checks.specs.Order.{pick, firstOf}
 use Rattle.checks.proofs.Bools.{true-false, refuted, and-true, not-false}
 use Rattle.checks.proofs.Laws.{either}
 use Rattle.sets.specs.Sets.{inSet}
 use Rattle.header.specs.Range.{qosFits}
-use Rattle.header.specs.Read.{readOf}
+use Rattle.header.specs.Read.{headerOf, readOf}
 use Rattle.header.specs.declared.Header.{Header}
 use Rattle.header.specs.declared.Qos.{Qos}
 use Rattle.header.specs.declared.Qos.the-variants as qos
@@ -40,7 +40,7 @@ use Rattle.records.specs.declared.PathPlace.{PathPlace}
 use Rattle.records.specs.declared.Pair.{Pair}
 use Rattle.records.specs.declared.PairPlace.{PairPlace}
 use Rattle.routes.specs.declared.Record.{Record}
-use Rattle.state.specs.Relay.{Mission, Memory, Relay, portIn, groupAt, pathAt, pairAt, putGroup, putPath, putLast, putPair, amongPorts, portSetUp}
+use Rattle.state.specs.Relay.{Mission, Memory, Relay, portIn, groupAt, pathAt, pairAt, putGroup, putPath, putLast, putPair, portSetUp}
 use Rattle.state.specs.Seen.{Board, freshBoard, freshMission, freshMemory, ownedAt}
 use Rattle.refusals.specs.Lists.{portChecks, pathChecks}
 use Rattle.refusals.proofs.Chains.{decided}
@@ -51,9 +51,6 @@ use Rattle.floods.specs.Sweep.{isOld, isPast, swept, sweepChecks, sweptMemory}
 use Rattle.floods.proofs.Swept.{place-swept}
 use Rattle.judge.specs.Ending.{refusedBy, callChecks, ruledEnding, headerEnding, octetsEnding, arrivalAt, endingOf}
 use Rattle.judge.specs.declared.Ending.{Ending}
-use Rattle.replies.specs.Replied.{repliedAmong}
-use Rattle.replies.specs.declared.Answering.{Answering}
-use Rattle.replies.specs.declared.sending.Replied.{Replied}
 use Rattle.answering.specs.Echoed.{asEnding}
 use Rattle.history.specs.Seat.{Seat, freshSeat, relayIn, relayWith, heardBy, answeringBy, repliedBy}
 use Rattle.history.specs.Calls.{
@@ -95,13 +92,13 @@ use Rattle.history.proofs.Remembered.{remembering-so, memory-so}
 use Rattle.history.proofs.Ports.{set-up-stays}
 use Rattle.history.proofs.Reach.{settingsOf, received-settings, taken-settings}
 use Rattle.history.proofs.Small.{sets-small}
-use Rattle.history.proofs.Requests.{was-asked}
-use Rattle.history.proofs.Replying.{request, judged, answer-so, reply-so, reply-small, took-set-up}
+use Rattle.history.proofs.Replying.{reply-precedence-so, reply-small, reply-set-up}
 use Rattle.history.proofs.Wire.{own-octets}
 use Rattle.history.proofs.Line.{line-each, queue-waits}
 use Rattle.history.proofs.Takes.{take-is}
 use Rattle.page.specs.Table.{hasRoom}
 use Rattle.survey.proofs.Bits.{in-none}
+use Rattle.page.proofs.Answered.{made-tells}
 use Rattle.page.proofs.Exactly.{took-exactly}
 use Rattle.page.proofs.Sought.{granted-set-up}
 
@@ -314,11 +311,10 @@ module _ (seat : Seat) (rs : List Record) (p port : ℕ) (octets : List ℕ) (ro
       ap (λ (n : ℕ). eqb (n % 2) 1) (div-eq-of-lt (lt-of-lt-of-le (reply-small seat rs port octets room .took) (pow-mono {i = 8} {j = p} h)))
 
   reply-up : inSet p (repliedBy seat rs port octets room .ruling .took) ≡ true → portSetUp (relayIn seat) p ≡ true
-  unfolding amongPorts
   reply-up took =
       by-cases (decLe 8 p)
       (λ h. true-false (sym took ∙ no-reply-beyond h))
-      (λ h. rw (lt-ltb p 8 (lt-of-not-le h), took-set-up seat rs p (lt-of-not-le h) port octets room took) refl)
+      (λ h. reply-set-up seat rs port octets room p (lt-of-not-le h) took)
 
 -- ---- nothing waits on a port that is not set up, or not the mission's
 module _ (p : ℕ) where
@@ -391,15 +387,11 @@ ending-fits seat rs port second octets room small =
 
 -- a reply has the request's precedence
 reply-precedence : (seat : Seat) (rs : List Record) (port : ℕ) (octets : List ℕ) (room : ℕ) → Octets octets → repliedBy seat rs port octets room .precedence < 16
-unfolding repliedAmong
 reply-precedence seat rs port octets room small =
-    let r = relayWith seat rs in
-    let fits : answeringBy seat rs port octets room .precedence < 16 =
-    answer-so seat rs port octets room (λ (a : Answering). a .precedence < 16) (λ n is. omega arith)
-    (λ identifier sequence c.
-    let was = was-asked r (seat .number) (arrivalAt r port) octets (judged seat rs port octets room identifier sequence c) in
-    rw (was .precedence) (asked-fits (request seat rs port octets room .header .fields .qos) (read-in-range octets _ small (was .read) .qos))) in
-    reply-so seat rs port octets room (λ (e : Replied). e .precedence < 16) (λ n is. omega arith) (λ made. fits) (λ made set code is. fits)
+    reply-precedence-so seat rs port octets room (λ (n : ℕ). n < 16) (omega arith)
+    (λ made.
+    let told = made-tells (relayWith seat rs) (seat .number) (seat .board .drop) port octets room made in
+    rw (told .1 .precedence) (asked-fits (headerOf octets .fields .qos) (read-in-range octets (headerOf octets) small (told .0 .reads) .qos)))
 
 module _ (p : ℕ) where
   enters-fits : (seat : Seat) (n : ℕ) (c : Call) → Passed c → Each CopyFits (takenBy p n seat c)

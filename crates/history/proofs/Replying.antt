@@ -1,25 +1,23 @@
--- What a reply is, over whatever seat: none, by 21, 16 or 17 or without a number; or made, and then lost, by 11, or granted to ports of a route's set and taken or
--- dropped there. What holds of these holds of every reply (`reply-so`), and likewise of what is made (`answer-so`). Assumes nothing.
+-- What a reply is, over whatever seat: none by 21 where the list lent is too long, else what page 02's relay gives (crate page). So it is none, by 21, 16 or 17 or
+-- without a number; or it is made, and then lost, by 11, or too big, by 14, or its copies are taken and dropped (`reply-so`). Assumes nothing.
 use native.Mathlib.Omega.{arith}
 use Prim.Native.Nat.{ℕ, _<_}
-use mathlib.Core.Path.{_≡_, refl, sym, ap, ap₂, _∙_}
+use mathlib.Core.Path.{_≡_, refl, sym, ap, _∙_}
+use mathlib.Core.Logic.{inl, ⊎-elim}
 use mathlib.Core.Bool.{Bool, true, false, not, _&&_, _||_}
 use mathlib.Core.List.{List, [], _∷_}
-use lib.Bits.{bitAnd, and-le-l, and-le-r}
-use lib.Dec.{eqb, ltb}
-use borrow.Author.Tests.{eqb-true, eqb-false}
-use Rattle.checks.specs.Order.{pick, firstOf}
-use Rattle.checks.proofs.Bools.{true-false, and-true}
+use lib.Bits.{bitAnd}
+use lib.Dec.{eqb}
+use borrow.Author.Tests.{eqb-true, eqb-false, eq-eqb}
+use Rattle.checks.specs.Order.{pick}
+use Rattle.checks.proofs.Bools.{true-false}
 use Rattle.checks.proofs.Laws.{either}
 use Rattle.sets.specs.Sets.{inSet}
-use Rattle.sets.proofs.Loops.{portSet-below}
-use Rattle.header.specs.Onward.{foundOf}
-use Rattle.records.specs.SetUp.{isSetUp}
+use Rattle.header.specs.Limits.{lengthLimit}
 use Rattle.routes.specs.declared.Record.{Record}
-use Rattle.state.specs.Relay.{Relay, portIn, queueIn}
-use Rattle.survey.specs.Survey.{isFitting, isFull, surveyWithin, wantedOf}
-use Rattle.survey.specs.declared.Sought.{Sought}
-use Rattle.survey.proofs.Bits.{in-none, in-and, in-except, in-gathered}
+use Rattle.state.specs.Relay.{Relay, portSetUp}
+use Rattle.survey.specs.Survey.{wantedOf}
+use Rattle.survey.proofs.Bits.{in-none}
 use Rattle.lookup.specs.ForTarget.{wayFor}
 use Rattle.lent_state.specs.View.{tooLong}
 use Rattle.verdict.specs.Numbers.{onwardNumber}
@@ -30,240 +28,115 @@ use Rattle.verdict.specs.declared.Obstacle.the-variants.{NoRoute, TooBig, Queue
 use Rattle.verdict.specs.declared.Onward.{Onward}
 use Rattle.verdict.specs.declared.Onward.the-variants as onward
 use Rattle.verdict.specs.declared.Ruling.{Ruling}
-use Rattle.verdict.specs.declared.Survey.{Survey}
 use Rattle.verdict.specs.declared.Target.the-variants.{Route}
 use Rattle.verdict.specs.declared.Way.{Way}
 use Rattle.verdict.specs.declared.Way.the-variants.{By, Lost}
 use Rattle.verdict.specs.declared.Wish.the-variants as wish
-use Rattle.judge.specs.Asked.{octetsAsked}
-use Rattle.judge.specs.Ending.{noRuling, arrivalAt}
-use Rattle.judge.specs.declared.Asked.{Asked}
-use Rattle.page.proofs.Small.{Small}
-use Rattle.replies.specs.Request.{askingOf}
-use Rattle.replies.specs.Reply.{noAnswer, madeOf, hasRoom, askedBy, isAsked, answerTo}
-use Rattle.replies.specs.Replied.{callChecks, destinationSurvey, soughtFor, answeringOf, noReply, repliedAmong, repliedBy as byWay, repliedTo}
+use Rattle.judge.specs.Ending.{noRuling}
+use Rattle.replies.specs.Reply.{noAnswer}
+use Rattle.replies.specs.Replied.{callChecks, soughtFor, answeringOf, noReply, repliedAmong, repliedBy as byWay, repliedTo, repliedOf}
 use Rattle.replies.specs.declared.Answering.{Answering}
-use Rattle.replies.specs.declared.request.Asking.{Asking}
-use Rattle.replies.specs.declared.request.Asking.the-variants.{Asks, Nothing}
 use Rattle.replies.specs.declared.sending.Replied.{Replied}
+use Rattle.replies.proofs.Goes.{some-port}
 use Rattle.answering.specs.Echoed.{echoAnswering, echoReply}
-use Rattle.history.specs.Seat.{Seat, relayWith, answeringBy, repliedBy}
+use Rattle.page.proofs.Answered.{call-number, made-or-not}
+use Rattle.page.proofs.Replies.{reply-took, reply-dropped, reply-shared, reply-fits, reply-wired, reply-small as page-small}
+use Rattle.page.proofs.Small.{Small}
+use Rattle.history.specs.Seat.{Seat, relayIn, relayWith, answeringBy, repliedBy}
 use Rattle.history.specs.Outcome.{replied, isRefusal, ofReply}
 use Rattle.history.specs.Answers.{replyRows, listed, stands}
 use Rattle.history.proofs.Fair.{Fair, fair-by, none-fair}
-use Rattle.history.proofs.Listed.{first-listed}
+use Rattle.history.proofs.Listed.{first-listed, listed-low}
 
 -- the numbers that refuse, and 0
-abbrev pub replyNumbers : List ℕ
+abbrev replyNumbers : List ℕ
 replyNumbers = 0 ∷ 21 ∷ 16 ∷ 17 ∷ []
 
 -- one that does not go, without a copy
 abbrev unsent : Obstacle → Ruling
 unsent o = record { local = No; onward = onward.Refused o; granted = 0; took = 0; dropped = 0 }
 
-none-small : (x : Onward) → Small (record { local = No; onward = x; granted = 0; took = 0; dropped = 0 })
-none-small x = record { granted = omega arith; took = omega arith; dropped = omega arith }
-
--- a reply without a route
-abbrev pub lostReply : Answering → Replied
-lostReply a = record { refusal = 0; ruling = rulingOf No (wish.Refused NoRoute) 0; precedence = a .precedence; code = 0; far = 0; octets = 0 }
-
 module _ (seat : Seat) (rs : List Record) (port : ℕ) (octets : List ℕ) (room : ℕ) where
+  -- page 02's relay as the mission sees it, and what it answers
   abbrev r : Relay
   r = relayWith seat rs
 
-  -- ---- what is made
-  -- the request as it was judged, and what the ports say of its destination
-  abbrev pub request : Asked
-  request = octetsAsked r (seat .number) (arrivalAt r port) (foundOf octets)
+  abbrev pub answer : Answering
+  answer = answeringOf r (seat .number) (seat .board .drop) port octets room
 
-  abbrev pub named : Survey
-  named = destinationSurvey r request
+  abbrev pub reply : Replied
+  reply = repliedOf r (seat .number) (seat .board .drop) port octets room
 
-  -- all that was asked where a reply is made
-  pub record Conditions (identifier sequence : ℕ) : Type 0 where
-    pub short : tooLong rs ≡ false
-    pub call : firstOf (callChecks r port room) ≡ 0
-    pub asked : isAsked (seat .board .drop) request named ≡ true
-    pub message : askingOf (request .header) octets ≡ Asks identifier sequence
-    pub fixed : hasRoom request named (portIn r port .mtu) ≡ true
-
-  -- what holds of none, by these numbers, and of every reply that is made holds of the answer
-  module _ (P : Answering → Type 0) (none : (n : ℕ) → listed replyNumbers n ≡ true → P (noAnswer n))
-      (made : (identifier sequence : ℕ) → Conditions identifier sequence → P (madeOf request named (portIn r port .mtu) identifier sequence)) where
-    room-case : tooLong rs ≡ false → firstOf (callChecks r port room) ≡ 0 → isAsked (seat .board .drop) request named ≡ true
-        → (x : Asking) → askingOf (request .header) octets ≡ x → P (askedBy x request named (portIn r port .mtu))
-    room-case short call asked (Asks identifier sequence) is = by (hasRoom request named (portIn r port .mtu)) refl
-      where
-        by : (t : Bool) → hasRoom request named (portIn r port .mtu) ≡ t
-            → P (pick t (madeOf request named (portIn r port .mtu) identifier sequence) (noAnswer 0))
-        by true fixed = made identifier sequence (record { short = short; call = call; asked = asked; message = is; fixed = fixed })
-        by false fixed = none 0 refl
-    room-case short call asked Nothing is = none 0 refl
-
-    answer-case : tooLong rs ≡ false → (t : Bool) → eqb (firstOf (callChecks r port room)) 0 ≡ t
-        → P (pick t (answerTo (seat .board .drop) request named (portIn r port .mtu) octets) (noAnswer (firstOf (callChecks r port room))))
-    unfolding answerTo callChecks
-    answer-case short true call = by (isAsked (seat .board .drop) request named) refl
-      where
-        by : (t : Bool) → isAsked (seat .board .drop) request named ≡ t
-            → P (pick t (askedBy (askingOf (request .header) octets) request named (portIn r port .mtu)) (noAnswer 0))
-        by true asked = room-case short (eqb-true (firstOf (callChecks r port room)) 0 call) asked (askingOf (request .header) octets) refl
-        by false asked = none 0 refl
-    answer-case short false call = none (firstOf (callChecks r port room)) (first-listed replyNumbers (callChecks r port room) refl refl)
-
-    pub answer-so : P (answeringBy seat rs port octets room)
-    unfolding echoAnswering answeringOf
-    answer-so = by (tooLong rs) refl
-      where
-        by : (t : Bool) → tooLong rs ≡ t → P (pick t (noAnswer 21) (answeringOf r (seat .number) (seat .board .drop) port octets room))
-        by true long = none 21 refl
-        by false short = answer-case short (eqb (firstOf (callChecks r port room)) 0) refl
-
-  -- nothing refuses the request
-  pub judged : (identifier sequence : ℕ) → Conditions identifier sequence → request .refusal ≡ 0
-  unfolding isAsked
-  judged identifier sequence c = eqb-true (request .refusal) 0 (and-true (eqb (request .refusal) 0) _ (c .asked) .0)
-
-  abbrev a : Answering
-  a = answeringBy seat rs port octets room
-
-  refusal-listed : listed replyNumbers (a .refusal) ≡ true
-  refusal-listed = answer-so (λ (x : Answering). listed replyNumbers (x .refusal) ≡ true) (λ n is. is) (λ identifier sequence c. refl)
-
-  -- ---- whether it goes
-  -- by the ports of a set, which is the route's
-  abbrev pub among : ℕ → ℕ → Replied
-  among set code = repliedAmong a set code (wantedOf r set (soughtFor a code room))
-
-  module _ (P : Replied → Type 0) (none : (n : ℕ) → listed replyNumbers n ≡ true → P (noReply n)) (lost : (a .made ≡ 0 → ⊥) → P (lostReply a))
-      (by-set : (a .made ≡ 0 → ⊥) → (set code : ℕ) → wayFor r Route (a .destination) ≡ By set code → P (among set code)) where
-    way-case : (a .made ≡ 0 → ⊥) → (w : Way) → wayFor r Route (a .destination) ≡ w → P (byWay r a w room)
-    way-case made (By set code) is = by-set made set code is
-    way-case made Lost is = lost made
-
-    pub reply-so : P (repliedBy seat rs port octets room)
-    unfolding echoReply repliedTo
-    reply-so = by (eqb (a .made) 0) refl
-      where
-        by : (t : Bool) → eqb (a .made) 0 ≡ t → P (pick t (noReply (a .refusal)) (byWay r a (wayFor r Route (a .destination)) room))
-        by true e = none (a .refusal) refusal-listed
-        by false e = way-case (eqb-false (a .made) 0 e) (wayFor r Route (a .destination)) refl
-
-  -- ---- its ruling
-  -- the ports of the set that it fits, and of these those whose queues are full
-  abbrev pub wanted : ℕ → ℕ → Survey
-  wanted set code = wantedOf r set (soughtFor a code room)
-
-  abbrev pub granted : ℕ → ℕ → ℕ
-  granted set code = bitAnd set (wanted set code .fitting)
-
-  -- what holds of one that fits no port, and of the copies, holds of it; and with what holds of none and without a route, of every reply
-  pub among-so : (P : Ruling → Type 0) (set code : ℕ) → P (unsent TooBig) → P (copiesOf No (granted set code) (wanted set code .full))
-      → P (among set code .ruling)
-  unfolding repliedAmong rulingOf
-  among-so P set code too-big copies = by (eqb (granted set code) 0)
+  -- what holds of none by 21, and of what page 02's relay gives, holds of what is answered; short is what is known then
+  pub both-so : (P : Answering → Replied → Type 0) → (tooLong rs ≡ true → P (noAnswer 21) (noReply 21)) → (tooLong rs ≡ false → P answer reply)
+      → P (answeringBy seat rs port octets room) (repliedBy seat rs port octets room)
+  unfolding echoReply echoAnswering repliedTo repliedOf
+  both-so P long short = by (tooLong rs) refl
     where
-      by : (t : Bool) → P (rulingOf No (pick t (wish.Refused TooBig) (wish.Wanted (granted set code))) (wanted set code .full))
-      by true = too-big
-      by false = copies
+      given : Answering → Replied
+      given a = repliedTo r a (wayFor r Route (a .destination)) room
 
-  pub ruling-so : (P : Ruling → Type 0) → P noRuling → P (unsent NoRoute) → P (unsent TooBig)
-      → ((set code : ℕ) → P (copiesOf No (granted set code) (wanted set code .full))) → P (repliedBy seat rs port octets room .ruling)
-  unfolding rulingOf
-  ruling-so P none no-route too-big copies =
-      reply-so (λ (e : Replied). P (e .ruling)) (λ n is. none) (λ made. no-route) (λ made set code is. among-so P set code too-big (copies set code))
+      by : (t : Bool) → tooLong rs ≡ t → P (pick t (noAnswer 21) answer) (given (pick t (noAnswer 21) answer))
+      by true e = long e
+      by false e = short e
 
-  -- ---- each port takes the copy that it is granted where fewer than 32 wait, and else drops it
-  module _ (p : ℕ) (inside : p < 8) (set code : ℕ) where
-    abbrev setUp : Bool
-    setUp = isSetUp (portIn r p)
-
-    abbrev roomy : Bool
-    roomy = ltb (queueIn r p .count) 32
-
-    fitting-in : inSet p (wanted set code .fitting) ≡ (setUp && (inSet p set && isFitting (portIn r p) (soughtFor a code room)))
-    unfolding surveyWithin
-    fitting-in =
-        in-gathered (λ (i : ℕ). isSetUp (portIn r i) && (inSet i set && isFitting (portIn r i) (soughtFor a code room))) p 8 inside
-
-    full-in : inSet p (wanted set code .full) ≡ (setUp && (inSet p set && not roomy))
-    unfolding surveyWithin
-    full-in = in-gathered (λ (i : ℕ). isSetUp (portIn r i) && (inSet i set && isFull (queueIn r i .count))) p 8 inside
-
-    pub granted-in : inSet p (granted set code) ≡ (inSet p set && (setUp && (inSet p set && isFitting (portIn r p) (soughtFor a code room))))
-    granted-in = in-and p set (wanted set code .fitting) ∙ ap (λ (t : Bool). inSet p set && t) fitting-in
-
-    pub took-in : inSet p (exceptBy (granted set code) (wanted set code .full)) ≡ (inSet p (granted set code) && roomy)
-    took-in =
-        in-except p (granted set code) (wanted set code .full)
-        ∙ ap₂ (λ (t u : Bool). t && not u) granted-in full-in
-        ∙ by (inSet p set) setUp (isFitting (portIn r p) (soughtFor a code room)) roomy
-        ∙ ap (λ (t : Bool). t && roomy) (sym granted-in)
+  -- ---- the cases
+  module _ (Q : ℕ → Ruling → Type 0) (none : (n : ℕ) → listed replyNumbers n ≡ true → Q n noRuling) (no-route : Q 0 (unsent NoRoute))
+      (too-big : Q 0 (unsent TooBig)) (copies : (granted full : ℕ) → Q 0 (copiesOf No granted full)) where
+    way-so : (w : Way) → Q (byWay r answer w room .refusal) (byWay r answer w room .ruling)
+    unfolding repliedAmong rulingOf
+    way-so (By set code) = by (eqb fits 0)
       where
-        by : (i u f s : Bool) → ((i && (u && (i && f))) && not (u && (i && not s))) ≡ ((i && (u && (i && f))) && s)
-        by false u f s = refl
-        by true false f s = refl
-        by true true false s = refl
-        by true true true false = refl
-        by true true true true = refl
+        fits : ℕ
+        fits = bitAnd set (wantedOf r set (soughtFor answer code room) .fitting)
 
-    dropped-in : inSet p (bitAnd (granted set code) (wanted set code .full)) ≡ (inSet p (granted set code) && not roomy)
-    dropped-in =
-        in-and p (granted set code) (wanted set code .full)
-        ∙ ap₂ (λ (t u : Bool). t && u) granted-in full-in
-        ∙ by (inSet p set) setUp (isFitting (portIn r p) (soughtFor a code room)) roomy
-        ∙ ap (λ (t : Bool). t && not roomy) (sym granted-in)
+        by : (t : Bool) → Q 0 (rulingOf No (pick t (wish.Refused TooBig) (wish.Wanted fits)) (wantedOf r set (soughtFor answer code room) .full))
+        by true = too-big
+        by false = copies fits (wantedOf r set (soughtFor answer code room) .full)
+    way-so Lost = no-route
+
+    refused-so : Q (answer .refusal) noRuling
+    unfolding callChecks
+    refused-so =
+        none (answer .refusal) (ap (listed replyNumbers) (call-number r (seat .number) (seat .board .drop) port octets room)
+        ∙ first-listed replyNumbers (callChecks r port room) refl refl)
+
+    page-so : Q (reply .refusal) (reply .ruling)
+    unfolding repliedOf repliedTo
+    page-so = by (eqb (answer .made) 0)
       where
-        by : (i u f s : Bool) → ((i && (u && (i && f))) && (u && (i && not s))) ≡ ((i && (u && (i && f))) && not s)
-        by false u f s = refl
-        by true false f s = refl
-        by true true false s = refl
-        by true true true s = refl
+        given : Replied
+        given = byWay r answer (wayFor r Route (answer .destination)) room
 
-    pub copies-fair : Fair seat p inside (copiesOf No (granted set code) (wanted set code .full))
-    unfolding copiesOf
-    copies-fair = fair-by seat p inside (copiesOf No (granted set code) (wanted set code .full)) took-in dropped-in
+        by : (t : Bool) → Q (pick t (noReply (answer .refusal)) given .refusal) (pick t (noReply (answer .refusal)) given .ruling)
+        by true = refused-so
+        by false = way-so (wayFor r Route (answer .destination))
 
-    -- a port that is granted one is set up, is of the set, and it fits there
-    pub granted-up : inSet p (granted set code) ≡ true
-        → (setUp ≡ true) × ((inSet p set ≡ true) × (isFitting (portIn r p) (soughtFor a code room) ≡ true))
-    granted-up h =
-        let both = and-true (inSet p set) _ (sym granted-in ∙ h) in
-        let up = and-true setUp _ (both .1) in
-        (up .0, (both .0, and-true (inSet p set) _ (up .1) .1))
+    -- What holds of these holds of every reply.
+    pub reply-so : Q (repliedBy seat rs port octets room .refusal) (repliedBy seat rs port octets room .ruling)
+    reply-so = both-so (λ (x : Answering) (e : Replied). Q (e .refusal) (e .ruling)) (λ long. none 21 refl) (λ short. page-so)
 
-  -- ---- all sets are of the ports 0 to 7
-  copies-small : (set code : ℕ) → Small (copiesOf No (granted set code) (wanted set code .full))
-  unfolding copiesOf surveyWithin
-  copies-small set code =
-      let fits = portSet-below (λ (i : ℕ). isSetUp (portIn r i) && (inSet i set && isFitting (portIn r i) (soughtFor a code room))) 8 in
-      let least = and-le-r set (wanted set code .fitting) in
-      record {
-        granted = omega (arith, fits, least);
-        took = omega (arith, fits, least);
-        dropped = omega (arith, fits, least, and-le-l (granted set code) (wanted set code .full));
-      }
+  -- ---- its precedence is the request's
+  pub reply-precedence-so : (P : ℕ → Type 0) → P 0 → (answer .made ≡ 1 → P (answer .precedence)) → P (repliedBy seat rs port octets room .precedence)
+  unfolding repliedOf repliedTo repliedAmong
+  reply-precedence-so P none made =
+      both-so (λ (x : Answering) (e : Replied). P (e .precedence)) (λ long. none) (λ short. by (eqb (answer .made) 0) refl)
+    where
+      way : answer .made ≡ 1 → (w : Way) → P (byWay r answer w room .precedence)
+      way is (By set code) = made is
+      way is Lost = made is
 
-  pub reply-small : Small (repliedBy seat rs port octets room .ruling)
-  reply-small = ruling-so Small (none-small onward.NotAsked) (none-small (onward.Refused NoRoute)) (none-small (onward.Refused TooBig)) copies-small
+      by : (t : Bool) → eqb (answer .made) 0 ≡ t → P (pick t (noReply (answer .refusal)) (byWay r answer (wayFor r Route (answer .destination)) room) .precedence)
+      by true e = none
+      by false e =
+          way (⊎-elim (λ z. absurd (eqb-false (answer .made) 0 e z)) (λ one. one) (made-or-not r (seat .number) (seat .board .drop) port octets room))
+          (wayFor r Route (answer .destination))
 
   -- ---- the answer stands in the table
-  abbrev Row : Ruling → Type 0
-  Row x = stands replyRows (replied 0 (onwardNumber (x .onward)) (x .took)) ≡ true
+  abbrev Row : ℕ → Ruling → Type 0
+  Row n x = stands replyRows (replied n (onwardNumber (x .onward)) (x .took)) ≡ true
 
-  copied-row : (set code : ℕ) → Row (copiesOf No (granted set code) (wanted set code .full))
-  unfolding copiesOf
-  copied-row set code = by (eqb took 0) refl
-    where
-      took : ℕ
-      took = exceptBy (granted set code) (wanted set code .full)
-
-      by : (t : Bool) → eqb took 0 ≡ t → stands replyRows (replied 0 (onwardNumber (pick t (onward.Refused QueuesFull) onward.SentOn)) took) ≡ true
-      by true e = simp (e)
-      by false e = simp (e)
-
-  refused-row : (n : ℕ) → listed replyNumbers n ≡ true → stands replyRows (replied n 0 0) ≡ true
+  refused-row : (n : ℕ) → listed replyNumbers n ≡ true → Row n noRuling
   refused-row n h = by (eqb n 0) (eqb n 21) (eqb n 16) (eqb n 17) h
     where
       by : (z t u v : Bool) → (z || (t || (u || (v || false)))) ≡ true
@@ -274,105 +147,125 @@ module _ (seat : Seat) (rs : List Record) (port : ℕ) (octets : List ℕ) (room
       by true false false false k = refl
       by false false false false k = k
 
-  among-row : (set code : ℕ) → stands replyRows (ofReply (among set code) .answer) ≡ true
-  unfolding repliedAmong
-  among-row set code = among-so Row set code refl (copied-row set code)
+  copied-row : (granted full : ℕ) → Row 0 (copiesOf No granted full)
+  unfolding copiesOf
+  copied-row granted full = by (eqb took 0) refl
+    where
+      took : ℕ
+      took = exceptBy granted full
+
+      by : (t : Bool) → eqb took 0 ≡ t → stands replyRows (replied 0 (onwardNumber (pick t (onward.Refused QueuesFull) onward.SentOn)) took) ≡ true
+      by true e = simp (e)
+      by false e = simp (e)
 
   -- Every answer to a request stands in the table's rows of a reply.
   pub every-reply-is-listed : stands replyRows (ofReply (repliedBy seat rs port octets room) .answer) ≡ true
-  unfolding rulingOf
-  every-reply-is-listed =
-      reply-so (λ (e : Replied). stands replyRows (ofReply e .answer) ≡ true) refused-row (λ made. refl) (λ made set code is. among-row set code)
+  every-reply-is-listed = reply-so Row refused-row refl refl copied-row
 
   -- ---- 1 stands in the onward half where a port took it, and only there; and the onward half is one of these
   abbrev Sent : Ruling → Type 0
   Sent x = eqb (onwardNumber (x .onward)) 1 ≡ not (eqb (x .took) 0)
 
-  copied-sent : (set code : ℕ) → Sent (copiesOf No (granted set code) (wanted set code .full))
+  copied-sent : (granted full : ℕ) → Sent (copiesOf No granted full)
   unfolding copiesOf
-  copied-sent set code = by (eqb (exceptBy (granted set code) (wanted set code .full)) 0)
+  copied-sent granted full = by (eqb (exceptBy granted full) 0)
     where
       by : (t : Bool) → eqb (onwardNumber (pick t (onward.Refused QueuesFull) onward.SentOn)) 1 ≡ not t
       by true = refl
       by false = refl
 
   pub reply-sent-where-taken : Sent (repliedBy seat rs port octets room .ruling)
-  reply-sent-where-taken = ruling-so Sent refl refl refl copied-sent
+  reply-sent-where-taken = reply-so (λ (n : ℕ) (x : Ruling). Sent x) (λ n is. refl) refl refl copied-sent
 
   abbrev Known : Onward → Type 0
   Known x = listed (0 ∷ 1 ∷ 11 ∷ 14 ∷ 15 ∷ []) (onwardNumber x) ≡ true
 
-  copied-known : (set code : ℕ) → Known (copiesOf No (granted set code) (wanted set code .full) .onward)
+  copied-known : (granted full : ℕ) → Known (copiesOf No granted full .onward)
   unfolding copiesOf
-  copied-known set code = either Known (eqb (exceptBy (granted set code) (wanted set code .full)) 0) refl refl
+  copied-known granted full = either Known (eqb (exceptBy granted full) 0) refl refl
 
   pub reply-onward : Known (repliedBy seat rs port octets room .ruling .onward)
-  reply-onward = ruling-so (λ (x : Ruling). Known (x .onward)) refl refl refl copied-known
+  reply-onward = reply-so (λ (n : ℕ) (x : Ruling). Known (x .onward)) (λ n is. refl) refl refl copied-known
 
   -- ---- a reply that is refused, or does not go, no port took
-  abbrev Untaken : Ruling → Type 0
-  Untaken x = isRefusal (replied 0 (onwardNumber (x .onward)) (x .took)) ≡ true → x .took ≡ 0
+  abbrev Untaken : ℕ → Ruling → Type 0
+  Untaken n x = isRefusal (replied n (onwardNumber (x .onward)) (x .took)) ≡ true → x .took ≡ 0
 
-  copied-untaken : (set code : ℕ) → Untaken (copiesOf No (granted set code) (wanted set code .full))
+  copied-untaken : (granted full : ℕ) → Untaken 0 (copiesOf No granted full)
   unfolding copiesOf
-  copied-untaken set code = by (exceptBy (granted set code) (wanted set code .full)) (eqb (exceptBy (granted set code) (wanted set code .full)) 0) refl
+  copied-untaken granted full = by (exceptBy granted full) (eqb (exceptBy granted full) 0) refl
     where
       by : (took : ℕ) (t : Bool) → eqb took 0 ≡ t
           → isRefusal (replied 0 (onwardNumber (pick t (onward.Refused QueuesFull) onward.SentOn)) took) ≡ true → took ≡ 0
       by took true e refused = eqb-true took 0 e
       by took false e refused = true-false (sym refused)
 
-  among-untaken : (set code : ℕ) → isRefusal (ofReply (among set code) .answer) ≡ true → among set code .ruling .took ≡ 0
-  unfolding repliedAmong
-  among-untaken set code = among-so Untaken set code (λ refused. refl) (copied-untaken set code)
-
   pub reply-took-none : isRefusal (ofReply (repliedBy seat rs port octets room) .answer) ≡ true → repliedBy seat rs port octets room .ruling .took ≡ 0
-  unfolding rulingOf
-  reply-took-none =
-      reply-so (λ (e : Replied). isRefusal (ofReply e .answer) ≡ true → e .ruling .took ≡ 0) (λ n is refused. refl) (λ made refused. refl)
-      (λ made set code is. among-untaken set code)
+  reply-took-none = reply-so Untaken (λ n is refused. refl) (λ refused. refl) (λ refused. refl) copied-untaken
 
--- ---- a port that took it
-module _ (seat : Seat) (rs : List Record) (p : ℕ) (inside : p < 8) (port : ℕ) (octets : List ℕ) (room : ℕ) where
-  -- it is of the set of a route, and the reply was made
-  pub record TookBy (e : Replied) : Type 0 where
-    pub made : answeringBy seat rs port octets room .made ≡ 0 → ⊥
-    pub set : ℕ
-    pub code : ℕ
-    pub way : wayFor (relayWith seat rs) Route (answeringBy seat rs port octets room .destination) ≡ By set code
-    pub is : e ≡ among seat rs port octets room set code
-    pub granted : inSet p (granted seat rs port octets room set code) ≡ true
+  -- ---- the ports: all are of 0 to 7, and one that took it is set up
+  pub reply-small : Small (repliedBy seat rs port octets room .ruling)
+  reply-small =
+      both-so (λ (x : Answering) (e : Replied). Small (e .ruling)) (λ long. record { granted = omega arith; took = omega arith; dropped = omega arith })
+      (λ short. page-small r (seat .number) (seat .board .drop) port octets room)
 
-  none-took : {A : Type 0} → inSet p 0 ≡ true → A
-  none-took h = true-false (sym h ∙ in-none p)
+  pub reply-set-up : (p : ℕ) → p < 8 → inSet p (repliedBy seat rs port octets room .ruling .took) ≡ true → portSetUp (relayIn seat) p ≡ true
+  reply-set-up p inside =
+      both-so (λ (x : Answering) (e : Replied). inSet p (e .ruling .took) ≡ true → portSetUp (relayIn seat) p ≡ true)
+      (λ long took. true-false (sym took ∙ in-none p))
+      (λ short took.
+      reply-fits r (seat .number) (seat .board .drop) port octets room p inside
+      (reply-shared r (seat .number) (seat .board .drop) port octets room p inside (inl took)) .set-up)
 
-  copies-took : (set code : ℕ)
-      → inSet p (copiesOf No (granted seat rs port octets room set code) (wanted seat rs port octets room set code .full) .took) ≡ true
-      → inSet p (granted seat rs port octets room set code) ≡ true
-  unfolding copiesOf
-  copies-took set code h = and-true (inSet p (granted seat rs port octets room set code)) _ (sym (took-in seat rs port octets room p inside set code) ∙ h) .0
+  -- ---- its octets are those of a datagram, and 0 where no port took it
+  none-way : (w : Way) → byWay r answer w room .ruling .took ≡ 0 → byWay r answer w room .octets ≡ 0
+  unfolding repliedAmong
+  none-way (By set code) z = rw (eq-eqb _ 0 z)
+  none-way Lost z = refl
 
-  among-took : (set code : ℕ) → inSet p (among seat rs port octets room set code .ruling .took) ≡ true → inSet p (granted seat rs port octets room set code) ≡ true
-  among-took set code =
-      among-so seat rs port octets room (λ (x : Ruling). inSet p (x .took) ≡ true → inSet p (granted seat rs port octets room set code) ≡ true)
-      set code none-took (copies-took set code)
+  none-octets : reply .ruling .took ≡ 0 → reply .octets ≡ 0
+  unfolding repliedOf repliedTo
+  none-octets = by (eqb (answer .made) 0)
+    where
+      given : Replied
+      given = byWay r answer (wayFor r Route (answer .destination)) room
 
-  pub took-by : inSet p (repliedBy seat rs port octets room .ruling .took) ≡ true → TookBy (repliedBy seat rs port octets room)
-  unfolding rulingOf
-  took-by =
-      reply-so seat rs port octets room (λ (e : Replied). inSet p (e .ruling .took) ≡ true → TookBy e)
-      (λ n is. none-took) (λ made. none-took)
-      (λ made set code way took. record { made = made; set = set; code = code; way = way; is = refl; granted = among-took set code took })
+      by : (t : Bool) → pick t (noReply (answer .refusal)) given .ruling .took ≡ 0 → pick t (noReply (answer .refusal)) given .octets ≡ 0
+      by true z = refl
+      by false z = none-way (wayFor r Route (answer .destination)) z
 
-  -- it is set up
-  pub took-set-up : inSet p (repliedBy seat rs port octets room .ruling .took) ≡ true → isSetUp (portIn (relayWith seat rs) p) ≡ true
-  took-set-up took =
-      let t = took-by took in
-      granted-up seat rs port octets room p inside (t .set) (t .code) (t .granted) .0
+  some-octets : (p : ℕ) → p < 8 → inSet p (reply .ruling .took) ≡ true → reply .octets < lengthLimit
+  some-octets p inside took =
+      let n = seat .number in
+      let d = seat .board .drop in
+      rw (reply-wired r n d port octets room .octets p inside took)
+      (reply-fits r n d port octets room p inside (reply-shared r n d port octets room p inside (inl took)) .short)
+
+  page-short : reply .octets < lengthLimit
+  page-short = by (eqb (reply .ruling .took) 0) refl
+    where
+      by : (t : Bool) → eqb (reply .ruling .took) 0 ≡ t → reply .octets < lengthLimit
+      by true z = omega (arith, none-octets (eqb-true (reply .ruling .took) 0 z))
+      by false z =
+          let at = some-port (reply .ruling .took) (page-small r (seat .number) (seat .board .drop) port octets room .took) (eqb-false (reply .ruling .took) 0 z) in
+          some-octets (at .0) (at .1) (at .2)
+
+  pub reply-short : repliedBy seat rs port octets room .octets < lengthLimit
+  reply-short = both-so (λ (x : Answering) (e : Replied). e .octets < lengthLimit) (λ long. omega arith) (λ short. page-short)
+
+  -- ---- the refusal and the onward half fit eight bits
+  pub reply-low : (repliedBy seat rs port octets room .refusal < 256) × (onwardNumber (repliedBy seat rs port octets room .ruling .onward) < 256)
+  reply-low = (
+    reply-so (λ (n : ℕ) (x : Ruling). n < 256) (λ n is. listed-low replyNumbers n refl is) (omega arith) (omega arith) (λ granted full. omega arith),
+    listed-low (0 ∷ 1 ∷ 11 ∷ 14 ∷ 15 ∷ []) (onwardNumber (repliedBy seat rs port octets room .ruling .onward)) refl reply-onward,
+  )
 
 -- What is granted to a port is taken or dropped there.
 pub reply-fair : (seat : Seat) (p : ℕ) (inside : p < 8) (rs : List Record) (port : ℕ) (octets : List ℕ) (room : ℕ)
     → Fair seat p inside (repliedBy seat rs port octets room .ruling)
 reply-fair seat p inside rs port octets room =
-    ruling-so seat rs port octets room (Fair seat p inside) (none-fair seat p inside onward.NotAsked) (none-fair seat p inside (onward.Refused NoRoute))
-    (none-fair seat p inside (onward.Refused TooBig)) (copies-fair seat rs port octets room p inside)
+    both-so seat rs port octets room (λ (x : Answering) (e : Replied). Fair seat p inside (e .ruling)) (λ long. none-fair seat p inside onward.NotAsked)
+    (λ short.
+    fair-by seat p inside (reply seat rs port octets room .ruling)
+    (reply-took (relayWith seat rs) (seat .number) (seat .board .drop) port octets room p inside)
+    (reply-dropped (relayWith seat rs) (seat .number) (seat .board .drop) port octets room p inside))

@@ -17,11 +17,13 @@ use Rattle.address.specs.declared.Address.{Address}
 use Rattle.address.specs.declared.PathAddress.{PathAddress}
 use Rattle.address.specs.declared.Class.{Class}
 use Rattle.address.specs.declared.Class.the-variants as class
-use Rattle.header.specs.Build.{sourceFlag, sizeOf}
+use Rattle.header.specs.Build.{sourceFlag, qosFlag, sizeOf}
 use Rattle.header.specs.Read.{headerOf, readChecks, readOf}
 use Rattle.header.specs.Onward.{renewalOf, foundOf}
 use Rattle.header.specs.declared.Addresses.{Addresses}
 use Rattle.header.specs.declared.Addresses.the-variants.{BasicPath, ExtendedPath, BasicEndSystem, ExtendedEndSystem, Ipv6}
+use Rattle.header.specs.declared.Qos.{Qos}
+use Rattle.header.specs.declared.Qos.the-variants as qos
 use Rattle.header.specs.declared.Fields.{Fields}
 use Rattle.header.specs.declared.Header.{Header}
 use Rattle.header.specs.declared.Read.the-variants as read
@@ -33,9 +35,10 @@ use Rattle.echo.specs.declared.Kind.{Kind}
 use Rattle.echo.specs.declared.Kind.the-variants as kind
 use Rattle.echo.specs.declared.Reading.{Reading}
 use Rattle.echo.specs.declared.Reading.the-variants as reading
-use Rattle.meaning.specs.Names.{aimOf, originOf, filledIn, badAim}
+use Rattle.meaning.specs.Names.{aimOf, originOf, isBasic, filledIn, routingAsked, badAim}
 use Rattle.meaning.specs.Flood.{isFlooded, sourceIn}
 use Rattle.meaning.specs.Arrival.{arrivalChecks}
+use Rattle.meaning.specs.Asked.{precedenceAsked}
 use Rattle.meaning.specs.declared.Aim.{Aim}
 use Rattle.meaning.specs.declared.Aim.the-variants.{Node, Path, Uncarried}
 use Rattle.meaning.specs.declared.Origin.the-variants.{From}
@@ -58,11 +61,11 @@ use Rattle.judge.specs.declared.Asked.{Asked}
 use Rattle.replies.specs.Request.{isDelivered, scmp, asksInHeader, isMany, isOwned, isToMany, userData, askingBy, askingIn, askingOf}
 use Rattle.replies.specs.declared.request.Asking.{Asking}
 use Rattle.replies.specs.declared.request.Asking.the-variants.{Asks, Nothing}
-use Rattle.replies.specs.Reply.{replyAddresses, replyFields, seenFor, least, mostEchoed, echoedCount, noAnswer, madeOf, hasRoom, askedBy, isAsked, answerTo}
+use Rattle.replies.specs.Reply.{replyAddresses, replyQos, replyFields, seenFor, least, mostEchoed, echoedCount, noAnswer, madeOf, hasRoom, askedBy, isAsked, answerTo}
 use Rattle.replies.specs.Replied.{callChecks, destinationSurvey, heardAnswer, answeringOf}
 use Rattle.replies.specs.declared.Answering.{Answering}
 use Rattle.page.specs.Table.{GivenBy, aimAt, equalsPort, broadcastOfOurs, localHalf}
-use Rattle.page.specs.Replies.{goesToMany, fixedOctets, RequestAnswered, ReplyTo}
+use Rattle.page.specs.Replies.{goesToMany, leastReply, RequestAnswered, ReplyTo}
 use Rattle.page.proofs.Ports.{addressed-none, broadcast-none}
 use Rattle.page.proofs.Local.{local-is}
 use Rattle.page.proofs.Halves.{asked-ours}
@@ -224,6 +227,22 @@ path-sourceless port (BasicEndSystem d s) p e = true-false cc
 path-sourceless port (ExtendedEndSystem d s) p e = true-false cc
 path-sourceless port (Ipv6 d s) p e = true-false cc
 
+-- the reply has addresses of as many octets, and its precedence
+kind-same : (arrival : Address) (own : Bool) (y : Addresses) → isBasic (replyAddresses arrival own y) ≡ isBasic y
+kind-same arrival own (BasicPath z) = refl
+kind-same arrival own (ExtendedPath z) = refl
+kind-same arrival own (BasicEndSystem d s) = refl
+kind-same arrival own (ExtendedEndSystem d s) = refl
+kind-same arrival own (Ipv6 d s) = refl
+
+qos-same : (q : Qos) → (precedenceAsked (replyQos q) ≡ precedenceAsked q) × (qosFlag (replyQos q) ≡ qosFlag q)
+qos-same qos.Absent = (refl, refl)
+qos-same (qos.Present precedence routing program) = (refl, refl)
+
+unflooded : (q : Qos) → routingAsked (replyQos q) ≡ 0
+unflooded qos.Absent = refl
+unflooded (qos.Present precedence routing program) = refl
+
 -- what names an address, answered by a port whose own address this is or not
 pub record Named (arrival : Address) (own : Bool) (y : Addresses) (d : Address) : Type 0 where
   pub destination : originOf (arrival .0) y ≡ From (record { 0 = sourceIn (originOf (arrival .0) y) })
@@ -353,12 +372,12 @@ module _ (r : Relay) (number dropping at : ℕ) (octets : List ℕ) (room : ℕ)
     unfolding answerTo nodeAsked
     heard-is = refl
 
-    fixed-is : sizeOf (replyFields own (isOwned s) f) + replySize ≡ fixedOctets r at octets
-    fixed-is = ap (λ (t : Bool). sizeOf (replyFields own t f) + replySize) (owned-is ∙ sym (ap (equalsPort r) is))
+    least-is : sizeOf (replyFields own (isOwned s) f) + replySize ≡ leastReply r at octets
+    least-is = ap (λ (t : Bool). sizeOf (replyFields own t f) + replySize) (owned-is ∙ sym (ap (equalsPort r) is))
 
-    room-is : hasRoom asked s mtu ≡ not (ltb mtu (fixedOctets r at octets))
+    room-is : hasRoom asked s mtu ≡ not (ltb mtu (leastReply r at octets))
     unfolding nodeAsked
-    room-is = ap (λ (n : ℕ). not (ltb mtu n)) fixed-is
+    room-is = ap (λ (n : ℕ). not (ltb mtu n)) least-is
 
     abbrev Asks-it : Type 0
     Asks-it = Asking-for test (askingOf h octets) asked s mtu
@@ -395,7 +414,7 @@ module _ (r : Relay) (number dropping at : ℕ) (octets : List ℕ) (room : ℕ)
             not-flooded = not-true (isFlooded f) (plain .0);
             source = eqb-false (sourceFlag (f .addresses)) 0 (not-true _ (ends .0));
             hops = not-true (isAbsent (f .hops)) (ends .1);
-            fits = ltb-false mtu (fixedOctets r at octets) (not-true _ (sym room-is ∙ k .room));
+            fits = ltb-false mtu (leastReply r at octets) (not-true _ (sym room-is ∙ k .room));
             to-one = ap (λ (x : Aim). equalsPort r x || not (goesToMany r x)) is ∙ sym to-one-is ∙ wants .1;
             taken = eqb-true dropping 0 (off .0);
           }
@@ -413,7 +432,17 @@ module _ (r : Relay) (number dropping at : ℕ) (octets : List ℕ) (room : ℕ)
           let c = counted mtu size (dataOf h - requestSize) enough in
           subst (ReplyTo r at octets (m .message)) (sym (heard-is ∙ when-made test (askingOf h octets) asked s mtu k)) (record {
             fields = ap (λ (t : Bool). replyFields own t f) same;
+            kind-kept = kind-same own (isOwned s) y;
             precedence = refl;
+            precedence-kept = qos-same (f .qos) .0;
+            qos-kept = qos-same (f .qos) .1;
+            routing = unflooded (f .qos);
+            hops = refl;
+            control = refl;
+            unstamped = refl;
+            unexpanded = refl;
+            unsummed = refl;
+            not-between = refl;
             destination = n .destination;
             names = n .names;
             from-own = λ e aims has.
@@ -427,10 +456,10 @@ module _ (r : Relay) (number dropping at : ℕ) (octets : List ℕ) (room : ℕ)
             from = refl;
             within = c .within;
             short = c .short;
-            fits = subst (λ (i : ℕ). i + echoedCount mtu size (dataOf h - requestSize) ≤ mtu) fixed-is (c .fits);
+            fits = subst (λ (i : ℕ). i + echoedCount mtu size (dataOf h - requestSize) ≤ mtu) least-is (c .fits);
             whole = subst (λ (i : ℕ).
                 (echoedCount mtu size (dataOf h - requestSize) ≡ dataOf h - requestSize)
-                ⊎ ((echoedCount mtu size (dataOf h - requestSize) ≡ mostEchoed) ⊎ (i + echoedCount mtu size (dataOf h - requestSize) ≡ mtu))) fixed-is (c .whole);
+                ⊎ ((echoedCount mtu size (dataOf h - requestSize) ≡ mostEchoed) ⊎ (i + echoedCount mtu size (dataOf h - requestSize) ≡ mtu))) least-is (c .whole);
           })
 
     -- what is answered is asked so
@@ -447,7 +476,7 @@ module _ (r : Relay) (number dropping at : ℕ) (octets : List ℕ) (room : ℕ)
           identifier = y .message .identifier;
           sequence = y .message .sequence;
           asks = message-asks (userData h octets) (y .message) (y .holds) (y .request);
-          room = room-is ∙ ap not (le-ltb mtu (fixedOctets r at octets) (y .fits));
+          room = room-is ∙ ap not (le-ltb mtu (leastReply r at octets) (y .fits));
         }
 
   -- ---- by what was asked: a reply is made exactly where page 02 says so, and of what it says

@@ -9,7 +9,6 @@ use borrow.Author.Tests.{ne-eqb}
 use Rattle.checks.specs.Order.{pick, firstOf}
 use Rattle.checks.proofs.Bools as bools
 use Rattle.sets.specs.Sets.{inSet}
-use Rattle.sets.proofs.Anywhere.{any-found}
 use Rattle.address.specs.declared.Address.{Address}
 use Rattle.header.specs.Limits.{lengthLimit}
 use Rattle.networks.specs.Networks.{domainOf}
@@ -34,7 +33,7 @@ use Rattle.page.specs.Table.{Ports, somePort, nobody, Line, notAsked, re
 use Rattle.page.specs.Replies.{replyLength, ofReplySize, replyRows, ReplyVerdict, replyBy, RepliesAs, WiredAs}
 use Rattle.page.proofs.Sets.{empty-is}
 use Rattle.page.proofs.Ports.{gathered, small}
-use Rattle.page.proofs.Copies.{Alone, Same}
+use Rattle.page.proofs.Copies.{Alone, Same, none-passes}
 use Rattle.page.proofs.Small.{Small, size-small, ruling-small}
 
 -- ---- the tests
@@ -163,10 +162,6 @@ module _ (r : Relay) (at : ℕ) (a : Answering) (room : ℕ) (arrived : a .arriv
           far = exceptBy (x .took) (found .domain);
           octets = pick (eqb (x .took) 0) 0 (wireLength (not (eqb (exceptBy (x .took) (found .domain)) 0)) a code);
         }
-
-    none-passes : (test : Ports) → somePort test ≡ false → (p : ℕ) → p < 8 → test p ≡ false
-    unfolding somePort
-    none-passes test e p l = bools.refuted (test p) (λ h. bools.true-false (sym (any-found test p 8 l h) ∙ e))
 
     took-agrees : (t : Bool) → somePort (withRoom r size) ≡ t → number ≡ rows true t
         → RepliesAs (replied (rulingOf No (Wanted fits) (found .full))) verdict

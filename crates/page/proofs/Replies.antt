@@ -2,21 +2,28 @@
 -- where its row decides; the one port that it goes by is that of a route that matches, of which none has more ones. Assumes nothing.
 use native.Mathlib.Omega.{arith}
 use Prim.Native.Nat.{ℕ, _≤_, _<_}
-use mathlib.Core.Path.{_≡_, refl, sym, ap, subst, _∙_}
-use mathlib.Core.Logic.{_↔_, _≢_, _⊎_, ⊎-elim}
+use mathlib.Core.Path.{_≡_, refl, sym, ap, ap₂, subst, _∙_}
+use mathlib.Core.Logic.{_↔_, _≢_, _⊎_, inl, ⊎-elim}
 use mathlib.Core.Bool.{Bool, true, false, not, _&&_}
 use mathlib.Core.List.{List, [], _∷_}
 use lib.Dec.{eqb, ltb}
 use lib.ListN.{take, drop}
-use borrow.Author.Tests.{eqb-false, eq-eqb, ne-eqb, ltb-true, ltb-false, not-true}
+use borrow.Author.Tests.{eqb-true, eqb-false, eq-eqb, ne-eqb, ltb-true, ltb-false, not-true}
 use Rattle.checks.specs.Order.{pick, Checks, firstOf, noneHolds}
 use Rattle.checks.proofs.Bools.{true-false, not-false, and-true, refuted}
 use Rattle.checks.proofs.Laws.{either, none-zero}
 use Rattle.refusals.proofs.Chains.{decided}
 use Rattle.sets.specs.Sets.{inSet}
 use Rattle.sets.proofs.Anywhere.{any-is, any-found}
+use Rattle.address.specs.declared.Address.{Address}
 use Rattle.header.specs.Limits.{lengthLimit}
+use Rattle.header.specs.declared.Addresses.{Addresses}
+use Rattle.header.specs.declared.Addresses.the-variants.{BasicPath, ExtendedPath, BasicEndSystem, ExtendedEndSystem, Ipv6}
+use Rattle.networks.specs.Networks.{domainOf}
+use Rattle.meaning.specs.Names.{aimOf, originOf, isBound}
 use Rattle.meaning.specs.declared.Aim.the-variants.{Node}
+use Rattle.next_leg.specs.Leg.{addressesNext, nextFields}
+use Rattle.next_leg.proofs.Names.{same-aim, same-origin}
 use Rattle.routes.specs.Routes.{candidate}
 use Rattle.routes.specs.Search.{longerMask}
 use Rattle.routes.specs.declared.Route.{Route}
@@ -27,15 +34,16 @@ use Rattle.survey.proofs.Bits.{in-none}
 use Rattle.verdict.specs.Numbers.{onwardNumber}
 use Rattle.verdict.specs.declared.Target.the-variants as target
 use Rattle.verdict.specs.declared.Way.{Way}
-use Rattle.replies.specs.Replied.{callChecks, answeringOf, noReply, repliedBy, repliedTo, repliedOf}
+use Rattle.replies.specs.Replied.{callChecks, answeringOf, wireFields, noReply, repliedBy, repliedTo, repliedOf}
 use Rattle.replies.specs.declared.Answering.{Answering}
 use Rattle.replies.specs.declared.sending.Replied.{Replied}
-use Rattle.page.specs.Table.{Ports, GivenBy, somePort, someMatches, moreOnes, bestPort, bestCode, Line, refused, wanted, hasRoom, withRoom}
+use Rattle.page.specs.Table.{Ports, GivenBy, somePort, someMatches, moreOnes, bestPort, bestCode, Line, refused, wanted, liesFar, hasRoom, withRoom}
 use Rattle.page.specs.Ends.{Chooses}
 use Rattle.page.specs.Sought.{RouteTaken}
 use Rattle.page.specs.Replies.{replyLength, ofReplySize, replyRows, replyLine, ReplyVerdict, replyGrants, replyBy, unanswered, replyVerdictBy, replyVerdict, RepliesAs, WiredAs}
 use Rattle.page.proofs.Best.{no-match, some-best, one-port, route-same}
-use Rattle.page.proofs.Copies.{Alone}
+use Rattle.page.proofs.Sets.{empty-is}
+use Rattle.page.proofs.Copies.{Alone, none-passes}
 use Rattle.page.proofs.Rows.{only-row}
 use Rattle.page.proofs.Small.{Small}
 use Rattle.page.proofs.Verdict.{masks-choose, ones-choose}
@@ -57,7 +65,7 @@ of-port ports p l is = any-found ports p 8 l is
 
 none-of : (ports : Ports) → (somePort ports ≡ false) ↔ ((p : ℕ) → p < 8 → ports p ≡ false)
 none-of ports = (
-  λ e p l. refuted (ports p) (λ is. true-false (sym (of-port ports p l is) ∙ e)),
+  none-passes ports,
   λ none. refuted (somePort ports) (λ some. let at = port-of ports some in true-false (sym (at .2) ∙ none (at .0) (at .1))),
 )
 
@@ -81,6 +89,15 @@ fit-passed r at a room p ports code e =
       short = ltb-true n lengthLimit (short .0);
       lent = ltb-false room n (not-true _ (short .1));
     }
+
+-- an address is no path, and so not bound to its domain
+node-free : (port : ℕ) (y : Addresses) (d : Address) → aimOf port y ≡ Node d → isBound y ≢ 1
+unfolding aimOf
+node-free port (BasicPath z) d e one = true-false cc
+node-free port (ExtendedPath p) d e one = omega (arith, one)
+node-free port (BasicEndSystem z s) d e one = omega (arith, one)
+node-free port (ExtendedEndSystem z s) d e one = omega (arith, one)
+node-free port (Ipv6 z s) d e one = omega (arith, one)
 
 no-reply-as : (n : ℕ) → RepliesAs (noReply n) (unanswered n)
 no-reply-as n = record {
@@ -338,6 +355,13 @@ module _ (r : Relay) (number dropping at : ℕ) (octets : List ℕ) (room : ℕ)
       ⊎-elim (λ e. and-true (inSet p (replied .ruling .granted)) (hasRoom r p) (sym (reply-took p l) ∙ e) .0)
       (λ e. and-true (inSet p (replied .ruling .granted)) (not (hasRoom r p)) (sym (reply-dropped p l) ∙ e) .0)
 
+  -- So of the ports that took it and of those that dropped it, taken together, no two are different.
+  pub reply-at-most-one : (p q : ℕ) → p < 8 → q < 8
+      → (inSet p (replied .ruling .took) ≡ true) ⊎ (inSet p (replied .ruling .dropped) ≡ true)
+      → (inSet q (replied .ruling .took) ≡ true) ⊎ (inSet q (replied .ruling .dropped) ≡ true)
+      → p ≡ q
+  reply-at-most-one p q l k hp hq = reply-one-port p q l k (reply-shared p l hp) (reply-shared q k hq)
+
   -- What it has passed: both tests of 14, and the room.
   pub reply-fits : (p : ℕ) → p < 8 → Granted p → ReplyPassed r at a room (replied .code) p
   reply-fits p l e =
@@ -375,6 +399,43 @@ module _ (r : Relay) (number dropping at : ℕ) (octets : List ℕ) (room : ℕ)
       by : (t : Bool) → eqb (a .made) 0 ≡ t → Small (pick t (noReply (a .refusal)) (repliedBy r a way room) .ruling)
       by true e = record { granted = omega arith; took = omega arith; dropped = omega arith }
       by false e = way-small r at a room (arrived (eqb-false (a .made) 0 e)) way
+
+  -- It goes exactly where a port took it.
+  pub reply-goes : (onward ≡ 1) ↔ (replied .ruling .took ≢ 0)
+  reply-goes = (
+    λ e.
+        let sent = reply-sent longerMask (masks-choose r) .0 e in
+        let at = sent .1 in
+        let granted = reply-granted longerMask (masks-choose r) (at .0) (at .1) .1 (sent .0, at .2) in
+        λ z. true-false (sym (reply-took (at .0) (at .1) ∙ rw (granted, at .3)) ∙ ap (inSet (at .0)) z ∙ in-none (at .0)),
+    λ some.
+        let none = empty-is (replied .ruling .took) (λ (p : ℕ). inSet p (replied .ruling .took)) (reply-small .took) (λ p l. refl) in
+        let at = port-of (λ (p : ℕ). inSet p (replied .ruling .took)) (not-false _ (sym none ∙ ne-eqb (replied .ruling .took) 0 some)) in
+        let both = and-true (inSet (at .0) (replied .ruling .granted)) (hasRoom r (at .0)) (sym (reply-took (at .0) (at .1)) ∙ at .2) in
+        let fits = reply-granted longerMask (masks-choose r) (at .0) (at .1) .0 (both .0) in
+        reply-sent longerMask (masks-choose r) .1 (fits .0, (at .0, at .1, fits .1, both .1)),
+  )
+
+  -- Its addresses name at the port that it leaves by what they name where the request came in (page 02, W-214).
+  pub reply-names-the-same : (p : ℕ) → p < 8 → inSet p (replied .ruling .took) ≡ true
+      → (aimOf (portIn r p .address .0) (wireFields (not (eqb (replied .far) 0)) (a .arrival .0) (replied .code) (a .fields) .addresses) ≡ Node (a .destination))
+      × (originOf (portIn r p .address .0) (wireFields (not (eqb (replied .far) 0)) (a .arrival .0) (replied .code) (a .fields) .addresses)
+      ≡ originOf (portIn r at .address .0) (a .fields .addresses))
+  unfolding wireFields nextFields
+  reply-names-the-same p l is =
+      let granted = reply-shared p l (inl is) in
+      let told = made-tells r number dropping at octets room (reply-granted longerMask (masks-choose r) p l .0 granted .0) .1 in
+      let out = portIn r p .address .0 in
+      let arrival = portIn r at .address .0 in
+      let far = liesFar r at p in
+      let home : far ≡ false → domainOf (portIn r p .address) ≡ domainOf (portIn r at .address) =
+      λ near. eqb-true (domainOf (portIn r p .address)) (domainOf (portIn r at .address)) (not-false _ near) in
+      let bound : isBound (a .fields .addresses) ≡ 1 → far ≡ false = λ one. absurd (node-free arrival (a .fields .addresses) (a .destination) (told .names) one) in
+      let wire : addressesNext (not (eqb (replied .far) 0)) (a .arrival .0) (a .fields .addresses) ≡ addressesNext far arrival (a .fields .addresses) =
+      ap₂ (λ (t : Bool) (z : Address). addressesNext t (z .0) (a .fields .addresses)) (reply-wired .far p l is) (told .arrival) in (
+        ap (aimOf out) wire ∙ same-aim out arrival (replied .code) far (a .fields) home bound ∙ told .names,
+        ap (originOf out) wire ∙ same-origin out arrival (replied .code) far (a .fields) home bound,
+      )
 
   reply-refusal : replied .refusal ≡ firstOf (callChecks r at room)
   unfolding replyVerdictBy

@@ -13,15 +13,17 @@ use Rattle.sets.specs.Sets.{inSet}
 use Rattle.address.specs.Class.{classOf, classNumber}
 use Rattle.address.specs.declared.Address.{Address}
 use Rattle.header.specs.Limits.{lengthLimit}
-use Rattle.header.specs.Build.{sourceFlag, formatOf, sizeOf}
+use Rattle.header.specs.Build.{sourceFlag, qosFlag, formatOf, sizeOf}
 use Rattle.header.specs.Read.{headerOf, readOf}
 use Rattle.header.specs.declared.Fields.{Fields}
+use Rattle.header.specs.declared.Octet.the-variants as octet
+use Rattle.header.specs.declared.Timestamp.the-variants as stamp
 use Rattle.header.specs.declared.Read.the-variants as read
 use Rattle.echo.specs.Message.{requestSize, replySize, readingOf}
 use Rattle.echo.specs.declared.Message.{Message}
 use Rattle.echo.specs.declared.Kind.the-variants as kind
 use Rattle.echo.specs.declared.Reading.the-variants as reading
-use Rattle.meaning.specs.Names.{aimOf, originOf}
+use Rattle.meaning.specs.Names.{aimOf, originOf, isBasic, routingAsked}
 use Rattle.meaning.specs.Flood.{isFlooded}
 use Rattle.meaning.specs.Arrival.{arrivalChecks}
 use Rattle.meaning.specs.Asked.{precedenceAsked}
@@ -75,9 +77,9 @@ goesToMany r x = destinationIs x isClassOfMany || broadcastOfOurs r x
 abbrev pub replyHeader : Relay → ℕ → List ℕ → Fields
 replyHeader r at octets = replyFields (portIn r at .address) (equalsPort r (aimAt r at octets)) (headerOf octets .fields)
 
--- and the octets of it, and of the fixed fields behind it
-abbrev pub fixedOctets : Relay → ℕ → List ℕ → ℕ
-fixedOctets r at octets = sizeOf (replyHeader r at octets) + replySize
+-- and the octets of a reply without data: its header and the fixed fields
+abbrev pub leastReply : Relay → ℕ → List ℕ → ℕ
+leastReply r at octets = sizeOf (replyHeader r at octets) + replySize
 
 -- The datagram, come in by port `at`, is an echo request that is answered; dropping is the setting that drops all requests.
 pub record RequestAnswered (r : Relay) (dropping at : ℕ) (octets : List ℕ) : Type 0 where
@@ -99,7 +101,7 @@ pub record RequestAnswered (r : Relay) (dropping at : ℕ) (octets : List ℕ) :
   pub source : sourceFlag (headerOf octets .fields .addresses) ≢ 0
   pub hops : isAbsent (headerOf octets .fields .hops) ≡ false
   -- ".. leaves no room for the fixed fields ..": of the arrival port's MTU
-  pub fits : fixedOctets r at octets ≤ portIn r at .mtu
+  pub fits : leastReply r at octets ≤ portIn r at .mtu
   -- ".. or goes to a broadcast or multicast address": a port's own address names one system
   pub to-one : (equalsPort r (aimAt r at octets) || not (goesToMany r (aimAt r at octets))) ≡ true
   -- "A setting that drops all requests defaults to off."
@@ -112,7 +114,20 @@ pub record ReplyTo (r : Relay) (at : ℕ) (octets : List ℕ) (m : Message) (a :
   -- "A reply keeps the request's kind of address and precedence, has hop count 64 and as source the request's destination if a port has it, else the arrival
   -- port's address"
   pub fields : a .fields ≡ replyHeader r at octets
+  -- the same, field by field: "kind of address"
+  pub kind-kept : isBasic (a .fields .addresses) ≡ isBasic (headerOf octets .fields .addresses)
+  -- ".. and precedence", in basic QOS exactly where the request has it; it is not flooded
   pub precedence : a .precedence ≡ precedenceAsked (headerOf octets .fields .qos)
+  pub precedence-kept : precedenceAsked (a .fields .qos) ≡ precedenceAsked (headerOf octets .fields .qos)
+  pub qos-kept : qosFlag (a .fields .qos) ≡ qosFlag (headerOf octets .fields .qos)
+  pub routing : routingAsked (a .fields .qos) ≡ 0
+  pub hops : a .fields .hops ≡ octet.Present 64
+  -- SCMP's TP-ID; no other element before the rewrite, and no intermediate delivery (docs/DECISIONS.md)
+  pub control : a .fields .tpid ≡ 1
+  pub unstamped : a .fields .stamp ≡ stamp.Absent
+  pub unexpanded : a .fields .expanded ≡ octet.Absent
+  pub unsummed : a .fields .checksum ≡ 0
+  pub not-between : a .fields .intermediate ≡ 0
   -- what its addresses name at the arrival port: the request's source, and one of the two
   pub destination : originOf (portIn r at .address .0) (headerOf octets .fields .addresses) ≡ From (a .destination)
   pub names : aimOf (portIn r at .address .0) (a .fields .addresses) ≡ Node (a .destination)
@@ -135,9 +150,9 @@ pub record ReplyTo (r : Relay) (at : ℕ) (octets : List ℕ) (m : Message) (a :
   -- .. "cut where the arrival port's MTU, or 8,141 octets of user data, would be passed": 8,115 of data
   pub within : a .count ≤ dataOf (headerOf octets) - requestSize
   pub short : a .count ≤ mostEchoed
-  pub fits : fixedOctets r at octets + a .count ≤ portIn r at .mtu
+  pub fits : leastReply r at octets + a .count ≤ portIn r at .mtu
   -- and no sooner
-  pub whole : (a .count ≡ dataOf (headerOf octets) - requestSize) ⊎ ((a .count ≡ mostEchoed) ⊎ (fixedOctets r at octets + a .count ≡ portIn r at .mtu))
+  pub whole : (a .count ≡ dataOf (headerOf octets) - requestSize) ⊎ ((a .count ≡ mostEchoed) ⊎ (leastReply r at octets + a .count ≡ portIn r at .mtu))
 
 -- ---- what becomes of it
 

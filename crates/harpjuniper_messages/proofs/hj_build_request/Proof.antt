@@ -1,8 +1,12 @@
 -- `harpjuniper_messages::hj_build_request` meets its contract. Assumes nothing.
+use Rattle.harpjuniper_messages.specs.Face.{requestOf}
 use Rattle.harpjuniper_messages.proofs.Laws.{answered}
 use borrow.Author.Needs.{needs}
 use Rattle.harpjuniper_messages.proofs.hj_build_request.Statement.{statement}
 use Rattle.harpjuniper_messages.proofs.hj_build_request.Tie as tie
+
+message-with-requires : tie.Need-message-with-requires
+message-with-requires c κs = search needs
 
 build-message-requires : tie.Need-build-message-requires
 build-message-requires c κs = search needs
@@ -15,9 +19,19 @@ same-length c = search needs
 
 returns : tie.Need-returns
 returns c =
-    let made = c .before .before .before in
-    (answered _ _ _ _ _ (made .build-message .ensures .0) (c .built-answer .ensures), made .build-message .ensures .1)
+    let built = c .before .before .before in
+    let made = built .before .before in
+    let a = made .before .before .before .args in
+    let told = built .build-message .ensures in
+    answered (requestOf (a .identifier) (a .sequence)) _ _ _ _ _ _ (made .message-with .ensures) (told .0)
+    (told .1) (c .built-answer .ensures)
 
 pub hj-build-request-spec : {M : Type 1} → statement M
 hj-build-request-spec =
-    tie.close (tie.spec build-message-requires built-answer-requires same-length returns)
+    tie.close
+    (tie.spec
+    message-with-requires
+    build-message-requires
+    built-answer-requires
+    same-length
+    returns)

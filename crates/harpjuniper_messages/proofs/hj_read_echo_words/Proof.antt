@@ -38,7 +38,8 @@ returns-3 c =
     let told = c .before .before .before .before .before in
     let counted = told .before .before .before in
     let args = counted .before .before .before .args in
-    good-left (args .message .now) (args .words .now) (counted .if1 .left) _ _ (sym (told .before .before .read-message .ensures) ∙ told .m .given .1) (c .before .before .write-words .ensures)
+    let good = sym (told .before .before .read-message .ensures) ∙ told .m .given .1 in
+    good-left (args .message .now) (args .words .now) (counted .if1 .left) _ _ good (c .before .before .write-words .ensures)
 
 pub hj-read-echo-words-spec : {M : Type 1} → statement M
 hj-read-echo-words-spec =

@@ -76,7 +76,8 @@ returns : tie.Need-returns
 returns c =
     let typed = c .before .before .before .before .before .before .before in
     let start = typed .before .before .before in
-    message-written (start .args .m) (start .args .words .now) _ _ _ (typed .type-number .ensures) (c .before .before .before .before .fixed-size .ensures) (typed .before .seen-in .ensures) (start .pre)
+    message-written (start .args .m) (start .args .words .now) _ _ _ (typed .type-number .ensures) (c .before .before .before .before .fixed-size .ensures)
+    (typed .before .seen-in .ensures) (start .pre)
 
 pub write-words-spec : {M : Type 1} → statement M
 write-words-spec =
