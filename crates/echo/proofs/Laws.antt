@@ -180,7 +180,8 @@ written m echoed l l₁ l₂ l₃ from sum ef room e₁ e₂ es e₃ =
     let both : l₂ ≡ pasted l 0 (front ++ echoed) = e₂ ∙ rw (e₁, start) (pasted-on l front echoed 0 (omega (arith, fixed-length m 0))) in
     let whole : from + length echoed ≡ length (front ++ echoed) = omega arith in
     let summed : sum ≡ checksumOf (front ++ echoed) = es ∙ rw (both, whole, take-front l (front ++ echoed)) in
-    let placed : l₃ ≡ (fixedOctets m sum ++ echoed) ++ drop (length (front ++ echoed)) l = e₃ ∙ rw (both, pasted-front l (front ++ echoed)) (field-put m sum echoed _) in
+    let placed : l₃ ≡ (fixedOctets m sum ++ echoed) ++ drop (length (front ++ echoed)) l =
+    e₃ ∙ rw (both, pasted-front l (front ++ echoed)) (field-put m sum echoed _) in
     let long : length (front ++ echoed) ≡ length (fixedOctets m sum ++ echoed) = omega (arith, message-length m sum echoed) in
     rw (← summed) (placed ∙ rw long)
 
@@ -197,7 +198,8 @@ module _ (from n room : ℕ) where
   all-fits h k = rw (le-ltb room (from + n) (omega arith))
 
 -- by what the two checks told of a size from the kind
-module _ (m : Message) (echoed l : List ℕ) {from : ℕ} (is : from ≡ fixedSize (m .kind)) {c : Check} (told : c ≡ checkOf (ltb (length l) (from + length echoed))) where
+module _ (m : Message) (echoed l : List ℕ) {from : ℕ} (is : from ≡ fixedSize (m .kind)) {c : Check}
+    (told : c ≡ checkOf (ltb (length l) (from + length echoed))) where
   abbrev size : ℕ
   size = sizeWith m (length echoed)
 

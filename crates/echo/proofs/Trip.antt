@@ -80,7 +80,8 @@ standing : (m : Message) (sum : ℕ) (echoed : List ℕ) → Fits m → sum < 2 
 unfolding fixedOctets octets
 standing m sum echoed fits small =
     let s = fixedOctets m sum ++ echoed in
-    let field : Stands s 2 (octets 2 sum) (octets 2 (m .identifier) ++ (octets 2 (m .sequence) ++ (kindOctets (m .kind) ++ echoed))) = record { is = simp append-assoc } in
+    let field : Stands s 2 (octets 2 sum) (octets 2 (m .identifier) ++ (octets 2 (m .sequence) ++ (kindOctets (m .kind) ++ echoed))) =
+    record { is = simp append-assoc } in
     let first = stands-after (octets 2 (m .identifier)) 4 field refl in
     let second = stands-after (octets 2 (m .sequence)) 6 first refl in
     record {
@@ -201,12 +202,14 @@ read-type s m e = let p = passed s m e in rw (p .is) (kind-type s (p .type))
 pub type-kept : (m read : Message) (echoed : List ℕ) → readingOf (messageOctets m echoed) ≡ Good read → typeOf (read .kind) ≡ typeOf (m .kind)
 type-kept m read echoed e = sym (read-type (messageOctets m echoed) read e) ∙ written-type m echoed
 
-pub reply-no-request : (m read : Message) (echoed : List ℕ) (x : Seen) → m .kind ≡ Reply x → readingOf (messageOctets m echoed) ≡ Good read → read .kind ≡ Request → ⊥
+pub reply-no-request : (m read : Message) (echoed : List ℕ) (x : Seen) → m .kind ≡ Reply x → readingOf (messageOctets m echoed) ≡ Good read
+    → read .kind ≡ Request → ⊥
 reply-no-request m read echoed x is e request =
     let kept = rw (is, request) at (type-kept m read echoed e) in
     omega (arith, kept)
 
-pub request-no-reply : (m read : Message) (echoed : List ℕ) (x : Seen) → m .kind ≡ Request → readingOf (messageOctets m echoed) ≡ Good read → read .kind ≡ Reply x → ⊥
+pub request-no-reply : (m read : Message) (echoed : List ℕ) (x : Seen) → m .kind ≡ Request → readingOf (messageOctets m echoed) ≡ Good read
+    → read .kind ≡ Reply x → ⊥
 request-no-reply m read echoed x is e reply =
     let kept = rw (is, reply) at (type-kept m read echoed e) in
     omega (arith, kept)

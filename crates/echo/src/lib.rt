@@ -1,7 +1,7 @@
 // SCMP Echo Request and Echo Reply, read and built.
 //
-// A message is the user data of a datagram: type, code and checksum, then an identifier and a sequence number by which the sender knows the reply, then, in a reply,
-// what the answering system saw of the request, then any data. What a reply says of the request (hop count, timestamp, MTU) is how the ground finds out, leg by
+// A message is the user data of a datagram: type, code and checksum, then an identifier and a sequence number by which the sender knows the reply, then,
+// in a reply, what the answering system saw of the request, then any data. What a reply says of the request (hop count, timestamp, MTU) is how the ground finds out, leg by
 // leg, how far a request came. Both messages are one kind here, since they differ by that alone.
 //
 // The awkward part is the checksum, which stands among the octets that it sums. The writer writes it as zero, sums, and writes it again. The reader
@@ -201,7 +201,8 @@ pub fn read_message(s: &[u8]) -> Reading
     })
 }
 
-fn type_number(k: Kind) -> u8
+// The number that tells the messages apart.
+pub fn type_number(k: Kind) -> u8
     ensures { λ r. ⌜ r ≡ typeOf k ⌝ }
 {
     match k {

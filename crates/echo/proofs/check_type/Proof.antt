@@ -26,7 +26,9 @@ returns-3 c =
     is-reply _ _ (sym (coded .before .octet-at .ensures) ∙ coded .if1 .left) (sym (c .before .before .octet-at2 .ensures) ∙ c .if3 .taken)
 
 returns-4 : tie.Need-returns-4
-returns-4 c = rw (← c .before .before .octet-at2 .ensures) (is-other _ (octet (c .before .before .before .before .before .before .args .s .now) 1) (c .before .if2 .left) (c .if3 .left))
+returns-4 c =
+    let read = c .before .before in
+    rw (← read .octet-at2 .ensures) (is-other _ (octet (read .before .before .before .before .args .s .now) 1) (c .before .if2 .left) (c .if3 .left))
 
 pub check-type-spec : {M : Type 1} → statement M
 check-type-spec =

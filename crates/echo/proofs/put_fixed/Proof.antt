@@ -1,5 +1,6 @@
 -- `echo::put_fixed` meets its contract. Assumes nothing.
 use native.Mathlib.Omega.{arith}
+use mathlib.Core.Path.{_∙_}
 use Rattle.echo.proofs.Laws.{kind-length, fixed-put}
 use borrow.Author.Needs.{needs}
 use Rattle.echo.proofs.put_fixed.Statement.{statement}
@@ -25,7 +26,8 @@ put-number-requires-3 c κs =
     let second = c .before .before .before in
     let first = second .before .before .before .before in
     let start = first .before .before .before .before in
-    omega (arith, kind-length (start .args .m .kind), start .pre, first .put-number .ensures .0, first .put-number .kept .0, second .put-number2 .ensures .0, second .put-number2 .kept .0)
+    let long = second .put-number2 .kept .0 ∙ first .put-number .kept .0 in
+    omega (arith, kind-length (start .args .m .kind), start .pre, long, first .put-number .ensures .0, second .put-number2 .ensures .0)
 
 cast-put-number-2 : tie.Need-cast-put-number-2
 cast-put-number-2 c = search needs
@@ -36,7 +38,8 @@ put-number-requires-4 c κs =
     let second = third .before .before .before .before in
     let first = second .before .before .before .before in
     let start = first .before .before .before .before in
-    omega (arith, kind-length (start .args .m .kind), start .pre, first .put-number .ensures .0, first .put-number .kept .0, second .put-number2 .ensures .0, second .put-number2 .kept .0, third .put-number3 .ensures .0, third .put-number3 .kept .0)
+    let long = third .put-number3 .kept .0 ∙ second .put-number2 .kept .0 ∙ first .put-number .kept .0 in
+    omega (arith, kind-length (start .args .m .kind), start .pre, long, first .put-number .ensures .0, second .put-number2 .ensures .0, third .put-number3 .ensures .0)
 
 cast-put-number-3 : tie.Need-cast-put-number-3
 cast-put-number-3 c = search needs
@@ -48,8 +51,8 @@ put-number-requires-5 c κs =
     let second = third .before .before .before .before in
     let first = second .before .before .before .before in
     let start = first .before .before .before .before in
-    omega
-    (arith, kind-length (start .args .m .kind), start .pre, first .put-number .ensures .0, first .put-number .kept .0, second .put-number2 .ensures .0, second .put-number2 .kept .0, third .put-number3 .ensures .0, third .put-number3 .kept .0, fourth .put-number4 .ensures .0, fourth .put-number4 .kept .0)
+    let long = fourth .put-number4 .kept .0 ∙ third .put-number3 .kept .0 ∙ second .put-number2 .kept .0 ∙ first .put-number .kept .0 in
+    omega (arith, kind-length (start .args .m .kind), start .pre, long, first .put-number .ensures .0, second .put-number2 .ensures .0, third .put-number3 .ensures .0, fourth .put-number4 .ensures .0)
 
 put-kind-requires : tie.Need-put-kind-requires
 put-kind-requires c κs =
@@ -59,8 +62,8 @@ put-kind-requires c κs =
     let second = third .before .before .before .before in
     let first = second .before .before .before .before in
     let start = first .before .before .before .before in
-    omega
-    (arith, kind-length (start .args .m .kind), start .pre, first .put-number .ensures .0, first .put-number .kept .0, second .put-number2 .ensures .0, second .put-number2 .kept .0, third .put-number3 .ensures .0, third .put-number3 .kept .0, fourth .put-number4 .ensures .0, fourth .put-number4 .kept .0, fifth .put-number5 .ensures .0, fifth .put-number5 .kept .0)
+    let long = fifth .put-number5 .kept .0 ∙ fourth .put-number4 .kept .0 ∙ third .put-number3 .kept .0 ∙ second .put-number2 .kept .0 ∙ first .put-number .kept .0 in
+    omega (arith, kind-length (start .args .m .kind), start .pre, long, first .put-number .ensures .0, second .put-number2 .ensures .0, third .put-number3 .ensures .0, fourth .put-number4 .ensures .0, fifth .put-number5 .ensures .0)
 
 same-length : tie.Need-same-length
 same-length c = search needs

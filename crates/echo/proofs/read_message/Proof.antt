@@ -53,7 +53,8 @@ returns-3 : tie.Need-returns-3
 returns-3 c =
     let checked = c .before .before in
     let typed = checked .before in
-    no-reply (typed .before .before .before .before .before .args .s .now) (long typed) (type typed) (sym (checked .check-whole .ensures) ∙ c .enum-told4 .given .1)
+    let s = typed .before .before .before .before .before .args .s .now in
+    no-reply s (long typed) (type typed) (sym (checked .check-whole .ensures) ∙ c .enum-told4 .given .1)
 
 check-sum-requires : tie.Need-check-sum-requires
 check-sum-requires c κs = search needs
@@ -69,7 +70,8 @@ returns-4 c =
     let checked = c .before .before in
     let held = checked .before in
     let typed = held .before .before .before in
-    no-sum (typed .before .before .before .before .before .args .s .now) (long typed) (type typed) (whole held) (sym (checked .check-sum .ensures) ∙ c .enum-told6 .given .1)
+    let s = typed .before .before .before .before .before .args .s .now in
+    no-sum s (long typed) (type typed) (whole held) (sym (checked .check-sum .ensures) ∙ c .enum-told6 .given .1)
 
 pair-at-requires : tie.Need-pair-at-requires
 pair-at-requires c κs = search needs
@@ -88,8 +90,9 @@ returns-5 c =
     let summed = c .before .before .before in
     let held = summed .before .before .before in
     let typed = held .before .before .before in
-    read (typed .before .before .before .before .before .args .s .now) (long typed) (type typed) (whole held) (sym (summed .before .before .check-sum .ensures) ∙ summed .enum-told5 .given .1) _ _ _
-    (c .before .before .pair-at .ensures) (c .before .pair-at2 .ensures) (c .kind-in .ensures)
+    let s = typed .before .before .before .before .before .args .s .now in
+    let right = sym (summed .before .before .check-sum .ensures) ∙ summed .enum-told5 .given .1 in
+    read s (long typed) (type typed) (whole held) right _ _ _ (c .before .before .pair-at .ensures) (c .before .pair-at2 .ensures) (c .kind-in .ensures)
 
 pub read-message-spec : {M : Type 1} → statement M
 read-message-spec =

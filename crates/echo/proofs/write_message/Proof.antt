@@ -66,7 +66,8 @@ returns c =
     let room : front .put-fixed .result + length echoed ≤ length (front .put-fixed .last .0) = omega (arith, start .pre, from-is, front .put-fixed .kept) in
     let put = mid-put _ _ _ _ echoed refl room (copied .copy .ensures .1) in (
       rw from-is,
-      written (start .args .m) echoed _ _ _ _ _ _ from-is (start .pre) (front .put-fixed .ensures .1) put (summed .checksum .ensures) (c .before .before .put-number .ensures .1),
+      written (start .args .m) echoed _ _ _ _ _ _ from-is (start .pre) (front .put-fixed .ensures .1) put (summed .checksum .ensures)
+          (c .before .before .put-number .ensures .1),
     )
 
 pub write-message-spec : {M : Type 1} → statement M
