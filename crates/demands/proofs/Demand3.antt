@@ -67,14 +67,14 @@ module _ (who : Customer) (steps : List Step) where
   counter-reads : (i : ℕ) (x : Result) → i < counterCount → Gives steps (flies who (looks (counter i))) x → x .answer ≡ counterIn (counters who steps) i
   counter-reads i x inside g = gives-row who steps (own (looks (counter i))) x g .answer ∙ counter-is (counters who steps) i inside
 
-  waiting-reads : (p : ℕ) (x : Result) → p < portCount → Gives steps (flies who (looks (waiting p))) x → x .answer ≡ queueAt (seat .mission) p .count
+  pub waiting-reads : (p : ℕ) (x : Result) → p < portCount → Gives steps (flies who (looks (waiting p))) x → x .answer ≡ queueAt (seat .mission) p .count
   waiting-reads p x inside g = gives-row who steps (own (looks (waiting p))) x g .answer ∙ waiting-is (seat .mission) p inside
 
   many-wait : (p : ℕ) → p < portCount → queueAt (seat .mission) p .count ≡ length (lineAt p m h)
   many-wait p inside = waits-count entryOf (queue-waits p inside m h)
 
   -- a queue that is not under 32 has 32
-  full-is : (p : ℕ) → p < portCount → ltb (queueAt (seat .mission) p .count) entryPlaces ≡ false → queueAt (seat .mission) p .count ≡ entryPlaces
+  pub full-is : (p : ℕ) → p < portCount → ltb (queueAt (seat .mission) p .count) entryPlaces ≡ false → queueAt (seat .mission) p .count ≡ entryPlaces
   full-is p inside full =
       let fits = waits-fits entryOf (queue-waits p inside m h) in
       let over = ltb-false (queueAt (seat .mission) p .count) entryPlaces full in

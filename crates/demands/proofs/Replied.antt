@@ -39,11 +39,11 @@ use Rattle.demands.specs.ReadOut.{replyOctets, replyOut}
 use Rattle.demands.proofs.Told.{gives-row}
 
 -- ---- a choice that is decided
-picks : {A : Type 0} (t : Bool) (u v : A) → t ≡ true → pick t u v ≡ u
+pub picks : {A : Type 0} (t : Bool) (u v : A) → t ≡ true → pick t u v ≡ u
 picks true u v e = refl
 picks false u v e = true-false (sym e)
 
-leaves : {A : Type 0} (t : Bool) (u v : A) → t ≡ false → pick t u v ≡ v
+pub leaves : {A : Type 0} (t : Bool) (u v : A) → t ≡ false → pick t u v ≡ v
 leaves true u v e = true-false e
 leaves false u v e = refl
 
