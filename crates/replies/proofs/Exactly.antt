@@ -335,6 +335,17 @@ module _ (r : Relay) (number dropping port : ℕ) (octets : List ℕ) (room : �
     pub made-answerable : Answerable r dropping port octets
     made-answerable = by-found (foundOf octets) refl
 
+  -- what is then asked
+  module _ (y : Answerable r dropping port octets) where
+    by-read : (x : Found) → foundOf octets ≡ x → (n : Renewal) × (foundOf octets ≡ found.Good (y .header) n)
+    by-read (found.Good h n) e = (n, e ∙ ap (λ (k : Header). found.Good k n) (ap (headerIn h) (sym (found-good octets h n e .0) ∙ y .reads)))
+    by-read (found.Refused m) e = true-false (sym (ap isGood (sym (found-refused octets m e) ∙ y .reads)))
+
+    pub answerable-asked : (n : Renewal) × (all ≡ nodeAsked r number at (y .header) n (y .destination))
+    answerable-asked =
+        let x = by-read (foundOf octets) refl in
+        (x .0, asked-is (y .header) (x .0) (x .1) (y .good) (y .destination) (y .aimed))
+
   -- ---- and what is asked for is made, by a port that is set up and with room for its MTU
   module _ (ready : portSetUp r port ≡ true) (enough : mtu ≤ room) where
     passes : firstOf (callChecks r port room) ≡ 0
@@ -342,15 +353,11 @@ module _ (r : Relay) (number dropping port : ℕ) (octets : List ℕ) (room : �
     passes = sym (holds-not _ _ _ (ap not ready) (holds-not _ _ _ (le-ltb room mtu enough) none-left))
 
     module _ (y : Answerable r dropping port octets) where
-      by-read : (x : Found) → foundOf octets ≡ x → (n : Renewal) × (foundOf octets ≡ found.Good (y .header) n)
-      by-read (found.Good h n) e = (n, e ∙ ap (λ (k : Header). found.Good k n) (ap (headerIn h) (sym (found-good octets h n e .0) ∙ y .reads)))
-      by-read (found.Refused m) e = true-false (sym (ap isGood (sym (found-refused octets m e) ∙ y .reads)))
-
       answerable-made : answeringOf r number dropping port octets room .made ≡ 1
       unfolding askingOf nodeAsked
       answerable-made =
           let h = y .header in
-          let x = by-read (foundOf octets) refl in
+          let x = by-read y (foundOf octets) refl in
           let asks = asked-back h (x .0) (x .1) (y .good) (y .destination) (y .aimed) (y .taken) (y .delivered)
           (y .control, (y .plain, (y .source, y .hops))) (y .single) in
           let size = sizeOf (replyFields (at .address) (isOwned (named r (y .destination))) (h .fields)) in

@@ -8,3 +8,6 @@ pub mod Made
 pub mod Goes
 pub mod Routes
 pub mod Exactly
+pub mod Meaning
+pub mod ReadBack
+pub mod Unanswered

@@ -45,11 +45,14 @@ pub none-written : (a : Answering) (e : Replied) (octets lent : List ℕ) → e 
 unfolding repliedOutput
 none-written a e octets lent h = simp (eq-eqb (e .ruling .took) 0 h)
 
+-- ---- the data that it sends back are as many as it counts
+pub count-length : (a : Answering) (octets : List ℕ) → a .from + a .count ≤ length octets → length (echoedOf a octets) ≡ a .count
+count-length a octets h = length-take-le (a .count) (drop (a .from) octets) (omega (arith, h, length-drop (a .from) octets))
+
 -- ---- one that goes
 module _ (a : Answering) (e : Replied) (octets lent : List ℕ) (g : Goes a e octets lent) where
-  -- its data are as many as it counts
   pub echoed-length : length (echoedOf a octets) ≡ a .count
-  echoed-length = length-take-le (a .count) (drop (a .from) octets) (omega (arith, g .within, length-drop (a .from) octets))
+  echoed-length = count-length a octets (g .within)
 
   -- the part that is lent
   part-is : take (a .from + a .count - a .from) (drop (a .from) octets) ≡ echoedOf a octets
