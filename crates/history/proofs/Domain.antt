@@ -54,16 +54,17 @@ use Rattle.history.specs.Calls.{sets, hears, echoes, takes, sweeps, look
 use Rattle.history.specs.Outcome.{next, runFrom, seatAfter}
 use Rattle.history.specs.Ranges.{Octets, Passed}
 use Rattle.history.specs.Line.{Copy, copyOf, replyCopy, sentOf, takenBy, lineBy, lineFrom, lineAt}
+use Rattle.page.specs.Replies.{RequestAnswered, ReplyTo}
 use Rattle.page.specs.Table.{oneOctet, liesFar, hasRoom, verdictBy}
 use Rattle.survey.proofs.Bits.{in-none}
 use Rattle.page.proofs.Answered.{made-exactly, made-tells}
 use Rattle.page.proofs.Exactly.{took-exactly}
-use Rattle.page.proofs.Replies.{reply-granted, reply-shared, reply-wired}
+use Rattle.page.proofs.Replies.{reply-granted, reply-shared, reply-wired, reply-names-the-same}
 use Rattle.page.proofs.Headers.{headers-of-any-relay}
 use Rattle.page.proofs.Verdict.{masks-choose}
 use Rattle.history.proofs.Heard.{heard-so}
 use Rattle.history.proofs.Replying.{answer, reply, both-so}
-use Rattle.history.proofs.Wire.{Sound, madeHeader, wiredHeader, made-sound, reply-reads, reply-message, wire-reads, wire-aim, wire-origin, wire-home}
+use Rattle.history.proofs.Wire.{Sound, madeHeader, wiredHeader, made-sound, reply-reads, reply-message, wire-reads, wire-home}
 use Rattle.history.proofs.Ports.{seen-stays}
 use Rattle.history.proofs.Meaning.{has-passed, arrival-set-up, stays-in-its-domain, names-the-same}
 use Rattle.history.proofs.Reach.{Kept, one-kept, fresh-kept}
@@ -227,24 +228,39 @@ module _ (p : ℕ) (inside : p < 8) where
           entry = newEntry slot (asEnding e);
         }
 
-    page-reply : inSet p (e .ruling .took) ≡ true → NamesTheSame (portIn (relayIn seat) p) (replyCopy n seat port slot octets a e)
+    -- it was made to a request, which came in by a port that is set up
+    abbrev Told : Type 0
+    Told = (y : RequestAnswered (relayWith seat rs) (seat .board .drop) port octets) × ReplyTo (relayWith seat rs) port octets (y .message) a
+
+    page-told : inSet p (e .ruling .took) ≡ true → (portSetUp (relayIn seat) port ≡ true) × Told
     unfolding callChecks
-    page-reply took =
+    page-told took =
         let r = relayWith seat rs in
         let granted = reply-shared r (seat .number) (seat .board .drop) port octets room p inside (inl took) in
-        let made = reply-granted r (seat .number) (seat .board .drop) port octets room longerMask (masks-choose r) p inside .0 granted .0 in
-        let told = made-tells r (seat .number) (seat .board .drop) port octets room made in
-        let up = not-false (portSetUp r port) (made-exactly r (seat .number) (seat .board .drop) port octets room .0 made .0 .0) in
-        let s = made-sound r (seat .board .drop) port octets a (told .0) (told .1) small (set-up-small seat k port up) in
+        let made = reply-granted r (seat .number) (seat .board .drop) port octets room longerMask (masks-choose r) p inside .0 granted .0 in (
+          not-false (portSetUp r port) (made-exactly r (seat .number) (seat .board .drop) port octets room .0 made .0 .0),
+          made-tells r (seat .number) (seat .board .drop) port octets room made,
+        )
+
+    pub page-sound : inSet p (e .ruling .took) ≡ true → Sound a octets
+    page-sound took =
+        let told = page-told took in
+        made-sound (relayWith seat rs) (seat .board .drop) port octets a (told .1 .0) (told .1 .1) small (set-up-small seat k port (told .0))
+
+    page-reply : inSet p (e .ruling .took) ≡ true → NamesTheSame (portIn (relayIn seat) p) (replyCopy n seat port slot octets a e)
+    page-reply took =
+        let r = relayWith seat rs in
+        let told = page-told took .1 .1 in
+        let s = page-sound took in
+        let names = reply-names-the-same r (seat .number) (seat .board .drop) port octets room p inside took in
         let far = not (eqb (e .far) 0) in
         let code = e .code in
-        let out = portIn (relayIn seat) p .address .0 in
         let lies : far ≡ not (eqb (domainOf (portIn (relayIn seat) p .address)) (domainOf (a .arrival))) =
         reply-wired r (seat .number) (seat .board .drop) port octets room .far p inside took
-        ∙ ap (λ (x : Address). not (eqb (domainOf (portIn (relayIn seat) p .address)) (domainOf x))) (sym (told .1 .arrival)) in
+        ∙ ap (λ (x : Address). not (eqb (domainOf (portIn (relayIn seat) p .address)) (domainOf x))) (sym (told .arrival)) in
         let home : far ≡ false → domainOf (portIn (relayIn seat) p .address) ≡ domainOf (a .arrival) =
         λ near. eqb-true (domainOf (portIn (relayIn seat) p .address)) (domainOf (a .arrival)) (not-false _ (sym lies ∙ near)) in
-        subst (λ (x : Address). NamesTheSame (portIn (relayIn seat) p) (copyFrom x)) (told .1 .arrival)
+        subst (λ (x : Address). NamesTheSame (portIn (relayIn seat) p) (copyFrom x)) (told .arrival)
         (record {
           came = madeHeader a;
           read = reply-reads a octets s;
@@ -256,9 +272,9 @@ module _ (p : ℕ) (inside : p < 8) where
           lies = lies;
           code = code;
           fields = inr refl;
-          aim = wire-aim a octets s out code far home;
-          origin = wire-origin a octets s out code far home;
-          domain = λ one. home (wire-home a octets s out code far home (eqb-true _ 1 one));
+          aim = names .0 ∙ sym (ap (λ (x : Address). aimOf (x .0) (a .fields .addresses)) (told .arrival) ∙ told .names);
+          origin = names .1 ∙ ap (λ (x : Address). originOf (x .0) (a .fields .addresses)) (sym (told .arrival));
+          domain = λ one. home (wire-home a octets s code far (eqb-true _ 1 one));
         })
 
     new-reply : inSet p (repliedBy seat rs port octets room .ruling .took) ≡ true

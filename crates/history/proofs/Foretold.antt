@@ -28,7 +28,6 @@ use Rattle.queue.specs.Order.{Each, insertBy, Placed}
 use Rattle.queue.specs.Queue.{waiting, precedenceOf, fresh as freshQueue, putOf, takeOf}
 use Rattle.queue.specs.Waits.{Chosen, nobody, one, chosen, ordered, rankBy}
 use Rattle.queue.specs.Foretold.{Deed, enters, handsOut, entered, takesIn, howMany, out, left, AtTake, handed, standingBefore, Other, isOut, whileWaits as whileLine}
-use Rattle.queue.specs.declared.Entry.{Entry}
 use Rattle.queue.proofs.Each.{each-so, each-append}
 use Rattle.queue.proofs.Order.{insert-placed, insert-map}
 use Rattle.queue.proofs.Waits.{chosen-asked, ordered-enters}
@@ -71,7 +70,7 @@ use Rattle.history.specs.Calls.{
   operator,
   own,
 }
-use Rattle.history.specs.Outcome.{isRefusal, Answer, number, ended, entry, Out, nothing, from, ofTaking, outcome, next, runFrom, seatAfter, sumFrom}
+use Rattle.history.specs.Outcome.{isRefusal, number, entry, Out, nothing, from, ofTaking, outcome, next, runFrom, seatAfter, sumFrom}
 use Rattle.history.specs.Ledger.{one as oneIf, outBy, handedOut}
 use Rattle.history.specs.Line.{Copy, entryOf, takenBy, handedBy, leftBy, lineBy, lineFrom, takenFrom, handedFrom, lineAt, takenAt, takingOf, times, InTurn}
 use Rattle.history.specs.Foretold.{andThen, handedSince, takesSince, answeredBy, answeredFrom, answeredSince, before, Idle, isHanded, waitsFrom, higherEnter, CountsNothing, takenSince, whileWaits}

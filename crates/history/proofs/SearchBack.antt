@@ -4,16 +4,15 @@
 -- exactly where the search says no; of what a mission sees nothing is cut, since the parts are the place, the ones and the port of the entry taken. Assumes
 -- nothing.
 use native.Mathlib.Omega.{arith}
-use native.Mathlib.Nat.{div-eq-of-lt, mod-eq-of-lt, le-antisymm, div-div-eq-div-mul}
-use Prim.Native.Nat.{ℕ, _+_, _*_, _/_, _%_, _^_, _≤_, _<_}
+use native.Mathlib.Nat.{div-eq-of-lt, mod-eq-of-lt}
+use Prim.Native.Nat.{ℕ, _+_, _*_, _%_, _^_, _≤_, _<_}
 use mathlib.Core.Path.{_≡_, refl, sym, ap, subst, _∙_}
 use mathlib.Core.Logic.{_↔_}
-use mathlib.Core.Bool.{Bool, true, false}
+use mathlib.Core.Bool.{true, false}
 use mathlib.Core.List.{List}
 use lib.Bits.{bitAnd, and-zero-r}
-use lib.Dec.{eqb}
 use lib.ListN.{length}
-use borrow.Author.Tests.{eqb-true, eqb-false, ltb-true, ltb-false}
+use borrow.Author.Tests.{ltb-true, ltb-false}
 use Rattle.checks.proofs.Bools.{true-false, and-true}
 use Rattle.address.specs.Mask.{onesOf}
 use Rattle.address.proofs.Ones.{ones-at-most}

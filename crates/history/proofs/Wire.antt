@@ -1,10 +1,10 @@
--- A reply's octets (page 02, W-203 and W-214): they are octets; as it is made they read as the header that it is made of, and as it goes out as one that names, at the
--- port by which it goes, what the other names at the port of the request. Assumes nothing.
+-- A reply's octets (page 02, W-203 and W-214): they are octets; as it is made they read as the header that it is made of, and as it goes out as that header with what
+-- W-214 changes. What the addresses name is the crate page's. Assumes nothing.
 use native.Mathlib.Omega.{arith}
 use Prim.Native.Nat.{ℕ, zero, suc, _+_, _/_, _%_, _^_, _≤_, _<_}
 use mathlib.Core.Path.{_≡_, refl, sym, ap, subst, _∙_}
 use mathlib.Core.Logic.{_≢_}
-use mathlib.Core.Bool.{Bool, true, false}
+use mathlib.Core.Bool.{Bool, false}
 use mathlib.Core.List.{List, [], _∷_, _++_}
 use lib.ListN.{length, take, drop, length-take, length-drop}
 use lib.Seq.{drop-append-seam}
@@ -31,12 +31,11 @@ use Rattle.echo.specs.declared.Kind.{Kind}
 use Rattle.echo.specs.declared.Kind.the-variants.{Request, Reply}
 use Rattle.echo.specs.declared.Message.{Message}
 use Rattle.echo.proofs.Trip.{written-length}
-use Rattle.meaning.specs.Names.{aimOf, originOf, isBasic, isBound}
+use Rattle.meaning.specs.Names.{isBasic, isBound}
 use Rattle.state.specs.Relay.{Relay, portIn}
-use Rattle.networks.specs.Networks.{domainOf}
 use Rattle.next_leg.specs.Leg.{asksChecksum, widened, nextFields}
 use Rattle.next_leg.proofs.Made.{checksum-case}
-use Rattle.next_leg.proofs.Names.{same-aim, same-origin, stays-home}
+use Rattle.next_leg.proofs.Names.{stays-home}
 use Rattle.page.specs.Table.{aimAt, equalsPort}
 use Rattle.page.specs.Replies.{RequestAnswered, ReplyTo}
 use Rattle.replies.specs.Reply.{replyAddresses, replyQos, replyFields, mostEchoed}
@@ -113,7 +112,7 @@ widened-fits arrival (BasicEndSystem d s) h fits = (omega (arith, h, fits .0), o
 widened-fits arrival (ExtendedEndSystem d s) h fits = fits
 widened-fits arrival (Ipv6 d s) h fits = fits
 
-wire-in-range : (far : Bool) (arrival code : ℕ) (f : Fields) → arrival < 2 ^ 32 → InRange f → InRange (wireFields far arrival code f)
+pub wire-in-range : (far : Bool) (arrival code : ℕ) (f : Fields) → arrival < 2 ^ 32 → InRange f → InRange (wireFields far arrival code f)
 unfolding wireFields
 wire-in-range far arrival code f h r =
     record {
@@ -178,21 +177,10 @@ module _ (a : Answering) (request : List ℕ) (s : Sound a request) where
   wire-reads far code =
       read-built (wireFields far (a .arrival .0) code (a .fields)) (messageSize a) message (wire-in-range far (a .arrival .0) code (a .fields) (s .arrival) (s .range)) few whole
 
-  module _ (out : ℕ) (code : ℕ) (far : Bool) (home : far ≡ false → domainOf (record { 0 = out }) ≡ domainOf (a .arrival)) where
-    bound : isBound (a .fields .addresses) ≡ 1 → far ≡ false
-    bound b = absurd (s .free b)
-
-    pub wire-aim : aimOf out (wireFields far (a .arrival .0) code (a .fields) .addresses) ≡ aimOf (a .arrival .0) (a .fields .addresses)
-    unfolding wireFields nextFields
-    wire-aim = same-aim out (a .arrival .0) code far (a .fields) home bound
-
-    pub wire-origin : originOf out (wireFields far (a .arrival .0) code (a .fields) .addresses) ≡ originOf (a .arrival .0) (a .fields .addresses)
-    unfolding wireFields nextFields
-    wire-origin = same-origin out (a .arrival .0) code far (a .fields) home bound
-
-    pub wire-home : isBasic (wireFields far (a .arrival .0) code (a .fields) .addresses) ≡ 1 → far ≡ false
-    unfolding wireFields nextFields
-    wire-home = stays-home (a .arrival .0) code far (a .fields) bound
+  -- with addresses of one octet it goes into no other domain
+  pub wire-home : (code : ℕ) (far : Bool) → isBasic (wireFields far (a .arrival .0) code (a .fields) .addresses) ≡ 1 → far ≡ false
+  unfolding wireFields nextFields
+  wire-home code far = stays-home (a .arrival .0) code far (a .fields) (λ b. absurd (s .free b))
 
 -- ---- a reply that is made is so: what page 02 says of it (crate page), where the request's octets are octets and the address of its port has 32 bits
 sourced-free : (arrival : Address) (own : Bool) (a : Addresses) → sourceFlag a ≢ 0 → isBound (replyAddresses arrival own a) ≡ 1 → ⊥

@@ -3,18 +3,29 @@
 -- these. What shows it are the marked cases (specs/Marked.antt) and a few histories beside them. Assumes nothing.
 use native.Mathlib.Omega.{arith}
 use Prim.Native.Nat.{ℕ, _+_, _*_, _%_, _^_, _<_}
-use mathlib.Core.Path.{_≡_, refl, sym, ap, _∙_}
+use mathlib.Core.Path.{_≡_, refl, sym, ap, subst, _∙_}
+use mathlib.Core.Logic.{⊎-elim}
 use mathlib.Core.Bool.{true, false}
 use mathlib.Core.List.{List, [], _∷_, _++_, map}
 use lib.ListN.{length, replicate}
 use borrow.Author.Tests.{lt-ltb}
 use Rattle.checks.proofs.Bools.{true-false}
 use Rattle.sets.specs.Sets.{inSet}
+use Rattle.octets.specs.Octets.{octets as octetsOf}
+use Rattle.checksum.specs.Sum.{words, sumFrom, onesSum}
+use Rattle.address.specs.Class.{classOf}
 use Rattle.address.specs.Mask.{maskOf}
 use Rattle.address.specs.Octets.{dotted}
 use Rattle.address.specs.Path.{pathForm}
+use Rattle.address.specs.declared.Address.{Address}
 use Rattle.address.specs.declared.Slot.{Slot}
 use Rattle.header.specs.Form.{bitWeight}
+use Rattle.header.specs.Read.{readOf}
+use Rattle.header.specs.Build.{addressesOctets, qosOctets, octetOctets, stampOctets, thirdOctet, secondOctet, restOctets, sizeOf}
+use Rattle.header.specs.Onward.{foundOf}
+use Rattle.header.specs.declared.Header.{Header}
+use Rattle.header.specs.declared.Read.the-variants as read
+use Rattle.echo.specs.Message.{messageOf, echoChecks, readingOf}
 use Rattle.routes.specs.Routes.{isUp}
 use Rattle.routes.specs.Search.{searchOf}
 use Rattle.routes.specs.declared.Found.the-variants.{At}
@@ -29,28 +40,38 @@ use Rattle.lookup.specs.Lookup.{pathPlace}
 use Rattle.verdict.specs.Rule.{pathLine}
 use Rattle.records.specs.Held.{holdsPair}
 use Rattle.meaning.specs.Flood.{pairOf}
-use Rattle.meaning.specs.Names.{floodRouting}
+use Rattle.meaning.specs.Names.{aimOf, floodRouting}
+use Rattle.meaning.specs.declared.Aim.the-variants as aim
+use Rattle.survey.specs.Survey.{surveyWithin}
 use Rattle.floods.specs.Memory.{isHeld, freePlace, soughtPair}
 use Rattle.floods.specs.Sweep.{isOld, swept, sweptMemory}
-use Rattle.state.specs.Relay.{routeIn, queueAt, counterIn}
+use Rattle.state.specs.Relay.{portIn, routeIn, queueAt, counterIn}
 use Rattle.state.specs.Seen.{State, freshState}
 use Rattle.adjust.specs.Settled.{newRecord}
 use Rattle.verdict.specs.declared.Ruling.{Ruling}
+use Rattle.judge.specs.Asked.{nodeAsked, aimAsked, carriedAsked}
 use Rattle.judge.specs.Ending.{noRuling, outputRoom}
 use Rattle.judge.specs.declared.Ending.{Ending}
 use Rattle.taking.specs.Taking.{takeOutcome}
 use Rattle.taking.specs.declared.Taking.{Taking}
 use Rattle.taking.specs.declared.Taking.the-variants.{Handed, Refused}
 use Rattle.tally.specs.Tally.{receiptCounter, rulingMoves, movesOf, counterFor, countedAt}
+use Rattle.replies.specs.Request.{isMany, asksInHeader, askingOf}
+use Rattle.replies.specs.Reply.{replyFields, echoedCount, isAsked, answerTo}
+use Rattle.replies.specs.Replied.{callChecks, answeringOf, wireFields, wireLength, repliedAmong, repliedTo}
+use Rattle.replies.specs.Answerable.{IsOurs}
+use Rattle.answering.specs.Echoed.{echoAnswering, echoReply}
 use Rattle.history.specs.Seat.{Seat, relayIn, relayWith, heardBy}
-use Rattle.history.specs.Calls.{Order, setRouter, setPort, orders, views, setPath, sets, hears, echoes, takes, sweeps, looks, Call, operator, own}
+use Rattle.history.specs.Calls.{Order, setRouter, setPort, setDrop, orders, views, setPath, sets, hears, echoes, takes, sweeps, looks, Call, operator, own}
 use Rattle.history.specs.Outcome.{Answer, number, ended, replied, entry, Outcome, ofTaking, outcome, seatAfter}
 use Rattle.history.specs.Tally.{sumAt, tally, stateAfter}
+use Rattle.history.specs.Replies.{isMade}
 use Rattle.history.specs.Marked.{ordered, port, routerWithPorts, A, B, C, D, allRoutes, withoutA, datagram, heard, sentBy, notSent}
 use Rattle.history.proofs.Counters.{counters}
 use Rattle.survey.proofs.Bits.{in-none}
 use Rattle.history.proofs.Fair.{fair}
 use Rattle.history.proofs.Replying.{reply-fair}
+use Rattle.history.proofs.Replies.{answered-exactly, reply-counts-no-receipt}
 use Rattle.history.proofs.Refusals.{heard-grants-nothing, counts-nothing}
 use Rattle.history.proofs.Marked.{opened, marked-cases}
 
@@ -103,6 +124,23 @@ flooded at second =
     ∷ 0 ∷ 0 ∷ 9
     ∷ [])
     (replicate outputRoom 0))
+
+-- an echo request to 172.16.4.1, port 4's own address, from 192.0.2.1, with hop count 9, and three octets of data (003, 3.3.2 and 3.3.4.7)
+abbrev pub ping : List ℕ
+ping =
+    32 ∷ 24
+    ∷ (16 + bitWeight 20 + bitWeight 22)
+    ∷ (bitWeight 25 + bitWeight 26 + bitWeight 31)
+    ∷ 172 ∷ 16 ∷ 4 ∷ 1
+    ∷ 192 ∷ 0 ∷ 2 ∷ 1
+    ∷ 9
+    -- type 8, code 0, checksum, identifier, sequence number, data
+    ∷ 8 ∷ 0 ∷ 243 ∷ 245 ∷ 0 ∷ 7 ∷ 0 ∷ 1
+    ∷ 1 ∷ 2 ∷ 3
+    ∷ []
+
+abbrev pub pinged : Call
+pinged = own (echoes (allRoutes 0) 4 (record { 0 = 1 }) ping (replicate 1500 0))
 
 -- a route as if it were up, whatever its availability
 abbrev pub asIfUp : Route → Route
@@ -157,9 +195,17 @@ pub record Cases : Type 0 where
   pub again : outcome (seatAfter 0 (begun ++ flooded 4 0 ∷ [])) (flooded 3 0) .answer ≡ notSent 0
   pub freed : outcome (seatAfter 0 (begun ++ flooded 4 0 ∷ own (sweeps 1) ∷ [])) (flooded 4 1) .answer ≡ ended 0 0 1 15
   pub past : outcome (seatAfter 0 (begun ++ own (sweeps 1) ∷ [])) (flooded 4 0) .answer ≡ ended 29 0 0 0
+  -- an echo request is answered by A's port, and not where the operator drops them
+  pub echoed : outcome (seatAfter 0 begun) pinged .answer ≡ replied 0 1 1
+  pub unechoed : outcome (seatAfter 0 (begun ++ operator (orders (setDrop 1)) ∷ [])) pinged .answer ≡ replied 0 0 0
+
+-- and the rules of replies
+unfoldable openedReplies : Unit {0}
+unfolding words sumFrom onesSum messageOf echoChecks readingOf askingOf asksInHeader isAsked answerTo replyFields echoedCount callChecks answeringOf wireFields wireLength repliedAmong repliedTo surveyWithin foundOf carriedAsked aimAsked nodeAsked sizeOf secondOctet thirdOctet restOctets addressesOctets qosOctets octetOctets stampOctets octetsOf echoAnswering echoReply
+openedReplies = tt
 
 pub cases : Cases
-unfolding opened freshState countedAt counterFor pathForm pathClassRefused setRefused namesOther pathElsewhere pathPlace pathLine pairOf holdsPair isHeld freePlace soughtPair isOld swept sweptMemory
+unfolding opened freshState countedAt counterFor pathForm pathClassRefused setRefused namesOther pathElsewhere pathPlace pathLine pairOf holdsPair isHeld freePlace soughtPair isOld swept sweptMemory openedReplies
 cases =
     record {
       octets = refl;
@@ -179,6 +225,8 @@ cases =
       again = refl;
       freed = refl;
       past = refl;
+      echoed = refl;
+      unechoed = refl;
     }
 
 -- the ports that took an entry
@@ -379,6 +427,48 @@ module _ (does : List Call → Call → Outcome) (kept : (cs : List Call) (c : C
       wrong
       (ap (λ o. sumAt (o .moves) i) (kept cs c)
       ∙ unmoved-at 29 (λ z. omega arith) i (counts-nothing i .1 .1 .1) (seatAfter 0 cs) c local onward took (sym (answers cs c) ∙ e))
+
+  -- No reply of it counts in npForwDatagrams (W-203: "in npOutRequests, never npForwDatagrams"),
+  pub forwarding-a-reply : (cs : List Call) (rs : List Record) (port : ℕ) (slot : Slot) (octets output : List ℕ)
+      → (sumAt (does cs (own (echoes rs port slot octets output)) .moves) 10 ≡ 0 → ⊥) → ⊥
+  forwarding-a-reply cs rs port slot octets output wrong =
+      wrong
+      (ap (λ o. sumAt (o .moves) 10) (kept cs (own (echoes rs port slot octets output)))
+      ∙ reply-counts-no-receipt (seatAfter 0 cs) rs port slot octets output 10 (omega arith))
+
+  -- and it answers no request to an address of many that no port has ("goes to a broadcast or multicast address gets none"),
+  pub answering-many : (cs : List Call) (rs : List Record) (port : ℕ) (slot : Slot) (octets output : List ℕ) (h : Header) (d : Address)
+      → readOf octets ≡ read.Good h → aimOf (portIn (relayIn (seatAfter 0 cs)) port .address .0) (h .fields .addresses) ≡ aim.Node d
+      → isMany (classOf (d .0)) ≡ true → (IsOurs (relayIn (seatAfter 0 cs)) d → ⊥)
+      → isMade (does cs (own (echoes rs port slot octets output)) .answer) ≡ true → ⊥
+  answering-many cs rs port slot octets output h d reads aims many apart wrong =
+      let c = own (echoes rs port slot octets output) in
+      let y = answered-exactly (seatAfter 0 cs) rs port octets (length output) .0 (ap isMade (sym (answers cs c)) ∙ wrong) .request in
+      let same : y .header ≡ h = cc (y .reads, reads) in
+      let to : y .destination ≡ d = cc (y .aimed, same, aims) in
+      ⊎-elim (λ o. apart (subst (IsOurs (relayIn (seatAfter 0 cs))) to o))
+      (λ one. true-false (sym (ap (λ (x : Address). isMany (classOf (x .0))) to ∙ many) ∙ one .0)) (y .single)
+
+  -- nor any while they are dropped ("A setting that drops all requests").
+  pub answering-dropped : (cs : List Call) (rs : List Record) (port : ℕ) (slot : Slot) (octets output : List ℕ)
+      → (seatAfter 0 cs .board .drop ≡ 0 → ⊥) → isMade (does cs (own (echoes rs port slot octets output)) .answer) ≡ true → ⊥
+  answering-dropped cs rs port slot octets output dropping wrong =
+      let c = own (echoes rs port slot octets output) in
+      dropping (answered-exactly (seatAfter 0 cs) rs port octets (length output) .0 (ap isMade (sym (answers cs c)) ∙ wrong) .request .taken)
+
+  -- But it does answer,
+  pub answering-nobody : ((cs : List Call) (c : Call) → isMade (does cs c .answer) ≡ false) → ⊥
+  answering-nobody wrong = true-false (sym (ap isMade (answers begun pinged ∙ cases .echoed)) ∙ wrong begun pinged)
+
+  -- and once dropping is on, that request no more.
+  pub answering-always : ((cs : List Call) (rs : List Record) (port : ℕ) (slot : Slot) (octets output : List ℕ)
+      → does (cs ++ operator (orders (setDrop 1)) ∷ []) (own (echoes rs port slot octets output)) .answer ≡ does cs (own (echoes rs port slot octets output)) .answer)
+      → ⊥
+  answering-always wrong =
+      let same = wrong begun (allRoutes 0) 4 (record { 0 = 1 }) ping (replicate 1500 0) in
+      let ports : _≡_ {A = ℕ} 0 1 =
+      ap portsOf (sym (answers (begun ++ operator (orders (setDrop 1)) ∷ []) pinged ∙ cases .unechoed) ∙ same ∙ answers begun pinged ∙ cases .echoed) in
+      omega arith
 
 -- ---- what histories leave
 module _ (leaves : List Call → State) (kept : (cs : List Call) → leaves cs ≡ stateAfter 0 cs) where

@@ -12,7 +12,6 @@ use Rattle.checksum.specs.Sum.{checksumOf}
 use Rattle.header.specs.Read.{readOf}
 use Rattle.echo.specs.Message.{echoChecks}
 use Rattle.echo.specs.Built.{buildChecks}
-use Rattle.echo.specs.declared.Seen.{Seen}
 use Rattle.echo.specs.declared.Kind.{Kind}
 use Rattle.echo.specs.declared.Kind.the-variants.{Request, Reply}
 use Rattle.echo.specs.declared.Message.{Message}
