@@ -51,7 +51,7 @@ pub fn before(
     if mission.len() != state_mission::MISSION_WORDS {
         return replies::no_answer(16);
     }
-    replies::answering(board, mission, port, octets, room)
+    replies::answer(board, mission, port, octets, room)
 }
 
 // What is asked of the list of routes.
@@ -84,7 +84,7 @@ fn carry_out(
     ensures { λ _. ⌜ now (output .exit) ≡ repliedOutput a e (now (octets .entry)) (now (output .entry)) ⌝ }
 {
     let ruling = e.ruling;
-    tally::count_reply(mission, ruling);
+    tally::reply::count_reply(mission, ruling);
     relay::outgoing::enter_all(
         mission,
         ruling.took,

@@ -7,3 +7,4 @@ pub mod Written
 pub mod Made
 pub mod Goes
 pub mod Routes
+pub mod Exactly
