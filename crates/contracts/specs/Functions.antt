@@ -107,7 +107,8 @@ functionOf (hj-build-words n size o) = covered 2 build-words.Kinds.ps build-word
 functionOf (hj-class a) = covered 0 class.Kinds.ps class.Kinds.r class.Reads.Learnt class.Symbol.routine
 functionOf (hj-path p) = covered 0 form.Kinds.ps form.Kinds.r form.Reads.Learnt form.Symbol.routine
 functionOf (hj-checksum octets) = covered 1 checksum.Kinds.ps checksum.Kinds.r checksum.Reads.Learnt checksum.Symbol.routine
-functionOf (hj-read-echo-words octets n) = covered 2 read-echo-words.Kinds.ps read-echo-words.Kinds.r read-echo-words.Reads.Learnt read-echo-words.Symbol.routine
+functionOf (hj-read-echo-words octets n) =
+    covered 2 read-echo-words.Kinds.ps read-echo-words.Kinds.r read-echo-words.Reads.Learnt read-echo-words.Symbol.routine
 functionOf (hj-build-request identifier sequence echoed o) =
     covered 2 build-request.Kinds.ps build-request.Kinds.r build-request.Reads.Learnt build-request.Symbol.routine
 functionOf (hj-build-reply identifier sequence hops format stamp mtu rate echoed o) =

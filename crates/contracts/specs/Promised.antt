@@ -21,7 +21,8 @@ use Rattle.state.specs.Seen.{Board, State, freshBoard, putLifetime, onMission, 
 use Rattle.state.specs.Layout.{boardWords, missionWords}
 use Rattle.lent_state.specs.View.{Lent, lent, lentBoard, toldBoard, changedBoard, told, changed, toldBoth, changedBoth, toldRelay, changedRelay}
 use Rattle.refusals.specs.Lists.{portChecks, routeChecks, clearRouteChecks, groupChecks, pathChecks, flagChecks, clearChecks, missionChecks}
-use Rattle.adjust.specs.Settled.{newRecord, settledFresh, settledRouter, settledDrop, settledPort, settledRoute, clearedRoute, settledGroup, settledPath, clearedGroup, clearedPath}
+use Rattle.adjust.specs.Settled.{newRecord, settledFresh, settledRouter, settledDrop, settledPort, settledRoute, clearedRoute}
+use Rattle.adjust.specs.Settled.{settledGroup, settledPath, clearedGroup, clearedPath}
 use Rattle.floods.specs.Sweep.{sweepChecks, sweptMemory}
 use Rattle.taking.specs.Taking.{takenRelay}
 use Rattle.harpjuniper.specs.Face.{readingOf, readAnswer, readLeft, buildWordsAnswer, buildWordsOutput}
