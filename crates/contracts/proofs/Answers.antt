@@ -67,8 +67,8 @@ use Rattle.contracts.specs.Promised.{
 use Rattle.contracts.specs.Contracts.{Spot, Lying, Contract, Says, Passable}
 use Rattle.contracts.proofs.Formed.{Formed, decode-formed, words-length, words-hold, board-length, board-holds}
 use Rattle.contracts.proofs.Kept.{KeptIn, set-router-kept, set-port-kept, set-lifetime-kept, set-drop-kept, fresh-board-kept}
-use Rattle.contracts.proofs.Kept.{set-group-kept, set-path-kept, clear-group-kept, clear-path-kept, taken-kept, heard-kept, received-kept, replied-kept, swept-kept}
-use Rattle.contracts.proofs.Kept.{mission-kept, memory-kept, seated-kept, fresh-kept}
+use Rattle.contracts.proofs.Kept.{set-group-kept, set-path-kept, clear-group-kept, clear-path-kept, taken-kept}
+use Rattle.contracts.proofs.Kept.{heard-kept, received-kept, replied-kept, swept-kept, mission-kept, memory-kept, seated-kept, fresh-kept}
 use Rattle.contracts.proofs.Rows.{row-contract}
 
 -- ---- the board: words that have this view
