@@ -925,7 +925,14 @@ hj_verdict hj_receive_at(const hj_board *board, size_t board_words,
  * With HJ_SENT_ON the first hj_reply_octets octets of the output are the whole
  * reply, header and message, as it goes out; no other octet is ever written.
  * The entry waits on the port like any other, with the request's precedence,
- * and hj_take hands it out. Four things to watch:
+ * and hj_take hands it out. Five things to watch:
+ *   - Lend more room than the arrival port's MTU, though that much is taken.
+ *     The data are cut to that MTU before the route changes the header, and a
+ *     route that widens the addresses or adds a checksum then makes the reply
+ *     up to 8 octets longer. With room of the MTU alone every long request by
+ *     such a route ends in HJ_TOO_BIG, while short ones are answered. So lend
+ *     HJ_MOST_LENGTH octets, or the MTU and 8. Room cannot help where the MTU
+ *     of the port by which the reply leaves is too small.
  *   - The library keeps no octets. Copy the reply out of the output, or leave
  *     that output alone, until its slot is taken.
  *   - A slot names a datagram that came and was sent on, or a reply. Keep the
