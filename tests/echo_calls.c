@@ -256,6 +256,36 @@ static void check_none(void)
     expect(counter(HJ_OUT_REQUESTS) == 0, "none is counted");
 }
 
+/* A port outside net 10 supplies no domain, though the octet is that of its own
+ * address. */
+static void check_no_domain(void)
+{
+    const char *request = "20111a6002100508008f93000100026869";
+
+    set_up();
+    expect(hj_set_port(BOARD, 6, 0xac100002, 0xffff0000, MTU, 0) == HJ_DONE,
+           "a port outside net 10");
+    expect_refusal(echo_by(6, request, MTU), 0, "7");
+    expect(hj_onward(echo(request)) == HJ_SENT_ON, "answered in net 10");
+}
+
+/* By subscription, and not by intermediate delivery as above. */
+static void check_subscribed(void)
+{
+    const char *request = "20171a61e00000010a0409100508008f93000100026869";
+    const hj_arrival arrival = {0, SLOT, 0};
+    uint8_t octets[64], headers[HJ_OUTPUT_ROOM];
+    size_t count = octets_of(request, octets);
+
+    set_up();
+    expect(hj_set_group(BOARD, MISSION, 0, 0xe0000001, 0x20, 0x01) == HJ_DONE,
+           "a group, subscribed on port 0");
+    expect(hj_local(hj_receive(BOARD, MISSION, ROUTES, arrival, octets, count,
+                               headers, sizeof headers)) == HJ_DELIVERED,
+           "its datagram is delivered");
+    expect_refusal(echo(request), 0, "and gets no reply");
+}
+
 /* 172.16.0.127 is a broadcast of port 0's subnet, and elsewhere a unit: none,
  * unless it is a port's own address. */
 static void check_subnet(void)
@@ -756,6 +786,8 @@ int main(void)
     check_reply();
     check_refusals();
     check_none();
+    check_no_domain();
+    check_subscribed();
     check_subnet();
     check_small_mtu();
     check_drop();
