@@ -13,6 +13,7 @@ use Rattle.checks.proofs.Bools.{true-false, not-false, or-true}
 use Rattle.checks.proofs.Laws.{either}
 use Rattle.address.specs.declared.Address.{Address}
 use Rattle.address.specs.declared.Slot.{Slot}
+use Rattle.header.specs.Limits.{lengthLimit}
 use Rattle.header.specs.Read.{readOf}
 use Rattle.header.specs.Build.{sizeOf}
 use Rattle.header.specs.declared.Header.{Header}
@@ -20,11 +21,11 @@ use Rattle.header.specs.declared.Read.the-variants as read
 use Rattle.echo.specs.Message.{readingOf, echoedIn}
 use Rattle.echo.specs.declared.Message.{Message}
 use Rattle.echo.specs.declared.Reading.the-variants as reading
-use Rattle.networks.specs.Networks.{domainOf}
 use Rattle.meaning.specs.Names.{aimOf, originOf}
 use Rattle.queue.specs.Queue.{entryPlaces}
 use Rattle.queue.specs.declared.Entry.{Entry}
-use Rattle.routes.specs.Routes.{candidate, longerMask}
+use Rattle.routes.specs.Routes.{candidate}
+use Rattle.routes.specs.Search.{longerMask}
 use Rattle.routes.specs.declared.Record.{Record}
 use Rattle.routes.proofs.Longest.{Contiguous}
 use Rattle.sets.specs.Limits.{portCount, counterCount}
@@ -101,7 +102,7 @@ module _ (r : Relay) (number dropping at : ℕ) (octets : List ℕ) (room : ℕ)
   -- none is made, and so none goes
   unmade-is : made .made ≡ 0 → sent ≡ noReply (made .refusal)
   unfolding repliedOf repliedTo
-  unmade-is z = picks _ _ _ (rw z)
+  unmade-is z = picks _ _ _ (eq-eqb (made .made) 0 z)
 
   -- the entry has the precedence of the request
   precedence-way : (w : Way) → byWay r made w room .precedence ≡ made .precedence
@@ -309,10 +310,6 @@ module _ (who : Customer) (steps : List Step) (rs : List Record) (at : ℕ) (slo
       sound : Sound a octets
       sound = page-sound p inside seat rs 0 at slot octets room small (kept-after (numberOf who) (historyOf who steps)) took
 
-      home : liesFar q at p ≡ false → domainOf (portIn q p .address) ≡ domainOf (a .arrival)
-      home near =
-          eqb-true (domainOf (portIn q p .address)) (domainOf (portIn q at .address)) (not-false _ near) ∙ ap domainOf (sym (tells .arrival))
-
       on-wire : ReplyOnTheWire q at p octets output a x
       on-wire =
           let passed = reply-fits q (seat .number) drops at octets room p inside granted in
@@ -328,13 +325,13 @@ module _ (who : Customer) (steps : List Step) (rs : List Record) (at : ℕ) (slo
             fields = ap₂ (λ (z : Address) (code : ℕ). wireFields (liesFar q at p) (z .0) code (a .fields)) (tells .arrival) (page .code);
             long = sym length-is;
             fits = subst⁻¹ (λ (n : ℕ). n ≤ portIn q p .mtu) length-is (passed .mtu);
-            short = subst⁻¹ (λ (n : ℕ). n < _) length-is (passed .short);
+            short = subst⁻¹ (λ (n : ℕ). n < lengthLimit) length-is (passed .short);
             room = subst⁻¹ (λ (n : ℕ). n ≤ room) length-is (passed .lent);
             aim =
                 ap (λ (t : Bool). aimOf (portIn q p .address .0) (wireFields t (a .arrival .0) (e .code) (a .fields) .addresses)) (sym far-is) ∙ names .0;
             from-own = λ d aimed own. origin ∙ tells .from-own d aimed own;
             from-arrival = λ other. origin ∙ tells .from-arrival other;
-            domain = λ one-octet. wire-home a octets sound (portIn q p .address .0) (e .code) (liesFar q at p) home (eqb-true _ 1 one-octet);
+            domain = λ one-octet. wire-home a octets sound (e .code) (liesFar q at p) (eqb-true _ 1 one-octet);
             message =
                 ap₂ (λ (t : Bool) (o : List ℕ). readingOf (userData (header t) o)) (sym far-is) out-is
                 ∙ unanswered.wire-message q (seat .number) drops at octets room some small here wide e;
@@ -412,7 +409,8 @@ module _ (who : Customer) (steps : List Step) (rs : List Record) (at : ℕ) (slo
       let t = told who steps rs at slot octets output x g in
       counters-move who steps c x g i inside
       ∙ ap (λ (n : ℕ). (counterAt (missionOf who (g .before)) i + n) % 2 ^ 32)
-      (moves-as-written seat (own c) i inside ∙ rw (t .at-0, t .at-16, t .at-24, t .at-32))
+      (moves-as-written seat (own c) i inside
+      ∙ ap₂ (λ (onward dropped : ℕ). getD (counted (replied 0 onward 0) (portsIn portCount dropped)) i 0) (sym (t .at-16)) (sym (t .at-32)))
 
   -- ---- no relay answers it
   never : tookIn x ≢ 0 → (b m : List ℕ) (ts : List Record) (p n : ℕ) (o : List ℕ) (y : Result) → Says (hj-echo b m ts p n (replyOut x) o) y → onwardIn y ≡ 0

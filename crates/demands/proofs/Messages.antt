@@ -229,8 +229,7 @@ again s lent m octets is few room =
     let made : builtOf m (length echoed) (length lent) ≡ built.Done (sizeWith m (length echoed)) =
     builds-exactly m (length echoed) (length lent) .made .1 (omega (arith, long, room), omega (arith, long, few)) in
     let a = each-call-answers (builtBy (m .kind) (m .identifier) (m .sequence) echoed lent) (built-passes (m .kind) (m .identifier) (m .sequence) echoed lent) in
-    let row = built-row (m .kind) (m .identifier) (m .sequence) echoed lent (a .0) (a .1) in
-    (
+    let row = built-row (m .kind) (m .identifier) (m .sequence) echoed lent (a .0) (a .1) in (
       a .0,
       (
         a .1,
