@@ -310,7 +310,8 @@ module _ (p : ℕ) (inside : p < 8) where
         → NamesTheSame (portIn (relayIn seat) p) (replyCopy n seat port slot octets (answeringBy seat rs port octets room) (repliedBy seat rs port octets room))
     new-reply =
         both-so seat rs port octets room
-        (λ (x : Answering) (y : Replied). inSet p (y .ruling .took) ≡ true → NamesTheSame (portIn (relayIn seat) p) (replyCopy n seat port slot octets x y))
+        (λ (x : Answering) (y : Replied).
+        inSet p (y .ruling .took) ≡ true → NamesTheSame (portIn (relayIn seat) p) (replyCopy n seat port slot octets x y))
         (λ long z. true-false (sym z ∙ in-none p)) (λ short. page-reply)
 
   enters-case : (t : Bool) (seat : Seat) (c : Copy) → (t ≡ true → NamesTheSame (portIn (relayIn seat) p) c) → AllNamed seat (pick t (c ∷ []) [])

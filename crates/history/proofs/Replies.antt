@@ -125,7 +125,8 @@ module _ (m : ℕ) (cs : List Call) (rs : List Record) (port : ℕ) (octets : Li
       ≡ wireReply (answeringBy seat rs port octets room) (repliedBy seat rs port octets room) octets
   reply-is-sent =
       both-so seat rs port octets room
-      (λ (a : Answering) (e : Replied). inSet p (e .ruling .took) ≡ true → (n : ℕ) (slot : Slot) → sentOf (replyCopy n seat port slot octets a e) ≡ wireReply a e octets)
+      (λ (a : Answering) (e : Replied).
+      inSet p (e .ruling .took) ≡ true → (n : ℕ) (slot : Slot) → sentOf (replyCopy n seat port slot octets a e) ≡ wireReply a e octets)
       (λ long took. true-false (sym took ∙ in-none p))
       (λ short took n slot. page-sent p inside seat rs n port slot octets room small (kept-after m cs) took (portIn (relayIn seat) port .address))
 
