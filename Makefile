@@ -93,7 +93,7 @@ format: | prepare
 # The crates that export to C. `rt staticlib` makes an archive of one crate's exports,
 # an object that shows no other name; ours is made of their objects.
 EXPORTING := harpjuniper harpjuniper_address harpjuniper_messages harpjuniper_settings \
-	harpjuniper_reads harpjuniper_routes harpjuniper_receive harpjuniper_relay
+	harpjuniper_reads harpjuniper_routes harpjuniper_receive harpjuniper_echo harpjuniper_relay
 OBJECTS := $(EXPORTING:%=build/objects/%.o)
 
 ifeq ($(MACHINE),x86_64)

@@ -332,9 +332,10 @@ typedef struct hj_reading {
 } hj_reading;
 
 /*
- * What an echo message says. The data go on to its end. With a refusal every
- * other number is 0. Each octet of it belongs to a member, so that two of them
- * can be compared whole.
+ * What an echo message says, as hj_read_echo finds it, or as hj_build_echo is to
+ * build it. The data go on to its end. With a refusal every other number is 0.
+ * Each octet of it belongs to a member, so that two of them can be compared
+ * whole.
  */
 typedef struct hj_message {
     uint32_t refusal;
@@ -632,7 +633,8 @@ uint32_t hj_read_echo_words(const uint8_t *message, size_t count,
  * HJ_REPLY_OCTETS, and behind them the data. Every number is taken; that a
  * format octet has only two bits to use is the caller's affair. The header of
  * the datagram is another matter (hj_build, with HJ_TP_SCMP, a source and a hop
- * count, without which a request is not answered).
+ * count, without which a request is not answered). hj_build_echo, below, does
+ * the same with a hj_message.
  *
  * Returns an answer: hj_value is the octets of the message, or hj_refusal is
  *   HJ_SHORT_OUTPUT (17)   room is under the octets of the message;
@@ -643,9 +645,9 @@ uint32_t hj_read_echo_words(const uint8_t *message, size_t count,
 hj_answer hj_build_request(uint16_t identifier, uint16_t sequence,
                            const uint8_t *data, size_t data_octets,
                            uint8_t *output, size_t room);
-hj_answer hj_build_reply(uint16_t identifier, uint16_t sequence, uint8_t hops,
-                         uint8_t format, uint64_t stamp, uint32_t mtu,
-                         uint32_t rate, const uint8_t *data,
+hj_answer hj_build_reply(uint16_t identifier, uint16_t sequence,
+                         uint8_t hop_count, uint8_t format, uint64_t stamp,
+                         uint32_t mtu, uint32_t rate, const uint8_t *data,
                          size_t data_octets, uint8_t *output, size_t room);
 
 /* ---- Calls on a relay: what is lent ------------------------------------- */
@@ -925,7 +927,14 @@ hj_verdict hj_receive_at(const hj_board *board, size_t board_words,
  * With HJ_SENT_ON the first hj_reply_octets octets of the output are the whole
  * reply, header and message, as it goes out; no other octet is ever written.
  * The entry waits on the port like any other, with the request's precedence,
- * and hj_take hands it out. Four things to watch:
+ * and hj_take hands it out. Five things to watch:
+ *   - Lend more room than the arrival port's MTU, though that much is taken.
+ *     The data are cut to that MTU before the route changes the header, and a
+ *     route that widens the addresses or adds a checksum then makes the reply
+ *     up to 8 octets longer. With room of the MTU alone every long request by
+ *     such a route ends in HJ_TOO_BIG, while short ones are answered. So lend
+ *     HJ_MOST_LENGTH octets, or the MTU and 8. Room cannot help where the MTU
+ *     of the port by which the reply leaves is too small.
  *   - The library keeps no octets. Copy the reply out of the output, or leave
  *     that output alone, until its slot is taken.
  *   - A slot names a datagram that came and was sent on, or a reply. Keep the
@@ -1095,7 +1104,8 @@ hj_found hj_search(const hj_board *board, size_t board_words,
 
 /*
  * The library's calls take numbers and pointers alone. What follows is inline,
- * and only puts numbers into structures and takes them out again.
+ * and only puts numbers into structures and takes them out again; hj_build_echo
+ * also tests that they fit.
  */
 
 /* Two words as one number, and the words of a number, upper half first. */
@@ -1255,6 +1265,45 @@ static inline uint32_t hj_read_echo(const uint8_t *message, size_t count,
     found->rate = words[9];
     found->reserved = 0;
     return found->refusal;
+}
+
+/*
+ * Builds the echo message that a hj_message says, at the start of the output,
+ * as hj_build_request or hj_build_reply does, by its type. refusal, data_from
+ * and reserved are not looked at, nor are, in a request, hop_count and the
+ * others that only a reply has; so a message that was read can be built again.
+ *
+ * Returns an answer: hj_value is the octets of the message, or hj_refusal is
+ *   HJ_BAD_FORM (4)        the type is neither HJ_ECHO_REQUEST nor
+ *                          HJ_ECHO_REPLY;
+ *   HJ_FIELD_RANGE (19)    identifier or sequence is over 65535, or in a reply
+ *                          hop_count or format over 255;
+ *   HJ_SHORT_OUTPUT (17)   room is under the octets of the message;
+ *   HJ_DATA_TOO_LONG (20)  the message has over HJ_MOST_DATA octets.
+ * The first that holds, in this order, is given, and nothing is written.
+ * Octets of the output after the message are never written.
+ */
+static inline hj_answer hj_build_echo(const hj_message *message,
+                                      const uint8_t *data, size_t data_octets,
+                                      uint8_t *output, size_t room)
+{
+    const hj_answer out_of_range = (hj_answer)HJ_FIELD_RANGE << 32;
+    uint16_t identifier = (uint16_t)message->identifier;
+    uint16_t sequence = (uint16_t)message->sequence;
+
+    if (message->type != HJ_ECHO_REQUEST && message->type != HJ_ECHO_REPLY)
+        return (hj_answer)HJ_BAD_FORM << 32;
+    if (message->identifier > 0xffffu || message->sequence > 0xffffu)
+        return out_of_range;
+    if (message->type == HJ_ECHO_REQUEST)
+        return hj_build_request(identifier, sequence, data, data_octets,
+                                output, room);
+    if (message->hop_count > 0xffu || message->format > 0xffu)
+        return out_of_range;
+    return hj_build_reply(identifier, sequence, (uint8_t)message->hop_count,
+                          (uint8_t)message->format, message->stamp,
+                          message->mtu, message->rate, data, data_octets,
+                          output, room);
 }
 
 /*

@@ -256,6 +256,36 @@ static void check_none(void)
     expect(counter(HJ_OUT_REQUESTS) == 0, "none is counted");
 }
 
+/* A port outside net 10 supplies no domain, though the octet is that of its own
+ * address. */
+static void check_no_domain(void)
+{
+    const char *request = "20111a6002100508008f93000100026869";
+
+    set_up();
+    expect(hj_set_port(BOARD, 6, 0xac100002, 0xffff0000, MTU, 0) == HJ_DONE,
+           "a port outside net 10");
+    expect_refusal(echo_by(6, request, MTU), 0, "7");
+    expect(hj_onward(echo(request)) == HJ_SENT_ON, "answered in net 10");
+}
+
+/* By subscription, and not by intermediate delivery as above. */
+static void check_subscribed(void)
+{
+    const char *request = "20171a61e00000010a0409100508008f93000100026869";
+    const hj_arrival arrival = {0, SLOT, 0};
+    uint8_t octets[64], headers[HJ_OUTPUT_ROOM];
+    size_t count = octets_of(request, octets);
+
+    set_up();
+    expect(hj_set_group(BOARD, MISSION, 0, 0xe0000001, 0x20, 0x01) == HJ_DONE,
+           "a group, subscribed on port 0");
+    expect(hj_local(hj_receive(BOARD, MISSION, ROUTES, arrival, octets, count,
+                               headers, sizeof headers)) == HJ_DELIVERED,
+           "its datagram is delivered");
+    expect_refusal(echo(request), 0, "and gets no reply");
+}
+
 /* 172.16.0.127 is a broadcast of port 0's subnet, and elsewhere a unit: none,
  * unless it is a port's own address. */
 static void check_subnet(void)
@@ -679,11 +709,85 @@ static void check_unbuilt(void)
            "8,141 octets");
 }
 
+/* What was read is built again, octet for octet. */
+static void expect_built_again(const char *message, const char *what)
+{
+    uint8_t octets[64];
+    size_t count = octets_of(message, octets);
+    hj_message read;
+
+    expect(hj_read_echo(octets, count, &read) == HJ_DONE, what);
+    expect_built(hj_build_echo(&read, octets + read.data_from,
+                               count - read.data_from, output, count),
+                 message, what);
+}
+
+static void check_built_echo(void)
+{
+    const hj_message stray = {.type = HJ_ECHO_REQUEST,
+                              .identifier = 0xf7ff,
+                              .hop_count = 256,
+                              .format = 256,
+                              .stamp = 7,
+                              .mtu = 8,
+                              .rate = 9};
+
+    memset(space, UNTOUCHED, sizeof space);
+    memset(due, UNTOUCHED, sizeof due);
+    expect_built_again("08008f93000100026869", "a request");
+    expect_built_again("0800f7fe00000001", "a request without data");
+    expect_built_again(
+        "0000619c000100020502ff0102030405060700000064000025806869", "a reply");
+    expect_built_again("00000000ffffffffffffffffffffffffffffffffffffffffffff",
+                       "the greatest numbers");
+    expect_built(hj_build_echo(&stray, NULL, 0, output, 400),
+                 "08000000f7ff0000", "what only a reply has is passed over");
+}
+
+static void expect_unbuilt(hj_message message, size_t room, uint32_t refusal,
+                           const char *what)
+{
+    static uint8_t data[HJ_MOST_LENGTH];
+
+    expect(hj_build_echo(&message, data, 8134, output, room) ==
+               (hj_answer)refusal << 32,
+           what);
+    expect(memcmp(space, due, sizeof space) == 0, what);
+}
+
+/* Each has data that make it a message too long. */
+static void check_unbuilt_echo(void)
+{
+    const hj_message request = {.type = HJ_ECHO_REQUEST};
+    const hj_message reply = {.type = HJ_ECHO_REPLY};
+    hj_message wrong = {.type = 13, .identifier = 65536};
+
+    memset(space, UNTOUCHED, sizeof space);
+    expect_unbuilt(wrong, 0, HJ_BAD_FORM, "4 before 19");
+    wrong.type = HJ_ECHO_REQUEST;
+    expect_unbuilt(wrong, 0, HJ_FIELD_RANGE, "19 before 17, the identifier");
+    wrong = request;
+    wrong.sequence = 65536;
+    expect_unbuilt(wrong, 8142, HJ_FIELD_RANGE, "19 before 20, the sequence");
+    wrong = reply;
+    wrong.hop_count = 256;
+    expect_unbuilt(wrong, 0, HJ_FIELD_RANGE, "19, the hop count");
+    wrong = reply;
+    wrong.format = 256;
+    expect_unbuilt(wrong, 0, HJ_FIELD_RANGE, "19, the format");
+    expect_unbuilt(request, 8141, HJ_SHORT_OUTPUT, "17, a request");
+    expect_unbuilt(reply, 8159, HJ_SHORT_OUTPUT, "17, a reply");
+    expect_unbuilt(request, 8142, HJ_DATA_TOO_LONG, "20, a request");
+    expect_unbuilt(reply, 8160, HJ_DATA_TOO_LONG, "20, a reply");
+}
+
 int main(void)
 {
     check_reply();
     check_refusals();
     check_none();
+    check_no_domain();
+    check_subscribed();
     check_subnet();
     check_small_mtu();
     check_drop();
@@ -699,5 +803,7 @@ int main(void)
     check_unread();
     check_built();
     check_unbuilt();
+    check_built_echo();
+    check_unbuilt_echo();
     return expect_end("echo_calls");
 }

@@ -42,11 +42,13 @@ int echo_calls(void)
     hj_answer (*reply)(uint16_t, uint16_t, uint8_t, uint8_t, uint64_t,
                        uint32_t, uint32_t, const uint8_t *, size_t, uint8_t *,
                        size_t) = hj_build_reply;
+    hj_answer (*build)(const hj_message *, const uint8_t *, size_t, uint8_t *,
+                       size_t) = hj_build_echo;
     hj_verdict (*echo)(const hj_board *, size_t, hj_mission *, size_t,
                        const hj_record *, size_t, uint32_t, uint16_t,
                        const uint8_t *, size_t, uint8_t *, size_t) = hj_echo;
 
-    return read && read_words && request && reply && echo;
+    return read && read_words && request && reply && build && echo;
 }
 
 int relay_calls(void)

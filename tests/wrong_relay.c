@@ -227,12 +227,9 @@ static void say_less(uint8_t *output, const hj_reading *reading)
 
     (void)hj_read_echo(octets, count, &message);
     memcpy(data, octets + message.data_from, count - message.data_from);
-    (void)hj_build_reply((uint16_t)message.identifier,
-                         (uint16_t)message.sequence,
-                         (uint8_t)(message.hop_count - 1),
-                         (uint8_t)message.format, message.stamp, message.mtu,
-                         message.rate, data, count - message.data_from, octets,
-                         count);
+    message.hop_count = (message.hop_count - 1) & 0xff;
+    (void)hj_build_echo(&message, data, count - message.data_from, octets,
+                        count);
 }
 
 hj_verdict __wrap_hj_echo(BOARD, MISSION, REQUEST)

@@ -67,13 +67,18 @@ static hj_answer build_message(const struct soak_call *call,
                                const uint8_t *data, uint8_t *output)
 {
     const uint32_t *n = call->numbers;
+    hj_message message = {0};
 
-    if (call->which == CALL_BUILD_REQUEST)
-        return hj_build_request((uint16_t)n[0], (uint16_t)n[1], data,
-                                call->count, output, call->room);
-    return hj_build_reply((uint16_t)n[0], (uint16_t)n[1], (uint8_t)n[2],
-                          (uint8_t)n[3], (uint64_t)n[4] << 32 | n[5], n[6],
-                          n[7], data, call->count, output, call->room);
+    message.type = call->which == CALL_BUILD_REQUEST ? HJ_ECHO_REQUEST
+                                                     : HJ_ECHO_REPLY;
+    message.identifier = (uint16_t)n[0];
+    message.sequence = (uint16_t)n[1];
+    message.hop_count = (uint8_t)n[2];
+    message.format = (uint8_t)n[3];
+    message.stamp = (uint64_t)n[4] << 32 | n[5];
+    message.mtu = n[6];
+    message.rate = n[7];
+    return hj_build_echo(&message, data, call->count, output, call->room);
 }
 
 static void stateless(const struct soak_call *call, const uint8_t *octets,

@@ -67,7 +67,8 @@ module _ (r : Relay) (number : ℕ) where
     no-path v zero e sourced =
         true-false (sym (subst (λ (n : ℕ). not (eqb n 0) ≡ true) zero (subst (λ (x : Addresses). not (eqb (sourceFlag x) 0) ≡ true) e sourced)))
 
-    aim-asks : (v : Addresses) → h .fields .addresses ≡ v → Sourced (aimAsked r number at h c (aimOf port v)) → Asks r number (aimAsked r number at h c (aimOf port v))
+    aim-asks : (v : Addresses) → h .fields .addresses ≡ v → Sourced (aimAsked r number at h c (aimOf port v))
+        → Asks r number (aimAsked r number at h c (aimOf port v))
     unfolding aimAsked nodeAsked pathAsked aimOf
     aim-asks (BasicPath z) e s = absurd (no-path (BasicPath z) refl e s)
     aim-asks (ExtendedPath p) e s = absurd (no-path (ExtendedPath p) refl e s)

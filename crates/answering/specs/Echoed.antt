@@ -1,5 +1,5 @@
--- What answering an echo request does to the mission's state: page 02, W-203 ("Answering is a call of its own, counting nothing for the request"; "Demand 3 counts replies ..;
--- their copies join its sum"). Nothing is remembered of it. Assumes nothing.
+-- What answering an echo request does to the mission's state: page 02, W-203 ("Answering is a call of its own, counting nothing for the request"; "Demand 3
+-- counts replies ..; their copies join its sum"). Nothing is remembered of it. Assumes nothing.
 use Prim.Native.Nat.{ℕ}
 use mathlib.Core.List.{List}
 use Rattle.checks.specs.Order.{pick}

@@ -167,7 +167,7 @@ module _ (b : Board) (sized : SizedBoard b) where
   ports = kept ownedOf ownedWords 5 8 (b .ports) sized (each (b .ports) (λ x. (refl, refl)))
 
   board-written : List (List ℕ)
-  board-written = (b .router ∷ []) ∷ flat ownedWords (b .ports) ∷ (b .lifetime ∷ []) ∷ []
+  board-written = (b .router ∷ []) ∷ flat ownedWords (b .ports) ∷ (b .lifetime ∷ []) ∷ (b .drop ∷ []) ∷ []
 
   board-lengths : map length board-written ≡ boardSections
   unfolding board-written
