@@ -1,15 +1,14 @@
 -- A reply is made exactly where the papers' conditions hold, all of them (specs/Answerable.antt). Assumes nothing.
 use native.Mathlib.Omega.{arith}
 use Prim.Native.Nat.{ℕ, _+_, _≤_, _<_}
-use mathlib.Core.Path.{_≡_, refl, sym, ap, subst, subst⁻¹, _∙_}
-use mathlib.Core.Logic.{_≢_, _⊎_, inl, inr, _↔_}
+use mathlib.Core.Path.{_≡_, refl, sym, ap, subst, _∙_}
+use mathlib.Core.Logic.{_⊎_, inl, inr, _↔_}
 use mathlib.Core.Bool.{Bool, true, false, not, _&&_, _||_}
 use mathlib.Core.List.{List}
-use lib.ListN.{getD}
 use lib.Dec.{eqb, ltb}
 use borrow.Author.Tests.{eqb-true, eqb-false, eq-eqb, ne-eqb, le-ltb, ltb-false, not-true, not-false}
 use Rattle.checks.specs.Order.{pick, firstOf}
-use Rattle.checks.proofs.Bools.{true-false, refuted, and-true, or-false}
+use Rattle.checks.proofs.Bools.{true-false, and-true, or-false}
 use Rattle.checks.proofs.Laws.{zero-none}
 use Rattle.checks.proofs.Steps.{holds-not, none-left}
 use Rattle.address.specs.Class.{classOf}
@@ -35,10 +34,9 @@ use Rattle.meaning.specs.Names.{aimOf, badAim}
 use Rattle.meaning.specs.declared.Aim.{Aim}
 use Rattle.meaning.specs.declared.Aim.the-variants as aim
 use Rattle.next_leg.specs.Leg.{isAbsent}
-use Rattle.records.specs.Fresh.{freshPort}
 use Rattle.records.specs.SetUp.{isSetUp}
 use Rattle.records.specs.declared.Port.{Port}
-use Rattle.sets.specs.Sets.{inSet, portSet}
+use Rattle.sets.specs.Sets.{inSet}
 use Rattle.sets.proofs.Loops.{portSet-below}
 use Rattle.state.specs.Relay.{Relay, portIn, portSetUp}
 use Rattle.survey.specs.Survey.{ownBroadcast, isAddressed, isBroadcast, setUpAnd, namedBelow, namedOf, surveyBelow}
@@ -47,7 +45,6 @@ use Rattle.survey.proofs.Bits.{in-gathered, in-none}
 use Rattle.verdict.specs.Rule.{targetOf, localOf, copiesOf, rulingOf}
 use Rattle.verdict.specs.declared.Local.{Local}
 use Rattle.verdict.specs.declared.Local.the-variants.{No, Delivered, Unknown}
-use Rattle.verdict.specs.declared.Ruling.{Ruling}
 use Rattle.verdict.specs.declared.Survey.{Survey}
 use Rattle.verdict.specs.declared.Wish.{Wish}
 use Rattle.verdict.specs.declared.Wish.the-variants.{NotAsked, Refused, Wanted}
@@ -63,7 +60,7 @@ use Rattle.replies.specs.Replied.{callChecks, answeringOf, destinationSu
 use Rattle.replies.specs.Answerable.{IsOurs, NamesOne, Answerable}
 use Rattle.replies.specs.declared.Answering.{Answering}
 use Rattle.replies.specs.declared.request.Asking.the-variants.{Asks}
-use Rattle.replies.proofs.Chosen.{Asking-read, asking-read, read-asking}
+use Rattle.replies.proofs.Chosen.{asking-read, read-asking}
 use Rattle.replies.proofs.Answered.{asked-free}
 use Rattle.replies.proofs.Made.{WasMade, was-made, is-made}
 use Rattle.replies.proofs.Goes.{some-port}
