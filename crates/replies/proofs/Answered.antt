@@ -97,4 +97,6 @@ module _ (r : Relay) (number dropping port : ℕ) (octets : List ℕ) (room : �
         by-rest _ _ (passes _ _ _ told ready (holds-not _ _ _ (le-ltb room mtu (rw (← same) enough)) none-left)) refl
         (is
         ∙ ap (λ (n : ℕ). heardAnswer r dropping (octetsAsked r number (record { set = n; address = p .address }) (foundOf octets)) (p .mtu) octets) only
-        ∙ ap (λ (q : Port). heardAnswer r dropping (octetsAsked r number (record { set = onlyPort port; address = q .address }) (foundOf octets)) (q .mtu) octets) same)
+        ∙ ap
+        (λ (q : Port). heardAnswer r dropping (octetsAsked r number (record { set = onlyPort port; address = q .address }) (foundOf octets)) (q .mtu) octets)
+        same)

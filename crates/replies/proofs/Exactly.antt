@@ -161,7 +161,10 @@ module _ (r : Relay) (a : Address) where
   ours-owned : IsOurs r a → isOwned named ≡ true
   ours-owned o =
       let there : inSet (o .0) (named .addressed) ≡ true
-      = addressed-in (o .0) (o .1 .0) ∙ ap (λ (t : Bool). t && eqb (portIn r (o .0) .address .0) (a .0)) (o .1 .1 .0) ∙ eq-eqb (portIn r (o .0) .address .0) (a .0) (o .1 .1 .1) in
+      = addressed-in (o .0) (o .1 .0)
+      ∙ ap (λ (t : Bool). t && eqb (portIn r (o .0) .address .0) (a .0)) (o .1 .1 .0)
+      ∙ eq-eqb (portIn r (o .0) .address .0) (a .0) (o .1 .1 .1)
+      in
       ap not (ne-eqb (named .addressed) 0 (λ z. true-false (sym there ∙ ap (inSet (o .0)) z ∙ in-none (o .0))))
 
   no-broadcast : not (eqb (named .broadcast) 0) ≡ false → (p : ℕ) → p < 8 → isSetUp (portIn r p) ≡ true → ownBroadcast (portIn r p) a ≡ false
@@ -358,7 +361,8 @@ module _ (r : Relay) (number dropping port : ℕ) (octets : List ℕ) (room : �
           let asks = asked-back h (x .0) (x .1) (y .good) (y .destination) (y .aimed) (y .taken) (y .delivered)
           (y .control, (y .plain, (y .source, y .hops))) (y .single) in
           let size = sizeOf (replyFields (at .address) (isOwned (named r (y .destination))) (h .fields)) in
-          let has : hasRoom (node h (x .0) (x .1) (y .good) (y .destination) (y .aimed)) (named r (y .destination)) mtu ≡ true = ap not (le-ltb mtu (size + replySize) (y .roomy)) in
+          let heard = node h (x .0) (x .1) (y .good) (y .destination) (y .aimed) in
+          let has : hasRoom heard (named r (y .destination)) mtu ≡ true = ap not (le-ltb mtu (size + replySize) (y .roomy)) in
           ap (λ (z : Answering). z .made)
           (is-made r number dropping port octets room passes
           (same-asked h (x .0) (x .1) (y .good) (y .destination) (y .aimed) ∙ asks)

@@ -194,7 +194,8 @@ module _ (r : Relay) (number dropping port : ℕ) (octets : List ℕ) (room : �
               let same : heard .header ≡ header = ap (headerIn header) (sym (was .read) ∙ wire-reads) in
               nothing-asks (sym wire-asks-nothing ∙ ap (λ (h : Header). askingOf h (wireReply answer e octets)) (sym same) ∙ w .asks)
 
-          by-made : (answeringOf other mission drops by (wireReply answer e octets) lent .made ≡ 0) ⊎ (answeringOf other mission drops by (wireReply answer e octets) lent .made ≡ 1)
+          by-made : (answeringOf other mission drops by (wireReply answer e octets) lent .made ≡ 0)
+              ⊎ (answeringOf other mission drops by (wireReply answer e octets) lent .made ≡ 1)
               → answeringOf other mission drops by (wireReply answer e octets) lent .made ≡ 0
           by-made (inl z) = z
           by-made (inr o) = absurd (never (was-made other mission drops by (wireReply answer e octets) lent (λ z. omega (arith, z, o))))
