@@ -5,9 +5,10 @@ use native.Mathlib.Omega.{arith}
 use Prim.Native.Nat.{ℕ, suc, _+_, _/_, _^_, _<_, _≤_}
 use mathlib.Core.Path.{_≡_, refl, sym, ap, subst, _∙_}
 use mathlib.Core.Bool.{Bool, true, false, not, and-false}
-use mathlib.Core.Logic.{_⊎_, inl, inr}
+use mathlib.Core.Logic.{_≢_, _⊎_, inl, inr}
 use mathlib.Core.List.{List, [], _∷_, _++_}
-use lib.ListN.{length}
+use lib.ListN.{length, drop}
+use lib.Seq.{drop-append-seam}
 use lib.Dec.{eqb, ltb, leb}
 use borrow.Author.Tests.{eqb-true, ltb-true, ltb-false, ne-eqb, lt-leb}
 use Rattle.checks.specs.Order.{pick, firstOf}
@@ -20,41 +21,46 @@ use Rattle.address.specs.declared.Address.{Address}
 use Rattle.address.specs.declared.Class.the-variants.{Unicast}
 use Rattle.address.specs.declared.Family.the-variants.{Invalid}
 use Rattle.address.specs.declared.Slot.{Slot}
-use Rattle.header.specs.Build.{sizeOf}
+use Rattle.header.specs.Build.{sizeOf, headerOctets}
 use Rattle.header.specs.Read.{readOf}
 use Rattle.header.specs.declared.Fields.{Fields}
 use Rattle.header.specs.declared.Header.{Header}
 use Rattle.header.specs.declared.Read.{Read}
 use Rattle.header.specs.declared.Read.the-variants.{Good, Refused}
 use Rattle.header.proofs.Answers.{read-bounds}
+use Rattle.header.proofs.BuiltLaws.{header-length}
 use Rattle.networks.specs.Networks.{domainOf}
 use Rattle.meaning.specs.Arrival.{arrivalChecks}
 use Rattle.meaning.specs.Asked.{precedenceAsked}
 use Rattle.meaning.specs.Names.{aimOf, originOf}
 use Rattle.next_leg.specs.Leg.{nextFields, dataOf, nextSize, nextLength}
+use Rattle.next_leg.proofs.Names.{stays-home}
 use Rattle.next_leg.proofs.ReadBack.{next-length-parts, read-next}
 use Rattle.queue.specs.Order.{Each}
 use Rattle.records.specs.SetUp.{isSetUp}
 use Rattle.records.specs.declared.Port.{Port}
 use Rattle.routes.specs.Search.{longerMask}
 use Rattle.routes.specs.declared.Record.{Record}
-use Rattle.settings.specs.Refusals.{otherClass, portClassRefused}
+use Rattle.settings.specs.Refusals.{otherClass, portClassRefused, mtuRefused}
+use Rattle.settings.proofs.Values.{mtu-taken}
 use Rattle.state.specs.Relay.{Relay, portIn, amongPorts, portSetUp}
-use Rattle.state.specs.Seen.{ownedAt}
 use Rattle.state.proofs.Seen.{seen-set-up}
 use Rattle.judge.specs.Ending.{refusedBy, callChecks as heardChecks, headerEnding, octetsEnding, ruledEnding, arrivalAt, endingOf}
 use Rattle.judge.specs.declared.Ending.{Ending}
 use Rattle.relay.specs.Received.{newEntry}
-use Rattle.replies.specs.Replied.{callChecks, wireFields, ownReply, wireHeader}
+use Rattle.replies.specs.Replied.{callChecks, answeringOf, wireFields, messageSize, wireLength, ownReply, wireHeader, wireReply}
 use Rattle.replies.specs.declared.Answering.{Answering}
 use Rattle.replies.specs.declared.sending.Replied.{Replied}
+use Rattle.replies.proofs.Made.{was-made}
+use Rattle.replies.proofs.Exactly.{made-answerable}
+use Rattle.replies.proofs.Meaning.{reply-meaning}
+use Rattle.replies.proofs.Unanswered.{fields-range, own-reads, wire-reads, wire-unanswered}
 use Rattle.answering.specs.Echoed.{asEnding}
 use Rattle.history.specs.Seat.{Seat, freshSeat, relayIn, relayWith, heardBy, answeringBy, repliedBy}
 use Rattle.history.specs.Calls.{sets, hears, echoes, takes, sweeps, looks, Call, operator, own}
 use Rattle.history.specs.Outcome.{next, runFrom, seatAfter}
 use Rattle.history.specs.Ranges.{Octets, Passed}
 use Rattle.history.specs.Line.{Copy, copyOf, replyCopy, sentOf, takenBy, lineBy, lineFrom, lineAt}
-use Rattle.page.specs.Replies.{RequestAnswered, ReplyTo}
 use Rattle.page.specs.Table.{oneOctet, liesFar, hasRoom, verdictBy}
 use Rattle.survey.proofs.Bits.{in-none}
 use Rattle.page.proofs.Answered.{made-exactly, made-tells}
@@ -64,7 +70,6 @@ use Rattle.page.proofs.Headers.{headers-of-any-relay}
 use Rattle.page.proofs.Verdict.{masks-choose}
 use Rattle.history.proofs.Heard.{heard-so}
 use Rattle.history.proofs.Replying.{answer, reply, both-so}
-use Rattle.history.proofs.Wire.{Sound, madeHeader, wiredHeader, made-sound, reply-reads, reply-message, wire-reads, wire-home}
 use Rattle.history.proofs.Ports.{seen-stays}
 use Rattle.history.proofs.Meaning.{has-passed, arrival-set-up, stays-in-its-domain, names-the-same}
 use Rattle.history.proofs.Reach.{Kept, one-kept, fresh-kept}
@@ -129,13 +134,21 @@ unicast-small a h = by (ltb (a .0) (2 ^ 32)) refl
     by true e = ltb-true (a .0) (2 ^ 32) e
     by false e = true-false (sym (ap not (class-above (a .0) (ltb-false (a .0) (2 ^ 32) e))) ∙ h)
 
-pub set-up-small : (seat : Seat) → Kept seat → (p : ℕ) → portSetUp (relayIn seat) p ≡ true → portIn (relayIn seat) p .address .0 < 2 ^ 32
-unfolding amongPorts
-set-up-small seat k p up =
-    let both = and-true (ltb p 8) (isSetUp (portIn (relayIn seat) p)) up in
-    let seen = seen-set-up (seat .board) p (seat .number) (both .1) in
-    let good = k .board .good p (ltb-true p 8 (both .0)) (ap isSetUp (sym (seen .1)) ∙ both .1) in
-    rw (seen .1) (unicast-small (ownedAt (seat .board) p .port .address) (good .0))
+module _ (seat : Seat) (k : Kept seat) (p : ℕ) (up : portSetUp (relayIn seat) p ≡ true) where
+  -- what the port's address and MTU passed
+  set-up-good : (portClassRefused (portIn (relayIn seat) p .address) ≡ false) × (mtuRefused (portIn (relayIn seat) p .mtu) ≡ false)
+  unfolding amongPorts
+  set-up-good =
+      let both = and-true (ltb p 8) (isSetUp (portIn (relayIn seat) p)) up in
+      let seen = seen-set-up (seat .board) p (seat .number) (both .1) in
+      let good = k .board .good p (ltb-true p 8 (both .0)) (ap isSetUp (sym (seen .1)) ∙ both .1) in
+      rw (seen .1) (good .0, good .1 .1 .0)
+
+  pub set-up-small : portIn (relayIn seat) p .address .0 < 2 ^ 32
+  set-up-small = unicast-small (portIn (relayIn seat) p .address) (set-up-good .0)
+
+  pub set-up-mtu : portIn (relayIn seat) p .mtu < 2 ^ 32
+  set-up-mtu = omega (arith, mtu-taken (portIn (relayIn seat) p .mtu) .0 (set-up-good .1) .1)
 
 -- ---- what a copy named at the port that it came in by, what goes out names at the port where it waits, as that port stands
 -- the fields that go out are those that W-214 makes of the ones that came; a reply's keep their hop count, since it begins here
@@ -228,60 +241,77 @@ module _ (p : ℕ) (inside : p < 8) where
           entry = newEntry slot (asEnding e);
         }
 
-    -- it was made to a request, which came in by a port that is set up
-    abbrev Told : Type 0
-    Told = (y : RequestAnswered (relayWith seat rs) (seat .board .drop) port octets) × ReplyTo (relayWith seat rs) port octets (y .message) a
-
-    page-told : inSet p (e .ruling .took) ≡ true → (portSetUp (relayIn seat) port ≡ true) × Told
+    -- one that a port took was made, to a request that came in by a port that is set up
+    pub page-made : inSet p (e .ruling .took) ≡ true → (a .made ≡ 1) × (portSetUp (relayIn seat) port ≡ true)
     unfolding callChecks
-    page-told took =
+    page-made took =
         let r = relayWith seat rs in
         let granted = reply-shared r (seat .number) (seat .board .drop) port octets room p inside (inl took) in
-        let made = reply-granted r (seat .number) (seat .board .drop) port octets room longerMask (masks-choose r) p inside .0 granted .0 in (
-          not-false (portSetUp r port) (made-exactly r (seat .number) (seat .board .drop) port octets room .0 made .0 .0),
-          made-tells r (seat .number) (seat .board .drop) port octets room made,
-        )
+        let made = reply-granted r (seat .number) (seat .board .drop) port octets room longerMask (masks-choose r) p inside .0 granted .0 in
+        (made, not-false (portSetUp r port) (made-exactly r (seat .number) (seat .board .drop) port octets room .0 made .0 .0))
 
-    pub page-sound : inSet p (e .ruling .took) ≡ true → Sound a octets
-    page-sound took =
-        let told = page-told took in
-        made-sound (relayWith seat rs) (seat .board .drop) port octets a (told .1 .0) (told .1 .1) small (set-up-small seat k port (told .0))
+    module _ (took : inSet p (e .ruling .took) ≡ true) where
+      some : a .made ≢ 0
+      some z = omega (arith, page-made took .0, z)
 
-    page-reply : inSet p (e .ruling .took) ≡ true → NamesTheSame (portIn (relayIn seat) p) (replyCopy n seat port slot octets a e)
-    page-reply took =
-        let r = relayWith seat rs in
-        let told = page-told took .1 .1 in
-        let s = page-sound took in
-        let names = reply-names-the-same r (seat .number) (seat .board .drop) port octets room p inside took in
-        let far = not (eqb (e .far) 0) in
-        let code = e .code in
-        let lies : far ≡ not (eqb (domainOf (portIn (relayIn seat) p .address)) (domainOf (a .arrival))) =
-        reply-wired r (seat .number) (seat .board .drop) port octets room .far p inside took
-        ∙ ap (λ (x : Address). not (eqb (domainOf (portIn (relayIn seat) p .address)) (domainOf x))) (sym (told .arrival)) in
-        let home : far ≡ false → domainOf (portIn (relayIn seat) p .address) ≡ domainOf (a .arrival) =
-        λ near. eqb-true (domainOf (portIn (relayIn seat) p .address)) (domainOf (a .arrival)) (not-false _ (sym lies ∙ near)) in
-        subst (λ (x : Address). NamesTheSame (portIn (relayIn seat) p) (copyFrom x)) (told .arrival)
-        (record {
-          came = madeHeader a;
-          read = reply-reads a octets s;
-          size = refl;
-          goes = wiredHeader far code a;
-          reads = ap (λ (l : List ℕ). readOf (wireHeader a e ++ l)) (reply-message a octets s) ∙ wire-reads a octets s far code;
-          parts = omega arith;
-          far = far;
-          lies = lies;
-          code = code;
-          fields = inr refl;
-          aim = names .0 ∙ sym (ap (λ (x : Address). aimOf (x .0) (a .fields .addresses)) (told .arrival) ∙ told .names);
-          origin = names .1 ∙ ap (λ (x : Address). originOf (x .0) (a .fields .addresses)) (sym (told .arrival));
-          domain = λ one. home (wire-home a octets s code far (eqb-true _ 1 one));
-        })
+      here : portIn (relayIn seat) port .address .0 < 2 ^ 32
+      here = set-up-small seat k port (page-made took .1)
+
+      wide : portIn (relayIn seat) port .mtu < 2 ^ 32
+      wide = set-up-mtu seat k port (page-made took .1)
+
+      -- The octets that go out are the reply, with the header for that port.
+      pub page-sent : (arrival : Address) → sentOf (copyFrom arrival) ≡ wireReply a e octets
+      unfolding wireReply
+      page-sent arrival =
+          let range = fields-range (relayWith seat rs) (seat .number) (seat .board .drop) port octets room some small here wide in
+          let size = header-length (a .fields) (messageSize a) (range .checksum) in
+          ap (λ (l : List ℕ). wireHeader a e ++ l)
+          (ap (λ (i : ℕ). drop i (ownReply a octets)) (sym size) ∙ drop-append-seam (headerOctets (a .fields) (messageSize a)) _)
+
+      -- No relay makes a reply to them.
+      pub page-unanswered : (other : Relay) (mission drops by lent : ℕ) → answeringOf other mission drops by (wireReply a e octets) lent .made ≡ 0
+      page-unanswered = wire-unanswered (relayWith seat rs) (seat .number) (seat .board .drop) port octets room some small here wide e
+
+      page-reply : NamesTheSame (portIn (relayIn seat) p) (replyCopy n seat port slot octets a e)
+      unfolding wireLength wireFields nextFields
+      page-reply =
+          let r = relayWith seat rs in
+          let m = seat .number in
+          let d = seat .board .drop in
+          let told = made-tells r m d port octets room (page-made took .0) .1 in
+          let names = reply-names-the-same r m d port octets room p inside took in
+          let free = reply-meaning r m d port octets room some (made-answerable r m d port octets room (was-made r m d port octets room some)) .free in
+          let far = not (eqb (e .far) 0) in
+          let f = wireFields far (a .arrival .0) (e .code) (a .fields) in
+          let lies : far ≡ not (eqb (domainOf (portIn (relayIn seat) p .address)) (domainOf (a .arrival))) =
+          reply-wired r m d port octets room .far p inside took
+          ∙ ap (λ (x : Address). not (eqb (domainOf (portIn (relayIn seat) p .address)) (domainOf x))) (sym (told .arrival)) in
+          let home : far ≡ false → domainOf (portIn (relayIn seat) p .address) ≡ domainOf (a .arrival) =
+          λ near. eqb-true (domainOf (portIn (relayIn seat) p .address)) (domainOf (a .arrival)) (not-false _ (sym lies ∙ near)) in
+          subst (λ (x : Address). NamesTheSame (portIn (relayIn seat) p) (copyFrom x)) (told .arrival)
+          (record {
+            came = record { fields = a .fields; length = sizeOf (a .fields) + messageSize a; size = sizeOf (a .fields) };
+            read = own-reads r m d port octets room some small here wide;
+            size = refl;
+            goes = record { fields = f; length = wireLength far a (e .code); size = sizeOf f };
+            reads = ap readOf (page-sent (a .arrival)) ∙ wire-reads r m d port octets room some small here wide e;
+            parts = omega arith;
+            far = far;
+            lies = lies;
+            code = e .code;
+            fields = inr refl;
+            aim = names .0 ∙ sym (ap (λ (x : Address). aimOf (x .0) (a .fields .addresses)) (told .arrival) ∙ told .names);
+            origin = names .1 ∙ ap (λ (x : Address). originOf (x .0) (a .fields .addresses)) (sym (told .arrival));
+            domain = λ one. home (stays-home (a .arrival .0) (e .code) far (a .fields) (λ b. absurd (omega (arith, b, free))) (eqb-true _ 1 one));
+          })
 
     new-reply : inSet p (repliedBy seat rs port octets room .ruling .took) ≡ true
         → NamesTheSame (portIn (relayIn seat) p) (replyCopy n seat port slot octets (answeringBy seat rs port octets room) (repliedBy seat rs port octets room))
     new-reply =
         both-so seat rs port octets room
-        (λ (x : Answering) (y : Replied). inSet p (y .ruling .took) ≡ true → NamesTheSame (portIn (relayIn seat) p) (replyCopy n seat port slot octets x y))
+        (λ (x : Answering) (y : Replied).
+        inSet p (y .ruling .took) ≡ true → NamesTheSame (portIn (relayIn seat) p) (replyCopy n seat port slot octets x y))
         (λ long z. true-false (sym z ∙ in-none p)) (λ short. page-reply)
 
   enters-case : (t : Bool) (seat : Seat) (c : Copy) → (t ≡ true → NamesTheSame (portIn (relayIn seat) p) c) → AllNamed seat (pick t (c ∷ []) [])

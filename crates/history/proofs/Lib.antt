@@ -18,7 +18,6 @@ pub mod Holds
 pub mod Refusals
 pub mod Listed
 pub mod Replying
-pub mod Wire
 pub mod Answered
 pub mod Small
 pub mod ReadBack

@@ -7,7 +7,7 @@ use mathlib.Core.Path.{_≡_, refl, sym, ap, _∙_}
 use mathlib.Core.Bool.{Bool, true, false}
 use mathlib.Core.List.{List, [], _∷_}
 use lib.Dec.{eqb}
-use lib.ListN.{length, getD, set, replicate}
+use lib.ListN.{length, getD, set, drop, replicate}
 use native.Mathlib.Nat.{div-eq-of-lt, lt-of-lt-of-le, lt-of-not-le}
 use native.Mathlib.Decide.{decLe}
 use mathlib.Core.Logic.{by-cases}
@@ -17,6 +17,7 @@ use Rattle.checks.specs.Order.{pick, firstOf}
 use Rattle.checks.proofs.Bools.{true-false, refuted, and-true, not-false}
 use Rattle.checks.proofs.Laws.{either}
 use Rattle.sets.specs.Sets.{inSet}
+use Rattle.header.specs.Build.{headerOctets}
 use Rattle.header.specs.Range.{qosFits}
 use Rattle.header.specs.Read.{headerOf, readOf}
 use Rattle.header.specs.declared.Header.{Header}
@@ -25,6 +26,8 @@ use Rattle.header.specs.declared.Qos.the-variants as qos
 use Rattle.header.specs.declared.Read.{Read}
 use Rattle.header.specs.declared.Read.the-variants as read
 use Rattle.header.proofs.Answers.{read-in-range}
+use Rattle.header.proofs.BuiltLaws.{append-small, header-small}
+use Rattle.echo.specs.Message.{messageOctets}
 use Rattle.meaning.specs.Arrival.{arrivalChecks}
 use Rattle.meaning.specs.Asked.{precedenceAsked}
 use Rattle.settings.proofs.Values.{flag-taken}
@@ -51,6 +54,9 @@ use Rattle.floods.specs.Sweep.{isOld, isPast, swept, sweepChecks, sweptMemory}
 use Rattle.floods.proofs.Swept.{place-swept}
 use Rattle.judge.specs.Ending.{refusedBy, callChecks, ruledEnding, headerEnding, octetsEnding, arrivalAt, endingOf}
 use Rattle.judge.specs.declared.Ending.{Ending}
+use Rattle.replies.specs.Replied.{echoedOf, messageSize, ownReply}
+use Rattle.replies.specs.declared.Answering.{Answering}
+use Rattle.replies.proofs.ReadBack.{message-small, take-small, drop-small}
 use Rattle.answering.specs.Echoed.{asEnding}
 use Rattle.history.specs.Seat.{Seat, freshSeat, relayIn, relayWith, heardBy, answeringBy, repliedBy}
 use Rattle.history.specs.Calls.{
@@ -93,7 +99,6 @@ use Rattle.history.proofs.Ports.{set-up-stays}
 use Rattle.history.proofs.Reach.{settingsOf, received-settings, taken-settings}
 use Rattle.history.proofs.Small.{sets-small}
 use Rattle.history.proofs.Replying.{reply-precedence-so, reply-small, reply-set-up}
-use Rattle.history.proofs.Wire.{own-octets}
 use Rattle.history.proofs.Line.{line-each, queue-waits}
 use Rattle.history.proofs.Takes.{take-is}
 use Rattle.page.specs.Table.{hasRoom}
@@ -392,6 +397,12 @@ reply-precedence seat rs port octets room small =
     (λ made.
     let told = made-tells (relayWith seat rs) (seat .number) (seat .board .drop) port octets room made in
     rw (told .1 .precedence) (asked-fits (headerOf octets .fields .qos) (read-in-range octets (headerOf octets) small (told .0 .reads) .qos)))
+
+-- what it is made as are octets
+own-octets : (a : Answering) (octets : List ℕ) → Octets octets → Octets (ownReply a octets)
+own-octets a octets small =
+    append-small (headerOctets (a .fields) (messageSize a)) (messageOctets (a .message) (echoedOf a octets)) (header-small (a .fields) (messageSize a))
+    (message-small (a .message) (echoedOf a octets) (take-small (a .count) (drop (a .from) octets) (drop-small (a .from) octets small)))
 
 module _ (p : ℕ) where
   enters-fits : (seat : Seat) (n : ℕ) (c : Call) → Passed c → Each CopyFits (takenBy p n seat c)

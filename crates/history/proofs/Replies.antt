@@ -2,43 +2,31 @@
 -- made (`requests-are-replies`), and nothing is counted as of a datagram that was received, delivered or sent on (`reply-counts-no-receipt`); what goes out is the
 -- reply (`reply-is-sent`), and no relay makes a reply to it (`no-reply-to-a-reply`). Assumes nothing.
 use native.Mathlib.Omega.{arith}
-use Prim.Native.Nat.{ℕ, zero, suc, _+_, _-_, _%_, _^_, _≤_, _<_}
+use Prim.Native.Nat.{ℕ, zero, suc, _%_, _^_, _<_}
 use mathlib.Core.Path.{_≡_, refl, sym, ap, _∙_}
 use mathlib.Core.Logic.{_↔_, ⊎-elim}
 use mathlib.Core.Bool.{true, false, not}
 use mathlib.Core.List.{List, [], _∷_, _++_}
 use lib.Dec.{eqb}
-use lib.ListN.{length, getD, take, drop, replicate, length-take}
-use lib.Seq.{take-all, drop-append-seam}
+use lib.ListN.{getD, drop, replicate}
 use borrow.Author.Tests.{eqb-false, ne-eqb, not-true, ltb-false}
-use Rattle.checks.proofs.Bools.{true-false, refuted, not-false}
+use Rattle.checks.proofs.Bools.{true-false, not-false}
 use Rattle.sets.specs.Sets.{inSet}
 use Rattle.address.specs.declared.Slot.{Slot}
-use Rattle.header.specs.Build.{sizeOf, headerOctets}
-use Rattle.header.specs.declared.Fields.{Fields}
-use Rattle.header.specs.declared.Header.{Header}
-use Rattle.header.specs.declared.Read.the-variants.{Good}
-use Rattle.header.proofs.BuiltLaws.{header-length}
-use Rattle.echo.specs.Message.{fixedSize, readingOf, messageOctets}
-use Rattle.echo.specs.declared.Kind.{Kind}
-use Rattle.echo.specs.declared.Kind.the-variants.{Request, Reply}
-use Rattle.echo.specs.declared.Seen.{Seen}
-use Rattle.echo.proofs.Trip.{written-length, reply-no-request}
 use Rattle.routes.specs.Search.{longerMask}
 use Rattle.routes.specs.declared.Record.{Record}
 use Rattle.state.specs.Relay.{Relay, portIn, portSetUp, counterIn}
 use Rattle.lent_state.specs.View.{tooLong}
 use Rattle.verdict.specs.Numbers.{onwardNumber}
 use Rattle.survey.proofs.Bits.{in-none}
-use Rattle.replies.specs.Request.{userData}
-use Rattle.replies.specs.Replied.{callChecks, wireFields, messageSize, echoedOf, wireHeader, wireReply}
+use Rattle.replies.specs.Replied.{callChecks, answeringOf, wireReply}
 use Rattle.replies.specs.declared.Answering.{Answering}
 use Rattle.replies.specs.declared.sending.Replied.{Replied}
 use Rattle.replies.proofs.Exactly.{exactly-answered}
 use Rattle.page.proofs.Answered.{made-or-not, made-exactly}
 use Rattle.page.proofs.Replies.{unasked-exactly}
 use Rattle.page.proofs.Verdict.{masks-choose}
-use Rattle.history.specs.Seat.{Seat, freshSeat, relayWith, answeringBy, repliedBy}
+use Rattle.history.specs.Seat.{Seat, freshSeat, relayIn, relayWith, answeringBy, repliedBy}
 use Rattle.history.specs.Calls.{echoes, Call, own}
 use Rattle.history.specs.Outcome.{Answer, number, ended, replied, entry, ofReply, outcome, next, seatAfter, sumFrom, sumOver}
 use Rattle.history.specs.Tally.{sumAt, stateAfter}
@@ -50,8 +38,7 @@ use Rattle.history.specs.Replies.{isMade, made, Answered, Unasked}
 use Rattle.history.proofs.Replying.{answer, reply, both-so}
 use Rattle.history.proofs.Sums.{moves-as-written, counted-as-written}
 use Rattle.history.proofs.Reach.{kept-after}
-use Rattle.history.proofs.Wire.{Sound, wiredHeader, wire-in-range, reply-message, wire-reads}
-use Rattle.history.proofs.Domain.{page-sound}
+use Rattle.history.proofs.Domain.{page-sent, page-unanswered}
 
 -- ---- exactly when
 module _ (seat : Seat) (rs : List Record) (port : ℕ) (octets : List ℕ) (room : ℕ) where
@@ -119,31 +106,14 @@ reply-counts-no-receipt seat rs port slot octets output i low =
     ∙ zeros-at 11 (drop 11 (counts (outcome seat (own (echoes rs port slot octets output))))) i low
 
 -- ---- what goes out
-module _ (a : Answering) (request : List ℕ) (s : Sound a request) where
-  kind-is : (k : Kind) → (k ≡ Request → ⊥) → (x : Seen) × (k ≡ Reply x)
-  kind-is Request other = absurd (other refl)
-  kind-is (Reply x) other = (x, refl)
-
-  abbrev message : List ℕ
-  message = messageOctets (a .message) (echoedOf a request)
-
-  message-length : length message ≤ messageSize a
-  message-length =
-      let k = kind-is (a .message .kind) (s .reply) in
-      omega
-      (arith, written-length (a .message) (echoedOf a request), ap fixedSize (k .1), length-take (a .count) (drop (a .from) request))
-
-  -- its user data are its message
-  data-is : (f : Fields) (n : ℕ) → f .checksum < 2 → n ≡ sizeOf f + messageSize a
-      → userData (record { fields = f; length = n; size = sizeOf f }) (headerOctets f (messageSize a) ++ message) ≡ message
-  data-is f n on is =
-      ap (λ (k : ℕ). take (n - sizeOf f) (drop k (headerOctets f (messageSize a) ++ message))) (sym (header-length f (messageSize a) on))
-      ∙ ap (take (n - sizeOf f)) (drop-append-seam (headerOctets f (messageSize a)) message)
-      ∙ take-all (n - sizeOf f) message (omega (arith, message-length, is))
-
--- the same octets read as one header
-same-header : (g h : Header) → Good g ≡ Good h → g ≡ h
-same-header g h e = cc
+-- where page 02's relay makes none, no call with these octets does
+unmade : (octets : List ℕ) → ((other : Relay) (mission drops by lent : ℕ) → answeringOf other mission drops by octets lent .made ≡ 0) → Unasked octets
+unmade octets none other others by lent =
+    let s = relayWith other others in
+    both-so other others by octets lent (λ (a : Answering) (e : Replied). isMade (ofReply e .answer) ≡ false) (λ long. refl)
+    (λ short.
+    ap (λ (n : ℕ). not (eqb n 0))
+    (unasked-exactly s (other .number) (other .board .drop) by octets lent longerMask (masks-choose s) .1 (none s (other .number) (other .board .drop) by lent)))
 
 module _ (m : ℕ) (cs : List Call) (rs : List Record) (port : ℕ) (octets : List ℕ) (room : ℕ) (small : Octets octets) (p : ℕ) (inside : p < 8) where
   abbrev seat : Seat
@@ -153,31 +123,12 @@ module _ (m : ℕ) (cs : List Call) (rs : List Record) (port : ℕ) (octets : Li
   pub reply-is-sent : inSet p (repliedBy seat rs port octets room .ruling .took) ≡ true → (n : ℕ) (slot : Slot)
       → sentOf (replyCopy n seat port slot octets (answeringBy seat rs port octets room) (repliedBy seat rs port octets room))
       ≡ wireReply (answeringBy seat rs port octets room) (repliedBy seat rs port octets room) octets
-  unfolding wireReply
   reply-is-sent =
       both-so seat rs port octets room
-      (λ (a : Answering) (e : Replied). inSet p (e .ruling .took) ≡ true → (n : ℕ) (slot : Slot) → sentOf (replyCopy n seat port slot octets a e) ≡ wireReply a e octets)
+      (λ (a : Answering) (e : Replied).
+      inSet p (e .ruling .took) ≡ true → (n : ℕ) (slot : Slot) → sentOf (replyCopy n seat port slot octets a e) ≡ wireReply a e octets)
       (λ long took. true-false (sym took ∙ in-none p))
-      (λ short took n slot.
-      ap (λ (l : List ℕ). wireHeader (answer seat rs port octets room) (reply seat rs port octets room) ++ l)
-      (reply-message (answer seat rs port octets room) octets (page-sound p inside seat rs n port slot octets room small (kept-after m cs) took)))
-
-  sound-unasked : (a : Answering) (e : Replied) → Sound a octets → Unasked (wireReply a e octets)
-  unfolding wireReply
-  sound-unasked a e s other others at lent =
-      refuted (isMade (ofReply (repliedBy other others at sent lent) .answer)) (λ h.
-      let y = answered-exactly other others at sent lent .0 h .request in
-      let far = not (eqb (e .far) 0) in
-      let f = wireFields far (a .arrival .0) (e .code) (a .fields) in
-      let range = wire-in-range far (a .arrival .0) (e .code) (a .fields) (s .arrival) (s .range) in
-      let same = same-header (y .header) (wiredHeader far (e .code) a) (sym (y .reads) ∙ wire-reads a octets s far (e .code)) in
-      let whole : userData (y .header) sent ≡ message a octets s =
-      ap (λ (g : Header). userData g sent) same ∙ data-is a octets s f (sizeOf f + messageSize a) (range .checksum) refl in
-      let kind = kind-is a octets s (a .message .kind) (s .reply) in
-      reply-no-request (a .message) (y .message) (echoedOf a octets) (kind .0) (kind .1) (sym (ap readingOf whole) ∙ y .readable) (y .request))
-    where
-      sent : List ℕ
-      sent = wireReply a e octets
+      (λ short took n slot. page-sent p inside seat rs n port slot octets room small (kept-after m cs) took (portIn (relayIn seat) port .address))
 
   -- No relay makes a reply to it.
   pub no-reply-to-a-reply : inSet p (repliedBy seat rs port octets room .ruling .took) ≡ true
@@ -186,5 +137,5 @@ module _ (m : ℕ) (cs : List Call) (rs : List Record) (port : ℕ) (octets : Li
       both-so seat rs port octets room (λ (a : Answering) (e : Replied). inSet p (e .ruling .took) ≡ true → Unasked (wireReply a e octets))
       (λ long took. true-false (sym took ∙ in-none p))
       (λ short took.
-      sound-unasked (answer seat rs port octets room) (reply seat rs port octets room)
-      (page-sound p inside seat rs 0 port (record { 0 = 0 }) octets room small (kept-after m cs) took))
+      unmade (wireReply (answer seat rs port octets room) (reply seat rs port octets room) octets)
+      (page-unanswered p inside seat rs 0 port (record { 0 = 0 }) octets room small (kept-after m cs) took))

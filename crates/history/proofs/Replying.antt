@@ -126,7 +126,8 @@ module _ (seat : Seat) (rs : List Record) (port : ℕ) (octets : List ℕ) (room
       way is (By set code) = made is
       way is Lost = made is
 
-      by : (t : Bool) → eqb (answer .made) 0 ≡ t → P (pick t (noReply (answer .refusal)) (byWay r answer (wayFor r Route (answer .destination)) room) .precedence)
+      by : (t : Bool) → eqb (answer .made) 0 ≡ t
+          → P (pick t (noReply (answer .refusal)) (byWay r answer (wayFor r Route (answer .destination)) room) .precedence)
       by true e = none
       by false e =
           way (⊎-elim (λ z. absurd (eqb-false (answer .made) 0 e z)) (λ one. one) (made-or-not r (seat .number) (seat .board .drop) port octets room))

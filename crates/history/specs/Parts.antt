@@ -1,5 +1,6 @@
 -- The settings one by one, and which of them a call is about: page 01, "Settings" ("A setting that no rule here refuses is taken and holds until it is
--- changed"); page 02, W-207 (the lifetime) and W-203 (echo drop). A list of routes is no part of a board or a mission, and what is remembered is no setting. Assumes nothing.
+-- changed"); page 02, W-207 (the lifetime) and W-203 (echo drop). A list of routes is no part of a board or a mission, and what is remembered is no setting.
+-- Assumes nothing.
 use Prim.Native.Nat.{ℕ}
 use mathlib.Core.Path.{_≡_}
 use Rattle.records.specs.declared.OwnedPort.{OwnedPort}

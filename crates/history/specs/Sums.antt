@@ -1,6 +1,7 @@
 -- The eighteen counters in the customer's words, one rule for all: page 01's table of refusal numbers read by counter, step 1 ("These two count nothing.
--- All later ends count one in npInReceives"), page 02, W-207 (29 "counts nothing"; "28 and 30 each get a counter"), and what stands below the table ("npOutDiscards counts dropped copies .. npInDelivers counts deliveries,
--- npForwDatagrams datagrams with at least one entry taken"); of replies page 02, W-203. No counter and no list of moves is looked at here. Assumes nothing.
+-- All later ends count one in npInReceives"), page 02, W-207 (29 "counts nothing"; "28 and 30 each get a counter"), and what stands below the table
+-- ("npOutDiscards counts dropped copies .. npInDelivers counts deliveries, npForwDatagrams datagrams with at least one entry taken"); of replies page 02,
+-- W-203. No counter and no list of moves is looked at here. Assumes nothing.
 use Prim.Native.Nat.{ℕ, zero, suc, _+_}
 use mathlib.Core.Bool.{not}
 use mathlib.Core.List.{List, [], _∷_}
