@@ -22,6 +22,8 @@ use Rattle.echo.specs.Message.{readingOf, echoedIn}
 use Rattle.echo.specs.declared.Message.{Message}
 use Rattle.echo.specs.declared.Reading.the-variants as reading
 use Rattle.meaning.specs.Names.{aimOf, originOf}
+use Rattle.next_leg.specs.Leg.{nextFields}
+use Rattle.next_leg.proofs.Names.{stays-home}
 use Rattle.queue.specs.Order.{Each}
 use Rattle.queue.specs.Queue.{entryPlaces}
 use Rattle.queue.specs.declared.Entry.{Entry}
@@ -49,6 +51,9 @@ use Rattle.replies.specs.Replied.{callChecks, answeringOf, noReply, repliedAmon
 use Rattle.replies.specs.declared.Answering.{Answering}
 use Rattle.replies.specs.declared.sending.Replied.{Replied}
 use Rattle.replies.proofs.Goes.{some-port}
+use Rattle.replies.proofs.Made.{was-made}
+use Rattle.replies.proofs.Exactly.{made-answerable}
+use Rattle.replies.proofs.Meaning.{reply-meaning}
 use Rattle.replies.proofs.Unanswered as unanswered
 use Rattle.tally.specs.Tally.{countedAt, countedAll, replyMoves}
 use Rattle.answering.specs.Echoed.{asEnding, echoAnswering, echoReply}
@@ -74,16 +79,15 @@ use Rattle.history.specs.Replies as replies
 use Rattle.history.specs.Ledger.{one}
 use Rattle.history.specs.Sums.{counted, portsIn}
 use Rattle.history.specs.Line.{Copy, replyCopy, takenOwn}
-use Rattle.history.proofs.Domain.{set-up-small, page-sound}
+use Rattle.history.proofs.Domain.{set-up-small, set-up-mtu, page-made, page-unanswered}
 use Rattle.history.proofs.Ports.{number-stays}
-use Rattle.history.proofs.Reach.{kept-after}
+use Rattle.history.proofs.Reach.{Kept, kept-after}
 use Rattle.history.proofs.Refusals.{nobody-took}
 use Rattle.history.proofs.Holds.{holds-until-changed}
 use Rattle.history.proofs.Replies.{requests-are-replies, reply-is-sent}
 use Rattle.history.proofs.Replying.{answer, reply, both-so, reply-fair}
 use Rattle.history.proofs.Replying.{reply-small as small-sets}
 use Rattle.history.proofs.Sums.{moves-as-written}
-use Rattle.history.proofs.Wire.{Sound, wire-home}
 use Rattle.demands.specs.Trace.{Customer, first, numberOf, Step, flies, Words, missionOf, made as madeOn, wordsAfter, Begun, historyOf, boardOf, seatOf, relayFor, Gives}
 use Rattle.demands.specs.ReadOut.{ownOut, endedBy, onwardIn, tookIn, droppedIn, replyOctets, replyOut, counterAt}
 use Rattle.demands.specs.Echoes.{replyMade, repliesIn, AnsweredAs, ReplyOnTheWire, replyPlaced, Echoes}
@@ -91,7 +95,6 @@ use Rattle.demands.proofs.Promised.{promisedBy, nextState}
 use Rattle.demands.proofs.Held.{same-promise}
 use Rattle.demands.proofs.Traced.{board-is, words-hold}
 use Rattle.demands.proofs.Told.{gives-row, counters, counters-move}
-use Rattle.demands.proofs.Fitting.{mtu-fits}
 use Rattle.demands.proofs.Replied.{picks, leaves, told, none-found, found, behind, short-is, taken-short-list}
 use Rattle.demands.proofs.Whole.{whole, reply-unwritten}
 use Rattle.demands.proofs.Messages as messages
@@ -213,6 +216,9 @@ module _ (who : Customer) (steps : List Step) (rs : List Record) (at : ℕ) (slo
       subst (λ (b : Board). P (b .drop) (answeringOf q (numberOf who) (b .drop) at octets room)) (board-is who steps)
       (subst (λ (n : ℕ). P drops (answeringOf q n drops at octets room)) number-is h)
 
+  kept : Kept seat
+  kept = kept-after (numberOf who) (historyOf who steps)
+
   small : (i : ℕ) → getD octets i 0 < 256
   small = g .passes .1
 
@@ -299,11 +305,8 @@ module _ (who : Customer) (steps : List Step) (rs : List Record) (at : ℕ) (slo
       took : inSet p (e .ruling .took) ≡ true
       took = ap (inSet p) (sym (parts .at-24)) ∙ h
 
-      granted : inSet p (e .ruling .granted) ≡ true
-      granted = reply-shared q (seat .number) drops at octets room p inside (inl took)
-
       is-made : a .made ≡ 1
-      is-made = reply-granted q (seat .number) drops at octets room longerMask (masks-choose q) p inside .0 granted .0
+      is-made = page-made p inside seat rs 0 at slot octets room small kept took .0
 
       some : a .made ≢ 0
       some z = omega (arith, is-made, z)
@@ -311,14 +314,14 @@ module _ (who : Customer) (steps : List Step) (rs : List Record) (at : ℕ) (slo
       tells : ReplyTo q at octets (made-tells q (seat .number) drops at octets room is-made .0 .message) a
       tells = made-tells q (seat .number) drops at octets room is-made .1
 
+      ready : portSetUp q at ≡ true
+      ready = page-made p inside seat rs 0 at slot octets room small kept took .1
+
       here : portIn q at .address .0 < 2 ^ 32
-      unfolding callChecks
-      here =
-          set-up-small seat (kept-after (numberOf who) (historyOf who steps)) at
-          (not-false (portSetUp q at) (made-exactly q (seat .number) drops at octets room .0 is-made .0 .0))
+      here = set-up-small seat kept at ready
 
       wide : portIn q at .mtu < 2 ^ 32
-      wide = mtu-fits who steps (g .begun .passed) rs at
+      wide = set-up-mtu seat kept at ready
 
       out-is : replyOut x ≡ wireReply a e octets
       out-is =
@@ -342,14 +345,20 @@ module _ (who : Customer) (steps : List Step) (rs : List Record) (at : ℕ) (slo
       none-answers : NoneAnswers (replyOut x)
       none-answers =
           subst⁻¹ NoneAnswers out-is
-          (λ other mission off by lent. unanswered.wire-unanswered q (seat .number) drops at octets room some small here wide e other mission off by lent)
+          (λ other mission off by lent. page-unanswered p inside seat rs 0 at slot octets room small kept took other mission off by lent)
 
-      sound : Sound a octets
-      sound = page-sound p inside seat rs 0 at slot octets room small (kept-after (numberOf who) (historyOf who steps)) took
+      -- with addresses of one octet it goes into no other domain
+      stays : (far : Bool) → oneOctet (wireFields far (a .arrival .0) (e .code) (a .fields) .addresses) ≡ true → far ≡ false
+      unfolding wireFields nextFields
+      stays far one-octet =
+          let n = seat .number in
+          let y = made-answerable q n drops at octets room (was-made q n drops at octets room some) in
+          let free = reply-meaning q n drops at octets room some y .free in
+          stays-home (a .arrival .0) (e .code) far (a .fields) (λ b. absurd (omega (arith, b, free))) (eqb-true _ 1 one-octet)
 
       on-wire : ReplyOnTheWire q at p octets output a x
       on-wire =
-          let passed = reply-fits q (seat .number) drops at octets room p inside granted in
+          let passed = reply-fits q (seat .number) drops at octets room p inside (reply-shared q (seat .number) drops at octets room p inside (inl took)) in
           let names = reply-names-the-same q (seat .number) drops at octets room p inside took in
           let origin =
           ap (λ (t : Bool). originOf (portIn q p .address .0) (wireFields t (a .arrival .0) (e .code) (a .fields) .addresses)) (sym far-is) ∙ names .1 in
@@ -368,7 +377,7 @@ module _ (who : Customer) (steps : List Step) (rs : List Record) (at : ℕ) (slo
                 ap (λ (t : Bool). aimOf (portIn q p .address .0) (wireFields t (a .arrival .0) (e .code) (a .fields) .addresses)) (sym far-is) ∙ names .0;
             from-own = λ d aimed own. origin ∙ tells .from-own d aimed own;
             from-arrival = λ other. origin ∙ tells .from-arrival other;
-            domain = λ one-octet. wire-home a octets sound (e .code) (liesFar q at p) (eqb-true _ 1 one-octet);
+            domain = stays (liesFar q at p);
             message =
                 ap₂ (λ (t : Bool) (o : List ℕ). readingOf (userData (header t) o)) (sym far-is) out-is
                 ∙ unanswered.wire-message q (seat .number) drops at octets room some small here wide e;
