@@ -64,7 +64,7 @@ module _ (who : Customer) (steps : List Step) where
   abbrev seat : Seat
   seat = seatOf who steps
 
-  counter-reads : (i : ℕ) (x : Result) → i < counterCount → Gives steps (flies who (looks (counter i))) x → x .answer ≡ counterIn (counters who steps) i
+  pub counter-reads : (i : ℕ) (x : Result) → i < counterCount → Gives steps (flies who (looks (counter i))) x → x .answer ≡ counterIn (counters who steps) i
   counter-reads i x inside g = gives-row who steps (own (looks (counter i))) x g .answer ∙ counter-is (counters who steps) i inside
 
   pub waiting-reads : (p : ℕ) (x : Result) → p < portCount → Gives steps (flies who (looks (waiting p))) x → x .answer ≡ queueAt (seat .mission) p .count

@@ -5,7 +5,7 @@ use mathlib.Core.Path.{_≡_, refl, sym, ap, ap₂, subst, subst⁻¹, _∙_}
 use mathlib.Core.Logic.{_⊎_, inl, inr, _↔_, _≢_, ⊎-elim}
 use mathlib.Core.Bool.{Bool, true, false, not, _||_}
 use mathlib.Core.List.{List, [], _∷_, _++_}
-use lib.ListN.{getD, length, drop}
+use lib.ListN.{getD, length}
 use lib.Dec.{eqb}
 use borrow.Author.Tests.{eq-eqb, eqb-true}
 use Rattle.checks.specs.Order.{pick, noneHolds}
@@ -22,6 +22,7 @@ use Rattle.echo.specs.Message.{readingOf, echoedIn}
 use Rattle.echo.specs.declared.Message.{Message}
 use Rattle.echo.specs.declared.Reading.the-variants as reading
 use Rattle.meaning.specs.Names.{aimOf, originOf}
+use Rattle.queue.specs.Order.{Each}
 use Rattle.queue.specs.Queue.{entryPlaces}
 use Rattle.queue.specs.declared.Entry.{Entry}
 use Rattle.routes.specs.Routes.{candidate}
@@ -31,7 +32,7 @@ use Rattle.routes.proofs.Longest.{Contiguous}
 use Rattle.sets.specs.Limits.{portCount, counterCount}
 use Rattle.sets.specs.Sets.{inSet}
 use Rattle.state.specs.Relay.{Mission, Relay, portIn, portSetUp, routeIn}
-use Rattle.state.specs.Seen.{Board, State}
+use Rattle.state.specs.Seen.{Board, State, freshBoard}
 use Rattle.survey.proofs.Bits.{in-none}
 use Rattle.lookup.specs.ForTarget.{wayFor}
 use Rattle.lent_state.specs.View.{Lent, Held, Other, lentBoard, lent, byLent, toldBoard, told as toldOf, toldBoth, tooLong}
@@ -59,28 +60,33 @@ use Rattle.page.specs.Sought.{RouteTaken}
 use Rattle.page.specs.Replies.{RequestAnswered, ReplyTo, replyVerdict, RepliesAs}
 use Rattle.page.proofs.Verdict.{masks-choose, ones-choose}
 use Rattle.page.proofs.Answered.{made-or-not, made-tells, made-exactly, answered-exactly, reply-of}
-use Rattle.page.proofs.Replies.{unasked-exactly, reply-no-route, reply-granted, reply-shared, reply-fits, reply-route-taken, reply-wired, reply-refused, reply-names-the-same, reply-is-the-page}
+use Rattle.page.proofs.Replies.{unasked-exactly, reply-no-route, reply-granted, reply-shared, reply-fits, reply-route-taken, reply-wired, reply-refused, reply-names-the-same, reply-is-the-page, reply-at-most-one}
 use Rattle.harpjuniper_echo.specs.Face.{echoAnswer}
 use Rattle.contracts.specs.Promised.{Things, Result, lentTo, looking, Promise, Allows, hj-echo}
 use Rattle.contracts.specs.Contracts.{Says}
 use Rattle.contracts.proofs.Rows.{says-row}
-use Rattle.history.specs.Calls.{echoes, waiting, looks, own}
+use Rattle.history.specs.Calls.{orders, dropFlag, views, MissionCall, echoes, waiting, looks, Call, operator, own}
 use Rattle.history.specs.Seat.{Seat, freshSeat, stateOf, relayIn, answeringBy, repliedBy}
-use Rattle.history.specs.Outcome.{replied, ownOutcome}
+use Rattle.history.specs.Outcome.{Answer, replied, ownOutcome, next, runFrom, sumFrom, sumOver}
+use Rattle.history.specs.Parts.{drop, theDrop, About}
+use Rattle.history.specs.Replies.{isMade}
+use Rattle.history.specs.Replies as replies
+use Rattle.history.specs.Ledger.{one}
 use Rattle.history.specs.Sums.{counted, portsIn}
 use Rattle.history.specs.Line.{Copy, replyCopy, takenOwn}
 use Rattle.history.proofs.Domain.{set-up-small, page-sound}
 use Rattle.history.proofs.Ports.{number-stays}
 use Rattle.history.proofs.Reach.{kept-after}
 use Rattle.history.proofs.Refusals.{nobody-took}
-use Rattle.history.proofs.Replies.{reply-is-sent}
+use Rattle.history.proofs.Holds.{holds-until-changed}
+use Rattle.history.proofs.Replies.{requests-are-replies, reply-is-sent}
 use Rattle.history.proofs.Replying.{answer, reply, both-so, reply-fair}
 use Rattle.history.proofs.Replying.{reply-small as small-sets}
 use Rattle.history.proofs.Sums.{moves-as-written}
 use Rattle.history.proofs.Wire.{Sound, wire-home}
-use Rattle.demands.specs.Trace.{Customer, numberOf, Step, flies, missionOf, made as madeOn, wordsAfter, historyOf, boardOf, seatOf, relayFor, Gives}
-use Rattle.demands.specs.ReadOut.{endedBy, onwardIn, tookIn, droppedIn, replyOctets, replyOut, counterAt}
-use Rattle.demands.specs.Echoes.{replyMade, AnsweredAs, ReplyOnTheWire, replyPlaced, Echoes}
+use Rattle.demands.specs.Trace.{Customer, first, numberOf, Step, flies, Words, missionOf, made as madeOn, wordsAfter, Begun, historyOf, boardOf, seatOf, relayFor, Gives}
+use Rattle.demands.specs.ReadOut.{ownOut, endedBy, onwardIn, tookIn, droppedIn, replyOctets, replyOut, counterAt}
+use Rattle.demands.specs.Echoes.{replyMade, repliesIn, AnsweredAs, ReplyOnTheWire, replyPlaced, Echoes}
 use Rattle.demands.proofs.Promised.{promisedBy, nextState}
 use Rattle.demands.proofs.Held.{same-promise}
 use Rattle.demands.proofs.Traced.{board-is, words-hold}
@@ -89,7 +95,10 @@ use Rattle.demands.proofs.Fitting.{mtu-fits}
 use Rattle.demands.proofs.Replied.{picks, leaves, told, none-found, found, behind, short-is, taken-short-list}
 use Rattle.demands.proofs.Whole.{whole, reply-unwritten}
 use Rattle.demands.proofs.Messages as messages
-use Rattle.demands.proofs.Demand3.{waiting-reads, full-is}
+use Rattle.demands.proofs.ReadOut.{read-out}
+use Rattle.demands.proofs.Over.{overCalls, over-is}
+use Rattle.demands.proofs.Demand3.{counter-reads, waiting-reads, full-is}
+use Rattle.demands.proofs.Floods.{begin}
 
 -- ---- of any relay
 module _ (r : Relay) (number dropping at : ℕ) (octets : List ℕ) (room : ℕ) where
@@ -119,6 +128,15 @@ module _ (r : Relay) (number dropping at : ℕ) (octets : List ℕ) (room : ℕ)
 none-told : (n : ℕ) → partAt 16 (numberFor (noReply n)) ≡ 0
 unfolding replyNumber rulingParts headerParts
 none-told n = omega arith
+
+-- and of a call that is refused its number alone
+alone-told : (n : ℕ) → numberFor (noReply n) ≡ n % 256
+unfolding replyNumber rulingParts headerParts
+alone-told n = omega arith
+
+ended-told : (n : ℕ) → partAt 0 (numberFor (noReply n)) ≡ n % 256
+unfolding replyNumber rulingParts headerParts
+ended-told n = omega arith
 
 -- ---- what is told of any board and any mission
 module _ {A : Type 0} (P : A → Type 0) where
@@ -234,6 +252,23 @@ module _ (who : Customer) (steps : List Step) (rs : List Record) (at : ℕ) (slo
     none-took : tookIn x ≡ 0 → repliedBy seat rs at octets room .ruling .took ≡ 0
     none-took z = sym (told who steps rs at slot octets output x g .at-24) ∙ z
 
+    -- a call that is refused makes none, and tells its number alone
+    refused-none : endedBy x ≢ 0 → e ≡ noReply (a .refusal)
+    refused-none some =
+        unmade-is q (seat .number) drops at octets room
+        (⊎-elim (λ z. z)
+        (λ one.
+        absurd (some (parts .at-0 ∙ reply-refused q (seat .number) drops at octets room .0 .1 (made-exactly q (seat .number) drops at octets room .0 one .0))))
+        (made-or-not q (seat .number) drops at octets room))
+
+    refused-alone : endedBy x ≢ 0 → x .answer ≡ endedBy x
+    refused-alone some =
+        let n = a .refusal in
+        let none = refused-none some in
+        let number : x .answer ≡ numberFor (noReply n) =
+        gives-row who steps (own (echoes rs at slot octets output)) x g .answer ∙ ap numberFor (is ∙ none) in
+        number ∙ alone-told n ∙ sym (ap (partAt 0) number ∙ ended-told n)
+
     answered-as : AnsweredAs q drops at octets output a x
     answered-as =
         record {
@@ -247,6 +282,8 @@ module _ (who : Customer) (steps : List Step) (rs : List Record) (at : ℕ) (slo
           took = λ p inside. ap (inSet p) (parts .at-24) ∙ page .took p inside;
           dropped = λ p inside. ap (inSet p) (parts .at-32) ∙ page .dropped p inside;
           no-local = parts .at-8;
+          above = parts .above;
+          alone = refused-alone;
           written = λ some. behind who steps rs at slot octets output x g (some-took some);
           unwritten = λ z. none-found who steps rs at slot octets output x g (none-took z);
         }
@@ -265,20 +302,20 @@ module _ (who : Customer) (steps : List Step) (rs : List Record) (at : ℕ) (slo
       granted : inSet p (e .ruling .granted) ≡ true
       granted = reply-shared q (seat .number) drops at octets room p inside (inl took)
 
-      one : a .made ≡ 1
-      one = reply-granted q (seat .number) drops at octets room longerMask (masks-choose q) p inside .0 granted .0
+      is-made : a .made ≡ 1
+      is-made = reply-granted q (seat .number) drops at octets room longerMask (masks-choose q) p inside .0 granted .0
 
       some : a .made ≢ 0
-      some z = omega (arith, one, z)
+      some z = omega (arith, is-made, z)
 
-      tells : ReplyTo q at octets (made-tells q (seat .number) drops at octets room one .0 .message) a
-      tells = made-tells q (seat .number) drops at octets room one .1
+      tells : ReplyTo q at octets (made-tells q (seat .number) drops at octets room is-made .0 .message) a
+      tells = made-tells q (seat .number) drops at octets room is-made .1
 
       here : portIn q at .address .0 < 2 ^ 32
       unfolding callChecks
       here =
           set-up-small seat (kept-after (numberOf who) (historyOf who steps)) at
-          (not-false (portSetUp q at) (made-exactly q (seat .number) drops at octets room .0 one .0 .0))
+          (not-false (portSetUp q at) (made-exactly q (seat .number) drops at octets room .0 is-made .0 .0))
 
       wide : portIn q at .mtu < 2 ^ 32
       wide = mtu-fits who steps (g .begun .passed) rs at
@@ -346,7 +383,7 @@ module _ (who : Customer) (steps : List Step) (rs : List Record) (at : ℕ) (slo
           let c : Copy = replyCopy n seat at slot octets (answeringBy seat rs at octets room) (repliedBy seat rs at octets room) in
           let mine : inSet p (repliedBy seat rs at octets room .ruling .took) ≡ true = ap (λ (z : Replied). inSet p (z .ruling .took)) is ∙ took in
           let precedence : repliedBy seat rs at octets room .precedence ≡ a .precedence =
-          ap (λ (z : Replied). z .precedence) is ∙ precedence-is q (seat .number) drops at octets room one in (
+          ap (λ (z : Replied). z .precedence) is ∙ precedence-is q (seat .number) drops at octets room is-made in (
             c,
             (
               picks _ _ _ mine,
@@ -363,6 +400,25 @@ module _ (who : Customer) (steps : List Step) (rs : List Record) (at : ℕ) (slo
               ),
             ),
           )
+
+  -- ---- one port
+  long-none : tooLong rs ≡ true → (p : ℕ) → (inSet p (tookIn x) || inSet p (droppedIn x)) ≡ true → ⊥
+  long-none long p h =
+      let t = told who steps rs at slot octets output x g in
+      let none : (repliedBy seat rs at octets room .ruling .took ≡ 0) × (repliedBy seat rs at octets room .ruling .dropped ≡ 0) =
+      both-so seat rs at octets room (λ (y : Answering) (z : Replied). (z .ruling .took ≡ 0) × (z .ruling .dropped ≡ 0)) (λ k. (refl, refl))
+      (λ short. true-false (sym long ∙ short)) in
+      ⊎-elim (λ k. true-false (sym k ∙ ap (inSet p) (t .at-24 ∙ none .0) ∙ in-none p)) (λ k. true-false (sym k ∙ ap (inSet p) (t .at-32 ∙ none .1) ∙ in-none p))
+      (or-true (inSet p (tookIn x)) (inSet p (droppedIn x)) h)
+
+  one-port : (p k : ℕ) → p < portCount → k < portCount → (inSet p (tookIn x) || inSet p (droppedIn x)) ≡ true
+      → (inSet k (tookIn x) || inSet k (droppedIn x)) ≡ true → p ≡ k
+  one-port p k inside within hp hk = by (tooLong rs) refl
+    where
+      by : (t : Bool) → tooLong rs ≡ t → p ≡ k
+      by true long = absurd (long-none long p hp)
+      by false short =
+          reply-at-most-one q (seat .number) drops at octets room p k inside within (shared short p inside hp) (shared short k within hk)
 
   -- ---- a call that makes none
   ruling-none : onwardIn x ≡ 0 → repliedBy seat rs at octets room .ruling ≡ noRuling
@@ -421,6 +477,29 @@ module _ (who : Customer) (steps : List Step) (rs : List Record) (at : ℕ) (slo
       let p = some-port (repliedBy seat rs at octets room .ruling .took) (small-sets seat rs at octets room .took) taken in
       never-answered (replyOut x) (none-answers short (p .0) (p .1) (ap (inSet (p .0)) (t .at-24) ∙ p .2))
 
+-- ---- the setting at first
+off-is : (n : ℕ) → drop n ≡ drop 0 → n ≡ 0
+off-is n e = cc
+
+off-first : (cs : List Call) → Each (λ (c : Call). About c theDrop → ⊥) cs → runFrom (freshSeat 0) cs .board .drop ≡ 0
+unfolding freshBoard
+off-first cs others = off-is (runFrom (freshSeat 0) cs .board .drop) (holds-until-changed theDrop cs (freshSeat 0) others)
+
+-- ---- how many replies are made
+made-are : (cs : List Call) (x : Seat) → overCalls 0 _+_ (λ (y : Seat) (c : MissionCall). one (isMade (ownOutcome y c .answer))) x cs ≡ sumFrom replies.made x cs
+made-are [] x = refl
+made-are (operator (orders o) ∷ cs) x = let rest = made-are cs (next x (operator (orders o))) in omega (arith, rest)
+made-are (operator (views v) ∷ cs) x = let rest = made-are cs (next x (operator (views v))) in omega (arith, rest)
+made-are (own c ∷ cs) x = ap (λ (n : ℕ). one (isMade (ownOutcome x c .answer)) + n) (made-are cs (next x (own c)))
+
+replies-told : (who : Customer) (steps : List Step) (w v : Words) (b : Begun w steps v)
+    → repliesIn who steps _ v (b .then) ≡ sumOver replies.made (numberOf who) (historyOf who steps)
+replies-told who steps w v b =
+    over-is 0 _+_ (λ (y : Words) (c : MissionCall) (x : Result). one (isMade (ownOut c (x .answer))))
+    (λ (y : Seat) (c : MissionCall). one (isMade (ownOutcome y c .answer))) who
+    (λ before c x g. ap (λ (a : Answer). one (isMade a)) (read-out who before (own c) x g)) steps [] w _ v (begin b) (b .then) (b .passed)
+    ∙ made-are (historyOf who steps) (seatOf who [])
+
 pub echoes-hold : Echoes
 echoes-hold =
     record {
@@ -430,12 +509,16 @@ echoes-hold =
       builds-as = λ m echoed lent left answer h. messages.built-so m echoed lent answer left h;
       build-then-read = messages.build-then-read;
       read-then-build = messages.read-then-build;
+      off-at-first = λ steps x others g.
+          gives-row first steps (operator (views dropFlag)) x g .answer
+          ∙ off-first (historyOf first steps) others;
       answers = λ who steps rs at slot octets output x g short.
           as-said who steps rs at slot octets output x g
           (λ (n : ℕ) (a : Answering). AnsweredAs (relayFor who steps rs) n at octets output a x) (answered-as who steps rs at slot octets output x g short);
       on-the-wire = λ who steps rs at slot octets output x g short p inside took.
           as-said who steps rs at slot octets output x g (λ (n : ℕ) (a : Answering). ReplyOnTheWire (relayFor who steps rs) at p octets output a x)
           (on-wire who steps rs at slot octets output x g short p inside took);
+      one-port = λ who steps rs at slot octets output p k x g. one-port who steps rs at slot octets output x g p k;
       route-taken = λ who steps rs at slot octets output p x g short inside some.
           let seat = seatOf who steps in
           as-said who steps rs at slot octets output x g (λ (n : ℕ) (a : Answering). RouteTaken (relayFor who steps rs) (a .destination) p)
@@ -450,6 +533,10 @@ echoes-hold =
           (λ eleven. by .0 (sym (t .at-16) ∙ eleven) .1, λ none. t .at-16 ∙ by .1 (made-one who steps rs at slot octets output x g short some, none)));
       none-leaves = λ who steps rs at slot octets output x g. none-leaves who steps rs at slot octets output x g;
       counts = λ who steps rs at slot octets output x g. counts who steps rs at slot octets output x g;
+      out-requests = λ who steps x g.
+          counter-reads who steps 17 x (omega arith) g
+          ∙ requests-are-replies (numberOf who) (historyOf who steps)
+          ∙ ap (λ (n : ℕ). n % 2 ^ 32) (sym (replies-told who steps (g .lent) (g .before) (g .begun)));
       copies-told = λ who steps rs p at slot octets output x inside g short.
           let t = told who steps rs at slot octets output x g in (
             as-said who steps rs at slot octets output x g

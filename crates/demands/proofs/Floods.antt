@@ -273,7 +273,7 @@ unfolding pairAnswer wordAnswer
 pair-word k i word inside small = simp (lt-ltb i pairPlaces inside, lt-ltb word 5 small)
 
 -- the trace before its first step
-begin : {w v : Words} {steps : List Step} → (b : Begun w steps v)
+pub begin : {w v : Words} {steps : List Step} → (b : Begun w steps v)
     → Begun w [] (record { board = b .board .left .board; zero = b .zero .left .mission; one = b .one .left .mission })
 begin b =
     record {

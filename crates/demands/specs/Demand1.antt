@@ -283,8 +283,8 @@ pub record Demand1 : Type 2 where
       × ((length n ≡ messageCount → ⊥) → (z .answer ≡ 21) × (z .left .numbers ≡ n)))
   -- "Nobody has to check first.": the code of each function, proved to do what its contract says, asks nothing of its caller.
   pub nobody-checks-first : (c : Exported) → Unchecked (functionOf c)
-  -- "A refusal carries its number and leaves queues, settings and lent octets unchanged;": 9 to 15 and 30 of the onward half too, and a reply's 11, 14 and 15. The board, the list and the
-  -- output are left whole, and of the mission all but its counters and what it remembers
+  -- "A refusal carries its number and leaves queues, settings and lent octets unchanged;": 9 to 15 and 30 of the onward half too, and 11, 14 and 15 of a
+  -- reply. The board, the list and the output are left whole, and of the mission all but its counters and what it remembers
   pub refusal-leaves : (who : Customer) (steps : List Step) (c : Call) (x : Result) (g : Gives steps (stepOf who c) x)
       → outcome.isRefusal (readOut c (x .answer)) ≡ true → Unchanged (lentTo (made (g .before) (stepOf who c))) (x .left)
   -- W-207: "demand 1 lets the kept pair and the accepted second stand after a refusal", and of what is remembered nothing else moves
@@ -298,8 +298,8 @@ pub record Demand1 : Type 2 where
   pub untaken-remembers : (who : Customer) (steps : List Step) (rs : List Record) (p : ℕ) (slot : Slot) (second : ℕ) (octets output : List ℕ)
       (x : Result) (g : Gives steps (flies who (hears rs p slot second octets output)) x) → tookIn x ≡ 0
       → HeardLeaves (relayFor who steps rs) rs p second octets (length output) x (memoryIn (missionOf who (g .before))) (memoryIn (x .left .mission))
-  -- "only the counters of the received datagram move.": each counter by what page 01's table gives this call, and none where no datagram is heard; W-203 "lets these
-  -- counters move" of a reply, npOutRequests and those of its number, though it is refused (record Echoes says which)
+  -- "only the counters of the received datagram move.": each counter by what page 01's table gives this call, and none where no datagram is heard
+  -- and no request answered; W-203 "lets these counters move" of a reply that is refused (record Echoes says which)
   pub counters-move : (who : Customer) (steps : List Step) (c : MissionCall) (x : Result) (g : Gives steps (flies who c) x) (i : ℕ) → i < counterCount
       → counterAt (missionOf who (wordsAfter (g .before) (flies who c) x)) i
       ≡ (counterAt (missionOf who (g .before)) i + givenBy i (outcome.ownOutcome (seatOf who steps) c)) % 2 ^ 32

@@ -1,6 +1,7 @@
--- Echo messages, for each of two customers by itself: page 02, W-203, said of what C calls. After any steps, whatever the other customer does between them, hj_echo answers by the
--- page's list of what gets a reply; the reply that goes is the one that 003 and the page lay out, and names on the wire whom it should; it counts as
--- the page says, and nothing else does; and no relay answers it. Proved in proofs/Echoes.antt. Assumes nothing.
+-- Echo messages, for each of two customers by itself: page 02, W-203, said of what C calls. Messages are read and built as 003 lays them out. After any steps,
+-- whatever the other customer does between them, hj_echo answers by the page's list of what gets a reply; the reply that goes is the one that 003 and the page
+-- lay out, and names on the wire whom it should; it counts as the page says, and nothing else does; and no relay answers it. Proved in proofs/Echoes.antt.
+-- Assumes nothing.
 use Prim.Native.Nat.{ℕ, _+_, _%_, _^_, _<_, _≤_}
 use mathlib.Core.Path.{_≡_}
 use mathlib.Core.Logic.{_↔_, _≢_}
@@ -25,6 +26,7 @@ use Rattle.echo.specs.declared.Reading.the-variants as reading
 use Rattle.meaning.specs.Names.{aimOf, originOf}
 use Rattle.meaning.specs.declared.Aim.the-variants.{Node}
 use Rattle.meaning.specs.declared.Origin.the-variants.{From}
+use Rattle.queue.specs.Order.{Each}
 use Rattle.queue.specs.Queue.{entryPlaces}
 use Rattle.routes.specs.Routes.{candidate}
 use Rattle.routes.specs.declared.Record.{Record}
@@ -41,13 +43,16 @@ use Rattle.page.specs.Replies.{RequestAnswered, ReplyTo, replyVerdict}
 use Rattle.harpjuniper_messages.specs.Face.{messageCount, messageWords}
 use Rattle.contracts.specs.Promised.{Result, lentTo, hj-echo}
 use Rattle.contracts.specs.Contracts.{Says}
-use Rattle.history.specs.Calls.{echoes, waiting, looks}
+use Rattle.history.specs.Calls.{dropFlag, views, MissionCall, echoes, counter, waiting, looks, Call}
 use Rattle.history.specs.Outcome.{replied, ownOutcome}
+use Rattle.history.specs.Parts.{theDrop, About}
+use Rattle.history.specs.Replies.{isMade}
+use Rattle.history.specs.Ledger.{one}
 use Rattle.history.specs.Sums.{counted, portsIn}
 use Rattle.history.specs.Line.{Copy, takenOwn}
 use Rattle.history.specs.Ranges.{Octets}
-use Rattle.demands.specs.Trace.{Customer, numberOf, Step, flies, missionOf, made, wordsAfter, historyOf, boardOf, seatOf, relayOf, relayFor, Gives}
-use Rattle.demands.specs.ReadOut.{endedBy, localIn, onwardIn, tookIn, droppedIn, replyOctets, replyOut, counterAt, ReadsEcho, BuildsEcho, messageIn, dataBegin}
+use Rattle.demands.specs.Trace.{Customer, first, numberOf, Step, operates, flies, Words, missionOf, made, wordsAfter, Trace, historyOf, boardOf, seatOf, relayOf, relayFor, Gives}
+use Rattle.demands.specs.ReadOut.{ownOut, endedBy, localIn, onwardIn, tookIn, droppedIn, aboveIn, replyOctets, replyOut, counterAt, overOwn, ReadsEcho, BuildsEcho, messageIn, dataBegin}
 
 -- the reply that the relay r makes, if any, to octets that came in by port `at`
 abbrev pub replyMade : Customer → List Step → List Record → ℕ → List ℕ → List ℕ → Answering
@@ -66,6 +71,9 @@ pub record AnsweredAs (r : Relay) (dropping at : ℕ) (octets output : List ℕ)
   pub took : (p : ℕ) → p < portCount → inSet p (tookIn x) ≡ replyVerdict r at a (length output) .took p
   pub dropped : (p : ℕ) → p < portCount → inSet p (droppedIn x) ≡ replyVerdict r at a (length output) .dropped p
   pub no-local : localIn x ≡ 0
+  -- nothing stands above; and with a refusal there is nothing else
+  pub above : aboveIn x ≡ 0
+  pub alone : endedBy x ≢ 0 → x .answer ≡ endedBy x
   -- "the fields ..": where a port took it the output begins with the reply, and every other octet stays as lent
   pub written : tookIn x ≢ 0 → x .left .output ≡ replyOut x ++ drop (replyOctets x) output
   pub unwritten : tookIn x ≡ 0 → (replyOctets x ≡ 0) × (x .left .output ≡ output)
@@ -93,6 +101,10 @@ pub record ReplyOnTheWire (r : Relay) (at p : ℕ) (octets output : List ℕ) (a
   -- its user data are the message, with the request's data as far as they are not cut
   pub message : readingOf (userData goes (replyOut x)) ≡ reading.Good (a .message)
   pub echoed : echoedIn (a .message) (userData goes (replyOut x)) ≡ echoedOf a octets
+
+-- how often C was told that a reply was made
+abbrev pub repliesIn : (who : Customer) (cs : List Step) (w v : Words) → Trace w cs v → ℕ
+repliesIn who cs w v t = overOwn who 0 _+_ (λ (y : Words) (c : MissionCall) (x : Result). one (isMade (ownOut c (x .answer)))) cs w v t
 
 -- what port p has of a reply that it took: its entry has the slot, and the request's precedence
 abbrev pub replyPlaced : Customer → List Step → ℕ → ℕ → Slot → List ℕ → Answering → Result → List Copy → Type 0
@@ -156,6 +168,9 @@ pub record Echoes : Type 0 where
   pub read-then-build : (s words lent left : List ℕ) → Octets s → length words ≡ messageCount → ReadsEcho s words 0 left
       → length s ≤ mostData → length s ≤ length lent
       → BuildsEcho (messageIn left) (drop (dataBegin left) s) lent (length s) (s ++ drop (length s) lent)
+  -- "A setting that drops all requests defaults to off.": as long as it is not set, hj_get_echo_drop answers 0 (what is set is read back, demand 2)
+  pub off-at-first : (steps : List Step) (x : Result) → Each (λ (c : Call). About c theDrop → ⊥) (historyOf first steps)
+      → Gives steps (operates (views dropFlag)) x → x .answer ≡ 0
   -- what hj_echo answers, and the reply; a list over 512 records is refused by 21 (demand 1)
   pub answers : (who : Customer) (steps : List Step) (rs : List Record) (at : ℕ) (slot : Slot) (octets output : List ℕ) (x : Result)
       → Gives steps (flies who (echoes rs at slot octets output)) x → tooLong rs ≡ false
@@ -163,6 +178,10 @@ pub record Echoes : Type 0 where
   pub on-the-wire : (who : Customer) (steps : List Step) (rs : List Record) (at : ℕ) (slot : Slot) (octets output : List ℕ) (x : Result)
       → Gives steps (flies who (echoes rs at slot octets output)) x → tooLong rs ≡ false → (p : ℕ) → p < portCount → inSet p (tookIn x) ≡ true
       → ReplyOnTheWire (relayFor who steps rs) at p octets output (replyMade who steps rs at octets output) x
+  -- it goes by one port at the most: none but one takes it, or drops it
+  pub one-port : (who : Customer) (steps : List Step) (rs : List Record) (at : ℕ) (slot : Slot) (octets output : List ℕ) (p k : ℕ) (x : Result)
+      → Gives steps (flies who (echoes rs at slot octets output)) x → p < portCount → k < portCount
+      → (inSet p (tookIn x) || inSet p (droppedIn x)) ≡ true → (inSet k (tookIn x) || inSet k (droppedIn x)) ≡ true → p ≡ k
   -- "the route line": the one taken matches the request's source, no matching entry that is up has more mask bits, and 11 is said exactly when none matches
   pub route-taken : (who : Customer) (steps : List Step) (rs : List Record) (at : ℕ) (slot : Slot) (octets output : List ℕ) (p : ℕ) (x : Result)
       → Gives steps (flies who (echoes rs at slot octets output)) x → tooLong rs ≡ false → p < portCount
@@ -183,6 +202,9 @@ pub record Echoes : Type 0 where
       → counterAt (missionOf who (wordsAfter (g .before) (flies who (echoes rs at slot octets output)) x)) i
       ≡ (counterAt (missionOf who (g .before)) i
       + getD (counted (replied (endedBy x) (onwardIn x) (tookIn x)) (portsIn portCount (droppedIn x))) i 0) % 2 ^ 32
+  -- so npOutRequests, which hj_counter answers at 17, is how often C was told of a reply that was made, sent or not
+  pub out-requests : (who : Customer) (steps : List Step) (x : Result) (g : Gives steps (flies who (looks (counter 17))) x)
+      → x .answer ≡ repliesIn who steps _ (g .before) (g .begun .then) % 2 ^ 32
   -- "their copies join its sum": what is granted, taken and dropped of a reply is what C is told, in the sum of demand 3; it drops where 32 already waited, and waits
   -- in its port's line as the copy of a datagram does
   pub copies-told : (who : Customer) (steps : List Step) (rs : List Record) (p at : ℕ) (slot : Slot) (octets output : List ℕ) (x : Result) → p < portCount
