@@ -143,18 +143,22 @@ build/soak: $(SOAK) $(PLAIN)
 build/flood: $(FLOOD)
 build/readme: build/readme.c
 
-# The rehearsal and the flood on wrong relays, which they have to find out; WRONG_RELAY
-# says which. The soak with faults put between it and the library, which it has to find.
+# The rehearsal, the flood and silent-leg on wrong relays, which they have to find out;
+# WRONG_RELAY says which. The soak with faults put between it and the library, which it has
+# to find.
 build/rehearsal_wrong: $(REHEARSAL) tests/wrong_relay.c
 build/flood_wrong: $(FLOOD) tests/wrong_relay.c
+build/silent-leg_wrong: $(SILENT_LEG) tests/wrong_relay.c
 build/soak_faulty: $(SOAK) $(PLAIN) tests/soak_faults.c
-build/rehearsal_wrong build/flood_wrong: wrapped := take receive_at sweep counter echo
+build/rehearsal_wrong build/flood_wrong build/silent-leg_wrong: wrapped := take receive_at \
+	sweep counter echo set_echo_drop
 build/soak_faulty: wrapped := class take counter waiting search set_port receive_at \
 	sweep set_lifetime get_lifetime last_second pair_word echo read_echo_words \
 	build_request build_reply set_echo_drop get_echo_drop
 
-LINKED := $(addprefix build/,replay rehearsal silent-leg rehearsal_wrong calls relay_calls leg_calls \
-	flood_calls echo_calls bench flight_loop settings_batch soak soak_faulty flood flood_wrong readme)
+LINKED := $(addprefix build/,replay rehearsal silent-leg rehearsal_wrong silent-leg_wrong \
+	calls relay_calls leg_calls flood_calls echo_calls bench flight_loop settings_batch soak \
+	soak_faulty flood flood_wrong readme)
 $(LINKED): $(LIBRARY) $(HEADERS) scripts/emulated build/from | tools
 	$(link) $(wrapped:%=-Wl,--wrap=hj_%) $(filter %.c,$^) $(LIBRARY)
 	$(emulate)
@@ -214,8 +218,8 @@ host-tests: build/calls build/relay_calls build/leg_calls build/test_plain \
 	build/test_relay build/test_missions build/test_legs build/replay build/plain \
 	build/test_floods build/test_echo \
 	build/ledger build/generate build/coverage build/bench build/flight_loop \
-	build/settings_batch build/rehearsal build/rehearsal_wrong build/silent-leg build/soak \
-	build/soak_faulty build/flood build/flood_wrong build/coverage-plain/plain \
+	build/settings_batch build/rehearsal build/rehearsal_wrong build/silent-leg \
+	build/silent-leg_wrong build/soak build/soak_faulty build/flood build/flood_wrong build/coverage-plain/plain \
 	build/flood_calls build/echo_calls
 	build/calls
 	build/relay_calls

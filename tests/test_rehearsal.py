@@ -711,6 +711,13 @@ class Small(unittest.TestCase):
             self.assertEqual((status, complaints), (int(wrong != ""), ""), output)
             self.assertIn(line, output)
 
+    def test_why_there_is_no_answer(self):
+        """A call that is refused as a whole has its number; echo drop is on with any word but 0."""
+        text = ECHO + "echo-drop Right on\nsend Left 0 to 10.2.2.14 from 10.1.1.4 hops 8 echo 7 1\nrun\n"
+        for wrong, why in (("", "echo drop is on"), ("two", "echo drop is on"), ("cramped", "too little room for the output")):
+            output = fly_text(text, program="rehearsal_wrong", WRONG_RELAY=wrong)[1]
+            self.assertIn(f"answers no echo: {why}\n", output)
+
     def test_a_reply_waits_like_any_other_entry(self):
         """It has the request's precedence, a full queue drops it, and its take is foretold."""
         order = "send Left 0 to 10.2.2.14 from 10.1.1.4 %s\n"

@@ -1,7 +1,8 @@
 #!/usr/bin/env python3
 """build/silent-leg: on a scenario's net it names the leg that was cut, and none where it
 was mended; what else can be silent is told apart as far as the settings go; and captured
-datagrams give the same table. Bad lines and arguments are refused.
+datagrams give the same table. A run of old answers does not speak for a later one, nor a
+reply for another destination. Bad lines and arguments are refused.
 """
 import os
 import re
@@ -40,18 +41,19 @@ link Mid 1 Unit 0 4000
 """
 
 
-def run(*words, text=""):
-    """Status, standard output and standard error."""
-    ended = subprocess.run([os.path.join(ROOT, "build/silent-leg"), *words], input=text, capture_output=True,
-                           text=True, check=False)
+def run(*words, text="", wrong=None):
+    """Status, standard output and standard error; on wrong relays where it is said which."""
+    program = "silent-leg" if wrong is None else "silent-leg_wrong"
+    ended = subprocess.run([os.path.join(ROOT, "build", program), *words], input=text, capture_output=True,
+                           text=True, check=False, env={**os.environ, "WRONG_RELAY": wrong or ""})
     return ended.returncode, ended.stdout, ended.stderr
 
 
-def run_net(more="", *words, mtu=1500):
+def run_net(more="", *words, mtu=1500, wrong=None):
     with tempfile.NamedTemporaryFile("w", suffix=".txt", encoding="ascii") as file:
         file.write(LINE % {"mtu": mtu} + more)
         file.flush()
-        return run(file.name, "Ground", "0", "10.3.3.14", *words)
+        return run(file.name, "Ground", "0", "10.3.3.14", *words, wrong=wrong)
 
 
 def rows(output):
@@ -78,23 +80,37 @@ def address(text):
     return bytes(int(octet) for octet in text.split("."))
 
 
-def datagram(destination, source, hops, data, transport=1, intermediate=False):
+# A timestamp is its format and its octets.
+NO_STAMP = (0, b"")
+
+
+def at(time):
+    return 3, time.to_bytes(4, "big")
+
+
+def with_p_field(p_field):
+    """The P-field says that four octets follow."""
+    return 2, bytes([p_field]) + b"\0\0\0\5"
+
+
+def datagram(destination, source, hops, data, transport=1, intermediate=False, stamp=NO_STAMP):
     extended = "." in destination
-    flags = 0x80 * intermediate | 0x40 | 0x20 * (hops is not None) | extended
+    flags = 0x80 * intermediate | 0x40 | 0x20 * (hops is not None) | stamp[0] << 3 | extended
     control = bytes([transport << 4 | 0x0a, flags]) + b"\x10" * intermediate
-    rest = control + address(destination) + address(source) + bytes([] if hops is None else [hops]) + data
+    rest = control + address(destination) + address(source) + bytes([] if hops is None else [hops]) + stamp[1] + data
     return ((1 << 13 | len(rest) + 2).to_bytes(2, "big") + rest).hex()
 
 
-def request(sequence, hops, destination="10.9.9.14", source="10.1.1.4", identifier=7, intermediate=True):
+def request(sequence, hops, destination="10.9.9.14", source="10.1.1.4", identifier=7, intermediate=True,
+            stamp=NO_STAMP, data=b""):
     fixed = identifier.to_bytes(2, "big") + sequence.to_bytes(2, "big")
-    return datagram(destination, source, hops, message(8, fixed), intermediate=intermediate)
+    return datagram(destination, source, hops, message(8, fixed + data), intermediate=intermediate, stamp=stamp)
 
 
-def reply(sequence, seen, source, destination="10.1.1.4", identifier=7, stamp=None, mtu=1500, hops=64):
+def reply(sequence, seen, source, destination="10.1.1.4", identifier=7, stamp=NO_STAMP, mtu=1500, hops=64, data=b""):
     fixed = identifier.to_bytes(2, "big") + sequence.to_bytes(2, "big")
-    fixed += bytes([seen, 0 if stamp is None else 3]) + (stamp or 0).to_bytes(8, "big") + mtu.to_bytes(4, "big")
-    return datagram(destination, source, hops, message(0, fixed + b"\0\0\0\0"))
+    fixed += bytes([seen, stamp[0]]) + stamp[1].rjust(8, b"\0") + mtu.to_bytes(4, "big")
+    return datagram(destination, source, hops, message(0, fixed + b"\0\0\0\0" + data))
 
 
 def lines(*datagrams):
@@ -136,8 +152,8 @@ class Story(unittest.TestCase):
 
 
 class Net(unittest.TestCase):
-    def silent(self, leg, *says, more="", words=(), mtu=1500):
-        status, output, complaints = run_net(more, *words, mtu=mtu)
+    def silent(self, leg, *says, more="", words=(), mtu=1500, wrong=None):
+        status, output, complaints = run_net(more, *words, mtu=mtu, wrong=wrong)
         self.assertEqual((status, complaints), (1, ""), output)
         self.assertIn(f"\nSilence begins at leg {leg}", output)
         for text in says:
@@ -211,6 +227,27 @@ class Net(unittest.TestCase):
                     more="port Mid 3 10.3.3.4 255.255.255.0 40\nroute Mid 0 10.3.3.0 255.255.255.0 3 up\n",
                     words=("octets=15",))
 
+    def test_a_relay_that_refuses_the_whole_call(self):
+        """The library does not do so here; wrong relays do. Its number is told, and nothing of the way onward."""
+        back = "route Mid 1 10.1.1.0 255.255.255.0 2 up\nlink Near 2 Mid 2 8000\n"
+        self.silent(2, "By its settings Near refuses the reply: 16, no such port is set up.\n   So it would", more=back,
+                    wrong="deaf")
+        there = "route Near 0 10.0.0.0 255.0.0.0 2 up\nlink Near 2 Mid 2 8000\n"
+        self.silent(2, "By its settings Mid refuses the request: 16, no such port is set up.\n   So it would", more=there,
+                    wrong="deaf")
+        self.silent(1, "By its settings Near refuses the request: 17, too little room for the output.\n", wrong="cramped")
+        self.assertEqual(run_net(back, wrong=""), run_net(back))
+
+    def test_echo_drop_is_any_number_but_0(self):
+        more = "echo-drop Unit on\n"
+        self.silent(3, "By its settings Unit makes no reply: echo drop is on.\n", more=more, wrong="two")
+        self.assertEqual(run_net(more, wrong="two"), run_net(more))
+
+    def test_the_identifier(self):
+        for words, said in ((), 1), (("identifier=0",), 0), (("identifier=65535",), 65535):
+            status, output, _ = run_net("", *words)
+            self.assertEqual((status, output.split("\n")[0]), (0, f"From 10.1.1.4 to 10.3.3.14, identifier {said}"))
+
     def test_a_ring(self):
         status, output, _ = run_net("route Mid 0 10.3.3.0 255.255.255.0 0 up\n", "hops=5")
         self.assertEqual((status, len(rows(output))), (1, 5))
@@ -264,6 +301,8 @@ class Net(unittest.TestCase):
                             (("Near", "1", "10.3.3.14", "hops=0"), "not understood: hops=0"),
                             (("Near", "1", "10.3.3.14", "hops=256"), "not understood: hops=256"),
                             (("Near", "1", "10.3.3.14", "octets=401"), "not understood: octets=401"),
+                            (("Near", "1", "10.3.3.14", "identifier=65536"), "not understood: identifier=65536"),
+                            (("Near", "1", "10.3.3.14", "identifier="), "not understood: identifier="),
                             (("Near", "1", "10.3.3.14", "rates=1,"), "not understood: rates=1,"),
                             (("Near", "1", "10.3.3.14", "rates=0"), "not understood: rates=0"),
                             (("Near", "1", "10.3.3.14", "rates=" + "1," * 255 + "1"), "not understood: rates="),
@@ -280,7 +319,7 @@ class Net(unittest.TestCase):
 
 
 class Captured(unittest.TestCase):
-    GOOD = (request(1, 1), reply(1, 1, "10.1.1.2", stamp=5), request(2, 2), reply(2, 2, "10.1.1.2"),
+    GOOD = (request(1, 1, stamp=at(5)), reply(1, 1, "10.1.1.2", stamp=at(5)), request(2, 2), reply(2, 2, "10.1.1.2"),
             reply(2, 1, "10.2.2.4", mtu=200), request(3, 3), reply(3, 1, "10.9.9.14"), reply(3, 2, "10.2.2.4"),
             reply(3, 3, "10.1.1.2"))
     SILENT = GOOD[:6] + GOOD[7:] + (request(4, 4), reply(4, 4, "10.1.1.2"), reply(4, 3, "10.2.2.4"))
@@ -293,7 +332,7 @@ class Captured(unittest.TestCase):
     def test_all_answer(self):
         output = self.look(0, *self.GOOD, words=("rates=2400,800",))
         self.assertEqual([row[:11] for row in rows(output)],
-                         [("1", "10.1.1.2", "1", "1", "3", "3", "22", "39", "0.2033", "1500", "5"),
+                         [("1", "10.1.1.2", "1", "1", "3", "3", "26", "39", "0.2167", "1500", "5"),
                           ("2", "10.2.2.4", "2", "1", "2", "2", "22", "39", "0.6100", "200", "-"),
                           ("3", "10.9.9.14", "3", "1", "1", "1", "22", "39", "-", "1500", "-")])
         self.assertTrue(output.endswith("\n10.9.9.14 answers over 3 legs: none is silent.\n"))
@@ -339,6 +378,8 @@ class Captured(unittest.TestCase):
             output = self.look(0, asked, reply(1, 8, near, destination=to), reply(1, 7, far, destination=to))
             self.assertEqual([row[1] for row in rows(output)], [near, far])
         self.look(1, asked, reply(1, 8, "10.1.1.2"), reply(1, 7, "10.2.2.14"))
+        output = self.look(1, asked, reply(1, 8, "10.1.1.2", destination="10.1.1.5"))
+        self.assertIn(", 1 replies to\n", output)
 
     def test_two_ways(self):
         """One identifier for two senders, another for a third way; each has its table."""
@@ -348,11 +389,115 @@ class Captured(unittest.TestCase):
                          [("10.1.1.4", "7"), ("10.4.4.4", "7"), ("10.1.1.4", "8")])
         self.assertEqual([row[1] for row in rows(output)], ["silent", "10.9.9.14", "10.9.9.14"])
 
+    def run_of(self, begins, answered):
+        """Two requests, one after the other, and what answers them: a relay, then the destination."""
+        asked = [request(hops, hops, stamp=at(begins + 8 * hops)) for hops in (1, 2)]
+        return asked + answered * [reply(1, 1, "10.1.1.2", stamp=at(begins + 8)),
+                                   reply(2, 2, "10.1.1.2", stamp=at(begins + 16)),
+                                   reply(2, 1, "10.9.9.14", stamp=at(begins + 16))]
+
+    def test_a_later_run_speaks_for_itself(self):
+        """The same identifier and sequence numbers again, at a later time."""
+        for first, second in (True, False), (False, True), (True, True), (False, False):
+            output = self.look(int(not (first and second)), *self.run_of(1000, first), *self.run_of(900000, second))
+            tables = output.split("From ")[1:]
+            self.assertEqual([table.split("\n")[0] for table in tables],
+                             ["10.1.1.4 to 10.9.9.14, identifier 7", "10.1.1.4 to 10.9.9.14, identifier 7, run 2"])
+            for table, answered in zip(tables, (first, second)):
+                self.assertEqual("none is silent" in table, answered)
+                self.assertEqual("Silence begins at leg 1." in table, not answered)
+            self.assertNotIn("Passed over", output)
+
+    def test_a_longer_run_behind_a_shorter_one(self):
+        more = [request(hops, hops, stamp=at(900000 + 8 * hops)) for hops in (3, 4)]
+        output = self.look(1, *self.run_of(1000, True), *self.run_of(900000, False), *more)
+        self.assertIn("run 2\n", output)
+        self.assertIn("Silence begins at leg 1. Hop counts up to 4 were sent.\n", output)
+
+    def test_replies_that_are_missing(self):
+        """One identifier, and sequence numbers that go on: no leg is silent for good, but all is not clear."""
+        for intermediate in True, False:
+            asked = [request(number, 1, intermediate=intermediate) for number in (1, 2)]
+            output = self.look(1, *asked, reply(1, 1, "10.9.9.14"))
+            self.assertTrue(output.endswith("\n10.9.9.14 answers over 1 leg, but replies to some requests are missing.\n"))
+            self.look(0, *asked, reply(1, 1, "10.9.9.14"), reply(2, 1, "10.9.9.14"))
+
+    def test_what_is_captured_twice(self):
+        """Hop count and a checksum change on the way, and nothing else does."""
+        asked = request(1, 2, stamp=at(5), data=b"x")
+        for other, repeats in ((request(1, 1, stamp=at(5), data=b"x"), True), (request(1, 2, stamp=at(6), data=b"x"), False),
+                               (request(1, 2, stamp=at(5), data=b"y"), False), (request(1, 2, stamp=at(5)), False),
+                               (request(1, 2, stamp=(1, b"\0\0\5"), data=b"x"), False),
+                               (request(1, 2, stamp=at(5), data=b"x", intermediate=False), False)):
+            output = self.look(1, asked, other)
+            self.assertEqual((" 1 seen before" in output, ", run 2\n" in output), (repeats, not repeats), other)
+        one, other = (request(1, 2, stamp=with_p_field(p_field)) for p_field in (0x1c, 0x2c))
+        self.assertIn(", run 2\n", self.look(1, one, other))
+        answer = reply(1, 2, "10.1.1.2", stamp=at(5), data=b"x")
+        for other, repeats in ((reply(1, 2, "10.1.1.2", stamp=at(5), data=b"x", hops=61), 1),
+                               (reply(1, 2, "10.1.1.2", stamp=at(5), data=b"x", mtu=40), 0),
+                               (reply(1, 2, "10.1.1.2", stamp=at(5)), 0)):
+            self.assertEqual(" 1 seen before" in self.look(1, asked, answer, other), bool(repeats), other)
+
+    def test_a_reply_brings_back_the_timestamp(self):
+        """Each format, one with a P-field in each of its lengths; another time or format is no answer."""
+        stamps = [NO_STAMP, (1, b"\1\2\3"), at(5), (2, b"\x9f" + b"\xff" * 7)]
+        stamps += [(2, bytes([0x10 | basic << 2 | fine]) + b"\7" * (basic + 1 + fine)) for basic in range(4)
+                   for fine in range(4)]
+        for stamp in stamps:
+            self.look(0, request(1, 1, stamp=stamp), reply(1, 1, "10.9.9.14", stamp=stamp))
+        for stamp in at(6), NO_STAMP, (1, b"\0\0\5"):
+            output = self.look(1, request(1, 1, stamp=at(5)), reply(1, 1, "10.9.9.14", stamp=stamp))
+            self.assertIn(", 1 replies to\nno request seen.\n", output)
+        output = self.look(1, request(1, 1, stamp=with_p_field(0x1c)), reply(1, 1, "10.9.9.14", stamp=with_p_field(0x2c)))
+        self.assertIn(", 1 replies to\nno request seen.\n", output)
+
+    def test_a_reply_brings_back_the_data(self):
+        """They may be cut."""
+        for data, status in ((b"abc", 0), (b"ab", 0), (b"", 0), (b"abd", 1), (b"abcd", 1)):
+            self.look(status, request(1, 1, data=b"abc"), reply(1, 1, "10.9.9.14", data=data))
+
+    def test_two_destinations(self):
+        """The same numbers to both. What the relay before them says may answer either, and that is said."""
+        both = [request(hops, hops, destination=far) for far in ("10.2.2.14", "10.3.3.14") for hops in (1, 2)]
+        output = self.look(1, *both, reply(1, 1, "10.1.1.2"), reply(2, 2, "10.1.1.2"), reply(2, 1, "10.3.3.14"))
+        one, other = output.split("From ")[1:]
+        self.assertEqual([row[:6] for row in rows(one)],
+                         [("1", "unclear", "-", "-", "0", "2"), ("2", "silent", "-", "-", "0", "1")])
+        self.assertEqual([row[:6] for row in rows(other)],
+                         [("1", "unclear", "-", "-", "0", "2"), ("2", "10.3.3.14", "2", "1", "1", "1")])
+        for table in one, other:
+            self.assertIn("Replies that fit a request of another way or run just as well: 2. Which one\n", table)
+            self.assertNotIn("ilence begins", table)
+            self.assertNotIn("none is silent", table)
+        self.assertNotIn("Passed over", output)
+
+    def test_a_destination_answers_for_itself(self):
+        """Each of two is credited with its own reply, whichever was asked first."""
+        far = ("10.2.2.14", "10.3.3.14")
+        for answers in far:
+            output = self.look(1, *(request(1, 1, destination=one) for one in far), reply(1, 1, answers))
+            self.assertEqual([row[1] for row in rows(output)], [one if one == answers else "silent" for one in far])
+        self.look(0, *(request(1, 1, destination=one) for one in far), *(reply(1, 1, one) for one in far))
+
+    def test_the_timestamp_tells_two_destinations_apart(self):
+        asked = request(2, 2, destination="10.2.2.14", stamp=at(5)), request(2, 2, destination="10.3.3.14", stamp=at(6))
+        for stamp, answered in (5, ["10.1.1.2", "silent", "silent"]), (6, ["silent", "10.1.1.2", "silent"]):
+            output = self.look(1, *asked, reply(2, 2, "10.1.1.2", stamp=at(stamp)))
+            self.assertEqual([row[1] for row in rows(output)], answered)
+
+    def test_a_request_that_does_not_fit_hides_no_other(self):
+        """The first was sent with a hop count under the one that was seen."""
+        output = self.look(1, request(1, 1, destination="10.2.2.14"), request(1, 3), reply(1, 3, "10.1.1.2"),
+                           reply(1, 2, "10.9.9.14"))
+        self.assertEqual([row[:4] for row in rows(output)],
+                         [("1", "silent", "-", "-"), ("1", "10.1.1.2", "3", "3"), ("2", "10.9.9.14", "3", "2")])
+
     def test_what_is_passed_over(self):
         """Other traffic, repeats, and replies that belong to no request or saw more hops than were sent."""
         others = (datagram("10.9.9.14", "10.1.1.4", 8, b"dose", transport=5),
                   datagram("10.9.9.14", "10.1.1.4", 8, message(11, b"\0" * 8)), request(9, None))
-        strays = (reply(5, 1, "10.1.1.2"), reply(1, 2, "10.1.1.2"))
+        strays = (reply(5, 1, "10.1.1.2"), reply(2, 3, "10.1.1.2"))
         output = self.look(0, *others, *self.GOOD, self.GOOD[0], self.GOOD[1], *strays)
         self.assertEqual(rows(output), rows(self.look(0, *self.GOOD)))
         self.assertTrue(output.endswith("\nPassed over: 3 that are no echo messages, 2 seen before, 2 replies to\n"
@@ -391,7 +536,7 @@ class Captured(unittest.TestCase):
                              (2, "", f"silent-leg: standard input, line 3: {says}\n"), line[:80])
 
     def test_settings_of_a_net(self):
-        for word in "hops=3", "octets=3", "scene=3":
+        for word in "hops=3", "octets=3", "scene=3", "identifier=3":
             says = f"silent-leg: goes with a scenario alone: {word}\nsilent-leg: try --help\n"
             self.assertEqual(run(word), (2, "", says))
 

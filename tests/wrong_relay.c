@@ -1,9 +1,10 @@
 /*
  * wrong_relay.c: wrong relays, to show that the rehearsal and the flood find
- * them out. They stand in for hj_take, hj_receive_at, hj_sweep, hj_counter and
- * hj_echo (by the linker's --wrap) in build/rehearsal_wrong and
- * build/flood_wrong; the variable WRONG_RELAY says which one. Where it is not
- * set, or is another word, the relay is the right one.
+ * them out, and that silent-leg says what they answer. They stand in for
+ * hj_take, hj_receive_at, hj_sweep, hj_counter, hj_echo and hj_set_echo_drop
+ * (by the linker's --wrap) in build/rehearsal_wrong, build/flood_wrong and
+ * build/silent-leg_wrong; the variable WRONG_RELAY says which one. Where it is
+ * not set, or is another word, the relay is the right one.
  *
  *   lose      loses the first entry where two or more wait: its ledger does
  *             not close
@@ -23,6 +24,9 @@
  *   stranger  answers an echo under the name of another system
  *   astray    sends the reply to another system than the one that asked
  *   less      says that an echo request came with a hop count one lower
+ *   deaf      refuses what comes by port 2, as if that were not set up
+ *   cramped   answers no echo, as if it were lent too little room
+ *   two       keeps echo drop, where it is on, as a 2, which no call writes
  */
 #include <stdbool.h>
 #include <stdlib.h>
@@ -49,6 +53,10 @@ hj_verdict __real_hj_receive_at(BOARD, MISSION, ARRIVAL);
 hj_verdict __wrap_hj_receive_at(BOARD, MISSION, ARRIVAL);
 hj_verdict __real_hj_echo(BOARD, MISSION, REQUEST);
 hj_verdict __wrap_hj_echo(BOARD, MISSION, REQUEST);
+uint32_t __real_hj_set_echo_drop(hj_board *board, size_t board_words,
+                                 uint32_t drop);
+uint32_t __wrap_hj_set_echo_drop(hj_board *board, size_t board_words,
+                                 uint32_t drop);
 uint32_t __real_hj_sweep(BOARD, MISSION, uint32_t second);
 uint32_t __wrap_hj_sweep(BOARD, MISSION, uint32_t second);
 hj_answer __real_hj_counter(const hj_mission *mission, size_t mission_words,
@@ -234,9 +242,10 @@ static void say_less(uint8_t *output, const hj_reading *reading)
 
 hj_verdict __wrap_hj_echo(BOARD, MISSION, REQUEST)
 {
+    size_t lent = wrong("cramped") ? 0 : room;
     hj_verdict verdict =
         __real_hj_echo(LENT, routes, route_count, port, slot, octets, length,
-                       output, room);
+                       output, lent);
     hj_reading reading = hj_read(output, hj_reply_octets(verdict));
 
     if (hj_onward(verdict) != HJ_SENT_ON)
@@ -251,6 +260,17 @@ hj_verdict __wrap_hj_echo(BOARD, MISSION, REQUEST)
         reading.fields.destination_low ^= 0x20;
     write_again(&reading, output);
     return verdict;
+}
+
+/* Echo drop is the board's last word. */
+uint32_t __wrap_hj_set_echo_drop(hj_board *board, size_t board_words,
+                                 uint32_t drop)
+{
+    uint32_t refusal = __real_hj_set_echo_drop(board, board_words, drop);
+
+    if (wrong("two") && refusal == HJ_DONE)
+        board->words[HJ_BOARD_WORDS - 1] *= 2;
+    return refusal;
 }
 
 /* ---- What is wrapped besides ------------------------------------------- */
@@ -270,6 +290,8 @@ hj_verdict __wrap_hj_receive_at(BOARD, MISSION, ARRIVAL)
     bool flooded = fields.routing == 3 && fields.stamp_format != HJ_STAMP_NONE;
     hj_verdict verdict;
 
+    if (port == 2 && wrong("deaf"))
+        return HJ_NO_PORT;
     if (flooded && wrong("forget"))
         return receive_restamped(LENT, ARRIVED(octets), new_stamp());
     if (flooded && wrong("source"))

@@ -3,9 +3,10 @@
  * makes the reply (hj_echo); a slot of its own keeps it, and it waits on the
  * port like any other entry until a take hands it out.
  *
- * Where no reply is made, hj_echo gives no number. The story has to say why all
- * the same, so the cause is looked for here, in the request and the settings;
- * the last one is left where no other holds.
+ * Where no reply is made and the call is not refused as a whole, hj_echo gives
+ * no number. The story has to say why all the same, so the cause is looked for
+ * here, in the request and the settings; the last one is left where no other
+ * holds.
  */
 #include "answers.h"
 
@@ -14,6 +15,7 @@
 #include "beside.h"
 #include "foretold.h"
 #include "meaning.h"
+#include "names.h"
 #include "slots.h"
 #include "told_echo.h"
 
@@ -40,11 +42,13 @@ static bool is_for_many(const struct node *node, uint32_t mission,
 }
 
 static const char *why_none(const struct node *node, uint32_t port,
-                            const struct datagram *came)
+                            const struct datagram *came, hj_verdict verdict)
 {
     hj_fields fields = meaning_at(node, port, came);
 
-    if (hj_value(hj_get_echo_drop(LENT_BOARD(node))) == 1)
+    if (hj_ended_by(verdict) != HJ_DONE)
+        return number_name(hj_ended_by(verdict));
+    if (hj_value(hj_get_echo_drop(LENT_BOARD(node))) != 0)
         return "echo drop is on";
     if (fields.routing == FLOODED)
         return "the request is flooded";
@@ -82,7 +86,7 @@ void answer_echo(uint32_t at, uint32_t port, const struct datagram *came)
     slots_count(node, kept);
     beside_echo(node, arrival, kept);
     if (hj_onward(kept->verdict) == HJ_NO_REPLY) {
-        told_no_answer(why_none(node, port, came));
+        told_no_answer(why_none(node, port, came, kept->verdict));
         return;
     }
     told_answer(node, mission, kept, before);

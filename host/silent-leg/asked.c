@@ -64,9 +64,10 @@ static bool read_argument(const char *argument, struct asked *asked)
     const char *scene = value_of(argument, "scene");
     const char *hops = value_of(argument, "hops");
     const char *octets = value_of(argument, "octets");
+    const char *identifier = value_of(argument, "identifier");
     const char *rates = value_of(argument, "rates");
 
-    if (scene != NULL || hops != NULL || octets != NULL)
+    if (scene != NULL || hops != NULL || octets != NULL || identifier != NULL)
         asked->for_net = argument;
     if (scene != NULL) {
         asked->scene = scene;
@@ -76,6 +77,8 @@ static bool read_argument(const char *argument, struct asked *asked)
         return read_number(hops, 1, 255, &asked->hops);
     if (octets != NULL)
         return read_number(octets, 0, MOST_DATA, &asked->octets);
+    if (identifier != NULL)
+        return read_number(identifier, 0, 65535, &asked->identifier);
     if (rates != NULL)
         return read_rates(rates, asked);
     if (asked->word_count == MOST_WORDS)

@@ -16,6 +16,7 @@ struct asked {
     const char *for_net;  /* the last setting that a net alone has; or null */
     uint32_t hops;             /* the greatest hop count to send */
     uint32_t octets;           /* of data in each request */
+    uint32_t identifier;       /* of the requests */
     uint32_t rates[MOST_RATES]; /* bits a second, of leg 1 and so on */
     uint32_t rate_count;
 };

@@ -12,6 +12,9 @@ struct echo {
     uint32_t octets;  /* of the datagram */
     hj_fields fields; /* of its header */
     hj_message says;
+    const uint8_t *message; /* the octets behind the header */
+    uint32_t message_octets;
+    uint32_t run; /* of a request: which run of its way, from 0 on */
 };
 
 struct echoes {
@@ -29,12 +32,8 @@ uint32_t echoes_take(const uint8_t *octets, size_t count);
 uint32_t echoes_others(void);
 uint32_t echoes_repeats(void);
 
-/* The request that a reply answers, by identifier, sequence and who asked; null
- * where there is none, or the reply saw a higher hop count than it had. */
-const struct echo *echoes_request_of(const struct echo *reply);
-
-/* Whether a reply to the request comes from its destination. */
-bool echoes_is_destination(const struct echo *request,
-                           const struct echo *reply);
+/* Whether two requests belong to one run of one way. A way is identifier,
+ * source and destination; in a run no sequence number comes twice. */
+bool echoes_are_one_run(const struct echo *one, const struct echo *other);
 
 #endif

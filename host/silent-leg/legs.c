@@ -25,14 +25,6 @@ uint32_t legs_number(const struct echo *request, const struct echo *reply)
     return request->fields.hop_count - reply->says.hop_count + 1;
 }
 
-bool legs_are_one_way(const struct echo *one, const struct echo *other)
-{
-    return one->says.identifier == other->says.identifier &&
-           one->fields.extended == other->fields.extended &&
-           one->fields.source_low == other->fields.source_low &&
-           one->fields.destination_low == other->fields.destination_low;
-}
-
 static void ask(struct legs *legs, const struct echo *request)
 {
     uint32_t hops = request->fields.hop_count;
@@ -48,9 +40,16 @@ static void ask(struct legs *legs, const struct echo *request)
         legs->furthest = furthest;
 }
 
-static void answer(struct legs *legs, const struct echo *request,
+static void reach(struct legs *legs, uint32_t number)
+{
+    if (number > legs->last)
+        legs->last = number;
+}
+
+static void answer(struct legs *legs, const struct match *match,
                    const struct echo *reply)
 {
+    const struct echo *request = match->request;
     uint32_t number = legs_number(request, reply);
     struct leg *leg = &legs->of[number];
 
@@ -63,15 +62,40 @@ static void answer(struct legs *legs, const struct echo *request,
         leg->request = request;
         leg->reply = reply;
     }
-    if (number > legs->last)
-        legs->last = number;
-    legs->arrived = legs->arrived || echoes_is_destination(request, reply);
+    reach(legs, number);
+    legs->arrived = legs->arrived || match->fit == FITS_DESTINATION;
+}
+
+/* A reply that fits several requests, one of which may be of this way. */
+static void doubt(struct legs *legs, const struct match *match,
+                  const struct echo *reply)
+{
+    for (uint32_t i = 0; i < requests.count; i++) {
+        const struct echo *request = &requests.first[i];
+
+        if (!echoes_are_one_run(request, legs->first) ||
+            matches_fit(reply, request) != match->fit)
+            continue;
+        legs->of[legs_number(request, reply)].unclear++;
+        legs->unclear++;
+        reach(legs, legs_number(request, reply));
+    }
+}
+
+static void hear(struct legs *legs, const struct echo *reply)
+{
+    struct match match = matches_find(reply);
+
+    if (match.count > 1)
+        doubt(legs, &match, reply);
+    else if (match.count == 1 && echoes_are_one_run(match.request, legs->first))
+        answer(legs, &match, reply);
 }
 
 static void ask_all(struct legs *legs)
 {
     for (uint32_t i = 0; i < requests.count; i++) {
-        if (legs_are_one_way(&requests.first[i], legs->first))
+        if (echoes_are_one_run(&requests.first[i], legs->first))
             ask(legs, &requests.first[i]);
     }
 }
@@ -81,12 +105,8 @@ void legs_find(const struct echo *first, struct legs *legs)
     memset(legs, 0, sizeof *legs);
     legs->first = first;
     ask_all(legs);
-    for (uint32_t i = 0; i < replies.count; i++) {
-        const struct echo *request = echoes_request_of(&replies.first[i]);
-
-        if (request != NULL && legs_are_one_way(request, first))
-            answer(legs, request, &replies.first[i]);
-    }
+    for (uint32_t i = 0; i < replies.count; i++)
+        hear(legs, &replies.first[i]);
 }
 
 uint32_t legs_silent(const struct legs *legs)
@@ -107,6 +127,15 @@ bool legs_any_skipped(const struct legs *legs)
             return true;
     }
     return false;
+}
+
+bool legs_any_missing(const struct legs *legs)
+{
+    for (uint32_t leg = 1; leg <= legs->last; leg++) {
+        if (legs->of[leg].answered < legs->of[leg].asked)
+            return true;
+    }
+    return legs->unanswered > 0;
 }
 
 static bool same_relay(const struct leg *one, const struct leg *other)

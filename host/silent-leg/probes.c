@@ -1,6 +1,7 @@
 /*
- * probes.c: the requests have hop counts 1, 2, 3 and so on, and the hop count
- * as their sequence number. Each asks one relay more than the one before it.
+ * probes.c: the requests have hop counts 1, 2, 3 and so on, the hop count as
+ * their sequence number, and the identifier that was asked for. Each asks one
+ * relay more than the one before it.
  * They have intermediate delivery, no precedence, so that they overtake
  * nothing, and as timestamp the net's clock in milliseconds, which the replies
  * bring back.
@@ -15,11 +16,10 @@
 #include "scenario/net.h"
 #include "scenario/replies.h"
 
-#define IDENTIFIER 1
 #define PATIENCE 3
 
-void probes_build(const struct route *route, uint32_t octets, uint32_t hops,
-                  struct datagram *request)
+void probes_build(const struct route *route, const struct asked *asked,
+                  uint32_t hops, struct datagram *request)
 {
     uint8_t message[MOST_USER_DATA];
     hj_fields fields = {.destination_low = route->destination,
@@ -33,9 +33,11 @@ void probes_build(const struct route *route, uint32_t octets, uint32_t hops,
                         .stamp_format = HJ_STAMP_BINARY,
                         .intermediate = 1};
 
-    (void)datagram_build(
-        &fields, message,
-        message_request(IDENTIFIER, (uint16_t)hops, octets, message), request);
+    (void)datagram_build(&fields, message,
+                         message_request((uint16_t)asked->identifier,
+                                         (uint16_t)hops, asked->octets,
+                                         message),
+                         request);
 }
 
 /* What was delivered before is forgotten; there is no room for all of it. */
@@ -61,13 +63,12 @@ struct heard {
 /* A reply that was taken in. */
 static void hear(struct heard *heard, const struct echo *reply)
 {
-    const struct echo *request = echoes_request_of(reply);
-    uint32_t leg = request != NULL ? legs_number(request, reply) : 0;
+    struct match match = matches_find(reply);
+    uint32_t leg = match.count == 1 ? legs_number(match.request, reply) : 0;
 
     if (leg > heard->leg)
         heard->leg = leg;
-    heard->arrived = heard->arrived || (request != NULL &&
-                                        echoes_is_destination(request, reply));
+    heard->arrived = heard->arrived || match.fit == FITS_DESTINATION;
 }
 
 static void take_replies(uint32_t node, struct heard *heard)
@@ -90,7 +91,7 @@ void probes_send(const struct route *route, const struct asked *asked)
 
     for (uint32_t hops = 1; hops <= asked->hops; hops++) {
         begin();
-        probes_build(route, asked->octets, hops, &request);
+        probes_build(route, asked, hops, &request);
         (void)echoes_take(request.octets, request.length);
         (void)net_send(route->node, route->port, &request);
         net_start_wires();

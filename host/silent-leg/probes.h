@@ -11,8 +11,8 @@ struct route {
 };
 
 /* One of them. */
-void probes_build(const struct route *route, uint32_t octets, uint32_t hops,
-                  struct datagram *request);
+void probes_build(const struct route *route, const struct asked *asked,
+                  uint32_t hops, struct datagram *request);
 /* Sends them one after the other, each when all is quiet again, and takes in
  * what comes back, until the destination answers, the greatest hop count was
  * sent, or too many brought nothing new. */

@@ -16,14 +16,24 @@
 
 /* ---- By the settings --------------------------------------------------- */
 
+/* A call that is refused as a whole says nothing of the way onward. */
+static void tell_refused(const char *what, uint32_t number)
+{
+    printf("refuses %s: %" PRIu32 ", %s.\n", what, number,
+           number_name(number));
+}
+
 /* Why the relay at the end of a way does not send on what came there. */
 static void tell_end(const struct step *step, const char *what)
 {
     const char *name = nodes[step->peer].name;
+    uint32_t ended = hj_ended_by(step->verdict);
     uint32_t onward = hj_onward(step->verdict);
 
     printf("   By its settings %s ", name);
-    if (onward == HJ_SENT_ON)
+    if (ended != HJ_DONE)
+        tell_refused(what, ended);
+    else if (onward == HJ_SENT_ON)
         printf("sends %s on by port %" PRIu32 ", which has no link.\n", what,
                way_port(hj_took(step->verdict)));
     else if (onward == HJ_NOT_ASKED)
@@ -51,20 +61,32 @@ static bool comes_back(const struct step *step, uint32_t asker)
     return false;
 }
 
+/* The number by which the relay refuses to receive the request, or to answer
+ * it; HJ_DONE where it refuses neither. */
+static uint32_t whole_refusal(const struct step *step)
+{
+    uint32_t ended = hj_ended_by(step->verdict);
+
+    return ended != HJ_DONE ? ended : hj_ended_by(step->echo);
+}
+
 /* What the relay at the end of the leg answers; whether it would be heard. */
 static bool tell_answer(const struct step *step, uint32_t asker)
 {
     const struct node *node = &nodes[step->peer];
+    uint32_t ended = whole_refusal(step);
     uint32_t onward = hj_onward(step->echo);
-    bool drops = hj_value(hj_get_echo_drop(LENT_BOARD(node))) == 1;
+    bool drops = hj_value(hj_get_echo_drop(LENT_BOARD(node))) != 0;
 
     printf("   By its settings %s ", node->name);
-    if (onward == HJ_SENT_ON) {
+    if (ended == HJ_DONE && onward == HJ_SENT_ON) {
         printf("answers, and the reply goes back by port %" PRIu32 ".\n",
                way_port(hj_took(step->echo)));
         return comes_back(step, asker);
     }
-    if (onward == HJ_NO_REPLY)
+    if (ended != HJ_DONE)
+        tell_refused("the request", ended);
+    else if (onward == HJ_NO_REPLY)
         printf("makes no reply%s.\n", drops ? ": echo drop is on" : "");
     else
         printf("makes a reply that does not go out: %" PRIu32 ", %s.\n", onward,
@@ -160,21 +182,39 @@ static void tell_open(const struct legs *legs)
                legs->unanswered);
 }
 
+static void tell_unclear(const struct legs *legs)
+{
+    printf("Replies that fit a request of another way or run just as well: "
+           "%" PRIu32 ". Which one\nthey answer is not clear, so nothing is "
+           "said of this way. Let each have an\nidentifier of its own.\n",
+           legs->unclear);
+}
+
+static bool tell_arrived(const struct legs *legs)
+{
+    const hj_fields *fields = &legs->first->fields;
+    bool missing = legs_any_missing(legs);
+
+    printf("%s answers over %" PRIu32 " %s%s\n",
+           table_address(fields->destination_low, fields->extended),
+           legs->last, legs->last == 1 ? "leg" : "legs",
+           missing ? ", but replies to some requests are missing."
+                   : ": none is silent.");
+    return !missing;
+}
+
 bool silence_tell(const struct legs *legs, const struct known *known,
                   const struct way *way)
 {
-    const hj_fields *fields = &legs->first->fields;
-
+    if (legs->unclear > 0) {
+        tell_unclear(legs);
+        return false;
+    }
     tell_all_skipped(legs, way);
     tell_ring(legs);
     if (legs_silent(legs) > 0)
         tell_silent(legs, known, way);
     else if (!legs->arrived)
         tell_open(legs);
-    if (!legs->arrived || legs_any_skipped(legs))
-        return false;
-    printf("%s answers over %" PRIu32 " %s: none is silent.\n",
-           table_address(fields->destination_low, fields->extended),
-           legs->last, legs->last == 1 ? "leg" : "legs");
-    return true;
+    return legs->arrived && !legs_any_skipped(legs) && tell_arrived(legs);
 }

@@ -3,7 +3,7 @@
  * (W-203).
  *
  *     silent-leg SCENARIO NODE PORT ADDRESS [scene=TITLE] [hops=N] [octets=N]
- *                [rates=N,N,...]
+ *                [identifier=N] [rates=N,N,...]
  *     silent-leg [CAPTURED] [rates=N,N,...]
  *
  * On the net of a scenario it sends echo requests with growing hop counts and
@@ -14,7 +14,8 @@
  * Its parts, each of which uses only those above it:
  *
  *   asked.c, echoes.c       the arguments; the echoes that were seen
- *   legs.c                  which leg each reply speaks of
+ *   matches.c, legs.c       which request each reply answers; which leg it
+ *                           speaks of
  *   way.c                   the way that a scenario's settings foretell
  *   probes.c, captured.c    the echoes of a net, and of captured datagrams
  *   table.c, silence.c      the table; what the silence can mean
@@ -35,22 +36,22 @@ static const struct program PROGRAM = {
     "silent-leg",
     "usage: silent-leg [--help | --version]\n"
     "       silent-leg SCENARIO NODE PORT ADDRESS [scene=TITLE] [hops=N]\n"
-    "                  [octets=N] [rates=N,N,...]\n"
+    "                  [octets=N] [identifier=N] [rates=N,N,...]\n"
     "       silent-leg [CAPTURED] [rates=N,N,...]\n"
     "\n"
     "Finds the leg at which silence begins, by echo requests with growing hop\n"
     "counts. On the net of a scenario, as it stands at the end of the scene\n"
     "whose title begins with TITLE or at the end of the file, it sends them\n"
     "from a node by a port to an address of four octets: hop counts up to 16,\n"
-    "or N, each with N octets of data, 0 where none is said. Or it reads\n"
-    "captured datagrams, one a line in hexadecimal, from a file or from\n"
-    "standard input. Rates are bits a second of leg 1, leg 2 and so on; the\n"
-    "links of a scenario have their own. docs/REHEARSAL.md says how to read\n"
-    "the table.\n"
+    "or N, each with N octets of data, 0 where none is said, and identifier\n"
+    "1, or N. Or it reads captured datagrams, one a line in hexadecimal, from\n"
+    "a file or from standard input. Rates are bits a second of leg 1, leg 2\n"
+    "and so on; the links of a scenario have their own. docs/REHEARSAL.md\n"
+    "says how to read the table.\n"
     "\n"
-    "Status: 0 the address answers, and so does each relay that was asked; 1\n"
-    "not so; 2 bad usage, a line that is not understood, or a file or the\n"
-    "output failed.\n",
+    "Status: 0 the address answers, and so does each relay, each time that it\n"
+    "was asked; 1 not so; 2 bad usage, a line that is not understood, or a\n"
+    "file or the output failed.\n",
     true,
 };
 
@@ -115,7 +116,7 @@ static int on_net(const struct asked *asked, struct known *known)
     if (words_perform(&net) != 0)
         return 2;
     route = read_route(asked);
-    probes_build(&route, asked->octets, 255, &request);
+    probes_build(&route, asked, 255, &request);
     way_find(route.node, route.port, &request, &way);
     know_links(&way, known);
     know_rates(asked, known);
@@ -127,11 +128,11 @@ static int on_net(const struct asked *asked, struct known *known)
 
 /* ---- Captured datagrams ------------------------------------------------ */
 
-/* Whether no request before it goes the same way. */
-static bool begins_way(uint32_t which)
+/* Whether no request before it goes the same way in the same run. */
+static bool begins_run(uint32_t which)
 {
     for (uint32_t i = 0; i < which; i++) {
-        if (legs_are_one_way(&requests.first[i], &requests.first[which]))
+        if (echoes_are_one_run(&requests.first[i], &requests.first[which]))
             return false;
     }
     return true;
@@ -142,7 +143,7 @@ static uint32_t strays(void)
     uint32_t count = 0;
 
     for (uint32_t i = 0; i < replies.count; i++)
-        count += echoes_request_of(&replies.first[i]) == NULL;
+        count += matches_find(&replies.first[i]).count == 0;
     return count;
 }
 
@@ -165,7 +166,7 @@ static int on_captured(const struct asked *asked, struct known *known)
         return 2;
     know_rates(asked, known);
     for (uint32_t i = 0; i < requests.count; i++) {
-        if (!begins_way(i))
+        if (!begins_run(i))
             continue;
         legs_find(&requests.first[i], &legs);
         table_print(&legs, known);
@@ -178,7 +179,7 @@ static int on_captured(const struct asked *asked, struct known *known)
 int main(int count, char **arguments)
 {
     static struct known known[MOST_LEGS + 1];
-    struct asked asked = {.hops = 16};
+    struct asked asked = {.hops = 16, .identifier = 1};
     int status = options_status(&PROGRAM, arguments + (count > 0));
 
     if (status == OPTIONS_GO_ON)

@@ -74,6 +74,13 @@ static void print_answered(const struct leg *leg, const struct known *known)
            seconds, says->mtu, stamp);
 }
 
+static const char *unanswered(const struct leg *leg)
+{
+    if (leg->unclear > 0)
+        return "unclear";
+    return leg->asked > 0 ? "silent" : "not asked";
+}
+
 static void print_row(const struct leg *leg, uint32_t number,
                       const struct known *known)
 {
@@ -82,8 +89,8 @@ static void print_row(const struct leg *leg, uint32_t number,
         print_answered(leg, known);
     else
         printf("%-15s %4s %4s  %3" PRIu32 "/%-3" PRIu32 " %7s %5s %9s %5s %9s",
-               leg->asked > 0 ? "silent" : "not asked", "-", "-",
-               leg->answered, leg->asked, "-", "-", "-", "-", "-");
+               unanswered(leg), "-", "-", leg->answered, leg->asked, "-", "-",
+               "-", "-", "-");
     printf(*known->text != '\0' ? "  %s\n" : "\n", known->text);
 }
 
@@ -109,10 +116,13 @@ void table_print(const struct legs *legs, const struct known *known)
     uint32_t silent = legs_silent(legs);
     uint32_t rows = silent > 0 ? silent : legs->last;
 
-    printf("From %s to %s, identifier %" PRIu32 "\n",
+    printf("From %s to %s, identifier %" PRIu32,
            table_address(fields->source_low, fields->extended),
            table_address(fields->destination_low, fields->extended),
            legs->first->says.identifier);
+    if (legs->first->run > 0)
+        printf(", run %" PRIu32, legs->first->run + 1);
+    puts("");
     printf("leg  answered by     sent seen  replies request reply   seconds   "
            "MTU timestamp%s\n",
            *known[1].text != '\0' ? "  link" : "");

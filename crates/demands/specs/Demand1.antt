@@ -27,7 +27,7 @@ use Rattle.verdict.specs.Numbers.{localNumber}
 use Rattle.judge.specs.Remembered.{isUnheard}
 use Rattle.page.specs.Memory.{keptPlace, pageMemory}
 use Rattle.harpjuniper.specs.Face.{readingCount}
-use Rattle.harpjuniper_messages.specs.Face.{messageWords}
+use Rattle.harpjuniper_messages.specs.Face.{messageCount}
 use Rattle.contracts.specs.Promised.{Things, Result, lentTo, Exported, hj-fresh-board, hj-fresh-mission, hj-read-words, hj-build-words, hj-read-echo-words}
 use Rattle.contracts.specs.Contracts.{Lying, Contract, Says, Passable}
 use Rattle.contracts.specs.Functions.{functionOf, Unchecked}
@@ -280,7 +280,7 @@ pub record Demand1 : Type 2 where
       → Says (hj-read-words octets n) x → Says (hj-build-words n size o) y → Says (hj-read-echo-words octets n) z
       → ((length n ≡ readingCount → ⊥) → (x .answer ≡ 21) × (x .left .numbers ≡ n))
       × (((length n ≡ fieldWords → ⊥) → (y .answer ≡ refusalNumber 21) × (y .left .output ≡ o))
-      × ((length n ≡ messageWords → ⊥) → (z .answer ≡ 21) × (z .left .numbers ≡ n)))
+      × ((length n ≡ messageCount → ⊥) → (z .answer ≡ 21) × (z .left .numbers ≡ n)))
   -- "Nobody has to check first.": the code of each function, proved to do what its contract says, asks nothing of its caller.
   pub nobody-checks-first : (c : Exported) → Unchecked (functionOf c)
   -- "A refusal carries its number and leaves queues, settings and lent octets unchanged;": 9 to 15 and 30 of the onward half too, and a reply's 11, 14 and 15. The board, the list and the

@@ -4,17 +4,23 @@
 use Prim.Native.Nat.{ℕ, _+_, _%_, _^_, _<_, _≤_}
 use mathlib.Core.Path.{_≡_}
 use mathlib.Core.Logic.{_↔_, _≢_}
-use mathlib.Core.Bool.{Bool, true, false, _||_}
+use mathlib.Core.Bool.{true, false, _||_}
 use mathlib.Core.List.{List, [], _∷_, _++_}
 use lib.ListN.{length, take, drop, getD}
-use Rattle.checks.specs.Order.{pick}
+use Rattle.checks.specs.Order.{noneHolds, firstHolds}
+use Rattle.checks.specs.Answer.{refusalNumber}
 use Rattle.address.specs.declared.Address.{Address}
 use Rattle.address.specs.declared.Slot.{Slot}
-use Rattle.header.specs.Limits.{lengthLimit}
+use Rattle.header.specs.Limits.{mostData, lengthLimit}
 use Rattle.header.specs.Read.{readOf}
 use Rattle.header.specs.declared.Header.{Header}
 use Rattle.header.specs.declared.Read.the-variants as read
-use Rattle.echo.specs.Message.{readingOf, echoedIn}
+use Rattle.echo.specs.Message.{fixedSize, messageOctets, echoChecks, messageOf, readingOf, echoedIn}
+use Rattle.echo.specs.Built.{buildChecks}
+use Rattle.echo.specs.declared.Seen.{Seen}
+use Rattle.echo.specs.declared.Kind.{Kind}
+use Rattle.echo.specs.declared.Kind.the-variants.{Request, Reply}
+use Rattle.echo.specs.declared.Message.{Message}
 use Rattle.echo.specs.declared.Reading.the-variants as reading
 use Rattle.meaning.specs.Names.{aimOf, originOf}
 use Rattle.meaning.specs.declared.Aim.the-variants.{Node}
@@ -27,19 +33,21 @@ use Rattle.sets.specs.Sets.{inSet}
 use Rattle.state.specs.Relay.{Relay, portIn, routeIn}
 use Rattle.lent_state.specs.View.{tooLong}
 use Rattle.replies.specs.Request.{userData}
-use Rattle.replies.specs.Replied.{callChecks, answeringOf, wireFields, wireReply, echoedOf}
+use Rattle.replies.specs.Replied.{callChecks, answeringOf, wireFields, echoedOf}
 use Rattle.replies.specs.declared.Answering.{Answering}
 use Rattle.page.specs.Table.{GivenBy, aimAt, equalsPort, oneOctet, liesFar}
 use Rattle.page.specs.Sought.{RouteTaken}
-use Rattle.page.specs.Replies.{RequestAnswered, ReplyTo, ReplyVerdict, replyVerdict}
+use Rattle.page.specs.Replies.{RequestAnswered, ReplyTo, replyVerdict}
+use Rattle.harpjuniper_messages.specs.Face.{messageCount, messageWords}
 use Rattle.contracts.specs.Promised.{Result, lentTo, hj-echo}
 use Rattle.contracts.specs.Contracts.{Says}
 use Rattle.history.specs.Calls.{echoes, waiting, looks}
 use Rattle.history.specs.Outcome.{replied, ownOutcome}
 use Rattle.history.specs.Sums.{counted, portsIn}
 use Rattle.history.specs.Line.{Copy, takenOwn}
+use Rattle.history.specs.Ranges.{Octets}
 use Rattle.demands.specs.Trace.{Customer, numberOf, Step, flies, missionOf, made, wordsAfter, historyOf, boardOf, seatOf, relayOf, relayFor, Gives}
-use Rattle.demands.specs.ReadOut.{endedBy, localIn, onwardIn, tookIn, droppedIn, replyOctets, replyOut, counterAt}
+use Rattle.demands.specs.ReadOut.{endedBy, localIn, onwardIn, tookIn, droppedIn, replyOctets, replyOut, counterAt, ReadsEcho, BuildsEcho, messageIn, dataBegin}
 
 -- the reply that the relay r makes, if any, to octets that came in by port `at`
 abbrev pub replyMade : Customer → List Step → List Record → ℕ → List ℕ → List ℕ → Answering
@@ -95,7 +103,59 @@ replyPlaced who steps p at slot octets a x l =
     × ((c .arrival ≡ portIn (relayOf who steps) at .address)
     × ((c .entry ≡ record { slot = slot; precedence = a .precedence }) × (c .header ++ drop (c .size) (c .octets) ≡ replyOut x)))))
 
+-- ---- messages
+-- what C can pass: an identifier and a sequence number have 16 bits, a hop count and a format 8, a timestamp 64, an MTU and a rate 32
+pub record SeenPasses (s : Seen) : Type 0 where
+  pub hops : s .hops < 2 ^ 8
+  pub format : s .format < 2 ^ 8
+  pub stamp : s .stamp < 2 ^ 64
+  pub mtu : s .mtu < 2 ^ 32
+  pub rate : s .rate < 2 ^ 32
+
+abbrev pub KindPasses : Kind → Type 0
+KindPasses Request = Unit
+KindPasses (Reply s) = SeenPasses s
+
+pub record MessagePasses (m : Message) : Type 0 where
+  pub identifier : m .identifier < 2 ^ 16
+  pub sequence : m .sequence < 2 ^ 16
+  pub kind : KindPasses (m .kind)
+
+-- octets s, read into ten words: this is answered, and these words are left
+pub record ReadAs (s lent : List ℕ) (answer : ℕ) (left : List ℕ) : Type 0 where
+  -- 1, 4, 1 and 5, each exactly where its condition of 003 holds and none before it
+  pub refuses : GivenBy (echoChecks s) answer
+  -- and then nothing is written; else the ten words: type, identifier, sequence, where the data begin, and of a reply hop count, format, the timestamp's two
+  -- halves, MTU and rate
+  pub unwritten : answer ≢ 0 → left ≡ lent
+  pub written : answer ≡ 0 → left ≡ messageWords (messageOf s)
+
+-- a message m with these data, built in the octets lent: this is answered, and these octets are left
+pub record BuiltAs (m : Message) (echoed lent : List ℕ) (answer : ℕ) (left : List ℕ) : Type 0 where
+  -- 17 where the room is under the message, then 20 where it is over 8,141 octets, told above 32 bits
+  pub refuses : (n : ℕ) → n ≢ 0 → (answer ≡ refusalNumber n) ↔ firstHolds (buildChecks m (length echoed) (length lent)) n
+  pub done : (answer < 2 ^ 32) ↔ noneHolds (buildChecks m (length echoed) (length lent))
+  -- and then nothing is written; else the message as 003 lays it out, at the front, and every octet behind it stays as lent
+  pub unwritten : 2 ^ 32 ≤ answer → left ≡ lent
+  pub size : answer < 2 ^ 32 → answer ≡ fixedSize (m .kind) + length echoed
+  pub written : answer < 2 ^ 32 → left ≡ messageOctets m echoed ++ drop answer lent
+
 pub record Echoes : Type 0 where
+  -- "read": whatever octets are lent, and whatever ten words (with others it is 21, demand 1)
+  pub reads : (s lent : List ℕ) → length lent ≡ messageCount → (answer : ℕ) × ((left : List ℕ) × ReadsEcho s lent answer left)
+  pub reads-as : (s lent left : List ℕ) (answer : ℕ) → length lent ≡ messageCount → ReadsEcho s lent answer left → ReadAs s lent answer left
+  -- "build": every number of its width is taken, and any data
+  pub builds : (m : Message) (echoed lent : List ℕ) → (answer : ℕ) × ((left : List ℕ) × BuildsEcho m echoed lent answer left)
+  pub builds-as : (m : Message) (echoed lent left : List ℕ) (answer : ℕ) → BuildsEcho m echoed lent answer left → BuiltAs m echoed lent answer left
+  -- reading what was built gives the same numbers, and the data stand where they are told to begin
+  pub build-then-read : (m : Message) (echoed lent left words : List ℕ) (answer : ℕ) → MessagePasses m → BuildsEcho m echoed lent answer left
+      → answer < 2 ^ 32 → length words ≡ messageCount
+      → ReadsEcho (take answer left) words 0 (messageWords m)
+      × ((messageIn (messageWords m) ≡ m) × (drop (dataBegin (messageWords m)) (take answer left) ≡ echoed))
+  -- and building what was read gives the same octets, for a message of at most 8,141
+  pub read-then-build : (s words lent left : List ℕ) → Octets s → length words ≡ messageCount → ReadsEcho s words 0 left
+      → length s ≤ mostData → length s ≤ length lent
+      → BuildsEcho (messageIn left) (drop (dataBegin left) s) lent (length s) (s ++ drop (length s) lent)
   -- what hj_echo answers, and the reply; a list over 512 records is refused by 21 (demand 1)
   pub answers : (who : Customer) (steps : List Step) (rs : List Record) (at : ℕ) (slot : Slot) (octets output : List ℕ) (x : Result)
       → Gives steps (flies who (echoes rs at slot octets output)) x → tooLong rs ≡ false

@@ -57,7 +57,7 @@ use Rattle.route_calls.specs.Calls.{recordWords}
 use Rattle.state.specs.Relay.{Relay}
 use Rattle.state.specs.Seen.{Board, freshBoard}
 use Rattle.harpjuniper.specs.Face.{readingCount}
-use Rattle.harpjuniper_messages.specs.Face.{messageWords}
+use Rattle.harpjuniper_messages.specs.Face.{messageCount}
 use Rattle.history.specs.Ranges.{OwnPassed}
 use Rattle.history.specs.Seat.{Seat, relayIn, relayWith}
 use Rattle.history.specs.Outcome.{boardFrom, seatAfter}
@@ -184,7 +184,7 @@ module _ (b : List ℕ) where
     lookBy (class a) = hj-class (a .0)
     lookBy (form p) = hj-path (p .0)
     lookBy (checksum octets) = hj-checksum octets
-    lookBy (readEcho octets) = hj-read-echo-words octets (replicate messageWords 0)
+    lookBy (readEcho octets) = hj-read-echo-words octets (replicate messageCount 0)
     lookBy (buildRequest i n echoed output) = hj-build-request i n echoed output
     lookBy (buildReply i n seen echoed output) = hj-build-reply i n (seen .hops) (seen .format) (seen .stamp) (seen .mtu) (seen .rate) echoed output
     lookBy boardSize = hj-board-words

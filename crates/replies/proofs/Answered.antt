@@ -1,13 +1,13 @@
 -- The reply to octets that came in by a port, stage by stage, over plain variables. Assumes nothing.
 use native.Mathlib.Omega.{arith}
-use Prim.Native.Nat.{ℕ, _+_, _≤_, _<_}
+use Prim.Native.Nat.{ℕ, _≤_, _<_}
 use mathlib.Core.Path.{_≡_, refl, sym, ap, subst⁻¹, _∙_}
 use mathlib.Core.Bool.{Bool, true, false, not}
 use mathlib.Core.List.{List}
 use lib.ListN.{length, getD}
 use lib.Dec.{eqb}
 use borrow.Author.Tests.{eq-eqb, ne-eqb, lt-ltb, le-ltb, eqb-true}
-use Rattle.checks.specs.Order.{pick, checkOf, firstOf}
+use Rattle.checks.specs.Order.{pick, checkOf}
 use Rattle.checks.specs.declared.Check.{Check}
 use Rattle.checks.specs.declared.Check.the-variants.{Passed, Failed}
 use Rattle.checks.proofs.Bools.{and-true}
@@ -97,4 +97,6 @@ module _ (r : Relay) (number dropping port : ℕ) (octets : List ℕ) (room : �
         by-rest _ _ (passes _ _ _ told ready (holds-not _ _ _ (le-ltb room mtu (rw (← same) enough)) none-left)) refl
         (is
         ∙ ap (λ (n : ℕ). heardAnswer r dropping (octetsAsked r number (record { set = n; address = p .address }) (foundOf octets)) (p .mtu) octets) only
-        ∙ ap (λ (q : Port). heardAnswer r dropping (octetsAsked r number (record { set = onlyPort port; address = q .address }) (foundOf octets)) (q .mtu) octets) same)
+        ∙ ap
+        (λ (q : Port). heardAnswer r dropping (octetsAsked r number (record { set = onlyPort port; address = q .address }) (foundOf octets)) (q .mtu) octets)
+        same)

@@ -1,15 +1,14 @@
 -- A reply is made exactly where the papers' conditions hold, all of them (specs/Answerable.antt). Assumes nothing.
 use native.Mathlib.Omega.{arith}
 use Prim.Native.Nat.{ℕ, _+_, _≤_, _<_}
-use mathlib.Core.Path.{_≡_, refl, sym, ap, subst, subst⁻¹, _∙_}
-use mathlib.Core.Logic.{_≢_, _⊎_, inl, inr, _↔_}
+use mathlib.Core.Path.{_≡_, refl, sym, ap, subst, _∙_}
+use mathlib.Core.Logic.{_⊎_, inl, inr, _↔_}
 use mathlib.Core.Bool.{Bool, true, false, not, _&&_, _||_}
 use mathlib.Core.List.{List}
-use lib.ListN.{getD}
 use lib.Dec.{eqb, ltb}
 use borrow.Author.Tests.{eqb-true, eqb-false, eq-eqb, ne-eqb, le-ltb, ltb-false, not-true, not-false}
 use Rattle.checks.specs.Order.{pick, firstOf}
-use Rattle.checks.proofs.Bools.{true-false, refuted, and-true, or-false}
+use Rattle.checks.proofs.Bools.{true-false, and-true, or-false}
 use Rattle.checks.proofs.Laws.{zero-none}
 use Rattle.checks.proofs.Steps.{holds-not, none-left}
 use Rattle.address.specs.Class.{classOf}
@@ -35,10 +34,9 @@ use Rattle.meaning.specs.Names.{aimOf, badAim}
 use Rattle.meaning.specs.declared.Aim.{Aim}
 use Rattle.meaning.specs.declared.Aim.the-variants as aim
 use Rattle.next_leg.specs.Leg.{isAbsent}
-use Rattle.records.specs.Fresh.{freshPort}
 use Rattle.records.specs.SetUp.{isSetUp}
 use Rattle.records.specs.declared.Port.{Port}
-use Rattle.sets.specs.Sets.{inSet, portSet}
+use Rattle.sets.specs.Sets.{inSet}
 use Rattle.sets.proofs.Loops.{portSet-below}
 use Rattle.state.specs.Relay.{Relay, portIn, portSetUp}
 use Rattle.survey.specs.Survey.{ownBroadcast, isAddressed, isBroadcast, setUpAnd, namedBelow, namedOf, surveyBelow}
@@ -47,7 +45,6 @@ use Rattle.survey.proofs.Bits.{in-gathered, in-none}
 use Rattle.verdict.specs.Rule.{targetOf, localOf, copiesOf, rulingOf}
 use Rattle.verdict.specs.declared.Local.{Local}
 use Rattle.verdict.specs.declared.Local.the-variants.{No, Delivered, Unknown}
-use Rattle.verdict.specs.declared.Ruling.{Ruling}
 use Rattle.verdict.specs.declared.Survey.{Survey}
 use Rattle.verdict.specs.declared.Wish.{Wish}
 use Rattle.verdict.specs.declared.Wish.the-variants.{NotAsked, Refused, Wanted}
@@ -63,7 +60,7 @@ use Rattle.replies.specs.Replied.{callChecks, answeringOf, destinationSu
 use Rattle.replies.specs.Answerable.{IsOurs, NamesOne, Answerable}
 use Rattle.replies.specs.declared.Answering.{Answering}
 use Rattle.replies.specs.declared.request.Asking.the-variants.{Asks}
-use Rattle.replies.proofs.Chosen.{Asking-read, asking-read, read-asking}
+use Rattle.replies.proofs.Chosen.{asking-read, read-asking}
 use Rattle.replies.proofs.Answered.{asked-free}
 use Rattle.replies.proofs.Made.{WasMade, was-made, is-made}
 use Rattle.replies.proofs.Goes.{some-port}
@@ -164,7 +161,10 @@ module _ (r : Relay) (a : Address) where
   ours-owned : IsOurs r a → isOwned named ≡ true
   ours-owned o =
       let there : inSet (o .0) (named .addressed) ≡ true
-      = addressed-in (o .0) (o .1 .0) ∙ ap (λ (t : Bool). t && eqb (portIn r (o .0) .address .0) (a .0)) (o .1 .1 .0) ∙ eq-eqb (portIn r (o .0) .address .0) (a .0) (o .1 .1 .1) in
+      = addressed-in (o .0) (o .1 .0)
+      ∙ ap (λ (t : Bool). t && eqb (portIn r (o .0) .address .0) (a .0)) (o .1 .1 .0)
+      ∙ eq-eqb (portIn r (o .0) .address .0) (a .0) (o .1 .1 .1)
+      in
       ap not (ne-eqb (named .addressed) 0 (λ z. true-false (sym there ∙ ap (inSet (o .0)) z ∙ in-none (o .0))))
 
   no-broadcast : not (eqb (named .broadcast) 0) ≡ false → (p : ℕ) → p < 8 → isSetUp (portIn r p) ≡ true → ownBroadcast (portIn r p) a ≡ false
@@ -361,7 +361,8 @@ module _ (r : Relay) (number dropping port : ℕ) (octets : List ℕ) (room : �
           let asks = asked-back h (x .0) (x .1) (y .good) (y .destination) (y .aimed) (y .taken) (y .delivered)
           (y .control, (y .plain, (y .source, y .hops))) (y .single) in
           let size = sizeOf (replyFields (at .address) (isOwned (named r (y .destination))) (h .fields)) in
-          let has : hasRoom (node h (x .0) (x .1) (y .good) (y .destination) (y .aimed)) (named r (y .destination)) mtu ≡ true = ap not (le-ltb mtu (size + replySize) (y .roomy)) in
+          let heard = node h (x .0) (x .1) (y .good) (y .destination) (y .aimed) in
+          let has : hasRoom heard (named r (y .destination)) mtu ≡ true = ap not (le-ltb mtu (size + replySize) (y .roomy)) in
           ap (λ (z : Answering). z .made)
           (is-made r number dropping port octets room passes
           (same-asked h (x .0) (x .1) (y .good) (y .destination) (y .aimed) ∙ asks)

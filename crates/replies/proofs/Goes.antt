@@ -1,7 +1,7 @@
 -- What is so of a reply that goes: it fits the room and the port, and has the octets that are told. Assumes nothing.
 use native.Mathlib.Omega.{arith}
 use native.Mathlib.Nat.{div-eq-of-lt}
-use Prim.Native.Nat.{ℕ, _+_, _-_, _%_, _≤_, _<_}
+use Prim.Native.Nat.{ℕ, _-_, _%_, _≤_, _<_}
 use mathlib.Core.Path.{_≡_, refl, sym, ap, subst, subst⁻¹, _∙_}
 use mathlib.Core.Logic.{_≢_}
 use mathlib.Core.Bool.{Bool, true, false, not, _&&_}
@@ -10,7 +10,7 @@ use lib.ListN.{length, length-append}
 use lib.Bits.{bitAnd, and-le-r}
 use lib.Pow.{pow-pos}
 use lib.Dec.{eqb, ltb}
-use borrow.Author.Tests.{ltb-true, ltb-false, eqb-true, eqb-false, eq-eqb, ne-eqb, not-true, not-false}
+use borrow.Author.Tests.{ltb-true, ltb-false, eqb-true, eqb-false, ne-eqb, not-true}
 use Rattle.checks.specs.Order.{pick}
 use Rattle.checks.proofs.Bools.{true-false, and-true, refuted}
 use Rattle.sets.specs.Sets.{inSet, anyBelow}
@@ -19,23 +19,22 @@ use Rattle.sets.proofs.Loops.{portSet-below}
 use Rattle.networks.proofs.Bits.{bit, bit-small, same-bits}
 use Rattle.header.specs.Limits.{lengthLimit}
 use Rattle.header.proofs.BuiltLaws.{header-length}
-use Rattle.echo.specs.Message.{replySize, messageOctets}
+use Rattle.echo.specs.Message.{messageOctets}
 use Rattle.echo.proofs.Trip.{written-length}
 use Rattle.state.specs.Relay.{Relay, portIn}
 use Rattle.records.specs.SetUp.{isSetUp}
-use Rattle.survey.specs.Survey.{inDomain, fitsPort, sizeAt, isFitting, isFull, wantedBelow, surveyWithin, wantedOf}
+use Rattle.survey.specs.Survey.{inDomain, fitsPort, sizeAt, isFitting, wantedBelow, surveyWithin, wantedOf}
 use Rattle.survey.specs.declared.Sought.{Sought}
 use Rattle.survey.proofs.Bits.{in-and, in-except, in-gathered, in-none}
-use Rattle.verdict.specs.Rule.{exceptBy, largeEnough, copiesOf, rulingOf}
+use Rattle.verdict.specs.Rule.{exceptBy, copiesOf, rulingOf}
 use Rattle.verdict.specs.declared.Local.the-variants.{No}
 use Rattle.verdict.specs.declared.Ruling.{Ruling}
 use Rattle.verdict.specs.declared.Survey.{Survey}
 use Rattle.verdict.specs.declared.Way.{Way}
 use Rattle.verdict.specs.declared.Way.the-variants.{By, Lost}
-use Rattle.verdict.specs.declared.Wish.{Wish}
 use Rattle.verdict.specs.declared.Wish.the-variants.{Refused, Wanted}
-use Rattle.verdict.specs.declared.Obstacle.the-variants.{NoRoute, TooBig}
-use Rattle.replies.specs.Replied.{answeringOf, wireFields, messageSize, wireLength, withinRoom, soughtFor, noReply, repliedAmong, repliedBy, repliedTo, echoedOf, wireHeader, wireReply, Made, Goes}
+use Rattle.verdict.specs.declared.Obstacle.the-variants.{TooBig}
+use Rattle.replies.specs.Replied.{answeringOf, wireFields, messageSize, wireLength, withinRoom, soughtFor, noReply, repliedAmong, repliedBy, repliedTo, echoedOf, wireHeader, wireReply, Goes}
 use Rattle.replies.specs.declared.Answering.{Answering}
 use Rattle.replies.specs.declared.sending.Replied.{Replied}
 use Rattle.replies.proofs.Going.{wired-small}

@@ -1,4 +1,6 @@
--- The laws of replies. Assumes nothing.
+-- The functions' answers over plain variables: which datagrams are answered, Chosen and Answered; the reply, Making; whether and how it goes, Going; its octets, Written.
+-- And the laws: when one is made and what is then so, Made; what is so of one that goes, Goes; that no route is read, Routes; the papers' conditions, Exactly; what its
+-- addresses name, Meaning; that it reads back, ReadBack; and that no relay answers it, Unanswered. Assumes nothing.
 pub mod Chosen
 pub mod Making
 pub mod Going

@@ -1,14 +1,14 @@
 -- What the reply is made of, over plain variables. Assumes nothing.
 use native.Mathlib.Omega.{arith}
 use Prim.Native.Nat.{ℕ, _+_, _-_, _%_, _≤_, _<_}
-use mathlib.Core.Path.{_≡_, refl, sym, ap, _∙_}
-use mathlib.Core.Bool.{Bool, true, false, not}
-use mathlib.Core.List.{List, _++_}
-use lib.ListN.{length, take, drop}
-use lib.Dec.{eqb, ltb}
+use mathlib.Core.Path.{_≡_, sym, ap, _∙_}
+use mathlib.Core.Bool.{Bool}
+use mathlib.Core.List.{List}
+use lib.ListN.{length, drop}
+use lib.Dec.{ltb}
 use borrow.Author.Tests.{lt-ltb, le-ltb}
 use Rattle.checks.specs.Order.{pick}
-use Rattle.octets.specs.Octets.{number, pasted, fronted}
+use Rattle.octets.specs.Octets.{number, pasted}
 use Rattle.octets.proofs.Laws.{number-append, pasted-front}
 use Rattle.address.specs.declared.Address.{Address}
 use Rattle.header.specs.Limits.{longestHeader}
@@ -17,14 +17,12 @@ use Rattle.header.specs.declared.Addresses.{Addresses}
 use Rattle.header.specs.declared.Addresses.the-variants.{BasicEndSystem, ExtendedEndSystem}
 use Rattle.header.specs.declared.Qos.{Qos}
 use Rattle.header.specs.declared.Qos.the-variants as qos
-use Rattle.header.specs.declared.Octet.{Octet}
 use Rattle.header.specs.declared.Octet.the-variants as octet
 use Rattle.header.specs.declared.Timestamp.{Timestamp}
 use Rattle.header.specs.declared.Timestamp.the-variants as stamp
 use Rattle.header.specs.declared.Fields.{Fields}
 use Rattle.echo.specs.Message.{requestSize, replySize}
 use Rattle.echo.specs.declared.Kind.the-variants as kind
-use Rattle.echo.specs.declared.Message.{Message}
 use Rattle.echo.specs.declared.Seen.{Seen}
 use Rattle.meaning.specs.Names.{originOf}
 use Rattle.meaning.specs.Flood.{sourceIn}
@@ -35,7 +33,7 @@ use Rattle.verdict.specs.declared.Survey.{Survey}
 use Rattle.judge.specs.Asked.{noHeader}
 use Rattle.judge.specs.declared.Asked.{Asked}
 use Rattle.replies.specs.Request.{scmp, isOwned}
-use Rattle.replies.specs.Reply.{replyAddresses, replyQos, replyFields, hopsIn, stampNumber, seenFor, least, mostEchoed, echoedCount, noAnswer, ownFields, madeOf, hasRoom, askedBy}
+use Rattle.replies.specs.Reply.{replyAddresses, replyQos, replyFields, hopsIn, stampNumber, seenFor, least, mostEchoed, echoedCount, noAnswer, ownFields, askedBy}
 use Rattle.replies.specs.declared.Answering.{Answering}
 use Rattle.replies.specs.declared.request.Asking.the-variants.{Asks}
 

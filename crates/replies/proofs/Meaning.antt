@@ -1,8 +1,8 @@
 -- What the addresses of a reply name: its destination is the system that the request named as its source, and its source the system that the request named as its
 -- destination, where that is a port of ours, else the arrival port. So at the arrival port, and on the wire (page 02, W-214). Assumes nothing.
 use native.Mathlib.Omega.{arith}
-use Prim.Native.Nat.{ℕ, _+_, _*_, _/_, _%_, _^_}
-use mathlib.Core.Path.{_≡_, refl, sym, ap, subst⁻¹, _∙_}
+use Prim.Native.Nat.{ℕ, _%_}
+use mathlib.Core.Path.{_≡_, refl, sym, ap, _∙_}
 use mathlib.Core.Logic.{_≢_}
 use mathlib.Core.Bool.{Bool, true, false}
 use mathlib.Core.List.{List}
@@ -19,7 +19,7 @@ use Rattle.meaning.specs.Flood.{sourceIn}
 use Rattle.meaning.specs.declared.Aim.{Aim}
 use Rattle.meaning.specs.declared.Aim.the-variants as aim
 use Rattle.meaning.specs.declared.Origin.{Origin}
-use Rattle.meaning.specs.declared.Origin.the-variants.{From, Unsaid}
+use Rattle.meaning.specs.declared.Origin.the-variants.{From}
 use Rattle.next_leg.specs.Leg.{nextFields}
 use Rattle.next_leg.proofs.Names.{same-aim, same-origin}
 use Rattle.state.specs.Relay.{Relay, portIn}

@@ -2,22 +2,18 @@
 -- never answer each other for ever. Assumes nothing.
 use native.Mathlib.Omega.{arith}
 use Prim.Native.Nat.{ℕ, zero, suc, _+_, _-_, _/_, _%_, _^_, _≤_, _<_}
-use mathlib.Core.Path.{_≡_, refl, sym, ap, subst⁻¹, _∙_}
-use mathlib.Core.Logic.{_≢_}
-use mathlib.Core.Bool.{Bool, true, false, not}
+use mathlib.Core.Path.{_≡_, refl, ap, subst⁻¹, _∙_}
+use mathlib.Core.Bool.{Bool}
 use mathlib.Core.List.{List, [], _∷_, _++_}
 use lib.ListN.{length, getD, take, drop}
 use lib.Seq.{take-all, drop-at, getD-drop}
-use lib.Dec.{eqb}
-use Rattle.checks.specs.Order.{pick}
-use Rattle.checks.proofs.Bools.{true-false}
 use Rattle.checks.proofs.Laws.{either}
 use Rattle.octets.specs.Octets.{octets}
 use Rattle.address.specs.declared.Address.{Address}
 use Rattle.header.specs.Limits.{mostData}
 use Rattle.header.specs.Read.{readOf}
 use Rattle.header.specs.Build.{sizeOf, headerOctets}
-use Rattle.header.specs.Range.{addressesFit, qosFits, octetFits, InRange}
+use Rattle.header.specs.Range.{addressesFit, qosFits, InRange}
 use Rattle.header.specs.declared.Addresses.{Addresses}
 use Rattle.header.specs.declared.Addresses.the-variants.{BasicPath, ExtendedPath, BasicEndSystem, ExtendedEndSystem, Ipv6}
 use Rattle.header.specs.declared.Qos.{Qos}
@@ -25,27 +21,23 @@ use Rattle.header.specs.declared.Qos.the-variants as qos
 use Rattle.header.specs.declared.Fields.{Fields}
 use Rattle.header.specs.declared.Header.{Header}
 use Rattle.header.specs.declared.Read.the-variants as read
-use Rattle.header.proofs.Answers.{read-in-range}
-use Rattle.header.proofs.BuiltLaws.{header-length, append-small, header-small}
+use Rattle.header.proofs.BuiltLaws.{header-length, append-small}
 use Rattle.header.proofs.Trip.{read-built}
-use Rattle.echo.specs.Message.{replySize, fixedSize, seenOctets, kindOctets, fixedOctets, sumOf, messageOctets, readingOf}
+use Rattle.echo.specs.Message.{fixedSize, seenOctets, kindOctets, fixedOctets, messageOctets, readingOf}
 use Rattle.echo.specs.declared.Kind.{Kind}
 use Rattle.echo.specs.declared.Kind.the-variants as kind
 use Rattle.echo.specs.declared.Seen.{Seen}
 use Rattle.echo.specs.declared.Message.{Message}
 use Rattle.echo.specs.declared.Reading.{Reading}
 use Rattle.echo.specs.declared.Reading.the-variants.{Good, Refused}
-use Rattle.echo.proofs.Trip.{Fits, written-length, read-written, reply-no-request}
-use Rattle.next_leg.specs.Leg.{asksChecksum, widened, dataOf}
+use Rattle.echo.proofs.Trip.{written-length, reply-no-request}
+use Rattle.next_leg.specs.Leg.{asksChecksum}
 use Rattle.next_leg.proofs.Made.{checksum-case}
 use Rattle.next_leg.proofs.ReadBack.{widened-fits}
-use Rattle.replies.specs.Request.{userData, askingBy, askingIn, askingOf}
+use Rattle.replies.specs.Request.{userData, askingBy, askingIn}
 use Rattle.replies.specs.Reply.{replyAddresses, replyQos, replyFields}
-use Rattle.replies.specs.Replied.{wireFields, messageSize, wireLength, echoedOf, ownReply, wireReply, Made}
-use Rattle.replies.specs.declared.Answering.{Answering}
-use Rattle.replies.specs.declared.sending.Replied.{Replied}
-use Rattle.replies.specs.declared.request.Asking.{Asking}
-use Rattle.replies.specs.declared.request.Asking.the-variants.{Asks, Nothing}
+use Rattle.replies.specs.Replied.{wireFields}
+use Rattle.replies.specs.declared.request.Asking.the-variants.{Nothing}
 
 -- ---- its fields are in range, where the request's are
 turned-fits : (at : Address) (own : Bool) (a : Addresses) → at .0 < 2 ^ 32 → addressesFit a → addressesFit (replyAddresses at own a)

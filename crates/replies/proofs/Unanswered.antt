@@ -2,11 +2,11 @@
 use native.Mathlib.Omega.{arith}
 use native.Mathlib.Nat.{pow-le-pow-right}
 use Prim.Native.Nat.{ℕ, _+_, _^_, _≤_, _<_}
-use mathlib.Core.Path.{_≡_, refl, sym, ap, subst, subst⁻¹, _∙_}
+use mathlib.Core.Path.{_≡_, refl, sym, ap, subst⁻¹, _∙_}
 use mathlib.Core.Logic.{_≢_, _⊎_, inl, inr}
-use mathlib.Core.Bool.{Bool, true, false, not}
+use mathlib.Core.Bool.{Bool, not}
 use mathlib.Core.List.{List}
-use lib.ListN.{length, getD, take, drop}
+use lib.ListN.{length, drop}
 use lib.Dec.{eqb}
 use Rattle.octets.specs.Octets.{number as numberIn, octets as octetsOf}
 use Rattle.address.specs.declared.Address.{Address}
@@ -40,15 +40,14 @@ use Rattle.state.specs.Relay.{Relay, portIn}
 use Rattle.survey.specs.Survey.{namedOf}
 use Rattle.judge.specs.Ending.{arrivalAt}
 use Rattle.judge.specs.Asked.{nodeAsked, octetsAsked}
-use Rattle.judge.specs.declared.Asked.{Asked}
 use Rattle.judge.proofs.Took.{octets-read}
 use Rattle.replies.specs.Request.{isOwned, userData, askingIn, askingOf}
-use Rattle.replies.specs.Reply.{hopsIn, stampNumber, seenFor, replyFields, madeOf}
-use Rattle.replies.specs.Replied.{answeringOf, destinationSurvey, wireFields, messageSize, wireLength, echoedOf, ownReply, wireReply, Made}
+use Rattle.replies.specs.Reply.{hopsIn, stampNumber, seenFor}
+use Rattle.replies.specs.Replied.{answeringOf, destinationSurvey, wireFields, messageSize, wireLength, echoedOf, ownReply, wireReply}
 use Rattle.replies.specs.Answerable.{Answerable}
 use Rattle.replies.specs.declared.Answering.{Answering}
 use Rattle.replies.specs.declared.sending.Replied.{Replied}
-use Rattle.replies.specs.declared.request.Asking.the-variants.{Asks, Nothing}
+use Rattle.replies.specs.declared.request.Asking.the-variants.{Nothing}
 use Rattle.replies.proofs.Chosen.{asking-read, nothing-asks}
 use Rattle.replies.proofs.Answered.{asked-free}
 use Rattle.replies.proofs.Made.{WasMade, was-made, made-one, made-holds, made-within}
@@ -195,7 +194,8 @@ module _ (r : Relay) (number dropping port : ℕ) (octets : List ℕ) (room : �
               let same : heard .header ≡ header = ap (headerIn header) (sym (was .read) ∙ wire-reads) in
               nothing-asks (sym wire-asks-nothing ∙ ap (λ (h : Header). askingOf h (wireReply answer e octets)) (sym same) ∙ w .asks)
 
-          by-made : (answeringOf other mission drops by (wireReply answer e octets) lent .made ≡ 0) ⊎ (answeringOf other mission drops by (wireReply answer e octets) lent .made ≡ 1)
+          by-made : (answeringOf other mission drops by (wireReply answer e octets) lent .made ≡ 0)
+              ⊎ (answeringOf other mission drops by (wireReply answer e octets) lent .made ≡ 1)
               → answeringOf other mission drops by (wireReply answer e octets) lent .made ≡ 0
           by-made (inl z) = z
           by-made (inr o) = absurd (never (was-made other mission drops by (wireReply answer e octets) lent (λ z. omega (arith, z, o))))

@@ -9,7 +9,6 @@ use lib.ListN.{length, take, drop}
 use lib.Dec.{eqb, ltb}
 use Rattle.checks.specs.Order.{pick, Checks, firstOf}
 use Rattle.octets.specs.Octets.{fronted}
-use Rattle.address.specs.declared.Address.{Address}
 use Rattle.header.specs.Limits.{lengthLimit}
 use Rattle.header.specs.Onward.{foundOf}
 use Rattle.header.specs.Build.{sizeOf, headerOctets}

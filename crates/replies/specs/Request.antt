@@ -1,6 +1,6 @@
 -- Which datagrams an echo reply is made to: page 02, W-203 ("a request that page 01 does not deliver, that is flooded, lacks source or hop count, leaves no room for the
 -- fixed fields, or goes to a broadcast or multicast address gets none. A setting that drops all requests defaults to off"). Assumes nothing.
-use Prim.Native.Nat.{ℕ, _-_}
+use Prim.Native.Nat.{ℕ}
 use mathlib.Core.Bool.{Bool, true, false, not, _&&_, _||_}
 use mathlib.Core.List.{List}
 use lib.ListN.{take, drop}
