@@ -1,16 +1,14 @@
 -- Demand 1: every call's answer is one of the numbers and values that page 01 lists for it. The table is written out in specs/Answers.antt; that an
 -- answer stands in it is one computed test. Assumes nothing.
-use native.Mathlib.Omega.{arith}
-use Prim.Native.Nat.{ℕ, _<_}
+use Prim.Native.Nat.{ℕ}
 use mathlib.Core.Path.{_≡_, refl, sym, ap, _∙_}
 use mathlib.Core.Bool.{Bool, true, false, not, _&&_, _||_, or-true}
 use mathlib.Core.List.{List, [], _∷_}
 use lib.Bits.{bitAnd}
-use mathlib.Core.Logic.{⊎-elim}
-use lib.Dec.{eqb, ltb}
-use borrow.Author.Tests.{eqb-true, eqb-false, ltb-true}
+use lib.Dec.{eqb}
+use borrow.Author.Tests.{eqb-true, eqb-false}
 use Rattle.checks.specs.Order.{pick, Checks, firstOf}
-use Rattle.checks.proofs.Bools.{true-false, and-true, or-true as disjoined}
+use Rattle.checks.proofs.Bools.{true-false, and-true}
 use Rattle.checks.proofs.Laws.{either}
 use Rattle.address.specs.Class.{classOf}
 use Rattle.header.specs.Read.{readChecks, headerOf, readOf}
@@ -93,7 +91,7 @@ abbrev pub endNumbers : List ℕ
 endNumbers = 0 ∷ refusals
 
 -- ---- the first check that fails gives a number of its list
-abbrev pub allListed : List ℕ → Checks → Bool
+abbrev allListed : List ℕ → Checks → Bool
 allListed xs [] = true
 allListed xs (c ∷ cs) = listed xs (c .1) && allListed xs cs
 
@@ -103,20 +101,6 @@ first-listed xs [] z h = z
 first-listed xs (c ∷ cs) z h =
     let both = and-true (listed xs (c .1)) (allListed xs cs) h in
     either (λ n. listed xs n ≡ true) (c .0) (both .0) (first-listed xs cs z (both .1))
-
--- ---- where each number of a list fits eight bits, one that is listed does
-abbrev pub allLow : List ℕ → Bool
-allLow [] = true
-allLow (x ∷ xs) = ltb x 256 && allLow xs
-
-pub listed-low : (xs : List ℕ) (n : ℕ) → allLow xs ≡ true → listed xs n ≡ true → n < 256
-listed-low [] n h k = true-false cc
-listed-low (x ∷ xs) n h k =
-    let both = and-true (ltb x 256) (allLow xs) h in
-    ⊎-elim
-    (λ e. let is = eqb-true n x e in let low = ltb-true x 256 (both .0) in omega arith)
-    (λ e. listed-low xs n (both .1) e)
-    (disjoined (eqb n x) (listed xs n) k)
 
 row-first : (t u : Bool) → t ≡ true → ((t && true) || u) ≡ true
 row-first true u h = refl

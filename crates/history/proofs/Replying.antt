@@ -4,16 +4,15 @@ use native.Mathlib.Omega.{arith}
 use Prim.Native.Nat.{ℕ, _<_}
 use mathlib.Core.Path.{_≡_, refl, sym, ap, _∙_}
 use mathlib.Core.Logic.{inl, ⊎-elim}
-use mathlib.Core.Bool.{Bool, true, false, not, _&&_, _||_}
+use mathlib.Core.Bool.{Bool, true, false, _&&_, _||_}
 use mathlib.Core.List.{List, [], _∷_}
 use lib.Bits.{bitAnd}
 use lib.Dec.{eqb}
-use borrow.Author.Tests.{eqb-true, eqb-false, eq-eqb}
+use borrow.Author.Tests.{eqb-true, eqb-false}
 use Rattle.checks.specs.Order.{pick}
 use Rattle.checks.proofs.Bools.{true-false}
 use Rattle.checks.proofs.Laws.{either}
 use Rattle.sets.specs.Sets.{inSet}
-use Rattle.header.specs.Limits.{lengthLimit}
 use Rattle.routes.specs.declared.Record.{Record}
 use Rattle.state.specs.Relay.{Relay, portSetUp}
 use Rattle.survey.specs.Survey.{wantedOf}
@@ -37,16 +36,15 @@ use Rattle.replies.specs.Reply.{noAnswer}
 use Rattle.replies.specs.Replied.{callChecks, soughtFor, answeringOf, noReply, repliedAmong, repliedBy as byWay, repliedTo, repliedOf}
 use Rattle.replies.specs.declared.Answering.{Answering}
 use Rattle.replies.specs.declared.sending.Replied.{Replied}
-use Rattle.replies.proofs.Goes.{some-port}
 use Rattle.answering.specs.Echoed.{echoAnswering, echoReply}
 use Rattle.page.proofs.Answered.{call-number, made-or-not}
-use Rattle.page.proofs.Replies.{reply-took, reply-dropped, reply-shared, reply-fits, reply-wired, reply-small as page-small}
+use Rattle.page.proofs.Replies.{reply-took, reply-dropped, reply-shared, reply-fits, reply-small as page-small}
 use Rattle.page.proofs.Small.{Small}
 use Rattle.history.specs.Seat.{Seat, relayIn, relayWith, answeringBy, repliedBy}
 use Rattle.history.specs.Outcome.{replied, isRefusal, ofReply}
 use Rattle.history.specs.Answers.{replyRows, listed, stands}
 use Rattle.history.proofs.Fair.{Fair, fair-by, none-fair}
-use Rattle.history.proofs.Listed.{first-listed, listed-low}
+use Rattle.history.proofs.Listed.{first-listed}
 
 -- the numbers that refuse, and 0
 abbrev replyNumbers : List ℕ
@@ -163,21 +161,7 @@ module _ (seat : Seat) (rs : List Record) (port : ℕ) (octets : List ℕ) (room
   pub every-reply-is-listed : stands replyRows (ofReply (repliedBy seat rs port octets room) .answer) ≡ true
   every-reply-is-listed = reply-so Row refused-row refl refl copied-row
 
-  -- ---- 1 stands in the onward half where a port took it, and only there; and the onward half is one of these
-  abbrev Sent : Ruling → Type 0
-  Sent x = eqb (onwardNumber (x .onward)) 1 ≡ not (eqb (x .took) 0)
-
-  copied-sent : (granted full : ℕ) → Sent (copiesOf No granted full)
-  unfolding copiesOf
-  copied-sent granted full = by (eqb (exceptBy granted full) 0)
-    where
-      by : (t : Bool) → eqb (onwardNumber (pick t (onward.Refused QueuesFull) onward.SentOn)) 1 ≡ not t
-      by true = refl
-      by false = refl
-
-  pub reply-sent-where-taken : Sent (repliedBy seat rs port octets room .ruling)
-  reply-sent-where-taken = reply-so (λ (n : ℕ) (x : Ruling). Sent x) (λ n is. refl) refl refl copied-sent
-
+  -- ---- the onward half is one of these
   abbrev Known : Onward → Type 0
   Known x = listed (0 ∷ 1 ∷ 11 ∷ 14 ∷ 15 ∷ []) (onwardNumber x) ≡ true
 
@@ -217,49 +201,6 @@ module _ (seat : Seat) (rs : List Record) (port : ℕ) (octets : List ℕ) (room
       (λ short took.
       reply-fits r (seat .number) (seat .board .drop) port octets room p inside
       (reply-shared r (seat .number) (seat .board .drop) port octets room p inside (inl took)) .set-up)
-
-  -- ---- its octets are those of a datagram, and 0 where no port took it
-  none-way : (w : Way) → byWay r answer w room .ruling .took ≡ 0 → byWay r answer w room .octets ≡ 0
-  unfolding repliedAmong
-  none-way (By set code) z = rw (eq-eqb _ 0 z)
-  none-way Lost z = refl
-
-  none-octets : reply .ruling .took ≡ 0 → reply .octets ≡ 0
-  unfolding repliedOf repliedTo
-  none-octets = by (eqb (answer .made) 0)
-    where
-      given : Replied
-      given = byWay r answer (wayFor r Route (answer .destination)) room
-
-      by : (t : Bool) → pick t (noReply (answer .refusal)) given .ruling .took ≡ 0 → pick t (noReply (answer .refusal)) given .octets ≡ 0
-      by true z = refl
-      by false z = none-way (wayFor r Route (answer .destination)) z
-
-  some-octets : (p : ℕ) → p < 8 → inSet p (reply .ruling .took) ≡ true → reply .octets < lengthLimit
-  some-octets p inside took =
-      let n = seat .number in
-      let d = seat .board .drop in
-      rw (reply-wired r n d port octets room .octets p inside took)
-      (reply-fits r n d port octets room p inside (reply-shared r n d port octets room p inside (inl took)) .short)
-
-  page-short : reply .octets < lengthLimit
-  page-short = by (eqb (reply .ruling .took) 0) refl
-    where
-      by : (t : Bool) → eqb (reply .ruling .took) 0 ≡ t → reply .octets < lengthLimit
-      by true z = omega (arith, none-octets (eqb-true (reply .ruling .took) 0 z))
-      by false z =
-          let at = some-port (reply .ruling .took) (page-small r (seat .number) (seat .board .drop) port octets room .took) (eqb-false (reply .ruling .took) 0 z) in
-          some-octets (at .0) (at .1) (at .2)
-
-  pub reply-short : repliedBy seat rs port octets room .octets < lengthLimit
-  reply-short = both-so (λ (x : Answering) (e : Replied). e .octets < lengthLimit) (λ long. omega arith) (λ short. page-short)
-
-  -- ---- the refusal and the onward half fit eight bits
-  pub reply-low : (repliedBy seat rs port octets room .refusal < 256) × (onwardNumber (repliedBy seat rs port octets room .ruling .onward) < 256)
-  reply-low = (
-    reply-so (λ (n : ℕ) (x : Ruling). n < 256) (λ n is. listed-low replyNumbers n refl is) (omega arith) (omega arith) (λ granted full. omega arith),
-    listed-low (0 ∷ 1 ∷ 11 ∷ 14 ∷ 15 ∷ []) (onwardNumber (repliedBy seat rs port octets room .ruling .onward)) refl reply-onward,
-  )
 
 -- What is granted to a port is taken or dropped there.
 pub reply-fair : (seat : Seat) (p : ℕ) (inside : p < 8) (rs : List Record) (port : ℕ) (octets : List ℕ) (room : ℕ)
