@@ -1,15 +1,15 @@
 -- What is promised of echo messages is kept. Assumes nothing.
 use native.Mathlib.Omega.{arith}
-use Prim.Native.Nat.{ℕ, _+_, _/_, _%_, _^_, _<_, _≤_}
+use Prim.Native.Nat.{ℕ, _+_, _%_, _^_, _<_, _≤_}
 use mathlib.Core.Path.{_≡_, refl, sym, ap, ap₂, subst, subst⁻¹, _∙_}
 use mathlib.Core.Logic.{_⊎_, inl, inr, _↔_, _≢_, ⊎-elim}
 use mathlib.Core.Bool.{Bool, true, false, not, _||_}
-use mathlib.Core.List.{List, [], _∷_, _++_}
+use mathlib.Core.List.{List, [], _∷_}
 use lib.ListN.{getD, length}
 use lib.Dec.{eqb}
 use borrow.Author.Tests.{eq-eqb, eqb-true}
 use Rattle.checks.specs.Order.{pick, noneHolds}
-use Rattle.checks.proofs.Bools.{true-false, not-false, or-true}
+use Rattle.checks.proofs.Bools.{true-false, or-true}
 use Rattle.checks.proofs.Laws.{either}
 use Rattle.address.specs.declared.Address.{Address}
 use Rattle.address.specs.declared.Slot.{Slot}
@@ -19,14 +19,10 @@ use Rattle.header.specs.Build.{sizeOf}
 use Rattle.header.specs.declared.Header.{Header}
 use Rattle.header.specs.declared.Read.the-variants as read
 use Rattle.echo.specs.Message.{readingOf, echoedIn}
-use Rattle.echo.specs.declared.Message.{Message}
-use Rattle.echo.specs.declared.Reading.the-variants as reading
 use Rattle.meaning.specs.Names.{aimOf, originOf}
 use Rattle.next_leg.specs.Leg.{nextFields}
 use Rattle.next_leg.proofs.Names.{stays-home}
 use Rattle.queue.specs.Order.{Each}
-use Rattle.queue.specs.Queue.{entryPlaces}
-use Rattle.queue.specs.declared.Entry.{Entry}
 use Rattle.routes.specs.Routes.{candidate}
 use Rattle.routes.specs.Search.{longerMask}
 use Rattle.routes.specs.declared.Record.{Record}
@@ -47,7 +43,7 @@ use Rattle.verdict.specs.declared.Way.{Way}
 use Rattle.verdict.specs.declared.Way.the-variants.{By, Lost}
 use Rattle.judge.specs.Ending.{noRuling}
 use Rattle.replies.specs.Request.{userData}
-use Rattle.replies.specs.Replied.{callChecks, answeringOf, noReply, repliedAmong, repliedBy as byWay, repliedTo, repliedOf, wireFields, wireLength, wireReply, echoedOf}
+use Rattle.replies.specs.Replied.{callChecks, answeringOf, noReply, repliedAmong, repliedBy as byWay, repliedTo, repliedOf, wireFields, wireLength, wireReply}
 use Rattle.replies.specs.declared.Answering.{Answering}
 use Rattle.replies.specs.declared.sending.Replied.{Replied}
 use Rattle.replies.proofs.Goes.{some-port}
@@ -60,17 +56,18 @@ use Rattle.answering.specs.Echoed.{asEnding, echoAnswering, echoReply}
 use Rattle.answering.specs.Split.{numberFor}
 use Rattle.answers.specs.Answers.{rulingParts, headerParts, partAt, replyNumber}
 use Rattle.answers.proofs.Digits.{ReplyRead}
-use Rattle.page.specs.Table.{GivenBy, aimAt, equalsPort, oneOctet, liesFar, moreOnes}
+use Rattle.page.specs.Table.{GivenBy, oneOctet, liesFar}
 use Rattle.page.specs.Sought.{RouteTaken}
-use Rattle.page.specs.Replies.{RequestAnswered, ReplyTo, replyVerdict, RepliesAs}
-use Rattle.page.proofs.Verdict.{masks-choose, ones-choose}
+use Rattle.page.specs.Replies.{ReplyTo, replyVerdict, RepliesAs}
+use Rattle.page.proofs.Verdict.{masks-choose}
 use Rattle.page.proofs.Answered.{made-or-not, made-tells, made-exactly, answered-exactly, reply-of}
-use Rattle.page.proofs.Replies.{unasked-exactly, reply-no-route, reply-granted, reply-shared, reply-fits, reply-route-taken, reply-wired, reply-refused, reply-names-the-same, reply-is-the-page, reply-at-most-one}
+use Rattle.page.proofs.Replies.{unasked-exactly, reply-no-route, reply-shared, reply-fits, reply-route-taken, reply-wired, reply-refused}
+use Rattle.page.proofs.Replies.{reply-names-the-same, reply-is-the-page, reply-at-most-one}
 use Rattle.harpjuniper_echo.specs.Face.{echoAnswer}
-use Rattle.contracts.specs.Promised.{Things, Result, lentTo, looking, Promise, Allows, hj-echo}
+use Rattle.contracts.specs.Promised.{Result, lentTo, hj-echo}
 use Rattle.contracts.specs.Contracts.{Says}
 use Rattle.contracts.proofs.Rows.{says-row}
-use Rattle.history.specs.Calls.{orders, dropFlag, views, MissionCall, echoes, waiting, looks, Call, operator, own}
+use Rattle.history.specs.Calls.{orders, dropFlag, views, MissionCall, echoes, Call, operator, own}
 use Rattle.history.specs.Seat.{Seat, freshSeat, stateOf, relayIn, answeringBy, repliedBy}
 use Rattle.history.specs.Outcome.{Answer, replied, ownOutcome, next, runFrom, sumFrom, sumOver}
 use Rattle.history.specs.Parts.{drop, theDrop, About}
@@ -88,11 +85,11 @@ use Rattle.history.proofs.Replies.{requests-are-replies, reply-is-sent}
 use Rattle.history.proofs.Replying.{answer, reply, both-so, reply-fair}
 use Rattle.history.proofs.Replying.{reply-small as small-sets}
 use Rattle.history.proofs.Sums.{moves-as-written}
-use Rattle.demands.specs.Trace.{Customer, first, numberOf, Step, flies, Words, missionOf, made as madeOn, wordsAfter, Begun, historyOf, boardOf, seatOf, relayFor, Gives}
+use Rattle.demands.specs.Trace.{Customer, first, numberOf, Step, flies, Words, missionOf, made as madeOn, wordsAfter, Begun, historyOf, boardOf}
+use Rattle.demands.specs.Trace.{seatOf, relayFor, Gives}
 use Rattle.demands.specs.ReadOut.{ownOut, endedBy, onwardIn, tookIn, droppedIn, replyOctets, replyOut, counterAt}
 use Rattle.demands.specs.Echoes.{replyMade, repliesIn, AnsweredAs, ReplyOnTheWire, replyPlaced, Echoes}
-use Rattle.demands.proofs.Promised.{promisedBy, nextState}
-use Rattle.demands.proofs.Held.{same-promise}
+use Rattle.demands.proofs.Promised.{nextState}
 use Rattle.demands.proofs.Traced.{board-is, words-hold}
 use Rattle.demands.proofs.Told.{gives-row, counters, counters-move}
 use Rattle.demands.proofs.Replied.{picks, leaves, told, none-found, found, behind, short-is, taken-short-list}
@@ -417,7 +414,8 @@ module _ (who : Customer) (steps : List Step) (rs : List Record) (at : ℕ) (slo
       let none : (repliedBy seat rs at octets room .ruling .took ≡ 0) × (repliedBy seat rs at octets room .ruling .dropped ≡ 0) =
       both-so seat rs at octets room (λ (y : Answering) (z : Replied). (z .ruling .took ≡ 0) × (z .ruling .dropped ≡ 0)) (λ k. (refl, refl))
       (λ short. true-false (sym long ∙ short)) in
-      ⊎-elim (λ k. true-false (sym k ∙ ap (inSet p) (t .at-24 ∙ none .0) ∙ in-none p)) (λ k. true-false (sym k ∙ ap (inSet p) (t .at-32 ∙ none .1) ∙ in-none p))
+      ⊎-elim (λ k. true-false (sym k ∙ ap (inSet p) (t .at-24 ∙ none .0) ∙ in-none p))
+      (λ k. true-false (sym k ∙ ap (inSet p) (t .at-32 ∙ none .1) ∙ in-none p))
       (or-true (inSet p (tookIn x)) (inSet p (droppedIn x)) h)
 
   one-port : (p k : ℕ) → p < portCount → k < portCount → (inSet p (tookIn x) || inSet p (droppedIn x)) ≡ true
@@ -461,7 +459,8 @@ module _ (who : Customer) (steps : List Step) (rs : List Record) (at : ℕ) (slo
         routes = row .routes;
         output =
             row .output
-            ∙ reply-unwritten (answeringBy seat rs at octets room) (repliedBy seat rs at octets room) octets output (ap (λ (y : Ruling). y .took) (ruling-none z));
+            ∙ reply-unwritten (answeringBy seat rs at octets room) (repliedBy seat rs at octets room) octets output
+            (ap (λ (y : Ruling). y .took) (ruling-none z));
         numbers = row .numbers;
       })
 
@@ -478,7 +477,8 @@ module _ (who : Customer) (steps : List Step) (rs : List Record) (at : ℕ) (slo
       ∙ ap₂ (λ (onward dropped : ℕ). getD (counted (replied 0 onward 0) (portsIn portCount dropped)) i 0) (sym (t .at-16)) (sym (t .at-32)))
 
   -- ---- no relay answers it
-  never : tookIn x ≢ 0 → (b m : List ℕ) (ts : List Record) (p n : ℕ) (o : List ℕ) (y : Result) → Says (hj-echo b m ts p n (replyOut x) o) y → onwardIn y ≡ 0
+  never : tookIn x ≢ 0 → (b m : List ℕ) (ts : List Record) (p n : ℕ) (o : List ℕ) (y : Result)
+      → Says (hj-echo b m ts p n (replyOut x) o) y → onwardIn y ≡ 0
   never some =
       let t = told who steps rs at slot octets output x g in
       let taken : repliedBy seat rs at octets room .ruling .took ≢ 0 = λ z. some (t .at-24 ∙ z) in
@@ -495,7 +495,8 @@ unfolding freshBoard
 off-first cs others = off-is (runFrom (freshSeat 0) cs .board .drop) (holds-until-changed theDrop cs (freshSeat 0) others)
 
 -- ---- how many replies are made
-made-are : (cs : List Call) (x : Seat) → overCalls 0 _+_ (λ (y : Seat) (c : MissionCall). one (isMade (ownOutcome y c .answer))) x cs ≡ sumFrom replies.made x cs
+made-are : (cs : List Call) (x : Seat)
+    → overCalls 0 _+_ (λ (y : Seat) (c : MissionCall). one (isMade (ownOutcome y c .answer))) x cs ≡ sumFrom replies.made x cs
 made-are [] x = refl
 made-are (operator (orders o) ∷ cs) x = let rest = made-are cs (next x (operator (orders o))) in omega (arith, rest)
 made-are (operator (views v) ∷ cs) x = let rest = made-are cs (next x (operator (views v))) in omega (arith, rest)
@@ -535,9 +536,10 @@ echoes-hold =
           (contiguous who steps rs at slot octets output x g) p inside (shared who steps rs at slot octets output x g short p inside some));
       no-route = λ who steps rs at slot octets output x g short some.
           let seat = seatOf who steps in
+          let q = relayFor who steps rs in
           as-said who steps rs at slot octets output x g
           (λ (n : ℕ) (a : Answering). (onwardIn x ≡ 11) ↔ ((k : ℕ) → candidate (routeIn (relayFor who steps rs) k) (a .destination) ≡ false))
-          (let by = reply-no-route (relayFor who steps rs) (seat .number) (seat .board .drop) at octets (length output) longerMask (masks-choose (relayFor who steps rs)) in
+          (let by = reply-no-route q (seat .number) (seat .board .drop) at octets (length output) longerMask (masks-choose q) in
           let t = parts who steps rs at slot octets output x g short in
           (λ eleven. by .0 (sym (t .at-16) ∙ eleven) .1, λ none. t .at-16 ∙ by .1 (made-one who steps rs at slot octets output x g short some, none)));
       none-leaves = λ who steps rs at slot octets output x g. none-leaves who steps rs at slot octets output x g;

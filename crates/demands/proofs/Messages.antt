@@ -2,14 +2,13 @@
 use native.Mathlib.Omega.{arith}
 use Prim.Native.Nat.{ℕ, _+_, _*_, _/_, _%_, _^_, _<_, _≤_}
 use mathlib.Core.Path.{_≡_, refl, sym, ap, ap₂, subst, subst⁻¹, _∙_}
-use mathlib.Core.Logic.{_≢_}
-use mathlib.Core.Bool.{Bool, true, false, not}
+use mathlib.Core.Bool.{Bool, not}
 use mathlib.Core.List.{List, _++_}
 use lib.ListN.{length, take, drop}
 use lib.Seq.{take-at}
 use lib.Dec.{eqb}
-use borrow.Author.Tests.{eq-eqb, ne-eqb, ltb-false}
-use Rattle.checks.specs.Order.{pick, firstOf, noneHolds}
+use borrow.Author.Tests.{eq-eqb, ne-eqb}
+use Rattle.checks.specs.Order.{pick, firstOf}
 use Rattle.checks.specs.Answer.{refusalNumber}
 use Rattle.checks.proofs.Bools.{true-false}
 use Rattle.refusals.proofs.Chains.{Decided, decided}
@@ -92,18 +91,20 @@ module _ (s lent : List ℕ) where
         let c = hj-read-echo-words s lent in
         let a = each-call-answers c (no-slot s lent) in
         let row = says-row c (a .0) (a .1) in
-        (a .0, (a .1, (row .answer ∙ ten-answer (readingOf s) ∙ ap refusalIn is, row .numbers ∙ ten-left (readingOf s) ∙ ap (λ (r : Reading). leftBy r lent) is)))
+        let left = row .numbers ∙ ten-left (readingOf s) ∙ ap (λ (r : Reading). leftBy r lent) is in
+        (a .0, (a .1, (row .answer ∙ ten-answer (readingOf s) ∙ ap refusalIn is, left)))
 
 -- the words tell the message
-kind-told : (identifier sequence : ℕ) (k : Kind)
-    → messageIn (messageWords (record { identifier = identifier; sequence = sequence; kind = k })) ≡ record { identifier = identifier; sequence = sequence; kind = k }
+abbrev message : Kind → ℕ → ℕ → Message
+message k i n = record { identifier = i; sequence = n; kind = k }
+
+kind-told : (identifier sequence : ℕ) (k : Kind) → messageIn (messageWords (message k identifier sequence)) ≡ message k identifier sequence
 unfolding messageWords
 kind-told identifier sequence Request = refl
 kind-told identifier sequence (Reply s) =
     let halves : s .stamp / 2 ^ 32 * 2 ^ 32 + s .stamp % 2 ^ 32 ≡ s .stamp = omega arith in
     ap
-    (λ (stamp : ℕ).
-    record { identifier = identifier; sequence = sequence; kind = Reply (record { hops = s .hops; format = s .format; stamp = stamp; mtu = s .mtu; rate = s .rate }) })
+    (λ (stamp : ℕ). message (Reply (record { hops = s .hops; format = s .format; stamp = stamp; mtu = s .mtu; rate = s .rate })) identifier sequence)
     halves
 
 pub message-told : (m : Message) → messageIn (messageWords m) ≡ m
@@ -117,9 +118,6 @@ begin-told m = refl
 built-passes : (k : Kind) (i n : ℕ) (echoed lent : List ℕ) → Passable (builtBy k i n echoed lent)
 built-passes Request i n echoed lent = (λ b m rs p slot now l o e. true-false cc, λ b m rs p slot l o e. true-false cc)
 built-passes (Reply s) i n echoed lent = (λ b m rs p slot now l o e. true-false cc, λ b m rs p slot l o e. true-false cc)
-
-abbrev message : Kind → ℕ → ℕ → Message
-message k i n = record { identifier = i; sequence = n; kind = k }
 
 built-row : (k : Kind) (i n : ℕ) (echoed lent : List ℕ) (x : Result) → Says (builtBy k i n echoed lent) x
     → (x .answer ≡ builtAnswer (builtOf (message k i n) (length echoed) (length lent))) × (x .left .output ≡ builtOutput (message k i n) echoed lent)

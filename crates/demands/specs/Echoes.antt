@@ -51,8 +51,10 @@ use Rattle.history.specs.Ledger.{one}
 use Rattle.history.specs.Sums.{counted, portsIn}
 use Rattle.history.specs.Line.{Copy, takenOwn}
 use Rattle.history.specs.Ranges.{Octets}
-use Rattle.demands.specs.Trace.{Customer, first, numberOf, Step, operates, flies, Words, missionOf, made, wordsAfter, Trace, historyOf, boardOf, seatOf, relayOf, relayFor, Gives}
-use Rattle.demands.specs.ReadOut.{ownOut, endedBy, localIn, onwardIn, tookIn, droppedIn, aboveIn, replyOctets, replyOut, counterAt, overOwn, ReadsEcho, BuildsEcho, messageIn, dataBegin}
+use Rattle.demands.specs.Trace.{Customer, first, numberOf, Step, operates, flies, Words, missionOf, made, wordsAfter, Trace, historyOf, boardOf}
+use Rattle.demands.specs.Trace.{seatOf, relayOf, relayFor, Gives}
+use Rattle.demands.specs.ReadOut.{ownOut, endedBy, localIn, onwardIn, tookIn, droppedIn, aboveIn, replyOctets, replyOut, counterAt, overOwn}
+use Rattle.demands.specs.ReadOut.{ReadsEcho, BuildsEcho, messageIn, dataBegin}
 
 -- the reply that the relay r makes, if any, to octets that came in by port `at`
 abbrev pub replyMade : Customer → List Step → List Record → ℕ → List ℕ → List ℕ → Answering
@@ -205,8 +207,8 @@ pub record Echoes : Type 0 where
   -- so npOutRequests, which hj_counter answers at 17, is how often C was told of a reply that was made, sent or not
   pub out-requests : (who : Customer) (steps : List Step) (x : Result) (g : Gives steps (flies who (looks (counter 17))) x)
       → x .answer ≡ repliesIn who steps _ (g .before) (g .begun .then) % 2 ^ 32
-  -- "their copies join its sum": what is granted, taken and dropped of a reply is what C is told, in the sum of demand 3; it drops where 32 already waited, and waits
-  -- in its port's line as the copy of a datagram does
+  -- "their copies join its sum": what is granted, taken and dropped of a reply is what C is told, in the sum of demand 3; it drops where 32 already waited,
+  -- and waits in its port's line as the copy of a datagram does
   pub copies-told : (who : Customer) (steps : List Step) (rs : List Record) (p at : ℕ) (slot : Slot) (octets output : List ℕ) (x : Result) → p < portCount
       → Gives steps (flies who (echoes rs at slot octets output)) x → tooLong rs ≡ false
       → (inSet p (ownOutcome (seatOf who steps) (echoes rs at slot octets output) .granted)

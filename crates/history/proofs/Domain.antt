@@ -147,7 +147,7 @@ module _ (seat : Seat) (k : Kept seat) (p : ℕ) (up : portSetUp (relayIn seat) 
   pub set-up-small : portIn (relayIn seat) p .address .0 < 2 ^ 32
   set-up-small = unicast-small (portIn (relayIn seat) p .address) (set-up-good .0)
 
-  set-up-mtu : portIn (relayIn seat) p .mtu < 2 ^ 32
+  pub set-up-mtu : portIn (relayIn seat) p .mtu < 2 ^ 32
   set-up-mtu = omega (arith, mtu-taken (portIn (relayIn seat) p .mtu) .0 (set-up-good .1) .1)
 
 -- ---- what a copy named at the port that it came in by, what goes out names at the port where it waits, as that port stands
@@ -242,7 +242,7 @@ module _ (p : ℕ) (inside : p < 8) where
         }
 
     -- one that a port took was made, to a request that came in by a port that is set up
-    page-made : inSet p (e .ruling .took) ≡ true → (a .made ≡ 1) × (portSetUp (relayIn seat) port ≡ true)
+    pub page-made : inSet p (e .ruling .took) ≡ true → (a .made ≡ 1) × (portSetUp (relayIn seat) port ≡ true)
     unfolding callChecks
     page-made took =
         let r = relayWith seat rs in
