@@ -1,6 +1,6 @@
 -- What is promised of echo messages is kept. Assumes nothing.
 use native.Mathlib.Omega.{arith}
-use Prim.Native.Nat.{ℕ, _+_, _/_, _%_, _^_, _<_, _≤_}
+use Prim.Native.Nat.{ℕ, _+_, _%_, _^_, _<_, _≤_}
 use mathlib.Core.Path.{_≡_, refl, sym, ap, ap₂, subst, subst⁻¹, _∙_}
 use mathlib.Core.Logic.{_⊎_, inl, inr, _↔_, _≢_, ⊎-elim}
 use mathlib.Core.Bool.{Bool, true, false, not, _||_}
@@ -14,17 +14,23 @@ use Rattle.checks.proofs.Laws.{either}
 use Rattle.address.specs.declared.Address.{Address}
 use Rattle.address.specs.declared.Slot.{Slot}
 use Rattle.header.specs.Limits.{lengthLimit}
-use Rattle.header.specs.Read.{readOf}
-use Rattle.header.specs.Build.{sizeOf}
+use Rattle.header.specs.Read.{headerOf, readOf}
+use Rattle.header.specs.Build.{sizeOf, headerOctets}
+use Rattle.header.specs.declared.Fields.{Fields}
 use Rattle.header.specs.declared.Header.{Header}
+use Rattle.header.specs.declared.Read.{Read}
 use Rattle.header.specs.declared.Read.the-variants as read
-use Rattle.echo.specs.Message.{readingOf, echoedIn}
+use Rattle.echo.specs.Message.{messageOctets, readingOf, echoedIn}
+use Rattle.echo.specs.declared.Seen.{Seen}
+use Rattle.echo.specs.declared.Kind.{Kind}
+use Rattle.echo.specs.declared.Kind.the-variants.{Request, Reply}
 use Rattle.echo.specs.declared.Message.{Message}
+use Rattle.echo.specs.declared.Reading.{Reading}
 use Rattle.echo.specs.declared.Reading.the-variants as reading
 use Rattle.meaning.specs.Names.{aimOf, originOf}
 use Rattle.queue.specs.Order.{Each}
-use Rattle.queue.specs.Queue.{entryPlaces}
-use Rattle.queue.specs.declared.Entry.{Entry}
+use Rattle.next_leg.specs.Leg.{asksChecksum, checksumNext, nextFields}
+use Rattle.next_leg.proofs.Names.{stays-home}
 use Rattle.routes.specs.Routes.{candidate}
 use Rattle.routes.specs.Search.{longerMask}
 use Rattle.routes.specs.declared.Record.{Record}
@@ -45,27 +51,56 @@ use Rattle.verdict.specs.declared.Way.{Way}
 use Rattle.verdict.specs.declared.Way.the-variants.{By, Lost}
 use Rattle.judge.specs.Ending.{noRuling}
 use Rattle.replies.specs.Request.{userData}
-use Rattle.replies.specs.Replied.{callChecks, answeringOf, noReply, repliedAmong, repliedBy as byWay, repliedTo, repliedOf, wireFields, wireLength, wireReply, echoedOf}
+use Rattle.replies.specs.Reply.{replyQos, replyFields}
+use Rattle.replies.specs.Replied.{
+  callChecks,
+  answeringOf,
+  noReply,
+  repliedAmong,
+  repliedBy as byWay,
+  repliedTo,
+  repliedOf,
+  wireFields,
+  messageSize,
+  wireLength,
+  wireReply,
+  echoedOf,
+}
 use Rattle.replies.specs.declared.Answering.{Answering}
 use Rattle.replies.specs.declared.sending.Replied.{Replied}
 use Rattle.replies.proofs.Goes.{some-port}
+use Rattle.replies.proofs.Made.{was-made}
+use Rattle.replies.proofs.Exactly.{made-answerable}
+use Rattle.replies.proofs.Meaning.{reply-meaning}
 use Rattle.replies.proofs.Unanswered as unanswered
 use Rattle.tally.specs.Tally.{countedAt, countedAll, replyMoves}
 use Rattle.answering.specs.Echoed.{asEnding, echoAnswering, echoReply}
 use Rattle.answering.specs.Split.{numberFor}
 use Rattle.answers.specs.Answers.{rulingParts, headerParts, partAt, replyNumber}
 use Rattle.answers.proofs.Digits.{ReplyRead}
-use Rattle.page.specs.Table.{GivenBy, aimAt, equalsPort, oneOctet, liesFar, moreOnes}
+use Rattle.page.specs.Table.{GivenBy, aimAt, equalsPort, oneOctet, liesFar}
 use Rattle.page.specs.Sought.{RouteTaken}
 use Rattle.page.specs.Replies.{RequestAnswered, ReplyTo, replyVerdict, RepliesAs}
-use Rattle.page.proofs.Verdict.{masks-choose, ones-choose}
+use Rattle.page.proofs.Verdict.{masks-choose}
 use Rattle.page.proofs.Answered.{made-or-not, made-tells, made-exactly, answered-exactly, reply-of}
-use Rattle.page.proofs.Replies.{unasked-exactly, reply-no-route, reply-granted, reply-shared, reply-fits, reply-route-taken, reply-wired, reply-refused, reply-names-the-same, reply-is-the-page, reply-at-most-one}
+use Rattle.page.proofs.Replies.{
+  unasked-exactly,
+  reply-no-route,
+  reply-granted,
+  reply-shared,
+  reply-fits,
+  reply-route-taken,
+  reply-wired,
+  reply-refused,
+  reply-names-the-same,
+  reply-is-the-page,
+  reply-at-most-one,
+}
 use Rattle.harpjuniper_echo.specs.Face.{echoAnswer}
-use Rattle.contracts.specs.Promised.{Things, Result, lentTo, looking, Promise, Allows, hj-echo}
+use Rattle.contracts.specs.Promised.{Result, lentTo, hj-echo}
 use Rattle.contracts.specs.Contracts.{Says}
 use Rattle.contracts.proofs.Rows.{says-row}
-use Rattle.history.specs.Calls.{orders, dropFlag, views, MissionCall, echoes, waiting, looks, Call, operator, own}
+use Rattle.history.specs.Calls.{orders, dropFlag, views, MissionCall, echoes, Call, operator, own}
 use Rattle.history.specs.Seat.{Seat, freshSeat, stateOf, relayIn, answeringBy, repliedBy}
 use Rattle.history.specs.Outcome.{Answer, replied, ownOutcome, next, runFrom, sumFrom, sumOver}
 use Rattle.history.specs.Parts.{drop, theDrop, About}
@@ -74,7 +109,7 @@ use Rattle.history.specs.Replies as replies
 use Rattle.history.specs.Ledger.{one}
 use Rattle.history.specs.Sums.{counted, portsIn}
 use Rattle.history.specs.Line.{Copy, replyCopy, takenOwn}
-use Rattle.history.proofs.Domain.{set-up-small, page-sound}
+use Rattle.history.proofs.Domain.{set-up-small}
 use Rattle.history.proofs.Ports.{number-stays}
 use Rattle.history.proofs.Reach.{kept-after}
 use Rattle.history.proofs.Refusals.{nobody-took}
@@ -83,12 +118,26 @@ use Rattle.history.proofs.Replies.{requests-are-replies, reply-is-sent}
 use Rattle.history.proofs.Replying.{answer, reply, both-so, reply-fair}
 use Rattle.history.proofs.Replying.{reply-small as small-sets}
 use Rattle.history.proofs.Sums.{moves-as-written}
-use Rattle.history.proofs.Wire.{Sound, wire-home}
-use Rattle.demands.specs.Trace.{Customer, first, numberOf, Step, flies, Words, missionOf, made as madeOn, wordsAfter, Begun, historyOf, boardOf, seatOf, relayFor, Gives}
+use Rattle.demands.specs.Trace.{
+  Customer,
+  first,
+  numberOf,
+  Step,
+  flies,
+  Words,
+  missionOf,
+  made as madeOn,
+  wordsAfter,
+  Begun,
+  historyOf,
+  boardOf,
+  seatOf,
+  relayFor,
+  Gives,
+}
 use Rattle.demands.specs.ReadOut.{ownOut, endedBy, onwardIn, tookIn, droppedIn, replyOctets, replyOut, counterAt}
 use Rattle.demands.specs.Echoes.{replyMade, repliesIn, AnsweredAs, ReplyOnTheWire, replyPlaced, Echoes}
-use Rattle.demands.proofs.Promised.{promisedBy, nextState}
-use Rattle.demands.proofs.Held.{same-promise}
+use Rattle.demands.proofs.Promised.{nextState}
 use Rattle.demands.proofs.Traced.{board-is, words-hold}
 use Rattle.demands.proofs.Told.{gives-row, counters, counters-move}
 use Rattle.demands.proofs.Fitting.{mtu-fits}
@@ -138,6 +187,35 @@ ended-told : (n : ℕ) → partAt 0 (numberFor (noReply n)) ≡ n % 256
 unfolding replyNumber rulingParts headerParts
 ended-told n = omega arith
 
+-- ---- a header on the wire, field by field: W-214 changes the addresses and the checksum alone
+record Wired (f g : Fields) (code : ℕ) : Type 0 where
+  hops : g .hops ≡ f .hops
+  tpid : g .tpid ≡ f .tpid
+  stamp : g .stamp ≡ f .stamp
+  expanded : g .expanded ≡ f .expanded
+  intermediate : g .intermediate ≡ f .intermediate
+  qos : g .qos ≡ f .qos
+  checksum : g .checksum ≡ checksumNext code (f .checksum)
+
+wired : (far : Bool) (arrival code : ℕ) (f : Fields) → Wired f (wireFields far arrival code f) code
+unfolding wireFields
+wired far arrival code f =
+    record { hops = refl; tpid = refl; stamp = refl; expanded = refl; intermediate = refl; qos = refl; checksum = refl }
+
+reply-qos : (arrival : Address) (mine : Bool) (f : Fields) → replyFields arrival mine f .qos ≡ replyQos (f .qos)
+unfolding replyFields
+reply-qos arrival mine f = refl
+
+-- and its octets, with the message
+wire-whole : (a : Answering) (e : Replied) (octets : List ℕ) (far : Bool) → not (eqb (e .far) 0) ≡ far
+    → wireReply a e octets
+    ≡ headerOctets (wireFields far (a .arrival .0) (e .code) (a .fields)) (messageSize a) ++ messageOctets (a .message) (echoedOf a octets)
+unfolding wireReply
+wire-whole a e octets far is =
+    ap
+    (λ (t : Bool).
+    headerOctets (wireFields t (a .arrival .0) (e .code) (a .fields)) (messageSize a) ++ messageOctets (a .message) (echoedOf a octets)) is
+
 -- ---- what is told of any board and any mission
 module _ {A : Type 0} (P : A → Type 0) where
   board-any : (f : Board → A) (d : A) (w : List ℕ) → P d → ((b : Board) → P (f b)) → P (toldBoard f d w)
@@ -181,6 +259,32 @@ module _ (octets : List ℕ) (none : NoneAnswers octets) where
       by : (t : Bool) → partAt 16 (pick t 21 (toldBoth (λ (x : Board) (s : State). numberFor (echoReply x s rs p octets (length o))) 16 b m)) ≡ 0
       by true = refl
       by false = both-any (λ (k : ℕ). partAt 16 k ≡ 0) _ 16 b m refl (λ x s. no-reply x s rs p (length o))
+
+-- ---- user data that are a reply are no request, whatever header they stand behind
+abbrev headerIn : Header → Read → Header
+headerIn d (read.Good h) = h
+headerIn d (read.Refused n) = d
+
+abbrev messageIn : Message → Reading → Message
+messageIn d (reading.Good m) = m
+messageIn d (reading.Refused n) = d
+
+abbrev isReply : Kind → Bool
+isReply Request = false
+isReply (Reply z) = true
+
+module _ (s : List ℕ) (h : Header) (k : Message) (z : Seen) (reads : readOf s ≡ read.Good h) (holds : readingOf (userData h s) ≡ reading.Good k)
+    (is : k .kind ≡ Reply z) where
+  no-request : (r : Relay) (dropping at : ℕ) → RequestAnswered r dropping at s → ⊥
+  no-request r dropping at q =
+      let same : headerOf s ≡ h = ap (headerIn h) (sym (q .reads) ∙ reads) in
+      let held : q .message ≡ k = ap (messageIn k) (sym (q .holds) ∙ ap (λ (t : Header). readingOf (userData t s)) same ∙ holds) in
+      true-false (sym (ap isReply (sym (q .request) ∙ ap (λ (t : Message). t .kind) held ∙ is)))
+
+  reply-unanswered : NoneAnswers s
+  reply-unanswered r number dropping at room =
+      ⊎-elim (λ none. none) (λ one. absurd (no-request r dropping at (made-tells r number dropping at s room one .0)))
+      (made-or-not r number dropping at s room)
 
 -- ---- after a trace
 module _ (who : Customer) (steps : List Step) (rs : List Record) (at : ℕ) (slot : Slot) (octets output : List ℕ) (x : Result)
@@ -344,13 +448,22 @@ module _ (who : Customer) (steps : List Step) (rs : List Record) (at : ℕ) (slo
           subst⁻¹ NoneAnswers out-is
           (λ other mission off by lent. unanswered.wire-unanswered q (seat .number) drops at octets room some small here wide e other mission off by lent)
 
-      sound : Sound a octets
-      sound = page-sound p inside seat rs 0 at slot octets room small (kept-after (numberOf who) (historyOf who steps)) took
+      -- with addresses of one octet it goes into no other domain
+      stays : (far : Bool) → oneOctet (wireFields far (a .arrival .0) (e .code) (a .fields) .addresses) ≡ true → far ≡ false
+      unfolding wireFields nextFields
+      stays far one-octet =
+          let n = seat .number in
+          let y = made-answerable q n drops at octets room (was-made q n drops at octets room some) in
+          let free = reply-meaning q n drops at octets room some y .free in
+          stays-home (a .arrival .0) (e .code) far (a .fields) (λ b. absurd (omega (arith, b, free))) (eqb-true _ 1 one-octet)
 
       on-wire : ReplyOnTheWire q at p octets output a x
       on-wire =
           let passed = reply-fits q (seat .number) drops at octets room p inside granted in
           let names = reply-names-the-same q (seat .number) drops at octets room p inside took in
+          let w = wired (liesFar q at p) (a .arrival .0) (e .code) (a .fields) in
+          let qos =
+          w .qos ∙ ap (λ (f : Fields). f .qos) (tells .fields) ∙ reply-qos (portIn q at .address) (equalsPort q (aimAt q at octets)) (headerOf octets .fields) in
           let origin =
           ap (λ (t : Bool). originOf (portIn q p .address .0) (wireFields t (a .arrival .0) (e .code) (a .fields) .addresses)) (sym far-is) ∙ names .1 in
           record {
@@ -360,6 +473,15 @@ module _ (who : Customer) (steps : List Step) (rs : List Record) (at : ℕ) (slo
                 ∙ unanswered.wire-reads q (seat .number) drops at octets room some small here wide e
                 ∙ ap (λ (t : Bool). read.Good (header t)) far-is;
             fields = ap₂ (λ (z : Address) (code : ℕ). wireFields (liesFar q at p) (z .0) code (a .fields)) (tells .arrival) (page .code);
+            hops = w .hops ∙ tells .hops;
+            control = w .tpid ∙ tells .control;
+            unstamped = w .stamp ∙ tells .unstamped;
+            unexpanded = w .expanded ∙ tells .unexpanded;
+            not-between = w .intermediate ∙ tells .not-between;
+            no-qos = λ none. qos ∙ ap replyQos none;
+            qos-kept = λ n routing program some. qos ∙ ap replyQos some;
+            summed = w .checksum ∙ ap₂ (λ (code on : ℕ). pick (asksChecksum code) 1 on) (page .code) (tells .unsummed);
+            whole = out-is ∙ wire-whole a e octets (liesFar q at p) far-is;
             long = sym length-is;
             fits = subst⁻¹ (λ (n : ℕ). n ≤ portIn q p .mtu) length-is (passed .mtu);
             short = subst⁻¹ (λ (n : ℕ). n < lengthLimit) length-is (passed .short);
@@ -368,7 +490,7 @@ module _ (who : Customer) (steps : List Step) (rs : List Record) (at : ℕ) (slo
                 ap (λ (t : Bool). aimOf (portIn q p .address .0) (wireFields t (a .arrival .0) (e .code) (a .fields) .addresses)) (sym far-is) ∙ names .0;
             from-own = λ d aimed own. origin ∙ tells .from-own d aimed own;
             from-arrival = λ other. origin ∙ tells .from-arrival other;
-            domain = λ one-octet. wire-home a octets sound (e .code) (liesFar q at p) (eqb-true _ 1 one-octet);
+            domain = stays (liesFar q at p);
             message =
                 ap₂ (λ (t : Bool) (o : List ℕ). readingOf (userData (header t) o)) (sym far-is) out-is
                 ∙ unanswered.wire-message q (seat .number) drops at octets room some small here wide e;
@@ -561,4 +683,5 @@ echoes-hold =
             (placed-as who steps rs at slot octets output x g short p inside took),
       );
       never-a-request = λ who steps rs at slot octets output x g. never who steps rs at slot octets output x g;
+      replies-unanswered = λ b m ts q n s o h k z y reads holds is. never-answered s (reply-unanswered s h k z reads holds is) b m ts q n o y;
     }

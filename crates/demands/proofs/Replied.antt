@@ -1,9 +1,9 @@
 -- What C is told of an echo request, and the reply that it finds at the front of the output: page 02, W-203. Assumes nothing.
 use native.Mathlib.Omega.{arith}
 use Prim.Native.Nat.{ℕ, _<_}
-use mathlib.Core.Path.{_≡_, refl, sym, ap, ap₂, subst, _∙_}
+use mathlib.Core.Path.{_≡_, refl, sym, ap₂, subst, _∙_}
 use mathlib.Core.Logic.{_≢_, ⊎-elim}
-use mathlib.Core.Bool.{Bool, true, false, not}
+use mathlib.Core.Bool.{Bool, true, false}
 use mathlib.Core.List.{List, [], _∷_, _++_}
 use lib.ListN.{length, take, drop}
 use lib.Seq.{take-at}
@@ -18,12 +18,11 @@ use Rattle.state.specs.Relay.{Relay}
 use Rattle.lookup.specs.ForTarget.{wayFor}
 use Rattle.lent_state.specs.View.{tooLong}
 use Rattle.verdict.specs.Numbers.{onwardNumber}
-use Rattle.verdict.specs.Rule.{rulingOf}
 use Rattle.verdict.specs.declared.Ruling.{Ruling}
 use Rattle.verdict.specs.declared.Target.the-variants.{Route}
 use Rattle.verdict.specs.declared.Way.{Way}
 use Rattle.verdict.specs.declared.Way.the-variants.{By, Lost}
-use Rattle.replies.specs.Replied.{answeringOf, noReply, repliedAmong, repliedBy as byWay, repliedTo, repliedOf, wireLength, wireReply, repliedOutput}
+use Rattle.replies.specs.Replied.{answeringOf, noReply, repliedAmong, repliedBy as byWay, repliedTo, repliedOf, wireReply, repliedOutput}
 use Rattle.replies.specs.declared.Answering.{Answering}
 use Rattle.replies.specs.declared.sending.Replied.{Replied}
 use Rattle.replies.proofs.Goes.{goes-length, goes-short}

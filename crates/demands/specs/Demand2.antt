@@ -57,7 +57,6 @@ use Rattle.history.specs.Calls.{
   class,
   sets,
   hears,
-  echoes,
   takes,
   sweeps,
   looks,
