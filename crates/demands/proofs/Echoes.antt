@@ -5,7 +5,7 @@ use mathlib.Core.Path.{_≡_, refl, sym, ap, ap₂, subst, subst⁻¹, _∙_}
 use mathlib.Core.Logic.{_⊎_, inl, inr, _↔_, _≢_, ⊎-elim}
 use mathlib.Core.Bool.{Bool, true, false, not, _||_}
 use mathlib.Core.List.{List, [], _∷_, _++_}
-use lib.ListN.{getD, length}
+use lib.ListN.{getD, length, take}
 use lib.Dec.{eqb}
 use borrow.Author.Tests.{eq-eqb, eqb-true}
 use Rattle.checks.specs.Order.{pick, noneHolds}
@@ -13,13 +13,15 @@ use Rattle.checks.proofs.Bools.{true-false, not-false, or-true}
 use Rattle.checks.proofs.Laws.{either}
 use Rattle.address.specs.declared.Address.{Address}
 use Rattle.address.specs.declared.Slot.{Slot}
+use Rattle.octets.specs.Octets.{fronted}
 use Rattle.header.specs.Limits.{lengthLimit}
-use Rattle.header.specs.Read.{headerOf, readOf}
+use Rattle.header.specs.Read.{lengthOf, headerOf, readOf}
 use Rattle.header.specs.Build.{sizeOf, headerOctets}
 use Rattle.header.specs.declared.Fields.{Fields}
 use Rattle.header.specs.declared.Header.{Header}
 use Rattle.header.specs.declared.Read.{Read}
 use Rattle.header.specs.declared.Read.the-variants as read
+use Rattle.header.proofs.Beyond.{agree-up-to-the-length}
 use Rattle.echo.specs.Message.{messageOctets, readingOf, echoedIn}
 use Rattle.echo.specs.declared.Seen.{Seen}
 use Rattle.echo.specs.declared.Kind.{Kind}
@@ -42,6 +44,7 @@ use Rattle.state.specs.Seen.{Board, State, freshBoard}
 use Rattle.survey.proofs.Bits.{in-none}
 use Rattle.lookup.specs.ForTarget.{wayFor}
 use Rattle.lent_state.specs.View.{Lent, Held, Other, lentBoard, lent, byLent, toldBoard, told as toldOf, toldBoth, tooLong}
+use Rattle.lent_state.proofs.Same.{lent-injective}
 use Rattle.listing.specs.Listed.{seen}
 use Rattle.listing.proofs.Counting.{seen-contiguous}
 use Rattle.verdict.specs.Numbers.{onwardNumber}
@@ -51,7 +54,7 @@ use Rattle.verdict.specs.declared.Way.{Way}
 use Rattle.verdict.specs.declared.Way.the-variants.{By, Lost}
 use Rattle.judge.specs.Ending.{noRuling}
 use Rattle.replies.specs.Request.{userData}
-use Rattle.replies.specs.Reply.{replyQos, replyFields}
+use Rattle.replies.specs.Reply.{noAnswer, replyQos, replyFields}
 use Rattle.replies.specs.Replied.{
   callChecks,
   answeringOf,
@@ -63,7 +66,9 @@ use Rattle.replies.specs.Replied.{
   wireFields,
   messageSize,
   wireLength,
+  wireHeader,
   wireReply,
+  repliedOutput,
   echoedOf,
 }
 use Rattle.replies.specs.declared.Answering.{Answering}
@@ -74,7 +79,7 @@ use Rattle.replies.proofs.Exactly.{made-answerable}
 use Rattle.replies.proofs.Meaning.{reply-meaning}
 use Rattle.replies.proofs.Unanswered as unanswered
 use Rattle.tally.specs.Tally.{countedAt, countedAll, replyMoves}
-use Rattle.answering.specs.Echoed.{asEnding, echoAnswering, echoReply}
+use Rattle.answering.specs.Echoed.{asEnding, repliedState, echoAnswering, echoReply}
 use Rattle.answering.specs.Split.{numberFor}
 use Rattle.answers.specs.Answers.{rulingParts, headerParts, partAt, replyNumber}
 use Rattle.answers.proofs.Digits.{ReplyRead}
@@ -101,7 +106,7 @@ use Rattle.contracts.specs.Promised.{Result, lentTo, hj-echo}
 use Rattle.contracts.specs.Contracts.{Says}
 use Rattle.contracts.proofs.Rows.{says-row}
 use Rattle.history.specs.Calls.{orders, dropFlag, views, MissionCall, echoes, Call, operator, own}
-use Rattle.history.specs.Seat.{Seat, freshSeat, stateOf, relayIn, answeringBy, repliedBy}
+use Rattle.history.specs.Seat.{Seat, freshSeat, stateOf, relayIn, relayWith, answeringBy, repliedBy}
 use Rattle.history.specs.Outcome.{Answer, replied, ownOutcome, next, runFrom, sumFrom, sumOver}
 use Rattle.history.specs.Parts.{drop, theDrop, About}
 use Rattle.history.specs.Replies.{isMade}
@@ -144,6 +149,7 @@ use Rattle.demands.proofs.Fitting.{mtu-fits}
 use Rattle.demands.proofs.Replied.{picks, leaves, told, none-found, found, behind, short-is, taken-short-list}
 use Rattle.demands.proofs.Whole.{whole, reply-unwritten}
 use Rattle.demands.proofs.Messages as messages
+use Rattle.demands.proofs.Beyond.{answering-alike, echoed-alike}
 use Rattle.demands.proofs.ReadOut.{read-out}
 use Rattle.demands.proofs.Over.{overCalls, over-is}
 use Rattle.demands.proofs.Demand3.{counter-reads, waiting-reads, full-is}
@@ -285,6 +291,68 @@ module _ (s : List ℕ) (h : Header) (k : Message) (z : Seen) (reads : readOf s 
   reply-unanswered r number dropping at room =
       ⊎-elim (λ none. none) (λ one. absurd (no-request r dropping at (made-tells r number dropping at s room one .0)))
       (made-or-not r number dropping at s room)
+
+-- ---- two requests that are alike up to the length field
+module _ (seat : Seat) (rs : List Record) (at : ℕ) (s t output : List ℕ) (n : ℕ) (long : lengthOf s ≤ n) (agree : take n t ≡ take n s)
+    (same : readOf t ≡ readOf s) where
+  answering-same : answeringBy seat rs at t (length output) ≡ answeringBy seat rs at s (length output)
+  unfolding echoAnswering
+  answering-same =
+      ap (λ (y : Answering). pick (tooLong rs) (noAnswer 21) y)
+      (answering-alike s t n long agree same (relayWith seat rs) (seat .number) (seat .board .drop) at (length output))
+
+  reply-same : repliedBy seat rs at t (length output) ≡ repliedBy seat rs at s (length output)
+  unfolding echoReply
+  reply-same =
+      let r = relayWith seat rs in
+      ap (λ (y : Answering). repliedTo r y (wayFor r Route (y .destination)) (length output)) answering-same
+
+  -- what is written of one is written of the other
+  abbrev SameOut : Answering → Replied → Type 0
+  SameOut y w = repliedOutput y w t output ≡ repliedOutput y w s output
+
+  none-same : (y : Answering) (w : Replied) → w .ruling .took ≡ 0 → SameOut y w
+  unfolding repliedOutput
+  none-same y w none = picks _ _ _ (eq-eqb (w .ruling .took) 0 none) ∙ sym (picks _ _ _ (eq-eqb (w .ruling .took) 0 none))
+
+  echoed-same : (y : Answering) (w : Replied) → echoedOf y t ≡ echoedOf y s → SameOut y w
+  unfolding repliedOutput wireReply
+  echoed-same y w is =
+      ap
+      (λ (l : List ℕ).
+      pick (eqb (w .ruling .took) 0) output (fronted (wireHeader y w ++ messageOctets (y .message) l) output)) is
+
+  output-same : SameOut (answeringBy seat rs at s (length output)) (repliedBy seat rs at s (length output))
+  output-same =
+      let r = relayWith seat rs in
+      let a = answer seat rs at s (length output) in
+      let e = reply seat rs at s (length output) in
+      both-so seat rs at s (length output) SameOut (λ too. none-same (noAnswer 21) (noReply 21) refl)
+      (λ short.
+      ⊎-elim
+      (λ none. none-same a e (ap (λ (w : Replied). w .ruling .took) (unmade-is r (seat .number) (seat .board .drop) at s (length output) none)))
+      (λ one. echoed-same a e (echoed-alike s t n long agree same r (seat .number) (seat .board .drop) at (length output) one))
+      (made-or-not r (seat .number) (seat .board .drop) at s (length output)))
+
+module _ (who : Customer) (steps : List Step) (rs : List Record) (at : ℕ) (slot : Slot) (s t output : List ℕ) (n : ℕ) (x y : Result) where
+  no-further : lengthOf s ≤ n → take n t ≡ take n s → readOf t ≡ readOf s → Gives steps (flies who (echoes rs at slot s output)) x
+      → Gives steps (flies who (echoes rs at slot t output)) y
+      → (y .answer ≡ x .answer) × ((y .left .mission ≡ x .left .mission) × (y .left .output ≡ x .left .output))
+  no-further long agree same g k =
+      let seat = seatOf who steps in
+      let one = gives-row who steps (own (echoes rs at slot s output)) x g in
+      let two = gives-row who steps (own (echoes rs at slot t output)) y k in
+      let is = reply-same seat rs at s t output n long agree same in
+      let left : Replied → Lent State = λ (e : Replied). Held (repliedState (seat .board) (stateOf seat (counters who steps)) slot e) in (
+        two .answer ∙ ap numberFor is ∙ sym (one .answer),
+        (
+          lent-injective (y .left .mission) (x .left .mission) (two .mission ∙ ap left is ∙ sym (one .mission)),
+          two .output
+              ∙ ap₂ (λ (a : Answering) (e : Replied). repliedOutput a e t output) (answering-same seat rs at s t output n long agree same) is
+              ∙ output-same seat rs at s t output n long agree same
+              ∙ sym (one .output),
+        ),
+      )
 
 -- ---- after a trace
 module _ (who : Customer) (steps : List Step) (rs : List Record) (at : ℕ) (slot : Slot) (octets output : List ℕ) (x : Result)
@@ -682,6 +750,8 @@ echoes-hold =
             replyPlaced who steps p at slot octets a x (takenOwn p (length (historyOf who steps)) (seatOf who steps) (echoes rs at slot octets output)))
             (placed-as who steps rs at slot octets output x g short p inside took),
       );
+      answers-no-further = λ who steps rs at slot s t output n x y long control agree.
+          no-further who steps rs at slot s t output n x y long agree (agree-up-to-the-length s t n long control agree);
       never-a-request = λ who steps rs at slot octets output x g. never who steps rs at slot octets output x g;
       replies-unanswered = λ b m ts q n s o h k z y reads holds is. never-answered s (reply-unanswered s h k z reads holds is) b m ts q n o y;
     }

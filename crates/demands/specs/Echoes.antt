@@ -13,7 +13,8 @@ use Rattle.checks.specs.Answer.{refusalNumber}
 use Rattle.address.specs.declared.Address.{Address}
 use Rattle.address.specs.declared.Slot.{Slot}
 use Rattle.header.specs.Limits.{mostData, lengthLimit}
-use Rattle.header.specs.Read.{headerOf, readOf}
+use Rattle.header.specs.Form.{controlOf}
+use Rattle.header.specs.Read.{lengthOf, headerOf, readOf}
 use Rattle.header.specs.Build.{headerOctets}
 use Rattle.header.specs.declared.Header.{Header}
 use Rattle.header.specs.declared.Octet.the-variants as octet
@@ -275,6 +276,11 @@ pub record Echoes : Type 0 where
       × (inSet p (tookIn x) ≡ true
       → replyPlaced who steps p at slot octets (replyMade who steps rs at octets output) x
       (takenOwn p (length (historyOf who steps)) (seatOf who steps) (echoes rs at slot octets output)))
+  -- "Octets beyond the length field are ignored.": what comes after them changes neither the answer, nor the words, nor the reply
+  pub answers-no-further : (who : Customer) (steps : List Step) (rs : List Record) (at : ℕ) (slot : Slot) (s t output : List ℕ) (n : ℕ) (x y : Result)
+      → lengthOf s ≤ n → controlOf s .end ≤ n → take n t ≡ take n s
+      → Gives steps (flies who (echoes rs at slot s output)) x → Gives steps (flies who (echoes rs at slot t output)) y
+      → (y .answer ≡ x .answer) × ((y .left .mission ≡ x .left .mission) × (y .left .output ≡ x .left .output))
   -- a reply is never a request: no relay, whatever its words, makes a reply to it, so that two cannot answer each other for ever
   pub never-a-request : (who : Customer) (steps : List Step) (rs : List Record) (at : ℕ) (slot : Slot) (octets output : List ℕ) (x : Result)
       → Gives steps (flies who (echoes rs at slot octets output)) x → tookIn x ≢ 0
