@@ -1,8 +1,8 @@
 -- Octets beyond the length field change nothing of what an echo request is answered: two strings of which the same is read, and which are the same as far as
 -- the length field says, get the same reply, with the same data in it. Assumes nothing.
 use native.Mathlib.Omega.{arith}
-use Prim.Native.Nat.{ℕ, zero, suc, _+_, _-_, _≤_}
-use mathlib.Core.Path.{_≡_, refl, sym, ap, ap₂, subst⁻¹, _∙_}
+use Prim.Native.Nat.{ℕ, zero, suc, _-_, _≤_}
+use mathlib.Core.Path.{_≡_, refl, sym, ap, _∙_}
 use mathlib.Core.Bool.{Bool, true, false}
 use mathlib.Core.List.{List, [], _∷_}
 use lib.ListN.{take, drop}
@@ -15,11 +15,10 @@ use Rattle.header.specs.Onward.{renewalOf, foundOf}
 use Rattle.header.specs.declared.Header.{Header}
 use Rattle.header.specs.declared.Read.{Read}
 use Rattle.header.specs.declared.Read.the-variants as read
-use Rattle.header.specs.declared.Found.{Found}
 use Rattle.header.specs.declared.Found.the-variants as found
 use Rattle.header.specs.declared.Renewal.{Renewal}
 use Rattle.header.proofs.Refusals.{read-good}
-use Rattle.echo.specs.Message.{requestSize, readingOf}
+use Rattle.echo.specs.Message.{readingOf}
 use Rattle.meaning.specs.Arrival.{arrivalChecks}
 use Rattle.meaning.specs.Names.{aimOf}
 use Rattle.meaning.specs.declared.Aim.{Aim}

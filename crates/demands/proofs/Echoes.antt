@@ -149,6 +149,7 @@ use Rattle.demands.proofs.Fitting.{mtu-fits}
 use Rattle.demands.proofs.Replied.{picks, leaves, told, none-found, found, behind, short-is, taken-short-list}
 use Rattle.demands.proofs.Whole.{whole, reply-unwritten}
 use Rattle.demands.proofs.Messages as messages
+use Rattle.demands.proofs.Stamps.{stamp-placed}
 use Rattle.demands.proofs.Beyond.{answering-alike, echoed-alike}
 use Rattle.demands.proofs.ReadOut.{read-out}
 use Rattle.demands.proofs.Over.{overCalls, over-is}
@@ -702,6 +703,7 @@ echoes-hold =
       off-at-first = λ steps x others g.
           gives-row first steps (operator (views dropFlag)) x g .answer
           ∙ off-first (historyOf first steps) others;
+      stamp-placed = stamp-placed;
       answers = λ who steps rs at slot octets output x g short.
           as-said who steps rs at slot octets output x g
           (λ (n : ℕ) (a : Answering). AnsweredAs (relayFor who steps rs) n at octets output a x) (answered-as who steps rs at slot octets output x g short);

@@ -2,23 +2,25 @@
 -- whatever the other customer does between them, hj_echo answers by the page's list of what gets a reply; the reply that goes is the one that 003 and the page
 -- lay out, and names on the wire whom it should; it counts as the page says; and no relay answers it. Proved in proofs/Echoes.antt.
 -- Assumes nothing.
-use Prim.Native.Nat.{ℕ, _+_, _%_, _^_, _<_, _≤_}
+use Prim.Native.Nat.{ℕ, _+_, _-_, _%_, _^_, _<_, _≤_}
 use mathlib.Core.Path.{_≡_}
 use mathlib.Core.Logic.{_↔_, _≢_}
 use mathlib.Core.Bool.{true, false, _||_}
 use mathlib.Core.List.{List, [], _∷_, _++_}
-use lib.ListN.{length, take, drop, getD}
+use lib.ListN.{length, replicate, take, drop, getD}
 use Rattle.checks.specs.Order.{pick, noneHolds, firstHolds}
 use Rattle.checks.specs.Answer.{refusalNumber}
+use Rattle.octets.specs.Octets.{octets as numberOctets}
 use Rattle.address.specs.declared.Address.{Address}
 use Rattle.address.specs.declared.Slot.{Slot}
 use Rattle.header.specs.Limits.{mostData, lengthLimit}
 use Rattle.header.specs.Form.{controlOf}
 use Rattle.header.specs.Read.{lengthOf, headerOf, readOf}
-use Rattle.header.specs.Build.{headerOctets}
+use Rattle.header.specs.Build.{stampOctets, headerOctets}
 use Rattle.header.specs.declared.Header.{Header}
 use Rattle.header.specs.declared.Octet.the-variants as octet
 use Rattle.header.specs.declared.Qos.the-variants as qos
+use Rattle.header.specs.declared.Timestamp.{Timestamp}
 use Rattle.header.specs.declared.Timestamp.the-variants as stamp
 use Rattle.header.specs.declared.Read.the-variants as read
 use Rattle.echo.specs.Message.{fixedSize, messageOctets, echoChecks, messageOf, readingOf, echoedIn}
@@ -41,6 +43,7 @@ use Rattle.sets.specs.Sets.{inSet}
 use Rattle.state.specs.Relay.{Relay, portIn, routeIn}
 use Rattle.lent_state.specs.View.{tooLong}
 use Rattle.replies.specs.Request.{userData}
+use Rattle.replies.specs.Reply.{stampNumber}
 use Rattle.replies.specs.Replied.{callChecks, answeringOf, wireFields, messageSize, echoedOf}
 use Rattle.replies.specs.declared.Answering.{Answering}
 use Rattle.page.specs.Table.{GivenBy, aimAt, equalsPort, oneOctet, liesFar}
@@ -224,6 +227,9 @@ pub record Echoes : Type 0 where
   -- "A setting that drops all requests defaults to off.": as long as it is not set, hj_get_echo_drop answers 0 (what is set is read back, demand 2)
   pub off-at-first : (steps : List Step) (x : Result) → Each (λ (c : Call). About c theDrop → ⊥) (historyOf first steps)
       → Gives steps (operates (views dropFlag)) x → x .answer ≡ 0
+  -- "placed in the least-significant octets of the field and the unused octets shall be set to all '0s'" (003, 3.3.4.7.5): the number that a reply has for
+  -- the timestamp of a request, in eight octets
+  pub stamp-placed : (t : Timestamp) → numberOctets 8 (stampNumber t) ≡ replicate (8 - length (stampOctets t)) 0 ++ stampOctets t
   -- what hj_echo answers, and the reply; a list over 512 records is refused by 21 (demand 1)
   pub answers : (who : Customer) (steps : List Step) (rs : List Record) (at : ℕ) (slot : Slot) (octets output : List ℕ) (x : Result)
       → Gives steps (flies who (echoes rs at slot octets output)) x → tooLong rs ≡ false
