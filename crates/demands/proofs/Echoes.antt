@@ -44,7 +44,7 @@ use Rattle.verdict.specs.declared.Way.{Way}
 use Rattle.verdict.specs.declared.Way.the-variants.{By, Lost}
 use Rattle.judge.specs.Ending.{noRuling}
 use Rattle.replies.specs.Request.{userData}
-use Rattle.replies.specs.Replied.{callChecks, answeringOf, noReply, repliedAmong, repliedBy as byWay, repliedTo, repliedOf, wireFields, wireLength, wireReply, echoedOf}
+use Rattle.replies.specs.Replied.{callChecks, answeringOf, noReply, repliedAmong, repliedVia as byWay, repliedTo, repliedOf, wireFields, wireLength, wireReply, echoedOf}
 use Rattle.replies.specs.declared.Answering.{Answering}
 use Rattle.replies.specs.declared.sending.Replied.{Replied}
 use Rattle.replies.proofs.Goes.{some-port}
