@@ -60,7 +60,7 @@ use Rattle.replies.specs.Replied.{
   answeringOf,
   noReply,
   repliedAmong,
-  repliedBy as byWay,
+  repliedVia as byWay,
   repliedTo,
   repliedOf,
   wireFields,

@@ -52,7 +52,7 @@ use Rattle.replies.specs.Replied.{callChecks, answeringOf, wireFields, messageS
 use Rattle.replies.specs.declared.Answering.{Answering}
 use Rattle.replies.specs.declared.sending.Replied.{Replied}
 use Rattle.replies.proofs.Made.{was-made}
-use Rattle.replies.proofs.Exactly.{made-answerable}
+use Rattle.replies.proofs.Requested.{made-requested}
 use Rattle.replies.proofs.Meaning.{reply-meaning}
 use Rattle.replies.proofs.Unanswered.{fields-range, own-reads, wire-reads, wire-unanswered}
 use Rattle.answering.specs.Echoed.{asEnding}
@@ -281,7 +281,7 @@ module _ (p : ℕ) (inside : p < 8) where
           let d = seat .board .drop in
           let told = made-tells r m d port octets room (page-made took .0) .1 in
           let names = reply-names-the-same r m d port octets room p inside took in
-          let free = reply-meaning r m d port octets room some (made-answerable r m d port octets room (was-made r m d port octets room some)) .free in
+          let free = reply-meaning r m d port octets room some (made-requested r m d port octets room (was-made r m d port octets room some)) .free in
           let far = not (eqb (e .far) 0) in
           let f = wireFields far (a .arrival .0) (e .code) (a .fields) in
           let lies : far ≡ not (eqb (domainOf (portIn (relayIn seat) p .address)) (domainOf (a .arrival))) =
