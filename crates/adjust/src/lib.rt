@@ -1,5 +1,5 @@
-// The settings calls: router or host, whether echo requests are dropped, a port, and a mission made fresh. Groups and paths stand in the module `groups_and_paths`; routes, which stand in a
-// list of their own, in the crate `route_calls`.
+// The settings calls: router or host, whether echo requests are dropped, a port, and a mission made fresh. Groups and paths stand in the module
+// `groups_and_paths`; routes, which stand in a list of their own, in the crate `route_calls`.
 //
 // Each call asks first what refuses it (crate `refusals`), and writes one place of the board or of the mission only where nothing does: a refused call
 // answers its number and changes nothing, a taken one answers 0 and its record stands in the place. A filled record has 1 as its flag,

@@ -10,7 +10,7 @@ use denote.Triple.Entry.{Args, Res}
 use denote.Triple.Clauses.{Ended, AtExit, Clauses}
 use Rattle.harpjuniper_routes.specs.Face.{Searches, SetsRoute, ClearsRoute, ReadsRouteWord}
 use Rattle.harpjuniper_receive.specs.Face.{Receives}
-use Rattle.harpjuniper_echo.specs.Face.{Echoes}
+use Rattle.harpjuniper_echo.specs.Face.{AnswersEcho}
 use Rattle.harpjuniper_routes.proofs.hj_set_route as set-route
 use Rattle.harpjuniper_routes.proofs.hj_clear_route as clear-route
 use Rattle.harpjuniper_routes.proofs.hj_route_word as route-word
@@ -48,5 +48,5 @@ receives κs a r e =
 
 abbrev pub echoes : Plainly echo.ended
 echoes κs a r e =
-    Echoes (now (a .0)) (now (a .1 .0)) (now (a .1 .1 .0)) (a .1 .1 .1 .0) (a .1 .1 .1 .1 .0) (now (a .1 .1 .1 .1 .1 .0))
+    AnswersEcho (now (a .0)) (now (a .1 .0)) (now (a .1 .1 .0)) (a .1 .1 .1 .0) (a .1 .1 .1 .1 .0) (now (a .1 .1 .1 .1 .1 .0))
     (now (a .1 .1 .1 .1 .1 .1 .0)) r (now (e .1 .0)) (now (e .1 .1 .1 .1 .1 .1 .0))

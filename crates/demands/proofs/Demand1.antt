@@ -81,7 +81,7 @@ use Rattle.history.proofs.Replying.{reply-took-none}
 use Rattle.history.proofs.Sums.{moves-as-written}
 use Rattle.history.proofs.Transport as transport
 use Rattle.demands.specs.Trace.{Customer, Step, operates, flies, stepOf, Words, missionOf, made, wordsAfter, seatOf, relayOf, Gives}
-use Rattle.demands.specs.ReadOut.{ownOut, readOut, ownIn, memoryIn, hearsNothing, counterAt}
+use Rattle.demands.specs.ReadOut.{ownOut, readOut, ownIn, memoryIn, countsNothing, counterAt}
 use Rattle.demands.specs.Demand1.{Unchanged, OwnRemembers, Remembers, LocalAlone, Lacks, lackNumber, refusedOwn, AnswersLack, HasLong, refusedAs, MissionLacks, Demand1}
 use Rattle.demands.proofs.Lane.{madeBy}
 use Rattle.demands.proofs.Promised.{promisedBy, nextState}
@@ -170,7 +170,7 @@ module _ (who : Customer) (steps : List Step) where
         }
 
   -- a refused call that hears no datagram and answers none leaves all
-  quiet-leaves : (c : MissionCall) → hearsNothing c ≡ true → (x : Result) (g : Gives steps (flies who c) x)
+  quiet-leaves : (c : MissionCall) → countsNothing c ≡ true → (x : Result) (g : Gives steps (flies who c) x)
       → outcome.isRefusal (outcome.ownOutcome seat c .answer) ≡ true → x .left ≡ lentTo (made (g .before) (flies who c))
   quiet-leaves c quiet x g h =
       let hold = words-hold who (g .lent) steps (g .before) (g .begun) in
@@ -374,7 +374,7 @@ module _ (n : List ℕ) where
   message-other wrong r = (rw (ne-eqb (length n) messageCount wrong), rw (ne-eqb (length n) messageCount wrong))
 
 -- ---- a call that hears no datagram and answers none counts nothing
-no-moves : (x : Seat) (c : MissionCall) → hearsNothing c ≡ true → outcome.ownOutcome x c .moves ≡ []
+no-moves : (x : Seat) (c : MissionCall) → countsNothing c ≡ true → outcome.ownOutcome x c .moves ≡ []
 no-moves x (sets s) h = refl
 no-moves x (hears rs p slot second octets output) h = true-false (sym h)
 no-moves x (echoes rs p slot octets output) h = true-false (sym h)
@@ -382,7 +382,7 @@ no-moves x (takes p) h = quiet-taking p (takeOutcome (relayIn x) p)
 no-moves x (sweeps second) h = refl
 no-moves x (looks l) h = refl
 
-counters-stay : (who : Customer) (steps : List Step) (c : MissionCall) (x : Result) (g : Gives steps (flies who c) x) → hearsNothing c ≡ true
+counters-stay : (who : Customer) (steps : List Step) (c : MissionCall) (x : Result) (g : Gives steps (flies who c) x) → countsNothing c ≡ true
     → decode (missionOf who (wordsAfter (g .before) (flies who c) x)) .counters ≡ decode (missionOf who (g .before)) .counters
 counters-stay who steps c x g none =
     ap (λ (s : State). s .counters) (gives-next who steps (own c) x g)

@@ -236,6 +236,12 @@ unfolding seenPort
 seen-fits b h n p =
     either (λ (x : Port). x .address .0 < 2 ^ 32) (owns n (ownedAt b p)) (getD-each PortFits (b .ports) p freshOwned port-fits h .1 .0) none-fits
 
+-- and its MTU
+seen-mtu-fits : (b : Board) → BoardFits b → (n p : ℕ) → seenPort n (ownedAt b p) .mtu < 2 ^ 32
+unfolding seenPort
+seen-mtu-fits b h n p =
+    either (λ (x : Port). x .mtu < 2 ^ 32) (owns n (ownedAt b p)) (getD-each PortFits (b .ports) p freshOwned port-fits h .1 .1 .1 .0) none-fits
+
 address-fits : (x : Seat) (rs : List Record) → BoardFits (x .board) → (p : ℕ) → portIn (relayWith x rs) p .address .0 < 2 ^ 32
 address-fits x rs h p = rw (seen-at (x .board) p (x .number)) (seen-fits (x .board) h (x .number) p)
 
@@ -293,6 +299,9 @@ fresh-fits n = (
 module _ (who : Customer) (steps : List Step) (all : AllPass steps) where
   fits : Fits (seatOf who steps)
   fits = all-fits (historyOf who steps) (freshSeat (numberOf who)) (history-passes who steps all) (fresh-fits (numberOf who))
+
+  pub mtu-fits : (rs : List Record) (p : ℕ) → portIn (relayWith (seatOf who steps) rs) p .mtu < 2 ^ 32
+  mtu-fits rs p = rw (seen-at (seatOf who steps .board) p (seatOf who steps .number)) (seen-mtu-fits (seatOf who steps .board) (fits .0) (seatOf who steps .number) p)
 
   pub port-out : (p word : ℕ) → refusalIn (portAnswer (seatOf who steps .board) p word) ≡ wordRefusal p portCount word 5
   unfolding portAnswer

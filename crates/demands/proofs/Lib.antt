@@ -3,7 +3,8 @@
 -- shut out by them). The others serve these: Lane, a trace as one customer has part in it; Fresh, how a trace begins; Promised, Held, Traced and Told, what
 -- the words hold after any steps, and what C is told then; Lasts, that there are such traces; Fitting and ReadOut, what C reads out of an answer; Over, what
 -- a customer's calls come to one after the other; Whole, which calls leave all as it was lent; Stretches and Output, what C finds in the output, and Replied,
--- likewise of a reply; Remembers, what it finds of the memory; Messages, what it reads and builds of echo messages.
+-- likewise of a reply; Remembers, what it finds of the memory; Messages, what it reads and builds of echo messages; Stamps, how it has a timestamp;
+-- Beyond, that octets beyond the length field change no reply.
 pub mod Lane
 pub mod Fresh
 pub mod Promised
@@ -24,6 +25,8 @@ pub mod Demand2
 pub mod Demand3
 pub mod Floods
 pub mod Messages
+pub mod Stamps
+pub mod Beyond
 pub mod Echoes
 pub mod Apart
 pub mod WrongRelays

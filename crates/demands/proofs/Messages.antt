@@ -91,20 +91,18 @@ module _ (s lent : List ℕ) where
         let c = hj-read-echo-words s lent in
         let a = each-call-answers c (no-slot s lent) in
         let row = says-row c (a .0) (a .1) in
-        let left = row .numbers ∙ ten-left (readingOf s) ∙ ap (λ (r : Reading). leftBy r lent) is in
-        (a .0, (a .1, (row .answer ∙ ten-answer (readingOf s) ∙ ap refusalIn is, left)))
+        (a .0, (a .1, (row .answer ∙ ten-answer (readingOf s) ∙ ap refusalIn is, row .numbers ∙ ten-left (readingOf s) ∙ ap (λ (r : Reading). leftBy r lent) is)))
 
 -- the words tell the message
-abbrev message : Kind → ℕ → ℕ → Message
-message k i n = record { identifier = i; sequence = n; kind = k }
-
-kind-told : (identifier sequence : ℕ) (k : Kind) → messageIn (messageWords (message k identifier sequence)) ≡ message k identifier sequence
+kind-told : (identifier sequence : ℕ) (k : Kind)
+    → messageIn (messageWords (record { identifier = identifier; sequence = sequence; kind = k })) ≡ record { identifier = identifier; sequence = sequence; kind = k }
 unfolding messageWords
 kind-told identifier sequence Request = refl
 kind-told identifier sequence (Reply s) =
     let halves : s .stamp / 2 ^ 32 * 2 ^ 32 + s .stamp % 2 ^ 32 ≡ s .stamp = omega arith in
     ap
-    (λ (stamp : ℕ). message (Reply (record { hops = s .hops; format = s .format; stamp = stamp; mtu = s .mtu; rate = s .rate })) identifier sequence)
+    (λ (stamp : ℕ).
+    record { identifier = identifier; sequence = sequence; kind = Reply (record { hops = s .hops; format = s .format; stamp = stamp; mtu = s .mtu; rate = s .rate }) })
     halves
 
 pub message-told : (m : Message) → messageIn (messageWords m) ≡ m
@@ -118,6 +116,9 @@ begin-told m = refl
 built-passes : (k : Kind) (i n : ℕ) (echoed lent : List ℕ) → Passable (builtBy k i n echoed lent)
 built-passes Request i n echoed lent = (λ b m rs p slot now l o e. true-false cc, λ b m rs p slot l o e. true-false cc)
 built-passes (Reply s) i n echoed lent = (λ b m rs p slot now l o e. true-false cc, λ b m rs p slot l o e. true-false cc)
+
+abbrev message : Kind → ℕ → ℕ → Message
+message k i n = record { identifier = i; sequence = n; kind = k }
 
 built-row : (k : Kind) (i n : ℕ) (echoed lent : List ℕ) (x : Result) → Says (builtBy k i n echoed lent) x
     → (x .answer ≡ builtAnswer (builtOf (message k i n) (length echoed) (length lent))) × (x .left .output ≡ builtOutput (message k i n) echoed lent)

@@ -22,7 +22,7 @@ use Rattle.verdict.specs.declared.Ruling.{Ruling}
 use Rattle.verdict.specs.declared.Target.the-variants.{Route}
 use Rattle.verdict.specs.declared.Way.{Way}
 use Rattle.verdict.specs.declared.Way.the-variants.{By, Lost}
-use Rattle.replies.specs.Replied.{answeringOf, noReply, repliedAmong, repliedBy as byWay, repliedTo, repliedOf, wireReply, repliedOutput}
+use Rattle.replies.specs.Replied.{answeringOf, noReply, repliedAmong, repliedVia as byWay, repliedTo, repliedOf, wireReply, repliedOutput}
 use Rattle.replies.specs.declared.Answering.{Answering}
 use Rattle.replies.specs.declared.sending.Replied.{Replied}
 use Rattle.replies.proofs.Goes.{goes-length, goes-short}

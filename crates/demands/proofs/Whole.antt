@@ -117,7 +117,7 @@ use Rattle.history.specs.Calls.{
   settle,
 }
 use Rattle.history.proofs.Refusals.{nobody-took, output-as-lent, refused-take-leaves}
-use Rattle.demands.specs.ReadOut.{hearsNothing}
+use Rattle.demands.specs.ReadOut.{countsNothing}
 use Rattle.demands.specs.Demand1.{NoBoard, NoMission, OperatorLacks, MissionLacks, HasLong}
 use Rattle.demands.proofs.Lane.{madeBy}
 use Rattle.demands.proofs.Promised.{promisedBy, nextState}
@@ -272,7 +272,7 @@ module _ (b m : List ℕ) (x : Seat) (l : List ℕ) (board : lentBoard b ≡ Hel
   operator-refused (orders o) h = order-left o h
   operator-refused (views v) h = view-left v h
 
-  pub own-refused : (c : MissionCall) → hearsNothing c ≡ true → LeftBy (own c)
+  pub own-refused : (c : MissionCall) → countsNothing c ≡ true → LeftBy (own c)
   own-refused (sets s) quiet h = setting-left s h
   own-refused (hears rs p slot second octets output) quiet h = true-false (sym quiet)
   own-refused (echoes rs p slot octets output) quiet h = true-false (sym quiet)

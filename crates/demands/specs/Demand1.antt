@@ -84,7 +84,7 @@ use Rattle.history.specs.Answers.{answersOf, listed, stands}
 use Rattle.history.specs.Sums.{givenBy}
 use Rattle.history.specs.Transport.{SameButTpid, localBy}
 use Rattle.demands.specs.Trace.{Customer, Step, operates, flies, stepOf, Words, missionOf, made, wordsAfter, Passes, AllPass, seatOf, relayFor, Gives}
-use Rattle.demands.specs.ReadOut.{hearsNothing, readOut, operatorOut, ownOut, endedBy, localIn, onwardIn, tookIn, droppedIn, ownIn, memoryIn, counterAt}
+use Rattle.demands.specs.ReadOut.{countsNothing, readOut, operatorOut, ownOut, endedBy, localIn, onwardIn, tookIn, droppedIn, ownIn, memoryIn, counterAt}
 
 -- ---- what a refusal leaves of the things lent, t, in those left, u: all but the mission's counters and what it remembers is as it was
 pub record Unchanged (t u : Things) : Type 0 where
@@ -303,7 +303,7 @@ pub record Demand1 : Type 2 where
   pub counters-move : (who : Customer) (steps : List Step) (c : MissionCall) (x : Result) (g : Gives steps (flies who c) x) (i : ℕ) → i < counterCount
       → counterAt (missionOf who (wordsAfter (g .before) (flies who c) x)) i
       ≡ (counterAt (missionOf who (g .before)) i + givenBy i (outcome.ownOutcome (seatOf who steps) c)) % 2 ^ 32
-  pub counters-stay : (who : Customer) (steps : List Step) (c : MissionCall) (x : Result) (g : Gives steps (flies who c) x) → hearsNothing c ≡ true
+  pub counters-stay : (who : Customer) (steps : List Step) (c : MissionCall) (x : Result) (g : Gives steps (flies who c) x) → countsNothing c ≡ true
       → decode (missionOf who (wordsAfter (g .before) (flies who c) x)) .counters ≡ decode (missionOf who (g .before)) .counters
   -- "An unknown transport number refuses local delivery alone.": of two datagrams that differ in that number
   pub transport-alone : (who : Customer) (steps : List Step) (rs : List Record) (p : ℕ) (slot : Slot) (second : ℕ) (s t output : List ℕ) (h k : Header) (x y : Result)

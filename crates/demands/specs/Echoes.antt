@@ -1,20 +1,27 @@
 -- Echo messages, for each of two customers by itself: page 02, W-203, said of what C calls. Messages are read and built as 003 lays them out. After any steps,
 -- whatever the other customer does between them, hj_echo answers by the page's list of what gets a reply; the reply that goes is the one that 003 and the page
--- lay out, and names on the wire whom it should; it counts as the page says, and nothing else does; and no relay answers it. Proved in proofs/Echoes.antt.
+-- lay out, and names on the wire whom it should; it counts as the page says; and no relay answers it. Proved in proofs/Echoes.antt.
 -- Assumes nothing.
-use Prim.Native.Nat.{ℕ, _+_, _%_, _^_, _<_, _≤_}
+use Prim.Native.Nat.{ℕ, _+_, _-_, _%_, _^_, _<_, _≤_}
 use mathlib.Core.Path.{_≡_}
 use mathlib.Core.Logic.{_↔_, _≢_}
 use mathlib.Core.Bool.{true, false, _||_}
 use mathlib.Core.List.{List, [], _∷_, _++_}
-use lib.ListN.{length, take, drop, getD}
-use Rattle.checks.specs.Order.{noneHolds, firstHolds}
+use lib.ListN.{length, replicate, take, drop, getD}
+use Rattle.checks.specs.Order.{pick, noneHolds, firstHolds}
 use Rattle.checks.specs.Answer.{refusalNumber}
+use Rattle.octets.specs.Octets.{octets as numberOctets}
 use Rattle.address.specs.declared.Address.{Address}
 use Rattle.address.specs.declared.Slot.{Slot}
 use Rattle.header.specs.Limits.{mostData, lengthLimit}
-use Rattle.header.specs.Read.{readOf}
+use Rattle.header.specs.Form.{controlOf}
+use Rattle.header.specs.Read.{lengthOf, headerOf, readOf}
+use Rattle.header.specs.Build.{stampOctets, headerOctets}
 use Rattle.header.specs.declared.Header.{Header}
+use Rattle.header.specs.declared.Octet.the-variants as octet
+use Rattle.header.specs.declared.Qos.the-variants as qos
+use Rattle.header.specs.declared.Timestamp.{Timestamp}
+use Rattle.header.specs.declared.Timestamp.the-variants as stamp
 use Rattle.header.specs.declared.Read.the-variants as read
 use Rattle.echo.specs.Message.{fixedSize, messageOctets, echoChecks, messageOf, readingOf, echoedIn}
 use Rattle.echo.specs.Built.{buildChecks}
@@ -27,6 +34,7 @@ use Rattle.meaning.specs.Names.{aimOf, originOf}
 use Rattle.meaning.specs.declared.Aim.the-variants.{Node}
 use Rattle.meaning.specs.declared.Origin.the-variants.{From}
 use Rattle.queue.specs.Order.{Each}
+use Rattle.next_leg.specs.Leg.{asksChecksum}
 use Rattle.queue.specs.Queue.{entryPlaces}
 use Rattle.routes.specs.Routes.{candidate}
 use Rattle.routes.specs.declared.Record.{Record}
@@ -35,7 +43,8 @@ use Rattle.sets.specs.Sets.{inSet}
 use Rattle.state.specs.Relay.{Relay, portIn, routeIn}
 use Rattle.lent_state.specs.View.{tooLong}
 use Rattle.replies.specs.Request.{userData}
-use Rattle.replies.specs.Replied.{callChecks, answeringOf, wireFields, echoedOf}
+use Rattle.replies.specs.Reply.{stampNumber}
+use Rattle.replies.specs.Replied.{callChecks, answeringOf, wireFields, messageSize, echoedOf}
 use Rattle.replies.specs.declared.Answering.{Answering}
 use Rattle.page.specs.Table.{GivenBy, aimAt, equalsPort, oneOctet, liesFar}
 use Rattle.page.specs.Sought.{RouteTaken}
@@ -51,12 +60,44 @@ use Rattle.history.specs.Ledger.{one}
 use Rattle.history.specs.Sums.{counted, portsIn}
 use Rattle.history.specs.Line.{Copy, takenOwn}
 use Rattle.history.specs.Ranges.{Octets}
-use Rattle.demands.specs.Trace.{Customer, first, numberOf, Step, operates, flies, Words, missionOf, made, wordsAfter, Trace, historyOf, boardOf}
-use Rattle.demands.specs.Trace.{seatOf, relayOf, relayFor, Gives}
-use Rattle.demands.specs.ReadOut.{ownOut, endedBy, localIn, onwardIn, tookIn, droppedIn, replyOctets, replyOut, counterAt, overOwn}
-use Rattle.demands.specs.ReadOut.{ReadsEcho, BuildsEcho, messageIn, dataBegin}
+use Rattle.demands.specs.Trace.{
+  Customer,
+  first,
+  numberOf,
+  Step,
+  operates,
+  flies,
+  Words,
+  missionOf,
+  made,
+  wordsAfter,
+  Trace,
+  historyOf,
+  boardOf,
+  seatOf,
+  relayOf,
+  relayFor,
+  Gives,
+}
+use Rattle.demands.specs.ReadOut.{
+  ownOut,
+  endedBy,
+  localIn,
+  onwardIn,
+  tookIn,
+  droppedIn,
+  aboveIn,
+  replyOctets,
+  replyOut,
+  counterAt,
+  overOwn,
+  ReadsEcho,
+  BuildsEcho,
+  messageIn,
+  dataBegin,
+}
 
--- the reply, if one is made, of the relay that the customer sees with the list lent, to octets that came in by port `at`
+-- the reply that the relay r makes, if any, to octets that came in by port `at`
 abbrev pub replyMade : Customer → List Step → List Record → ℕ → List ℕ → List ℕ → Answering
 replyMade who steps rs at octets output = answeringOf (relayFor who steps rs) (numberOf who) (boardOf steps .drop) at octets (length output)
 
@@ -73,10 +114,10 @@ pub record AnsweredAs (r : Relay) (dropping at : ℕ) (octets output : List ℕ)
   pub took : (p : ℕ) → p < portCount → inSet p (tookIn x) ≡ replyVerdict r at a (length output) .took p
   pub dropped : (p : ℕ) → p < portCount → inSet p (droppedIn x) ≡ replyVerdict r at a (length output) .dropped p
   pub no-local : localIn x ≡ 0
-  -- nothing stands above the reply's octets; and with a refusal there is nothing else
-  pub above : x .answer < 2 ^ 56
+  -- nothing stands above; and with a refusal there is nothing else
+  pub above : aboveIn x ≡ 0
   pub alone : endedBy x ≢ 0 → x .answer ≡ endedBy x
-  -- "the fields ..": where a port took it the output begins with the reply, and every other octet stays as lent
+  -- where a port took it the output begins with the reply, and every other octet stays as lent
   pub written : tookIn x ≢ 0 → x .left .output ≡ replyOut x ++ drop (replyOctets x) output
   pub unwritten : tookIn x ≡ 0 → (replyOctets x ≡ 0) × (x .left .output ≡ output)
 
@@ -86,6 +127,19 @@ pub record ReplyOnTheWire (r : Relay) (at p : ℕ) (octets output : List ℕ) (a
   pub reads : readOf (replyOut x) ≡ read.Good goes
   -- its header is the reply's own, with W-214's changes for this port and no others
   pub fields : goes .fields ≡ wireFields (liesFar r at p) (portIn r at .address .0) (replyVerdict r at a (length output) .code) (a .fields)
+  -- field by field: "has hop count 64"; SCMP's TP-ID; no timestamp, no expanded QOS and no intermediate delivery
+  pub hops : goes .fields .hops ≡ octet.Present 64
+  pub control : goes .fields .tpid ≡ 1
+  pub unstamped : goes .fields .stamp ≡ stamp.Absent
+  pub unexpanded : goes .fields .expanded ≡ octet.Absent
+  pub not-between : goes .fields .intermediate ≡ 0
+  -- "keeps the request's .. precedence": basic QOS exactly where the request has it, and nothing of it but the precedence
+  pub no-qos : headerOf octets .fields .qos ≡ qos.Absent → goes .fields .qos ≡ qos.Absent
+  pub qos-kept : (n routing program : ℕ) → headerOf octets .fields .qos ≡ qos.Present n routing program → goes .fields .qos ≡ qos.Present n 0 0
+  -- a checksum exactly where the route asks for one
+  pub summed : goes .fields .checksum ≡ pick (asksChecksum (replyVerdict r at a (length output) .code)) 1 0
+  -- the octets themselves: that header in the form that is built, and then the message
+  pub whole : replyOut x ≡ headerOctets (goes .fields) (messageSize a) ++ messageOctets (a .message) (echoedOf a octets)
   -- "Size is tested against MTU and 8,191 after the rewrite, a reply's also against the room lent"
   pub long : goes .length ≡ replyOctets x
   pub fits : replyOctets x ≤ portIn r p .mtu
@@ -155,8 +209,8 @@ pub record BuiltAs (m : Message) (echoed lent : List ℕ) (answer : ℕ) (left :
   pub written : answer < 2 ^ 32 → left ≡ messageOctets m echoed ++ drop answer lent
 
 pub record Echoes : Type 0 where
-  -- "read": whatever octets are lent, there is an answer; and with ten words it is this one (with others 21, demand 1)
-  pub reads : (s lent : List ℕ) → (answer : ℕ) × ((left : List ℕ) × ReadsEcho s lent answer left)
+  -- "read": whatever octets are lent, and whatever ten words (with others it is 21, demand 1)
+  pub reads : (s lent : List ℕ) → length lent ≡ messageCount → (answer : ℕ) × ((left : List ℕ) × ReadsEcho s lent answer left)
   pub reads-as : (s lent left : List ℕ) (answer : ℕ) → length lent ≡ messageCount → ReadsEcho s lent answer left → ReadAs s lent answer left
   -- "build": every number of its width is taken, and any data
   pub builds : (m : Message) (echoed lent : List ℕ) → (answer : ℕ) × ((left : List ℕ) × BuildsEcho m echoed lent answer left)
@@ -173,6 +227,9 @@ pub record Echoes : Type 0 where
   -- "A setting that drops all requests defaults to off.": as long as it is not set, hj_get_echo_drop answers 0 (what is set is read back, demand 2)
   pub off-at-first : (steps : List Step) (x : Result) → Each (λ (c : Call). About c theDrop → ⊥) (historyOf first steps)
       → Gives steps (operates (views dropFlag)) x → x .answer ≡ 0
+  -- "placed in the least-significant octets of the field and the unused octets shall be set to all '0s'" (003, 3.3.4.7.5): the number that a reply has for
+  -- the timestamp of a request, in eight octets
+  pub stamp-placed : (t : Timestamp) → numberOctets 8 (stampNumber t) ≡ replicate (8 - length (stampOctets t)) 0 ++ stampOctets t
   -- what hj_echo answers, and the reply; a list over 512 records is refused by 21 (demand 1)
   pub answers : (who : Customer) (steps : List Step) (rs : List Record) (at : ℕ) (slot : Slot) (octets output : List ℕ) (x : Result)
       → Gives steps (flies who (echoes rs at slot octets output)) x → tooLong rs ≡ false
@@ -184,7 +241,8 @@ pub record Echoes : Type 0 where
   pub one-port : (who : Customer) (steps : List Step) (rs : List Record) (at : ℕ) (slot : Slot) (octets output : List ℕ) (p k : ℕ) (x : Result)
       → Gives steps (flies who (echoes rs at slot octets output)) x → p < portCount → k < portCount
       → (inSet p (tookIn x) || inSet p (droppedIn x)) ≡ true → (inSet k (tookIn x) || inSet k (droppedIn x)) ≡ true → p ≡ k
-  -- "the route line": the one taken matches the request's source, no matching entry that is up has more mask bits, and 11 is said exactly when none matches
+  -- "the route line": the one taken matches the request's source, no matching entry that is up has more mask bits, and 11 is said exactly when none
+  -- matches
   pub route-taken : (who : Customer) (steps : List Step) (rs : List Record) (at : ℕ) (slot : Slot) (octets output : List ℕ) (p : ℕ) (x : Result)
       → Gives steps (flies who (echoes rs at slot octets output)) x → tooLong rs ≡ false → p < portCount
       → (inSet p (tookIn x) || inSet p (droppedIn x)) ≡ true
@@ -193,7 +251,7 @@ pub record Echoes : Type 0 where
       → Gives steps (flies who (echoes rs at slot octets output)) x → tooLong rs ≡ false → onwardIn x ≢ 0
       → (onwardIn x ≡ 11)
       ↔ ((q : ℕ) → candidate (routeIn (relayFor who steps rs) q) (replyMade who steps rs at octets output .destination) ≡ false)
-  -- a request that gets none, and a call that is refused, leave every word and octet: "None .. nothing is counted or written"
+  -- a request that gets none, and a call that is refused, leave every word and octet as they were (docs/DECISIONS.md, D-81)
   pub none-leaves : (who : Customer) (steps : List Step) (rs : List Record) (at : ℕ) (slot : Slot) (octets output : List ℕ) (x : Result)
       (g : Gives steps (flies who (echoes rs at slot octets output)) x) → onwardIn x ≡ 0
       → x .left ≡ lentTo (made (g .before) (flies who (echoes rs at slot octets output)))
@@ -215,8 +273,8 @@ pub record Echoes : Type 0 where
       ≡ replyVerdict (relayFor who steps rs) at (replyMade who steps rs at octets output) (length output) .granted p)
       × ((inSet p (ownOutcome (seatOf who steps) (echoes rs at slot octets output) .took) ≡ inSet p (tookIn x))
       × (inSet p (ownOutcome (seatOf who steps) (echoes rs at slot octets output) .dropped) ≡ inSet p (droppedIn x)))
-  pub dropped-by-32 : (who : Customer) (steps : List Step) (rs : List Record) (p at : ℕ) (slot : Slot) (octets output : List ℕ) (x y : Result) → p < portCount
-      → Gives steps (flies who (echoes rs at slot octets output)) x → inSet p (droppedIn x) ≡ true
+  pub dropped-by-32 : (who : Customer) (steps : List Step) (rs : List Record) (p at : ℕ) (slot : Slot) (octets output : List ℕ) (x y : Result)
+      → p < portCount → Gives steps (flies who (echoes rs at slot octets output)) x → inSet p (droppedIn x) ≡ true
       → Gives steps (flies who (looks (waiting p))) y → y .answer ≡ entryPlaces
   pub placed : (who : Customer) (steps : List Step) (rs : List Record) (p at : ℕ) (slot : Slot) (octets output : List ℕ) (x : Result)
       → Gives steps (flies who (echoes rs at slot octets output)) x → tooLong rs ≡ false → p < portCount
@@ -224,7 +282,15 @@ pub record Echoes : Type 0 where
       × (inSet p (tookIn x) ≡ true
       → replyPlaced who steps p at slot octets (replyMade who steps rs at octets output) x
       (takenOwn p (length (historyOf who steps)) (seatOf who steps) (echoes rs at slot octets output)))
+  -- "Octets beyond the length field are ignored.": what comes after them changes neither the answer, nor the words, nor the reply
+  pub answers-no-further : (who : Customer) (steps : List Step) (rs : List Record) (at : ℕ) (slot : Slot) (s t output : List ℕ) (n : ℕ) (x y : Result)
+      → lengthOf s ≤ n → controlOf s .end ≤ n → take n t ≡ take n s
+      → Gives steps (flies who (echoes rs at slot s output)) x → Gives steps (flies who (echoes rs at slot t output)) y
+      → (y .answer ≡ x .answer) × ((y .left .mission ≡ x .left .mission) × (y .left .output ≡ x .left .output))
   -- a reply is never a request: no relay, whatever its words, makes a reply to it, so that two cannot answer each other for ever
   pub never-a-request : (who : Customer) (steps : List Step) (rs : List Record) (at : ℕ) (slot : Slot) (octets output : List ℕ) (x : Result)
       → Gives steps (flies who (echoes rs at slot octets output)) x → tookIn x ≢ 0
       → (b m : List ℕ) (ts : List Record) (q n : ℕ) (o : List ℕ) (y : Result) → Says (hj-echo b m ts q n (replyOut x) o) y → onwardIn y ≡ 0
+  -- nor, further on, to any datagram whose user data are a reply, whatever header it has by then
+  pub replies-unanswered : (b m : List ℕ) (ts : List Record) (q n : ℕ) (s o : List ℕ) (h : Header) (k : Message) (z : Seen) (y : Result)
+      → readOf s ≡ read.Good h → readingOf (userData h s) ≡ reading.Good k → k .kind ≡ Reply z → Says (hj-echo b m ts q n s o) y → onwardIn y ≡ 0

@@ -147,13 +147,13 @@ abbrev pub wireBy : Result → List ℕ → ℕ → List ℕ
 wireBy x octets p = headerOut x p ++ drop (dataFrom x) octets
 
 -- whether a call hears no datagram and answers no echo request
-abbrev pub hearsNothing : MissionCall → Bool
-hearsNothing (sets s) = true
-hearsNothing (hears rs p slot second octets output) = false
-hearsNothing (echoes rs p slot octets output) = false
-hearsNothing (takes p) = true
-hearsNothing (sweeps second) = true
-hearsNothing (looks l) = true
+abbrev pub countsNothing : MissionCall → Bool
+countsNothing (sets s) = true
+countsNothing (hears rs p slot second octets output) = false
+countsNothing (echoes rs p slot octets output) = false
+countsNothing (takes p) = true
+countsNothing (sweeps second) = true
+countsNothing (looks l) = true
 
 -- the octets of a reply (hj_reply_octets), and the reply itself, which stands at the front of the output
 abbrev pub replyOctets : Result → ℕ

@@ -1,7 +1,7 @@
 -- SCMP Echo Request and Echo Reply: 003, 3.3.2 (figure 3-4: type, code, checksum) and 3.3.4.7 (identifier, sequence number, and what a reply adds, in the order
 -- of 3.3.4.7.5). A message is the user data of a datagram. Assumes nothing.
 use Prim.Native.Nat.{ℕ, _+_}
-use mathlib.Core.Bool.{Bool, true, false, not, _&&_, _||_}
+use mathlib.Core.Bool.{Bool, not, _&&_, _||_}
 use mathlib.Core.List.{List, [], _∷_, _++_}
 use lib.ListN.{length, take, drop}
 use lib.Dec.{eqb, ltb}

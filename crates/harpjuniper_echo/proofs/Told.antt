@@ -26,7 +26,7 @@ use Rattle.relay.specs.Split.{wayIn}
 use Rattle.answering.specs.Echoed.{echoAnswering, echoReply, repliedState}
 use Rattle.answering.specs.Split.{answeringIn, queryOf, repliedAfter, numberFor, wordsAfter, outputAfter, Following}
 use Rattle.harpjuniper_echo.proofs.Joined.{joined-asked, joined}
-use Rattle.harpjuniper_echo.specs.Face.{echoAnswer, echoWords, echoOutput, Echoes}
+use Rattle.harpjuniper_echo.specs.Face.{echoAnswer, echoWords, echoOutput, AnswersEcho}
 
 -- what `after` ensures of the answer, the mission's words and the output
 abbrev pub Carried : List ℕ → List ℕ → ℕ → List ℕ → List ℕ → ℕ → List ℕ → List ℕ → Answering → Scan → Type 0
@@ -151,7 +151,7 @@ module _ (b w : List ℕ) (rs : List Record) (port slot : ℕ) (octets output : 
           other-ended (λ (A : Type 0). no-board-told b w wrong {A = A}) (no-board-changed b w wrong)
 
   pub echoed : (answer : ℕ) (words left : List ℕ) (a : Answering) (q : Query) (s : Scan) → a ≡ asked → q ≡ queryOf a → s ≡ scanOf q rs
-      → Carried b w slot octets output answer words left a s → Echoes b w rs port slot octets output answer words left
+      → Carried b w slot octets output answer words left a s → AnswersEcho b w rs port slot octets output answer words left
   echoed answer words left a q s ea eq es h =
       let C : Answering → Scan → Type 0 = Carried b w slot octets output answer words left in
       let c = subst (λ (x : Answering). C x (scanOf (queryOf x) rs)) ea (subst (λ (x : Query). C a (scanOf x rs)) eq (subst (C a) es h)) in

@@ -27,7 +27,7 @@ echoOutput b w rs port octets output =
     repliedOutput (echoAnswering x s rs port octets (length output)) (echoReply x s rs port octets (length output)) octets output) output b w
 
 -- the contract: what is answered, and the words and the output that are left
-abbrev pub Echoes : List ℕ → List ℕ → List Record → ℕ → ℕ → List ℕ → List ℕ → ℕ → List ℕ → List ℕ → Type 0
-Echoes b w rs port slot octets output answer words left =
+abbrev pub AnswersEcho : List ℕ → List ℕ → List Record → ℕ → ℕ → List ℕ → List ℕ → ℕ → List ℕ → List ℕ → Type 0
+AnswersEcho b w rs port slot octets output answer words left =
     (answer ≡ echoAnswer b w rs port octets (length output))
     × ((lent words ≡ echoWords b w rs port slot octets (length output)) × (left ≡ echoOutput b w rs port octets output))

@@ -8,7 +8,7 @@
 // The awkward cases are those of receiving, a list over 512 records, which is refused by 21, and words of the wrong number, refused by 16; and a datagram that
 // gets no reply, which is an answer without a number.
 use routes::Record;
-ghost use Rattle.harpjuniper_echo.specs.Face.{Echoes};
+ghost use Rattle.harpjuniper_echo.specs.Face.{AnswersEcho};
 
 // The reply to the octets that came in by a port, where they are an echo request that is answered.
 #[no_mangle]
@@ -22,7 +22,7 @@ pub extern "C" fn hj_echo(
     output: &mut [u8],
 ) -> u64
     ensures { λ r. ⌜
-        Echoes (now (board .entry)) (now (mission .entry)) (now (routes .entry)) port slot (now (octets .entry)) (now (output .entry))
+        AnswersEcho (now (board .entry)) (now (mission .entry)) (now (routes .entry)) port slot (now (octets .entry)) (now (output .entry))
         r (now (mission .exit)) (now (output .exit))
         ⌝ }
 {

@@ -52,7 +52,7 @@ use Rattle.replies.specs.Replied.{callChecks, answeringOf, wireFields, messageS
 use Rattle.replies.specs.declared.Answering.{Answering}
 use Rattle.replies.specs.declared.sending.Replied.{Replied}
 use Rattle.replies.proofs.Made.{was-made}
-use Rattle.replies.proofs.Exactly.{made-answerable}
+use Rattle.replies.proofs.Requested.{made-requested}
 use Rattle.replies.proofs.Meaning.{reply-meaning}
 use Rattle.replies.proofs.Unanswered.{fields-range, own-reads, wire-reads, wire-unanswered}
 use Rattle.answering.specs.Echoed.{asEnding}
@@ -147,7 +147,7 @@ module _ (seat : Seat) (k : Kept seat) (p : ℕ) (up : portSetUp (relayIn seat) 
   pub set-up-small : portIn (relayIn seat) p .address .0 < 2 ^ 32
   set-up-small = unicast-small (portIn (relayIn seat) p .address) (set-up-good .0)
 
-  pub set-up-mtu : portIn (relayIn seat) p .mtu < 2 ^ 32
+  set-up-mtu : portIn (relayIn seat) p .mtu < 2 ^ 32
   set-up-mtu = omega (arith, mtu-taken (portIn (relayIn seat) p .mtu) .0 (set-up-good .1) .1)
 
 -- ---- what a copy named at the port that it came in by, what goes out names at the port where it waits, as that port stands
@@ -242,7 +242,7 @@ module _ (p : ℕ) (inside : p < 8) where
         }
 
     -- one that a port took was made, to a request that came in by a port that is set up
-    pub page-made : inSet p (e .ruling .took) ≡ true → (a .made ≡ 1) × (portSetUp (relayIn seat) port ≡ true)
+    page-made : inSet p (e .ruling .took) ≡ true → (a .made ≡ 1) × (portSetUp (relayIn seat) port ≡ true)
     unfolding callChecks
     page-made took =
         let r = relayWith seat rs in
@@ -281,7 +281,7 @@ module _ (p : ℕ) (inside : p < 8) where
           let d = seat .board .drop in
           let told = made-tells r m d port octets room (page-made took .0) .1 in
           let names = reply-names-the-same r m d port octets room p inside took in
-          let free = reply-meaning r m d port octets room some (made-answerable r m d port octets room (was-made r m d port octets room some)) .free in
+          let free = reply-meaning r m d port octets room some (made-requested r m d port octets room (was-made r m d port octets room some)) .free in
           let far = not (eqb (e .far) 0) in
           let f = wireFields far (a .arrival .0) (e .code) (a .fields) in
           let lies : far ≡ not (eqb (domainOf (portIn (relayIn seat) p .address)) (domainOf (a .arrival))) =

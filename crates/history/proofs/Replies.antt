@@ -9,7 +9,7 @@ use mathlib.Core.Bool.{true, false, not}
 use mathlib.Core.List.{List, [], _∷_, _++_}
 use lib.Dec.{eqb}
 use lib.ListN.{getD, drop, replicate}
-use borrow.Author.Tests.{eqb-false, ne-eqb, not-true, ltb-false}
+use borrow.Author.Tests.{eqb-false, ne-eqb, not-true, ltb-false, le-ltb}
 use Rattle.checks.proofs.Bools.{true-false, not-false}
 use Rattle.sets.specs.Sets.{inSet}
 use Rattle.address.specs.declared.Slot.{Slot}
@@ -22,7 +22,6 @@ use Rattle.survey.proofs.Bits.{in-none}
 use Rattle.replies.specs.Replied.{callChecks, answeringOf, wireReply}
 use Rattle.replies.specs.declared.Answering.{Answering}
 use Rattle.replies.specs.declared.sending.Replied.{Replied}
-use Rattle.replies.proofs.Exactly.{exactly-answered}
 use Rattle.page.proofs.Answered.{made-or-not, made-exactly}
 use Rattle.page.proofs.Replies.{unasked-exactly}
 use Rattle.page.proofs.Verdict.{masks-choose}
@@ -59,17 +58,17 @@ module _ (seat : Seat) (rs : List Record) (port : ℕ) (octets : List ℕ) (room
   unfolding callChecks
   page-answered short = (
     λ h.
-        let e = made-is .0 h in
-        let none = made-exactly r (seat .number) (seat .board .drop) port octets room .0 e .0 in
-        let ready = not-false (portSetUp r port) (none .0) in
-        let enough = ltb-false room (portIn r port .mtu) (none .1 .0) in
+        let told = made-exactly r (seat .number) (seat .board .drop) port octets room .0 (made-is .0 h) in
         record {
           short = short;
-          ready = ready;
-          enough = enough;
-          request = exactly-answered r (seat .number) (seat .board .drop) port octets room ready enough .0 e;
+          ready = not-false (portSetUp r port) (told .0 .0);
+          enough = ltb-false room (portIn r port .mtu) (told .0 .1 .0);
+          request = told .1;
         },
-    λ y. made-is .1 (exactly-answered r (seat .number) (seat .board .drop) port octets room (y .ready) (y .enough) .1 (y .request)),
+    λ y.
+        made-is .1
+        (made-exactly r (seat .number) (seat .board .drop) port octets room .1
+        ((ap not (y .ready), (le-ltb room (portIn r port .mtu) (y .enough), tt)), y .request)),
   )
 
   -- A reply is made exactly where all of the conditions hold.

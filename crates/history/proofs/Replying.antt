@@ -33,7 +33,7 @@ use Rattle.verdict.specs.declared.Way.the-variants.{By, Lost}
 use Rattle.verdict.specs.declared.Wish.the-variants as wish
 use Rattle.judge.specs.Ending.{noRuling}
 use Rattle.replies.specs.Reply.{noAnswer}
-use Rattle.replies.specs.Replied.{callChecks, soughtFor, answeringOf, noReply, repliedAmong, repliedBy as byWay, repliedTo, repliedOf}
+use Rattle.replies.specs.Replied.{callChecks, soughtFor, answeringOf, noReply, repliedAmong, repliedVia, repliedTo, repliedOf}
 use Rattle.replies.specs.declared.Answering.{Answering}
 use Rattle.replies.specs.declared.sending.Replied.{Replied}
 use Rattle.answering.specs.Echoed.{echoAnswering, echoReply}
@@ -42,7 +42,7 @@ use Rattle.page.proofs.Replies.{reply-took, reply-dropped, reply-shared, reply-
 use Rattle.page.proofs.Small.{Small}
 use Rattle.history.specs.Seat.{Seat, relayIn, relayWith, answeringBy, repliedBy}
 use Rattle.history.specs.Outcome.{replied, isRefusal, ofReply}
-use Rattle.history.specs.Answers.{replyRows, listed, stands}
+use Rattle.history.specs.Answers.{echoRows, listed, stands}
 use Rattle.history.proofs.Fair.{Fair, fair-by, none-fair}
 use Rattle.history.proofs.Listed.{first-listed}
 
@@ -81,7 +81,7 @@ module _ (seat : Seat) (rs : List Record) (port : ℕ) (octets : List ℕ) (room
   -- ---- the cases
   module _ (Q : ℕ → Ruling → Type 0) (none : (n : ℕ) → listed replyNumbers n ≡ true → Q n noRuling) (no-route : Q 0 (unsent NoRoute))
       (too-big : Q 0 (unsent TooBig)) (copies : (granted full : ℕ) → Q 0 (copiesOf No granted full)) where
-    way-so : (w : Way) → Q (byWay r answer w room .refusal) (byWay r answer w room .ruling)
+    way-so : (w : Way) → Q (repliedVia r answer w room .refusal) (repliedVia r answer w room .ruling)
     unfolding repliedAmong rulingOf
     way-so (By set code) = by (eqb fits 0)
       where
@@ -104,7 +104,7 @@ module _ (seat : Seat) (rs : List Record) (port : ℕ) (octets : List ℕ) (room
     page-so = by (eqb (answer .made) 0)
       where
         given : Replied
-        given = byWay r answer (wayFor r Route (answer .destination)) room
+        given = repliedVia r answer (wayFor r Route (answer .destination)) room
 
         by : (t : Bool) → Q (pick t (noReply (answer .refusal)) given .refusal) (pick t (noReply (answer .refusal)) given .ruling)
         by true = refused-so
@@ -120,12 +120,12 @@ module _ (seat : Seat) (rs : List Record) (port : ℕ) (octets : List ℕ) (room
   reply-precedence-so P none made =
       both-so (λ (x : Answering) (e : Replied). P (e .precedence)) (λ long. none) (λ short. by (eqb (answer .made) 0) refl)
     where
-      way : answer .made ≡ 1 → (w : Way) → P (byWay r answer w room .precedence)
+      way : answer .made ≡ 1 → (w : Way) → P (repliedVia r answer w room .precedence)
       way is (By set code) = made is
       way is Lost = made is
 
       by : (t : Bool) → eqb (answer .made) 0 ≡ t
-          → P (pick t (noReply (answer .refusal)) (byWay r answer (wayFor r Route (answer .destination)) room) .precedence)
+          → P (pick t (noReply (answer .refusal)) (repliedVia r answer (wayFor r Route (answer .destination)) room) .precedence)
       by true e = none
       by false e =
           way (⊎-elim (λ z. absurd (eqb-false (answer .made) 0 e z)) (λ one. one) (made-or-not r (seat .number) (seat .board .drop) port octets room))
@@ -133,7 +133,7 @@ module _ (seat : Seat) (rs : List Record) (port : ℕ) (octets : List ℕ) (room
 
   -- ---- the answer stands in the table
   abbrev Row : ℕ → Ruling → Type 0
-  Row n x = stands replyRows (replied n (onwardNumber (x .onward)) (x .took)) ≡ true
+  Row n x = stands echoRows (replied n (onwardNumber (x .onward)) (x .took)) ≡ true
 
   refused-row : (n : ℕ) → listed replyNumbers n ≡ true → Row n noRuling
   refused-row n h = by (eqb n 0) (eqb n 21) (eqb n 16) (eqb n 17) h
@@ -153,12 +153,12 @@ module _ (seat : Seat) (rs : List Record) (port : ℕ) (octets : List ℕ) (room
       took : ℕ
       took = exceptBy granted full
 
-      by : (t : Bool) → eqb took 0 ≡ t → stands replyRows (replied 0 (onwardNumber (pick t (onward.Refused QueuesFull) onward.SentOn)) took) ≡ true
+      by : (t : Bool) → eqb took 0 ≡ t → stands echoRows (replied 0 (onwardNumber (pick t (onward.Refused QueuesFull) onward.SentOn)) took) ≡ true
       by true e = simp (e)
       by false e = simp (e)
 
   -- Every answer to a request stands in the table's rows of a reply.
-  pub every-reply-is-listed : stands replyRows (ofReply (repliedBy seat rs port octets room) .answer) ≡ true
+  pub every-reply-is-listed : stands echoRows (ofReply (repliedBy seat rs port octets room) .answer) ≡ true
   every-reply-is-listed = reply-so Row refused-row refl refl copied-row
 
   -- ---- the onward half is one of these

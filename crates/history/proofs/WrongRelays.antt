@@ -3,9 +3,8 @@
 -- these. What shows it are the marked cases (specs/Marked.antt) and a few histories beside them. Assumes nothing.
 use native.Mathlib.Omega.{arith}
 use Prim.Native.Nat.{ℕ, _+_, _*_, _%_, _^_, _<_}
-use mathlib.Core.Path.{_≡_, refl, sym, ap, subst, _∙_}
-use mathlib.Core.Logic.{⊎-elim}
-use mathlib.Core.Bool.{true, false}
+use mathlib.Core.Path.{_≡_, refl, sym, ap, _∙_}
+use mathlib.Core.Bool.{Bool, true, false, not, _||_}
 use mathlib.Core.List.{List, [], _∷_, _++_, map}
 use lib.ListN.{length, replicate}
 use borrow.Author.Tests.{lt-ltb}
@@ -13,18 +12,13 @@ use Rattle.checks.proofs.Bools.{true-false}
 use Rattle.sets.specs.Sets.{inSet}
 use Rattle.octets.specs.Octets.{octets as octetsOf}
 use Rattle.checksum.specs.Sum.{words, sumFrom, onesSum}
-use Rattle.address.specs.Class.{classOf}
 use Rattle.address.specs.Mask.{maskOf}
 use Rattle.address.specs.Octets.{dotted}
 use Rattle.address.specs.Path.{pathForm}
-use Rattle.address.specs.declared.Address.{Address}
 use Rattle.address.specs.declared.Slot.{Slot}
 use Rattle.header.specs.Form.{bitWeight}
-use Rattle.header.specs.Read.{readOf}
 use Rattle.header.specs.Build.{addressesOctets, qosOctets, octetOctets, stampOctets, thirdOctet, secondOctet, restOctets, sizeOf}
 use Rattle.header.specs.Onward.{foundOf}
-use Rattle.header.specs.declared.Header.{Header}
-use Rattle.header.specs.declared.Read.the-variants as read
 use Rattle.echo.specs.Message.{messageOf, echoChecks, readingOf}
 use Rattle.routes.specs.Routes.{isUp}
 use Rattle.routes.specs.Search.{searchOf}
@@ -40,12 +34,11 @@ use Rattle.lookup.specs.Lookup.{pathPlace}
 use Rattle.verdict.specs.Rule.{pathLine}
 use Rattle.records.specs.Held.{holdsPair}
 use Rattle.meaning.specs.Flood.{pairOf}
-use Rattle.meaning.specs.Names.{aimOf, floodRouting}
-use Rattle.meaning.specs.declared.Aim.the-variants as aim
+use Rattle.meaning.specs.Names.{floodRouting}
 use Rattle.survey.specs.Survey.{surveyWithin}
 use Rattle.floods.specs.Memory.{isHeld, freePlace, soughtPair}
 use Rattle.floods.specs.Sweep.{isOld, swept, sweptMemory}
-use Rattle.state.specs.Relay.{portIn, routeIn, queueAt, counterIn}
+use Rattle.state.specs.Relay.{routeIn, queueAt, counterIn}
 use Rattle.state.specs.Seen.{State, freshState}
 use Rattle.adjust.specs.Settled.{newRecord}
 use Rattle.verdict.specs.declared.Ruling.{Ruling}
@@ -56,11 +49,12 @@ use Rattle.taking.specs.Taking.{takeOutcome}
 use Rattle.taking.specs.declared.Taking.{Taking}
 use Rattle.taking.specs.declared.Taking.the-variants.{Handed, Refused}
 use Rattle.tally.specs.Tally.{receiptCounter, rulingMoves, movesOf, counterFor, countedAt}
-use Rattle.replies.specs.Request.{isMany, asksInHeader, askingOf}
+use Rattle.replies.specs.Request.{asksInHeader, askingOf}
 use Rattle.replies.specs.Reply.{replyFields, echoedCount, isAsked, answerTo}
 use Rattle.replies.specs.Replied.{callChecks, answeringOf, wireFields, wireLength, repliedAmong, repliedTo}
-use Rattle.replies.specs.Answerable.{IsOurs}
 use Rattle.answering.specs.Echoed.{echoAnswering, echoReply}
+use Rattle.page.specs.Table.{aimAt, equalsPort}
+use Rattle.page.specs.Replies.{goesToMany}
 use Rattle.history.specs.Seat.{Seat, relayIn, relayWith, heardBy}
 use Rattle.history.specs.Calls.{Order, setRouter, setPort, setDrop, orders, views, setPath, sets, hears, echoes, takes, sweeps, looks, Call, operator, own}
 use Rattle.history.specs.Outcome.{Answer, number, ended, replied, entry, Outcome, ofTaking, outcome, seatAfter}
@@ -437,17 +431,17 @@ module _ (does : List Call → Call → Outcome) (kept : (cs : List Call) (c : C
       ∙ reply-counts-no-receipt (seatAfter 0 cs) rs port slot octets output 10 (omega arith))
 
   -- and it answers no request to an address of many that no port has ("goes to a broadcast or multicast address gets none"),
-  pub answering-many : (cs : List Call) (rs : List Record) (port : ℕ) (slot : Slot) (octets output : List ℕ) (h : Header) (d : Address)
-      → readOf octets ≡ read.Good h → aimOf (portIn (relayIn (seatAfter 0 cs)) port .address .0) (h .fields .addresses) ≡ aim.Node d
-      → isMany (classOf (d .0)) ≡ true → (IsOurs (relayIn (seatAfter 0 cs)) d → ⊥)
+  pub answering-many : (cs : List Call) (rs : List Record) (port : ℕ) (slot : Slot) (octets output : List ℕ)
+      → equalsPort (relayWith (seatAfter 0 cs) rs) (aimAt (relayWith (seatAfter 0 cs) rs) port octets) ≡ false
+      → goesToMany (relayWith (seatAfter 0 cs) rs) (aimAt (relayWith (seatAfter 0 cs) rs) port octets) ≡ true
       → isMade (does cs (own (echoes rs port slot octets output)) .answer) ≡ true → ⊥
-  answering-many cs rs port slot octets output h d reads aims many apart wrong =
+  answering-many cs rs port slot octets output apart many wrong =
       let c = own (echoes rs port slot octets output) in
+      let r = relayWith (seatAfter 0 cs) rs in
       let y = answered-exactly (seatAfter 0 cs) rs port octets (length output) .0 (ap isMade (sym (answers cs c)) ∙ wrong) .request in
-      let same : y .header ≡ h = cc (y .reads, reads) in
-      let to : y .destination ≡ d = cc (y .aimed, same, aims) in
-      ⊎-elim (λ o. apart (subst (IsOurs (relayIn (seatAfter 0 cs))) to o))
-      (λ one. true-false (sym (ap (λ (x : Address). isMany (classOf (x .0))) to ∙ many) ∙ one .0)) (y .single)
+      let none : (equalsPort r (aimAt r port octets) || not (goesToMany r (aimAt r port octets))) ≡ false =
+      ap (λ (t : Bool). t || not (goesToMany r (aimAt r port octets))) apart ∙ ap not many in
+      true-false (sym (y .to-one) ∙ none)
 
   -- nor any while they are dropped ("A setting that drops all requests").
   pub answering-dropped : (cs : List Call) (rs : List Record) (port : ℕ) (slot : Slot) (octets output : List ℕ)

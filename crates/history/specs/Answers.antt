@@ -1,5 +1,5 @@
 -- The table of all that each call may answer: page 01, "Settings", "One received datagram, step by step" and "Refusal numbers";
--- page 02, W-208 (21 of a list over 512 records before all else) W-207 (28, 29 and 30) and W-203. Assumes nothing.
+-- page 02, W-208 (21 of a list over 512 records before all else), W-207 (28, 29 and 30) and W-203. Assumes nothing.
 use Prim.Native.Nat.{ℕ}
 use mathlib.Core.Bool.{Bool, true, false, not, _&&_, _||_}
 use mathlib.Core.List.{List, [], _∷_}
@@ -124,8 +124,8 @@ endingRows =
     ∷ endings (0 ∷ []) (1 ∷ 26 ∷ []) (1 ∷ []) true
     ∷ []
 
-abbrev pub replyRows : List Row
-replyRows =
+abbrev pub echoRows : List Row
+echoRows =
     -- refused: no reply is made
     replies (21 ∷ 16 ∷ 17 ∷ []) (0 ∷ []) false
     -- none is made, or it does not go; or a port took it
@@ -140,7 +140,7 @@ operatorRow (views v) = numbers (viewNumbers v)
 abbrev pub ownRows : MissionCall → List Row
 ownRows (sets s) = numbers (settingNumbers s) ∷ []
 ownRows (hears rs port slot second octets output) = endingRows
-ownRows (echoes rs port slot octets output) = replyRows
+ownRows (echoes rs port slot octets output) = echoRows
 ownRows (takes port) = numbers (16 ∷ 18 ∷ []) ∷ entries ∷ []
 ownRows (sweeps second) = numbers (0 ∷ 29 ∷ []) ∷ []
 ownRows (looks l) = lookRow l ∷ []

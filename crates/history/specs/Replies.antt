@@ -7,7 +7,7 @@ use lib.Dec.{eqb}
 use Rattle.routes.specs.declared.Record.{Record}
 use Rattle.state.specs.Relay.{portIn, portSetUp}
 use Rattle.lent_state.specs.View.{tooLong}
-use Rattle.replies.specs.Answerable.{Answerable}
+use Rattle.page.specs.Replies.{RequestAnswered}
 use Rattle.history.specs.Seat.{Seat, relayIn, relayWith, repliedBy}
 use Rattle.history.specs.Outcome.{Answer, number, ended, replied, entry, Outcome, ofReply}
 use Rattle.history.specs.Ledger.{one}
@@ -28,8 +28,8 @@ pub record Answered (x : Seat) (rs : List Record) (port : ℕ) (octets : List �
   pub short : tooLong rs ≡ false
   pub ready : portSetUp (relayIn x) port ≡ true
   pub enough : portIn (relayIn x) port .mtu ≤ room
-  -- and the octets are a request that is answered, with the routes that the mission sees and the operator's setting
-  pub request : Answerable (relayWith x rs) (x .board .drop) port octets
+  -- and the octets are a request that the page has answered, with the routes that the mission sees and the operator's setting
+  pub request : RequestAnswered (relayWith x rs) (x .board .drop) port octets
 
 -- no relay makes a reply to these octets, by whatever port they come in, with whatever routes and room
 abbrev pub Unasked : List ℕ → Type 0

@@ -50,8 +50,8 @@ ghost use Rattle.next_leg.specs.Leg.{
   legsOf,
 };
 
-// The hop count that is added.
-const FIRST_HOPS: u8 = 64;
+// The hop count that is added, and the one of a reply.
+pub const FIRST_HOPS: u8 = 64;
 
 // What the header of a copy is made of, but for its port: the address of the port that it came in by, the capabilities of the route taken (0 without
 // one), and the header that came.
@@ -97,7 +97,7 @@ fn asks_hops(code: u32) -> bool
     code == 4
 }
 
-fn is_absent(o: Octet) -> bool
+pub fn is_absent(o: Octet) -> bool
     ensures { λ r. ⌜ r ≡ isAbsent o ⌝ }
 {
     match o {

@@ -61,7 +61,7 @@ use Rattle.judge.specs.declared.Asked.{Asked}
 use Rattle.replies.specs.Request.{isDelivered, scmp, asksInHeader, isMany, isOwned, isToMany, userData, askingBy, askingIn, askingOf}
 use Rattle.replies.specs.declared.request.Asking.{Asking}
 use Rattle.replies.specs.declared.request.Asking.the-variants.{Asks, Nothing}
-use Rattle.replies.specs.Reply.{replyAddresses, replyQos, replyFields, seenFor, least, mostEchoed, echoedCount, noAnswer, madeOf, hasRoom, askedBy, isAsked, answerTo}
+use Rattle.replies.specs.Reply.{replyAddresses, replyQos, replyFields, seenFor, least, mostEchoed, echoedCount, noAnswer, madeOf, fitsMtu, askedBy, isAsked, answerTo}
 use Rattle.replies.specs.Replied.{callChecks, destinationSurvey, heardAnswer, answeringOf}
 use Rattle.replies.specs.declared.Answering.{Answering}
 use Rattle.page.specs.Table.{GivenBy, aimAt, equalsPort, broadcastOfOurs, localHalf}
@@ -100,12 +100,12 @@ pub record Asking-for (t : Bool) (w : Asking) (a : Asked) (s : Survey) (mtu : �
   pub identifier : ℕ
   pub sequence : ℕ
   pub asks : w ≡ Asks identifier sequence
-  pub room : hasRoom a s mtu ≡ true
+  pub room : fitsMtu a s mtu ≡ true
 
 made-when : (t : Bool) (w : Asking) (a : Asked) (s : Survey) (mtu : ℕ) → answered t w a s mtu .made ≡ 1 → Asking-for t w a s mtu
-made-when true (Asks i q) a s mtu e = by (hasRoom a s mtu) refl e
+made-when true (Asks i q) a s mtu e = by (fitsMtu a s mtu) refl e
   where
-    by : (u : Bool) → hasRoom a s mtu ≡ u → pick u (madeOf a s mtu i q) (noAnswer 0) .made ≡ 1 → Asking-for true (Asks i q) a s mtu
+    by : (u : Bool) → fitsMtu a s mtu ≡ u → pick u (madeOf a s mtu i q) (noAnswer 0) .made ≡ 1 → Asking-for true (Asks i q) a s mtu
     by true k f = record { is = refl; identifier = i; sequence = q; asks = refl; room = k }
     by false k f = absurd (omega (arith, f))
 made-when true Nothing a s mtu e = absurd (omega (arith, e))
@@ -122,12 +122,12 @@ abbrev IsOrNot : Answering → Type 0
 IsOrNot a = (a .made ≡ 0) ⊎ (a .made ≡ 1)
 
 made-either : (t : Bool) (w : Asking) (a : Asked) (s : Survey) (mtu : ℕ) → IsOrNot (answered t w a s mtu)
-made-either true (Asks i q) a s mtu = either IsOrNot (hasRoom a s mtu) (inr refl) (inl refl)
+made-either true (Asks i q) a s mtu = either IsOrNot (fitsMtu a s mtu) (inr refl) (inl refl)
 made-either true Nothing a s mtu = inl refl
 made-either false w a s mtu = inl refl
 
 unrefused : (t : Bool) (w : Asking) (a : Asked) (s : Survey) (mtu : ℕ) → answered t w a s mtu .refusal ≡ 0
-unrefused true (Asks i q) a s mtu = either (λ (x : Answering). x .refusal ≡ 0) (hasRoom a s mtu) refl refl
+unrefused true (Asks i q) a s mtu = either (λ (x : Answering). x .refusal ≡ 0) (fitsMtu a s mtu) refl refl
 unrefused true Nothing a s mtu = refl
 unrefused false w a s mtu = refl
 
@@ -375,7 +375,7 @@ module _ (r : Relay) (number dropping at : ℕ) (octets : List ℕ) (room : ℕ)
     least-is : sizeOf (replyFields own (isOwned s) f) + replySize ≡ leastReply r at octets
     least-is = ap (λ (t : Bool). sizeOf (replyFields own t f) + replySize) (owned-is ∙ sym (ap (equalsPort r) is))
 
-    room-is : hasRoom asked s mtu ≡ not (ltb mtu (leastReply r at octets))
+    room-is : fitsMtu asked s mtu ≡ not (ltb mtu (leastReply r at octets))
     unfolding nodeAsked
     room-is = ap (λ (n : ℕ). not (ltb mtu n)) least-is
 

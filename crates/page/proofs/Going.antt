@@ -26,7 +26,7 @@ use Rattle.verdict.specs.declared.Survey.{Survey}
 use Rattle.verdict.specs.declared.Way.{Way}
 use Rattle.verdict.specs.declared.Way.the-variants.{By, Lost}
 use Rattle.verdict.specs.declared.Wish.the-variants.{Refused, Wanted}
-use Rattle.replies.specs.Replied.{wireLength, withinRoom, soughtFor, repliedAmong, repliedBy}
+use Rattle.replies.specs.Replied.{wireLength, withinRoom, soughtFor, repliedAmong, repliedVia}
 use Rattle.replies.specs.declared.Answering.{Answering}
 use Rattle.replies.specs.declared.sending.Replied.{Replied}
 use Rattle.page.specs.Table.{Ports, somePort, nobody, Line, notAsked, refused, wanted, liesFar, hasRoom, withRoom, withoutRoom}
@@ -268,7 +268,7 @@ module _ (r : Relay) (at : ℕ) (a : Answering) (room : ℕ) (arrived : a .arriv
     among-wired alone = record { octets = octets-told alone; far = far-told alone }
 
   -- ---- by the way that was found, where the table's line says the same
-  pub way-agrees : (w : Way) (line : Line) → Same (codeOf w) (routeLine w) line → RepliesAs (repliedBy r a w room) (replyBy r at a room line)
+  pub way-agrees : (w : Way) (line : Line) → Same (codeOf w) (routeLine w) line → RepliesAs (repliedVia r a w room) (replyBy r at a room line)
   unfolding routeLine rulingOf
   way-agrees Lost notAsked e = absurd e
   way-agrees Lost (refused n) e = record {
@@ -284,9 +284,9 @@ module _ (r : Relay) (at : ℕ) (a : Answering) (room : ℕ) (arrived : a .arriv
   way-agrees (By set code) notAsked e = absurd e
   way-agrees (By set code) (refused n) e = absurd e
   way-agrees (By set code) (wanted ports c) e =
-      subst (λ (n : ℕ). RepliesAs (repliedBy r a (By set code) room) (replyBy r at a room (wanted ports n))) (e .0 .0) (among-agrees set code ports (e .1))
+      subst (λ (n : ℕ). RepliesAs (repliedVia r a (By set code) room) (replyBy r at a room (wanted ports n))) (e .0 .0) (among-agrees set code ports (e .1))
 
-  pub way-wired : (w : Way) (line : Line) → Same (codeOf w) (routeLine w) line → OnePort line → WiredAs r at a (repliedBy r a w room)
+  pub way-wired : (w : Way) (line : Line) → Same (codeOf w) (routeLine w) line → OnePort line → WiredAs r at a (repliedVia r a w room)
   unfolding routeLine rulingOf
   way-wired Lost line e one =
       record { octets = λ p l is. bools.true-false (sym is ∙ in-none p); far = λ p l is. bools.true-false (sym is ∙ in-none p) }
@@ -295,7 +295,7 @@ module _ (r : Relay) (at : ℕ) (a : Answering) (room : ℕ) (arrived : a .arriv
   way-wired (By set code) (wanted ports c) e one = among-wired set code ports (e .1) one
 
   -- No set has a port over 7.
-  pub way-small : (w : Way) → Small (repliedBy r a w room .ruling)
+  pub way-small : (w : Way) → Small (repliedVia r a w room .ruling)
   unfolding rulingOf repliedAmong
   way-small Lost = record { granted = omega arith; took = omega arith; dropped = omega arith }
   way-small (By set code) = among-small set code (λ (p : ℕ). inSet p set) (λ p l. refl)

@@ -34,7 +34,7 @@ use Rattle.survey.proofs.Bits.{in-none}
 use Rattle.verdict.specs.Numbers.{onwardNumber}
 use Rattle.verdict.specs.declared.Target.the-variants as target
 use Rattle.verdict.specs.declared.Way.{Way}
-use Rattle.replies.specs.Replied.{callChecks, answeringOf, wireFields, noReply, repliedBy, repliedTo, repliedOf}
+use Rattle.replies.specs.Replied.{callChecks, answeringOf, wireFields, noReply, repliedVia, repliedTo, repliedOf}
 use Rattle.replies.specs.declared.Answering.{Answering}
 use Rattle.replies.specs.declared.sending.Replied.{Replied}
 use Rattle.page.specs.Table.{Ports, GivenBy, somePort, someMatches, moreOnes, bestPort, bestCode, Line, refused, wanted, liesFar, hasRoom, withRoom}
@@ -142,7 +142,7 @@ module _ (r : Relay) (number dropping at : ℕ) (octets : List ℕ) (room : ℕ)
     replies-as = by (eqb (a .made) 0) refl
       where
         by : (t : Bool) → eqb (a .made) 0 ≡ t
-            → RepliesAs (pick t (noReply (a .refusal)) (repliedBy r a way room)) (pick t (unanswered (a .refusal)) (replyBy r at a room line))
+            → RepliesAs (pick t (noReply (a .refusal)) (repliedVia r a way room)) (pick t (unanswered (a .refusal)) (replyBy r at a room line))
         by true e = no-reply-as (a .refusal)
         by false e = way-agrees r at a room (arrived (eqb-false (a .made) 0 e)) way line (route-same more r chooses (a .destination))
 
@@ -385,7 +385,7 @@ module _ (r : Relay) (number dropping at : ℕ) (octets : List ℕ) (room : ℕ)
   unfolding repliedOf repliedTo replyLine
   reply-wired = by (eqb (a .made) 0) refl
     where
-      by : (t : Bool) → eqb (a .made) 0 ≡ t → WiredAs r at a (pick t (noReply (a .refusal)) (repliedBy r a way room))
+      by : (t : Bool) → eqb (a .made) 0 ≡ t → WiredAs r at a (pick t (noReply (a .refusal)) (repliedVia r a way room))
       by true e = record { octets = λ p l is. true-false (sym is ∙ in-none p); far = λ p l is. true-false (sym is ∙ in-none p) }
       by false e =
           way-wired r at a room (arrived (eqb-false (a .made) 0 e)) way (replyLine longerMask r (a .destination))
@@ -396,7 +396,7 @@ module _ (r : Relay) (number dropping at : ℕ) (octets : List ℕ) (room : ℕ)
   unfolding repliedOf repliedTo
   reply-small = by (eqb (a .made) 0) refl
     where
-      by : (t : Bool) → eqb (a .made) 0 ≡ t → Small (pick t (noReply (a .refusal)) (repliedBy r a way room) .ruling)
+      by : (t : Bool) → eqb (a .made) 0 ≡ t → Small (pick t (noReply (a .refusal)) (repliedVia r a way room) .ruling)
       by true e = record { granted = omega arith; took = omega arith; dropped = omega arith }
       by false e = way-small r at a room (arrived (eqb-false (a .made) 0 e)) way
 

@@ -145,7 +145,7 @@ pub record ReplyTo (r : Relay) (at : ℕ) (octets : List ℕ) (m : Message) (a :
         mtu = portIn r at .mtu;
         rate = 0;
       })
-  -- the request's data, from their begin on ..
+  -- the request's data, from where they begin ..
   pub from : a .from ≡ headerOf octets .size + requestSize
   -- .. "cut where the arrival port's MTU, or 8,141 octets of user data, would be passed": 8,115 of data
   pub within : a .count ≤ dataOf (headerOf octets) - requestSize

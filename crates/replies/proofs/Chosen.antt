@@ -1,7 +1,7 @@
 -- Which datagrams are answered, test by test, over plain variables. Assumes nothing.
 use native.Mathlib.Omega.{arith}
 use Prim.Native.Nat.{ℕ, _+_, _≤_}
-use mathlib.Core.Path.{_≡_, refl, sym, ap, ap₂, _∙_}
+use mathlib.Core.Path.{_≡_, refl, sym, ap, _∙_}
 use mathlib.Core.Bool.{Bool, true, false, not, _&&_, _||_}
 use mathlib.Core.List.{List}
 use lib.ListN.{drop, length-take}
@@ -103,11 +103,6 @@ module _ (s : List ℕ) (identifier sequence : ℕ) where
 
   pub asking-read : askingIn (readingOf s) ≡ Asks identifier sequence → Asking-read s identifier sequence
   asking-read is = by-reading (readingOf s) refl is
-
-  pub read-asking : Asking-read s identifier sequence → askingIn (readingOf s) ≡ Asks identifier sequence
-  read-asking a =
-      ap askingIn (a .reads) ∙ ap (λ (k : Kind). askingBy k (a .message .identifier) (a .message .sequence)) (a .request)
-      ∙ ap₂ Asks (a .identifier) (a .sequence)
 
 -- it has the octets of a request
 pub asks-long : (h : Header) (octets : List ℕ) {identifier sequence : ℕ} → askingOf h octets ≡ Asks identifier sequence → h .size + requestSize ≤ h .length

@@ -34,7 +34,7 @@ use Rattle.verdict.specs.declared.Way.{Way}
 use Rattle.verdict.specs.declared.Way.the-variants.{By, Lost}
 use Rattle.verdict.specs.declared.Wish.the-variants.{Refused, Wanted}
 use Rattle.verdict.specs.declared.Obstacle.the-variants.{TooBig}
-use Rattle.replies.specs.Replied.{answeringOf, wireFields, messageSize, wireLength, withinRoom, soughtFor, noReply, repliedAmong, repliedBy, repliedTo, echoedOf, wireHeader, wireReply, Goes}
+use Rattle.replies.specs.Replied.{answeringOf, wireFields, messageSize, wireLength, withinRoom, soughtFor, noReply, repliedAmong, repliedVia, repliedTo, echoedOf, wireHeader, wireReply, Goes}
 use Rattle.replies.specs.declared.Answering.{Answering}
 use Rattle.replies.specs.declared.sending.Replied.{Replied}
 use Rattle.replies.proofs.Going.{wired-small}
@@ -201,15 +201,15 @@ module _ (r : Relay) (a : Answering) (room : ℕ) where
     pub took : inSet port (e .ruling .took) ≡ true
     pub fits : Fits r room port (wireLength (not (eqb (e .far) 0)) a (e .code))
 
-  by-way : (w : Way) → repliedBy r a w room .ruling .took ≢ 0 → Sent (repliedBy r a w room)
+  by-way : (w : Way) → repliedVia r a w room .ruling .took ≢ 0 → Sent (repliedVia r a w room)
   unfolding rulingOf
   by-way Lost some = absurd (some refl)
   by-way (By set code) some =
       let q = wire-fits r a set code room some in
       record { octets = octets-are r a set code room some; port = q .0; below = q .1 .0; took = q .1 .1 .0; fits = q .1 .1 .1 }
 
-  by-made : (t : Bool) (w : Way) → pick t (noReply (a .refusal)) (repliedBy r a w room) .ruling .took ≢ 0
-      → (t ≡ false) × Sent (pick t (noReply (a .refusal)) (repliedBy r a w room))
+  by-made : (t : Bool) (w : Way) → pick t (noReply (a .refusal)) (repliedVia r a w room) .ruling .took ≢ 0
+      → (t ≡ false) × Sent (pick t (noReply (a .refusal)) (repliedVia r a w room))
   by-made true w some = absurd (some refl)
   by-made false w some = (refl, by-way w some)
 

@@ -26,7 +26,7 @@ use Rattle.verdict.specs.declared.Way.{Way}
 use Rattle.verdict.specs.declared.Way.the-variants.{By, Lost}
 use Rattle.verdict.specs.declared.Wish.{Wish}
 use Rattle.verdict.specs.declared.Wish.the-variants.{NotAsked, Refused}
-use Rattle.replies.specs.Replied.{wireFields, wireLength, withinRoom, soughtFor, noReply, repliedAmong, repliedBy, repliedTo, Made}
+use Rattle.replies.specs.Replied.{wireFields, wireLength, withinRoom, soughtFor, noReply, repliedAmong, repliedVia, repliedTo, Made}
 use Rattle.replies.specs.declared.Answering.{Answering}
 use Rattle.replies.specs.declared.sending.Replied.{Replied}
 
@@ -118,22 +118,22 @@ among-told a set code s {w} {x} {far} {n} ew ex ef en =
     first ∙ ap (by-ruling a code s) (ex ∙ ap (λ (y : Wish). rulingOf No y (s .full)) ew)
 
 pub by-port : (r : Relay) (a : Answering) (room : ℕ) {w : Way} (set code : ℕ) {q : Sought} {s : Survey} {e : Replied} → w ≡ By set code
-    → q ≡ soughtFor a code room → s ≡ wantedOf r set q → e ≡ repliedAmong a set code s → e ≡ repliedBy r a w room
+    → q ≡ soughtFor a code room → s ≡ wantedOf r set q → e ≡ repliedAmong a set code s → e ≡ repliedVia r a w room
 by-port r a room set code ew eq es is =
-    is ∙ ap (repliedAmong a set code) (es ∙ ap (wantedOf r set) eq) ∙ sym (ap (λ (x : Way). repliedBy r a x room) ew)
+    is ∙ ap (repliedAmong a set code) (es ∙ ap (wantedOf r set) eq) ∙ sym (ap (λ (x : Way). repliedVia r a x room) ew)
 
 pub by-none : (r : Relay) (a : Answering) (room : ℕ) {w : Way} {x : Ruling} → w ≡ Lost → x ≡ rulingOf No (Refused NoRoute) 0
-    → _≡_ {A = Replied} (record { refusal = 0; ruling = x; precedence = a .precedence; code = 0; far = 0; octets = 0 }) (repliedBy r a w room)
+    → _≡_ {A = Replied} (record { refusal = 0; ruling = x; precedence = a .precedence; code = 0; far = 0; octets = 0 }) (repliedVia r a w room)
 by-none r a room {w} {x} ew ex =
     let e : Replied = record { refusal = 0; ruling = x; precedence = a .precedence; code = 0; far = 0; octets = 0 } in
-    let lost : e ≡ repliedBy r a Lost room = cc in
-    lost ∙ sym (ap (λ (y : Way). repliedBy r a y room) ew)
+    let lost : e ≡ repliedVia r a Lost room = cc in
+    lost ∙ sym (ap (λ (y : Way). repliedVia r a y room) ew)
 
 module _ (r : Relay) (a : Answering) (w : Way) (room : ℕ) {e : Replied} where
   pub not-made : a .made ≡ 0 → e ≡ noReply (a .refusal) → e ≡ repliedTo r a w room
   unfolding repliedTo
   not-made h is = simp (eq-eqb (a .made) 0 h) is
 
-  pub is-made : (a .made ≡ 0 → ⊥) → e ≡ repliedBy r a w room → e ≡ repliedTo r a w room
+  pub is-made : (a .made ≡ 0 → ⊥) → e ≡ repliedVia r a w room → e ≡ repliedTo r a w room
   unfolding repliedTo
   is-made h is = simp (ne-eqb (a .made) 0 h) is

@@ -1,4 +1,4 @@
--- Exactly when a reply is made, and what is then so of it. Assumes nothing.
+-- What was asked where a reply is made, and what is then so of it. Assumes nothing.
 use native.Mathlib.Omega.{arith}
 use Prim.Native.Nat.{ℕ, _+_, _-_, _≤_}
 use mathlib.Core.Path.{_≡_, refl, sym, ap, subst⁻¹, _∙_}
@@ -20,7 +20,7 @@ use Rattle.judge.specs.Ending.{arrivalAt}
 use Rattle.judge.specs.Asked.{octetsAsked}
 use Rattle.judge.specs.declared.Asked.{Asked}
 use Rattle.replies.specs.Request.{askingOf}
-use Rattle.replies.specs.Reply.{replyFields, least, mostEchoed, echoedCount, noAnswer, ownFields, madeOf, hasRoom, askedBy, isAsked, answerTo}
+use Rattle.replies.specs.Reply.{replyFields, least, mostEchoed, echoedCount, noAnswer, ownFields, madeOf, fitsMtu, askedBy, isAsked, answerTo}
 use Rattle.replies.specs.Replied.{callChecks, destinationSurvey, answeringOf, messageSize, Made}
 use Rattle.replies.specs.declared.Answering.{Answering}
 use Rattle.replies.specs.declared.request.Asking.{Asking}
@@ -70,18 +70,18 @@ module _ (r : Relay) (number dropping port : ℕ) (octets : List ℕ) (room : �
     pub identifier : ℕ
     pub sequence : ℕ
     pub asks : askingOf (asked .header) octets ≡ Asks identifier sequence
-    pub enough : hasRoom asked told mtu ≡ true
+    pub enough : fitsMtu asked told mtu ≡ true
     pub is : answer ≡ madeOf asked told mtu identifier sequence
 
-  by-room : (identifier sequence : ℕ) (t : Bool) → hasRoom asked told mtu ≡ t
-      → pick t (madeOf asked told mtu identifier sequence) (noAnswer 0) .made ≢ 0 → hasRoom asked told mtu ≡ true
+  by-room : (identifier sequence : ℕ) (t : Bool) → fitsMtu asked told mtu ≡ t
+      → pick t (madeOf asked told mtu identifier sequence) (noAnswer 0) .made ≢ 0 → fitsMtu asked told mtu ≡ true
   by-room identifier sequence true e some = e
   by-room identifier sequence false e some = absurd (some refl)
 
   by-asking : firstOf (callChecks r port room) ≡ 0 → isAsked dropping asked told ≡ true → (x : Asking) → askingOf (asked .header) octets ≡ x
       → answer ≡ askedBy x asked told mtu → askedBy x asked told mtu .made ≢ 0 → WasMade
   by-asking zero is (Asks identifier sequence) e same some =
-      let has = by-room identifier sequence (hasRoom asked told mtu) refl some in
+      let has = by-room identifier sequence (fitsMtu asked told mtu) refl some in
       record {
         passed = zero;
         isAsked = is;
@@ -109,16 +109,6 @@ module _ (r : Relay) (number dropping port : ℕ) (octets : List ℕ) (room : �
   pub was-made : answer .made ≢ 0 → WasMade
   unfolding answeringOf
   was-made some = by-call (eqb (firstOf (callChecks r port room)) 0) refl refl some
-
-  -- and back
-  pub is-made : firstOf (callChecks r port room) ≡ 0 → isAsked dropping asked told ≡ true → (identifier sequence : ℕ)
-      → askingOf (asked .header) octets ≡ Asks identifier sequence → hasRoom asked told mtu ≡ true → answer ≡ madeOf asked told mtu identifier sequence
-  unfolding answeringOf answerTo
-  is-made zero is identifier sequence asks has =
-      ap (λ (t : Bool). pick t (answerTo dropping asked told mtu octets) (noAnswer (firstOf (callChecks r port room)))) (eq-eqb _ 0 zero)
-      ∙ ap (λ (t : Bool). pick t (askedBy (askingOf (asked .header) octets) asked told mtu) (noAnswer 0)) is
-      ∙ ap (λ (x : Asking). askedBy x asked told mtu) asks
-      ∙ ap (λ (t : Bool). pick t (madeOf asked told mtu identifier sequence) (noAnswer 0)) has
 
   -- ---- it is 0 or 1, and a refusal makes none
   none-or-one : (t : Bool) → eqb (answer .made) 0 ≡ t → (answer .made ≡ 0) ⊎ (answer .made ≡ 1)

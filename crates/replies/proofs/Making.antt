@@ -86,11 +86,11 @@ unfolding seenFor
 seen-told f mtu e1 e2 e3 = cc
 
 -- ---- the data
-pub lesser-first : (a b : ℕ) → a < b → a ≡ pick (ltb a b) a b
-lesser-first a b h = simp (lt-ltb a b h)
+pub least-is-first : (a b : ℕ) → a < b → a ≡ pick (ltb a b) a b
+least-is-first a b h = simp (lt-ltb a b h)
 
-pub lesser-second : (a b : ℕ) → b ≤ a → b ≡ pick (ltb a b) a b
-lesser-second a b h = simp (le-ltb a b h)
+pub least-is-second : (a b : ℕ) → b ≤ a → b ≡ pick (ltb a b) a b
+least-is-second a b h = simp (le-ltb a b h)
 
 pub least-told : (mtu size n : ℕ) {x y : ℕ} → x ≡ least n mostEchoed → y ≡ least x (mtu - size - replySize) → y ≡ echoedCount mtu size n
 unfolding echoedCount

@@ -30,10 +30,9 @@ use Rattle.judge.specs.declared.Asked.{Asked}
 use Rattle.replies.specs.Request.{isOwned}
 use Rattle.replies.specs.Reply.{replyAddresses, replyFields, madeOf}
 use Rattle.replies.specs.Replied.{answeringOf, destinationSurvey, wireFields}
-use Rattle.replies.specs.Answerable.{Answerable}
 use Rattle.replies.specs.declared.Answering.{Answering}
 use Rattle.replies.proofs.Made.{was-made}
-use Rattle.replies.proofs.Exactly.{answerable-asked}
+use Rattle.replies.proofs.Requested.{Requested, requested-asked}
 
 -- ---- addresses turned round, at the arrival port
 -- the arrival port's own address, filled in from its last octet
@@ -96,7 +95,7 @@ module _ (r : Relay) (number dropping port : ℕ) (octets : List ℕ) (room : �
   abbrev pub sender : Address → Address
   sender d = pick (isOwned (namedOf (r .ports) d)) d at
 
-  pub record Means (y : Answerable r dropping port octets) : Type 0 where
+  pub record Means (y : Requested r port octets) : Type 0 where
     pub source : Address
     pub named : originOf (at .0) (y .header .fields .addresses) ≡ From source
     pub to : aimOf (at .0) (answer .fields .addresses) ≡ aim.Node source
@@ -105,14 +104,14 @@ module _ (r : Relay) (number dropping port : ℕ) (octets : List ℕ) (room : �
     pub arrival : answer .arrival ≡ at
     pub free : isBound (answer .fields .addresses) ≡ 0
 
-  module _ (some : answer .made ≢ 0) (y : Answerable r dropping port octets) where
-    -- it is made of what the conditions speak of
+  module _ (some : answer .made ≢ 0) (y : Requested r port octets) where
+    -- it is made of the request's header, for the node that it is aimed at
     pub made-of : (identifier : ℕ) × ((sequence : ℕ) × ((n : Renewal)
         × (answer ≡ madeOf (nodeAsked r number (arrivalAt r port) (y .header) n (y .destination)) (namedOf (r .ports) (y .destination)) (portIn r port .mtu) identifier sequence)))
     unfolding nodeAsked
     made-of =
         let w = was-made r number dropping port octets room some in
-        let x = answerable-asked r number dropping port octets room y in
+        let x = requested-asked r number dropping port octets room y in
         (w .identifier, (w .sequence, (x .0, w .is ∙ ap (λ (a : Asked). madeOf a (destinationSurvey r a) (portIn r port .mtu) (w .identifier) (w .sequence)) (x .1))))
 
     pub reply-meaning : Means y

@@ -31,7 +31,7 @@ use Rattle.judge.specs.Asked.{elseAsked, headerAsked, nodeAsked, pathAsked, aim
 use Rattle.judge.specs.declared.ruling.Arrival.{Arrival}
 use Rattle.judge.specs.declared.Asked.{Asked}
 use Rattle.replies.specs.Reply.{noAnswer}
-use Rattle.replies.specs.Replied.{callChecks, heardAnswer, answeringOf, noReply, repliedBy, repliedTo}
+use Rattle.replies.specs.Replied.{callChecks, heardAnswer, answeringOf, noReply, repliedVia, repliedTo}
 use Rattle.replies.specs.declared.Answering.{Answering}
 use Rattle.replies.specs.declared.sending.Replied.{Replied}
 
@@ -70,7 +70,7 @@ module _ (r : Relay) (rs : List Route) where
       (asked-routes number (arrivalAt r port) (foundOf octets))
 
   -- ---- after it
-  pub replied-routes : (a : Answering) (w : Way) (room : ℕ) → repliedBy full a w room ≡ repliedBy r a w room
+  pub replied-routes : (a : Answering) (w : Way) (room : ℕ) → repliedVia full a w room ≡ repliedVia r a w room
   unfolding surveyWithin
   replied-routes a Lost room = refl
   replied-routes a (By set code) room = refl

@@ -44,14 +44,13 @@ use Rattle.judge.proofs.Took.{octets-read}
 use Rattle.replies.specs.Request.{isOwned, userData, askingIn, askingOf}
 use Rattle.replies.specs.Reply.{hopsIn, stampNumber, seenFor}
 use Rattle.replies.specs.Replied.{answeringOf, destinationSurvey, wireFields, messageSize, wireLength, echoedOf, ownReply, wireReply}
-use Rattle.replies.specs.Answerable.{Answerable}
 use Rattle.replies.specs.declared.Answering.{Answering}
 use Rattle.replies.specs.declared.sending.Replied.{Replied}
 use Rattle.replies.specs.declared.request.Asking.the-variants.{Nothing}
 use Rattle.replies.proofs.Chosen.{asking-read, nothing-asks}
 use Rattle.replies.proofs.Answered.{asked-free}
 use Rattle.replies.proofs.Made.{WasMade, was-made, made-one, made-holds, made-within}
-use Rattle.replies.proofs.Exactly.{made-answerable}
+use Rattle.replies.proofs.Requested.{Requested, made-requested}
 use Rattle.replies.proofs.Meaning.{made-of, reply-meaning}
 use Rattle.replies.proofs.Written.{count-length}
 use Rattle.replies.proofs.ReadBack.{Octets, octets-small, reply-range, wire-range, whole-reads, whole-data, reply-asks-nothing, message-small, take-small, drop-small}
@@ -96,8 +95,8 @@ module _ (r : Relay) (number dropping port : ℕ) (octets : List ℕ) (room : �
   answer = answeringOf r number dropping port octets room
 
   module _ (some : answer .made ≢ 0) (small : Octets octets) (here : portIn r port .address .0 < 2 ^ 32) (wide : portIn r port .mtu < 2 ^ 32) where
-    abbrev asked : Answerable r dropping port octets
-    asked = made-answerable r number dropping port octets room (was-made r number dropping port octets room some)
+    abbrev asked : Requested r port octets
+    asked = made-requested r number dropping port octets room (was-made r number dropping port octets room some)
 
     request-range : InRange (asked .header .fields)
     request-range = read-in-range octets (asked .header) small (asked .reads)

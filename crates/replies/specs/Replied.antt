@@ -107,14 +107,14 @@ repliedAmong a set code s =
       octets = pick (eqb (x .took) 0) 0 (wireLength (not (eqb far 0)) a code);
     }
 
-abbrev pub repliedBy : Relay → Answering → Way → ℕ → Replied
-repliedBy r a Lost room =
+abbrev pub repliedVia : Relay → Answering → Way → ℕ → Replied
+repliedVia r a Lost room =
     record { refusal = 0; ruling = rulingOf No (Refused NoRoute) 0; precedence = a .precedence; code = 0; far = 0; octets = 0 }
-repliedBy r a (By set code) room = repliedAmong a set code (wantedOf r set (soughtFor a code room))
+repliedVia r a (By set code) room = repliedAmong a set code (wantedOf r set (soughtFor a code room))
 
 -- a reply that is made takes the route line
 unfoldable pub repliedTo : Relay → Answering → Way → ℕ → Replied
-repliedTo r a w room = pick (eqb (a .made) 0) (noReply (a .refusal)) (repliedBy r a w room)
+repliedTo r a w room = pick (eqb (a .made) 0) (noReply (a .refusal)) (repliedVia r a w room)
 
 unfoldable pub repliedOf : Relay → ℕ → ℕ → ℕ → List ℕ → ℕ → Replied
 repliedOf r number dropping port octets room =

@@ -131,11 +131,11 @@ madeOf a s mtu identifier sequence =
     }
 
 -- "leaves no room for the fixed fields": the arrival port's MTU is under the reply's header and these
-abbrev pub hasRoom : Asked → Survey → ℕ → Bool
-hasRoom a s mtu = not (ltb mtu (sizeOf (ownFields a s) + replySize))
+abbrev pub fitsMtu : Asked → Survey → ℕ → Bool
+fitsMtu a s mtu = not (ltb mtu (sizeOf (ownFields a s) + replySize))
 
 abbrev pub askedBy : Asking → Asked → Survey → ℕ → Answering
-askedBy (Asks identifier sequence) a s mtu = pick (hasRoom a s mtu) (madeOf a s mtu identifier sequence) (noAnswer 0)
+askedBy (Asks identifier sequence) a s mtu = pick (fitsMtu a s mtu) (madeOf a s mtu identifier sequence) (noAnswer 0)
 askedBy Nothing a s mtu = noAnswer 0
 
 -- all that is asked of the header and of the destination, and by the setting

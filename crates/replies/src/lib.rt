@@ -1,8 +1,9 @@
 // The reply to an echo request, if one is made.
 //
 // A relay that is asked for an echo answers with what it saw of the request: its hop count, its timestamp, and the MTU of the port that it came in by. The ground
-// sends such requests with growing hop counts and intermediate delivery, and finds the leg on which they fall silent. Module `request` says which datagrams are answered, this one
-// what the reply is made of, module `sending` whether and how it goes, once the route is known. Nothing is written here but the reply itself.
+// sends such requests with growing hop counts and intermediate delivery, and finds the leg on which they fall silent. Module `request` says which datagrams are
+// answered, this one what the reply is made of, module `sending` whether and how it goes, once the route is known. Nothing is written here but the
+// reply itself.
 //
 // The awkward case is a request with one-octet addresses: the reply keeps them, and the address of the arrival port, where it is the source, is its last octet. It is
 // widened only where the route leads into another domain.
@@ -49,9 +50,6 @@ ghost use Rattle.replies.specs.Reply.{
 };
 ghost use Rattle.replies.specs.declared.request.Asking.the-variants.{Asks};
 ghost use Rattle.replies.specs.Replied.{heardAnswer, answeringOf};
-
-// The hop count of a reply.
-const FIRST_HOPS: u8 = 64;
 
 // The octets of the longest timestamp.
 const LONGEST_STAMP: usize = 8;
@@ -130,7 +128,7 @@ fn reply_fields(arrival: Address, own: bool, f: Fields) -> Fields
         tpid: crate::request::SCMP,
         addresses: reply_addresses(arrival, own, addresses),
         qos: reply_qos(qos),
-        hops: Octet::Present(FIRST_HOPS),
+        hops: Octet::Present(next_leg::FIRST_HOPS),
         stamp: Timestamp::Absent,
         expanded: Octet::Absent,
         checksum: 0,
@@ -171,7 +169,7 @@ fn seen_for(f: Fields, mtu: u32) -> Seen
     }
 }
 
-fn lesser(a: usize, b: usize) -> usize
+fn least(a: usize, b: usize) -> usize
     ensures { λ r. ⌜ r ≡ least a b ⌝ }
 {
     if a < b {
@@ -185,7 +183,7 @@ fn echoed_count(mtu: usize, size: usize, count: usize) -> usize
     requires { ⌜ size + replySize ≤ mtu ⌝ }
     ensures { λ r. ⌜ r ≡ echoedCount mtu size count ⌝ }
 {
-    lesser(lesser(count, MOST_ECHOED), mtu - size - echo::REPLY_SIZE)
+    least(least(count, MOST_ECHOED), mtu - size - echo::REPLY_SIZE)
 }
 
 // No reply: by the number that refuses the call, or by 0 where none is due.

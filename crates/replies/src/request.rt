@@ -8,13 +8,11 @@ use echo::Kind;
 use echo::Reading;
 use header::Fields;
 use header::Header;
-use header::Octet;
 use verdict::Local;
 use verdict::Survey;
 ghost use mathlib.Core.Path.{_≡_};
 ghost use Prim.Native.Nat.{_≤_};
 ghost use lib.ListN.{length};
-ghost use Rattle.next_leg.specs.Leg.{isAbsent};
 ghost use Rattle.replies.specs.Request.{
   isDelivered,
   asksInHeader,
@@ -45,15 +43,6 @@ pub fn is_delivered(local: Local) -> bool
     }
 }
 
-fn is_absent(o: Octet) -> bool
-    ensures { λ r. ⌜ r ≡ isAbsent o ⌝ }
-{
-    match o {
-        Octet::Absent => true,
-        Octet::Present(_) => false,
-    }
-}
-
 // A control message that is not flooded, with a source to answer and a hop count.
 pub fn asks_in_header(f: Fields) -> bool
     ensures { λ r. ⌜ r ≡ asksInHeader f ⌝ }
@@ -69,7 +58,7 @@ pub fn asks_in_header(f: Fields) -> bool
     if header::flags::source_flag(addresses) == 0 {
         return false;
     }
-    !is_absent(hops)
+    !next_leg::is_absent(hops)
 }
 
 fn is_many(c: Class) -> bool

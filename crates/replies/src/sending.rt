@@ -34,7 +34,7 @@ ghost use Rattle.replies.specs.Replied.{
   soughtFor,
   noReply,
   repliedAmong,
-  repliedBy,
+  repliedVia,
   repliedTo,
   repliedOutput,
   Made,
@@ -154,7 +154,7 @@ fn reply_among(a: Answering, set: u32, code: u32, s: Survey) -> Replied
 
 fn reply_by(board: &[u32], mission: &[u32], a: Answering, way: Way, room: usize) -> Replied
     requires { ⌜ (length (now board) ≡ boardWords) × ((length (now mission) ≡ missionWords) × Made a) ⌝ }
-    ensures { λ r. ⌜ r ≡ repliedBy (seated (decodeBoard (now (board .entry))) (decode (now (mission .entry)))) a way room ⌝ }
+    ensures { λ r. ⌜ r ≡ repliedVia (seated (decodeBoard (now (board .entry))) (decode (now (mission .entry)))) a way room ⌝ }
 {
     match way {
         Way::By(set, code) => {

@@ -57,7 +57,7 @@ use Rattle.listing.proofs.Scan as S
 use Rattle.listing.proofs.Scan.Laws as S′
 use Rattle.listing.specs.Scan.{scanOf}
 use Rattle.answering.specs.Split.{answeringIn, queryOf, Following}
-use Rattle.harpjuniper_echo.specs.Face.{Echoes}
+use Rattle.harpjuniper_echo.specs.Face.{AnswersEcho}
 use Rattle.harpjuniper_echo.proofs.Told.{Carried, follows, echoed}
 use Rattle.answering.proofs.before as before
 use Rattle.answering.proofs.before.Symbol as before-def
@@ -332,7 +332,7 @@ module _ {M : Type 1} (𝓤 : URA M) (H : Heap 𝓤) (A : Atoms 𝓤) (W : Given
         move ! (2 ∷ 0 ∷ []) $ fjoin ! $
         move ! (1 ∷ 0 ∷ []) $ join ! $ done !
 
-    exits : (w : ℕ) (y : Val) (is : Is u64 w (y ∷ [])) (mz : List ℕ) (uz : List ℕ) → (Echoes (now xb) ms (now xr) port slot (now xo) us w mz uz)
+    exits : (w : ℕ) (y : Val) (is : Is u64 w (y ∷ [])) (mz : List ℕ) (uz : List ℕ) → (AnswersEcho (now xb) ms (now xr) port slot (now xo) us w mz uz)
         → length mz ≡ length ms → length uz ≡ length us → ent 𝓤 (⋆ 𝓤 H A
         (‵ (flft κu qu) ∷ ‵ (flft κo qo) ∷ ‵ (flft κm qm) ∷ ‵ (flft κb qb) ∷ ‵ (finally u8 γu uz) ∷ ‵ (finally u32 γm mz) ∷ ‵ OwnO ∷ ‵ OwnB ∷ ‵
         (flft κr qr) ∷ ‵ OwnR ∷ [])) (Post y)
