@@ -185,6 +185,11 @@ none-told : (n : ℕ) → partAt 16 (numberFor (noReply n)) ≡ 0
 unfolding replyNumber rulingParts headerParts
 none-told n = omega arith
 
+-- nothing stands above the octets of a reply
+number-low : (refusal : ℕ) (x : Ruling) (octets : ℕ) → replyNumber refusal x octets < 2 ^ 56
+unfolding replyNumber rulingParts headerParts
+number-low refusal x octets = omega arith
+
 -- and of a call that is refused its number alone
 alone-told : (n : ℕ) → numberFor (noReply n) ≡ n % 256
 unfolding replyNumber rulingParts headerParts
@@ -455,7 +460,7 @@ module _ (who : Customer) (steps : List Step) (rs : List Record) (at : ℕ) (slo
           took = λ p inside. ap (inSet p) (parts .at-24) ∙ page .took p inside;
           dropped = λ p inside. ap (inSet p) (parts .at-32) ∙ page .dropped p inside;
           no-local = parts .at-8;
-          above = parts .above;
+          above = subst⁻¹ (λ (n : ℕ). n < 2 ^ 56) (gives-row who steps (own (echoes rs at slot octets output)) x g .answer) (number-low _ _ _);
           alone = refused-alone;
           written = λ some. behind who steps rs at slot octets output x g (some-took some);
           unwritten = λ z. none-found who steps rs at slot octets output x g (none-took z);
@@ -694,7 +699,7 @@ replies-told who steps w v b =
 pub echoes-hold : Echoes
 echoes-hold =
     record {
-      reads = λ s lent right. messages.reads s lent;
+      reads = messages.reads;
       reads-as = λ s lent left answer right h. messages.read-as s lent right answer left h;
       builds = messages.builds;
       builds-as = λ m echoed lent left answer h. messages.built-so m echoed lent answer left h;

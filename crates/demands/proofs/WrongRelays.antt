@@ -28,7 +28,9 @@ use Rattle.meaning.specs.Names.{floodRouting}
 use Rattle.records.specs.Held.{holdsPair}
 use Rattle.floods.specs.Memory.{isHeld, freePlace, soughtPair}
 use Rattle.next_leg.specs.Leg.{nextFields}
-use Rattle.page.specs.Table.{oneOctet, liesFar}
+use Rattle.page.specs.Table.{oneOctet, liesFar, aimAt, broadcastOfOurs, somePort, broadcastOf, equalsPort}
+use Rattle.page.specs.Replies.{goesToMany}
+use Rattle.replies.specs.Replied.{callChecks}
 use Rattle.sets.specs.Sets.{inSet}
 use Rattle.routes.specs.Records.{emptyRecord}
 use Rattle.routes.specs.declared.Record.{Record}
@@ -325,6 +327,26 @@ answering-though-dropped wrong =
     let again = wrong ours (allRoutes 0) 4 slot ping output (g .0) (k .0) (g .1) goes (k .1) in
     let is = echoes-hold .answers first dropping (allRoutes 0) 4 slot ping output (k .0) (k .1) refl .answered ends .0 (λ z. omega (arith, again, z)) in
     let off : _≡_ {A = ℕ} 1 0 = is .taken in omega (arith, off)
+
+-- the same request to 172.16.4.255, which is a broadcast of the net of port 4
+abbrev toAll : List ℕ
+toAll = take 7 ping ++ (255 ∷ drop 8 ping)
+
+-- Nor one to a broadcast address that is no port's own.
+pub answering-broadcasts :
+    ((steps : List Step) (rs : List Record) (at : ℕ) (slot : Slot) (octets output : List ℕ) (x : Result)
+    → Gives steps (flies first (echoes rs at slot octets output)) x → endedBy x ≡ 0
+    → goesToMany (relayFor first steps rs) (aimAt (relayFor first steps rs) at octets) ≡ true → onwardIn x ≢ 0)
+    → ⊥
+unfolding opened callChecks broadcastOfOurs somePort broadcastOf equalsPort
+answering-broadcasts wrong =
+    let slot : Slot = record { 0 = 1 } in
+    let output : List ℕ = replicate 1500 0 in
+    let g = given ours ports-pass (flies first (echoes (allRoutes 0) 4 slot toAll output)) (omega arith, octets-pass toAll refl) in
+    let is = echoes-hold .answers first ours (allRoutes 0) 4 slot toAll output (g .0) (g .1) refl in
+    let ends : endedBy (g .0) ≡ 0 = is .refusal .0 .1 (refl, (refl, tt)) in
+    let told = is .answered ends .0 (wrong ours (allRoutes 0) 4 slot toAll output (g .0) (g .1) ends refl) in
+    true-false (sym (told .to-one))
 
 -- It does not count a reply in npForwDatagrams.
 pub forwarding-replies :

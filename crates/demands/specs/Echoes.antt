@@ -86,7 +86,6 @@ use Rattle.demands.specs.ReadOut.{
   onwardIn,
   tookIn,
   droppedIn,
-  aboveIn,
   replyOctets,
   replyOut,
   counterAt,
@@ -97,7 +96,7 @@ use Rattle.demands.specs.ReadOut.{
   dataBegin,
 }
 
--- the reply that the relay r makes, if any, to octets that came in by port `at`
+-- the reply, if one is made, of the relay that the customer sees with the list lent, to octets that came in by port `at`
 abbrev pub replyMade : Customer → List Step → List Record → ℕ → List ℕ → List ℕ → Answering
 replyMade who steps rs at octets output = answeringOf (relayFor who steps rs) (numberOf who) (boardOf steps .drop) at octets (length output)
 
@@ -114,8 +113,8 @@ pub record AnsweredAs (r : Relay) (dropping at : ℕ) (octets output : List ℕ)
   pub took : (p : ℕ) → p < portCount → inSet p (tookIn x) ≡ replyVerdict r at a (length output) .took p
   pub dropped : (p : ℕ) → p < portCount → inSet p (droppedIn x) ≡ replyVerdict r at a (length output) .dropped p
   pub no-local : localIn x ≡ 0
-  -- nothing stands above; and with a refusal there is nothing else
-  pub above : aboveIn x ≡ 0
+  -- nothing stands above the reply's octets; and with a refusal there is nothing else
+  pub above : x .answer < 2 ^ 56
   pub alone : endedBy x ≢ 0 → x .answer ≡ endedBy x
   -- where a port took it the output begins with the reply, and every other octet stays as lent
   pub written : tookIn x ≢ 0 → x .left .output ≡ replyOut x ++ drop (replyOctets x) output
@@ -209,8 +208,8 @@ pub record BuiltAs (m : Message) (echoed lent : List ℕ) (answer : ℕ) (left :
   pub written : answer < 2 ^ 32 → left ≡ messageOctets m echoed ++ drop answer lent
 
 pub record Echoes : Type 0 where
-  -- "read": whatever octets are lent, and whatever ten words (with others it is 21, demand 1)
-  pub reads : (s lent : List ℕ) → length lent ≡ messageCount → (answer : ℕ) × ((left : List ℕ) × ReadsEcho s lent answer left)
+  -- "read": whatever octets are lent, there is an answer; and with ten words it is this one (with others 21, demand 1)
+  pub reads : (s lent : List ℕ) → (answer : ℕ) × ((left : List ℕ) × ReadsEcho s lent answer left)
   pub reads-as : (s lent left : List ℕ) (answer : ℕ) → length lent ≡ messageCount → ReadsEcho s lent answer left → ReadAs s lent answer left
   -- "build": every number of its width is taken, and any data
   pub builds : (m : Message) (echoed lent : List ℕ) → (answer : ℕ) × ((left : List ℕ) × BuildsEcho m echoed lent answer left)
