@@ -75,7 +75,7 @@ use Rattle.replies.specs.declared.Answering.{Answering}
 use Rattle.replies.specs.declared.sending.Replied.{Replied}
 use Rattle.replies.proofs.Goes.{some-port}
 use Rattle.replies.proofs.Made.{was-made}
-use Rattle.replies.proofs.Exactly.{made-answerable}
+use Rattle.replies.proofs.Requested.{made-requested}
 use Rattle.replies.proofs.Meaning.{reply-meaning}
 use Rattle.replies.proofs.Unanswered as unanswered
 use Rattle.tally.specs.Tally.{countedAt, countedAll, replyMoves}
@@ -527,7 +527,7 @@ module _ (who : Customer) (steps : List Step) (rs : List Record) (at : ℕ) (slo
       unfolding wireFields nextFields
       stays far one-octet =
           let n = seat .number in
-          let y = made-answerable q n drops at octets room (was-made q n drops at octets room some) in
+          let y = made-requested q n drops at octets room (was-made q n drops at octets room some) in
           let free = reply-meaning q n drops at octets room some y .free in
           stays-home (a .arrival .0) (e .code) far (a .fields) (λ b. absurd (omega (arith, b, free))) (eqb-true _ 1 one-octet)
 
