@@ -213,9 +213,10 @@ static uint32_t size_of_set(uint32_t ports)
     return size;
 }
 
-/* The reply is written into a slot of its own, which is as long as any MTU; the
- * slot of the request is not free, so it is another. What is no echo request
- * that gets a reply is left alone, and nothing is counted for it. */
+/* The reply is written into a slot of its own, which is as long as any
+ * datagram, so that the route may lengthen it; the slot of the request is not
+ * free, so it is another. What is no echo request that gets a reply is left
+ * alone, and nothing is counted for it. */
 static void answer(uint32_t port, const struct slot *asked, uint32_t count)
 {
     uint16_t number = free_slot();
