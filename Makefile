@@ -7,6 +7,7 @@
 #   make plain     build/plain, which answers it by the independent C program
 #   make compare   the two of them on a generated trace
 #   make rehearsal scenarios/biocide.txt, flown on relays that are linked in memory
+#   make silent-leg build/silent-leg, which finds the leg at which silence begins
 #   make bench     instructions per call and stack, of the two of them
 #   make install   the library, its manual and replay; PREFIX says where (/usr/local),
 #                  DESTDIR what stands before it
@@ -45,20 +46,22 @@ endif
 # Each program has a folder below host/, and takes from host/shared what is named here.
 program = $(wildcard host/$(1)/*.c) $(patsubst %,host/shared/%.c,options $(2))
 REPLAY := $(call program,replay,calls library text trace)
-GENERATE := $(call program,generate,calls datagram floods form settings text world)
-COVERAGE := $(call program,coverage,answered arriving calls settings trace)
+GENERATE := $(call program,generate,calls datagram echoes floods form message settings text world)
+COVERAGE := $(call program,coverage,answered arriving calls form settings trace)
 LEDGER := $(call program,ledger,answered arriving calls trace)
 BENCH := $(call program,bench,arriving calls library plainly trace)
-REHEARSAL := $(call program,rehearsal)
+SCENARIO := $(wildcard host/scenario/*.c)
+REHEARSAL := $(call program,rehearsal) $(SCENARIO)
+SILENT_LEG := $(call program,silent-leg) $(SCENARIO)
 FLOOD := $(call program,flood,settings)
-SOAK := $(call program,soak,calls datagram floods form library plainly settings world)
+SOAK := $(call program,soak,calls datagram echoes floods form library message plainly settings world)
 PLAIN := $(wildcard host/plain/plain_*.c)
 HEADERS := $(wildcard $(INCLUDE)/*.h host/*/*.h host/*/*.def tests/*.h)
 
 # `make test` goes through its parts in this order, whatever -j says.
 .NOTPARALLEL:
 .DELETE_ON_ERROR:
-.PHONY: test archive release replay plain rehearsal compare bench soak flood \
+.PHONY: test archive release replay plain rehearsal silent-leg compare bench soak flood \
 	coverage-plain costs clean prepare tools format exports released header readme host-tests promises \
 	install uninstall always
 
@@ -70,6 +73,7 @@ test: prepare format header promises
 archive: $(ARCHIVE)
 replay: build/replay
 plain: build/plain
+silent-leg: build/silent-leg
 
 rehearsal: build/rehearsal
 	@build/rehearsal scenarios/biocide.txt
@@ -88,8 +92,8 @@ format: | prepare
 
 # The crates that export to C. `rt staticlib` makes an archive of one crate's exports,
 # an object that shows no other name; ours is made of their objects.
-EXPORTING := harpjuniper harpjuniper_address harpjuniper_settings \
-	harpjuniper_reads harpjuniper_routes harpjuniper_receive harpjuniper_relay
+EXPORTING := harpjuniper harpjuniper_address harpjuniper_messages harpjuniper_settings \
+	harpjuniper_reads harpjuniper_routes harpjuniper_receive harpjuniper_echo harpjuniper_relay
 OBJECTS := $(EXPORTING:%=build/objects/%.o)
 
 ifeq ($(MACHINE),x86_64)
@@ -126,10 +130,12 @@ endif
 
 build/replay: $(REPLAY)
 build/rehearsal: $(REHEARSAL)
+build/silent-leg: $(SILENT_LEG)
 build/calls: tests/calls.c
 build/relay_calls: tests/relay_calls.c
 build/leg_calls: tests/leg_calls.c
 build/flood_calls: tests/flood_calls.c
+build/echo_calls: tests/echo_calls.c
 build/bench: $(BENCH) $(PLAIN)
 build/flight_loop: examples/flight_loop.c
 build/settings_batch: examples/settings_batch.c
@@ -137,17 +143,22 @@ build/soak: $(SOAK) $(PLAIN)
 build/flood: $(FLOOD)
 build/readme: build/readme.c
 
-# The rehearsal and the flood on wrong relays, which they have to find out; WRONG_RELAY
-# says which. The soak with faults put between it and the library, which it has to find.
+# The rehearsal, the flood and silent-leg on wrong relays, which they have to find out;
+# WRONG_RELAY says which. The soak with faults put between it and the library, which it has
+# to find.
 build/rehearsal_wrong: $(REHEARSAL) tests/wrong_relay.c
 build/flood_wrong: $(FLOOD) tests/wrong_relay.c
+build/silent-leg_wrong: $(SILENT_LEG) tests/wrong_relay.c
 build/soak_faulty: $(SOAK) $(PLAIN) tests/soak_faults.c
-build/rehearsal_wrong build/flood_wrong: wrapped := take receive_at sweep counter
+build/rehearsal_wrong build/flood_wrong build/silent-leg_wrong: wrapped := take receive_at \
+	sweep counter echo set_echo_drop
 build/soak_faulty: wrapped := class take counter waiting search set_port receive_at \
-	sweep set_lifetime get_lifetime last_second pair_word
+	sweep set_lifetime get_lifetime last_second pair_word echo read_echo_words \
+	build_request build_reply set_echo_drop get_echo_drop
 
-LINKED := $(addprefix build/,replay rehearsal rehearsal_wrong calls relay_calls leg_calls \
-	flood_calls bench flight_loop settings_batch soak soak_faulty flood flood_wrong readme)
+LINKED := $(addprefix build/,replay rehearsal silent-leg rehearsal_wrong silent-leg_wrong \
+	calls relay_calls leg_calls flood_calls echo_calls bench flight_loop settings_batch soak \
+	soak_faulty flood flood_wrong readme)
 $(LINKED): $(LIBRARY) $(HEADERS) scripts/emulated build/from | tools
 	$(link) $(wrapped:%=-Wl,--wrap=hj_%) $(filter %.c,$^) $(LIBRARY)
 	$(emulate)
@@ -205,20 +216,22 @@ readme: build/readme
 
 host-tests: build/calls build/relay_calls build/leg_calls build/test_plain \
 	build/test_relay build/test_missions build/test_legs build/replay build/plain \
-	build/test_floods \
+	build/test_floods build/test_echo \
 	build/ledger build/generate build/coverage build/bench build/flight_loop \
-	build/settings_batch build/rehearsal build/rehearsal_wrong build/soak \
-	build/soak_faulty build/flood build/flood_wrong build/coverage-plain/plain \
-	build/flood_calls
+	build/settings_batch build/rehearsal build/rehearsal_wrong build/silent-leg \
+	build/silent-leg_wrong build/soak build/soak_faulty build/flood build/flood_wrong build/coverage-plain/plain \
+	build/flood_calls build/echo_calls
 	build/calls
 	build/relay_calls
 	build/leg_calls
 	build/flood_calls
+	build/echo_calls
 	build/test_plain
 	build/test_relay
 	build/test_missions
 	build/test_legs
 	build/test_floods
+	build/test_echo
 	build/flight_loop > build/flight_loop.output
 	diff examples/flight_loop.expected build/flight_loop.output
 	build/settings_batch > build/settings_batch.output
@@ -226,6 +239,7 @@ host-tests: build/calls build/relay_calls build/leg_calls build/test_plain \
 	scripts/check-traces build/replay build/plain
 	python3 tests/test_ledger.py
 	python3 tests/test_rehearsal.py
+	python3 tests/test_silent_leg.py
 	build/flood seed=1
 	python3 tests/test_flood.py
 	python3 tests/test_scripts.py

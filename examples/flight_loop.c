@@ -1,10 +1,11 @@
 /*
  * flight_loop: the smallest loop that relays, for one mission. It sets up three
- * ports and two routes, hears datagrams, lets the relay judge each, and sends on
- * what the relay says: the header that the relay wrote for the port, then the
- * data that the loop kept. At the end it sweeps once, so that the relay forgets
- * the floods that have died out. A second mission would have a state and a store
- * of its own, and be lent the same board and routes.
+ * ports and three routes, hears datagrams, lets the relay judge each, and sends
+ * on what the relay says: the header that the relay wrote for the port, then the
+ * data that the loop kept. An echo request that is for this node is answered. At
+ * the end the loop sweeps once, so that the relay forgets the floods that have
+ * died out. A second mission would have a state and a store of its own, and be
+ * lent the same board and routes.
  *
  * The links and the clock are stood in for: `heard` hands out datagrams built
  * here, `send_on` prints, and `clock_second` is a number. In flight these would
@@ -15,6 +16,7 @@
  * how long each of them is and where the data begin. The awkward case is a
  * datagram that several ports take. Their headers may differ, and its slot is
  * free again only once each port has sent its copy, so the copies are counted.
+ * A reply has a slot of its own, which holds it whole.
  */
 #include <stdio.h>
 #include <string.h>
@@ -37,6 +39,7 @@ static hj_record routes[8]; /* as many as are needed, at most HJ_ROUTES */
 
 static struct slot {
     uint32_t copies; /* still to be sent; 0 where the slot is free */
+    int is_reply;    /* the octets are sent as they stand */
     hj_verdict verdict;
     uint32_t length;
     uint8_t headers[HJ_OUTPUT_ROOM];
@@ -53,50 +56,73 @@ static struct slot {
 #define ALL 0xff          /* the broadcast of 10.10.10 in one octet */
 
 /* Under 256 a destination has one octet. A hop count of 0 is none. One with a
- * timestamp is flooded, and comes by two ways. */
+ * timestamp is flooded, and comes by two ways. One with a sequence number is an
+ * echo request. */
 static const struct {
     uint32_t destination, precedence, hop_count, stamp;
+    uint16_t sequence;
     const char *data;
-} HEARD[] = {{FAR, 0, 64, 0, "temperature"}, {FAR, 9, 64, 0, "alarm"},
-             {HERE, 0, 64, 0, "command"},    {OTHER, 0, 64, 0, "stray"},
-             {FAR, 0, 1, 0, "tired"},        {UNIT, 3, 0, 0, "dose"},
-             {ALL, 5, 0, 0, "time"},         {OTHER, 1, 64, 8001, "search"},
-             {OTHER, 1, 63, 8001, "search"}};
+} HEARD[] = {{FAR, 0, 64, 0, 0, "temperature"}, {FAR, 9, 64, 0, 0, "alarm"},
+             {HERE, 0, 64, 0, 0, "command"},    {OTHER, 0, 64, 0, 0, "stray"},
+             {FAR, 0, 1, 0, 0, "tired"},        {UNIT, 3, 0, 0, 0, "dose"},
+             {ALL, 5, 0, 0, 0, "time"},         {HERE, 2, 61, 0, 1, "there?"},
+             {OTHER, 1, 64, 8001, 0, "search"},
+             {OTHER, 1, 63, 8001, 0, "search"}};
 
 /* Of the node's own clock, which began when the relay was made. */
 static uint32_t clock_second;
+
+static hj_fields heard_fields(size_t which)
+{
+    hj_fields fields = {0};
+
+    fields.tp_id = HEARD[which].sequence != 0 ? HJ_TP_SCMP : 6;
+    fields.extended = HEARD[which].destination > 255;
+    fields.destination_low = HEARD[which].destination;
+    fields.has_source = 1;
+    fields.source_low = fields.extended ? NEAR : NEAR % 256;
+    fields.has_qos = 1;
+    fields.precedence = HEARD[which].precedence;
+    fields.has_hop_count = HEARD[which].hop_count != 0;
+    fields.hop_count = HEARD[which].hop_count;
+    if (HEARD[which].stamp != 0) {
+        fields.routing = 3;
+        fields.stamp_format = HJ_STAMP_IMPLICIT;
+        fields.time = HEARD[which].stamp;
+    }
+    fields.has_checksum = 1;
+    return fields;
+}
+
+/* What is carried, at the front of the room; how many octets it has. */
+static uint32_t heard_data(size_t which, uint8_t *octets, size_t room)
+{
+    const char *data = HEARD[which].data;
+
+    if (HEARD[which].sequence != 0)
+        return hj_value(hj_build_request(7, HEARD[which].sequence,
+                                         (const uint8_t *)data, strlen(data),
+                                         octets, room));
+    memcpy(octets, data, strlen(data));
+    return (uint32_t)strlen(data);
+}
 
 /* The next datagram that port 0 hears, or 0 octets where there is none. */
 static uint32_t heard(uint8_t *octets)
 {
     static size_t next;
-    hj_fields fields = {0};
+    uint8_t carried[64];
+    uint32_t count;
     hj_answer built;
-    size_t data;
 
     if (next == sizeof HEARD / sizeof *HEARD)
         return 0;
-    data = strlen(HEARD[next].data);
-    fields.tp_id = 6;
-    fields.extended = HEARD[next].destination > 255;
-    fields.destination_low = HEARD[next].destination;
-    fields.has_source = 1;
-    fields.source_low = fields.extended ? NEAR : NEAR % 256;
-    fields.has_qos = 1;
-    fields.precedence = HEARD[next].precedence;
-    fields.has_hop_count = HEARD[next].hop_count != 0;
-    fields.hop_count = HEARD[next].hop_count;
-    if (HEARD[next].stamp != 0) {
-        fields.routing = 3;
-        fields.stamp_format = HJ_STAMP_IMPLICIT;
-        fields.time = HEARD[next].stamp;
-    }
-    fields.has_checksum = 1;
-    built = hj_build(fields, data, octets, HJ_HEADER_ROOM);
-    memcpy(octets + hj_value(built), HEARD[next].data, data);
+    count = heard_data(next, carried, sizeof carried);
+    built = hj_build(heard_fields(next), count, octets, HJ_HEADER_ROOM);
+    memcpy(octets + hj_value(built), carried, count);
     next++;
     clock_second++;
-    return hj_value(built) + (uint32_t)data;
+    return hj_value(built) + count;
 }
 
 static void print_octets(const uint8_t *octets, uint32_t count)
@@ -112,6 +138,11 @@ static void send_on(uint32_t port, const struct slot *slot)
     uint32_t from = hj_data_from(slot->verdict);
 
     printf("port %u sends ", (unsigned)port);
+    if (slot->is_reply) {
+        print_octets(slot->octets, slot->length);
+        puts(", a reply");
+        return;
+    }
     print_octets(hj_header(slot->headers, port),
                  hj_header_octets(slot->verdict, port));
     printf(" %.*s\n", (int)(slot->length - from),
@@ -120,8 +151,9 @@ static void send_on(uint32_t port, const struct slot *slot)
 
 /* ---- The loop ------------------------------------------------------------ */
 
-/* 0, or the number of what refused a setting. The routes lead to another relay,
- * so they ask for a hop count, and a datagram cannot circle for ever. */
+/* 0, or the number of what refused a setting. The first two routes lead to
+ * another relay, so they ask for a hop count, and a datagram cannot circle for
+ * ever. */
 static uint32_t set_up(void)
 {
     uint32_t refusal = hj_fresh_board(BOARD);
@@ -144,6 +176,9 @@ static uint32_t set_up(void)
     if (refusal == HJ_DONE)
         refusal = hj_set_route(BOARD, ROUTES, 1, 0x0a0a0a0e, 0xffffffff, 1,
                                HJ_UP, HJ_CAPABLE_HOP_COUNT, 0);
+    if (refusal == HJ_DONE) /* the way back for replies */
+        refusal = hj_set_route(BOARD, ROUTES, 2, NEAR, 0xffffffff, 0, HJ_UP,
+                               HJ_CAPABLE_NONE, 0);
     return refusal;
 }
 
@@ -178,6 +213,27 @@ static uint32_t size_of_set(uint32_t ports)
     return size;
 }
 
+/* The reply is written into a slot of its own, which is as long as any
+ * datagram, so that the route may lengthen it; the slot of the request is not
+ * free, so it is another. What is no echo request that gets a reply is left
+ * alone, and nothing is counted for it. */
+static void answer(uint32_t port, const struct slot *asked, uint32_t count)
+{
+    uint16_t number = free_slot();
+    struct slot *slot = &slots[number % SLOTS];
+    hj_verdict verdict;
+
+    if (number == NO_SLOT)
+        return;
+    verdict = hj_echo(BOARD, MISSION, ROUTES, port, number, asked->octets,
+                      count, slot->octets, sizeof slot->octets);
+    printf("  reply %u, %u octets\n", (unsigned)hj_onward(verdict),
+           (unsigned)hj_reply_octets(verdict));
+    slot->copies = size_of_set(hj_took(verdict));
+    slot->is_reply = 1;
+    slot->length = hj_reply_octets(verdict);
+}
+
 /* The datagram stands in the slot. The length field says where it ends: a link
  * may hand over more octets than that. */
 static void judge(uint32_t port, uint16_t number, uint32_t count)
@@ -194,8 +250,15 @@ static void judge(uint32_t port, uint16_t number, uint32_t count)
     if (hj_local(verdict) == HJ_DELIVERED)
         puts("  it is for this node");
     slot->copies = size_of_set(hj_took(verdict));
+    slot->is_reply = 0;
     slot->verdict = verdict;
     slot->length = hj_read(slot->octets, count).length;
+}
+
+static int is_control_message(const struct slot *slot, uint32_t count)
+{
+    return hj_local(slot->verdict) == HJ_DELIVERED &&
+           hj_read(slot->octets, count).fields.tp_id == HJ_TP_SCMP;
 }
 
 /* Sends what waits on a port, the highest precedence first. */
@@ -217,6 +280,11 @@ static int hear(uint32_t port)
 
     if (count > 0)
         judge(port, number, count);
+    if (count > 0 && is_control_message(&slots[number], count)) {
+        slots[number].copies++; /* not free while it is answered */
+        answer(port, &slots[number], count);
+        slots[number].copies--;
+    }
     return count > 0;
 }
 
@@ -255,8 +323,9 @@ int main(void)
         send_waiting(port);
     clock_second += 2 * LIFETIME; /* in which nothing is heard */
     sweep();
-    printf("received %u, sent on %u\n",
+    printf("received %u, sent on %u, replies %u\n",
            (unsigned)hj_value(hj_counter(MISSION, HJ_IN_RECEIVES)),
-           (unsigned)hj_value(hj_counter(MISSION, HJ_FORW_DATAGRAMS)));
+           (unsigned)hj_value(hj_counter(MISSION, HJ_FORW_DATAGRAMS)),
+           (unsigned)hj_value(hj_counter(MISSION, HJ_OUT_REQUESTS)));
     return 0;
 }

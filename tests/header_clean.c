@@ -6,6 +6,7 @@
 #include "harpjuniper.h"
 
 int header_calls(void);
+int echo_calls(void);
 int relay_calls(void);
 int read_calls(void);
 int setting_calls(void);
@@ -29,6 +30,25 @@ int header_calls(void)
 
     return read && build && read_words && build_words && unpack && pack &&
            class_of && path && checksum;
+}
+
+int echo_calls(void)
+{
+    uint32_t (*read)(const uint8_t *, size_t, hj_message *) = hj_read_echo;
+    uint32_t (*read_words)(const uint8_t *, size_t, uint32_t *,
+                           size_t) = hj_read_echo_words;
+    hj_answer (*request)(uint16_t, uint16_t, const uint8_t *, size_t,
+                         uint8_t *, size_t) = hj_build_request;
+    hj_answer (*reply)(uint16_t, uint16_t, uint8_t, uint8_t, uint64_t,
+                       uint32_t, uint32_t, const uint8_t *, size_t, uint8_t *,
+                       size_t) = hj_build_reply;
+    hj_answer (*build)(const hj_message *, const uint8_t *, size_t, uint8_t *,
+                       size_t) = hj_build_echo;
+    hj_verdict (*echo)(const hj_board *, size_t, hj_mission *, size_t,
+                       const hj_record *, size_t, uint32_t, uint16_t,
+                       const uint8_t *, size_t, uint8_t *, size_t) = hj_echo;
+
+    return read && read_words && request && reply && build && echo;
 }
 
 int relay_calls(void)
@@ -62,7 +82,8 @@ int read_calls(void)
     typedef hj_answer word(const hj_mission *, size_t, uint32_t, uint32_t);
     of_mission *const looks[] = {hj_counter, hj_waiting};
     word *const words[] = {hj_group_word, hj_path_word, hj_pair_word};
-    of_board *const boards[] = {hj_get_router, hj_get_lifetime};
+    of_board *const boards[] = {hj_get_router, hj_get_lifetime,
+                                hj_get_echo_drop};
     hj_answer (*second)(const hj_mission *, size_t) = hj_last_second;
     hj_answer (*port_word)(const hj_board *, size_t, uint32_t,
                            uint32_t) = hj_port_word;
@@ -86,7 +107,8 @@ int setting_calls(void)
     typedef uint32_t clear(hj_mission *, size_t, uint32_t);
     place *const places[] = {hj_set_group, hj_set_path};
     clear *const clears[] = {hj_clear_group, hj_clear_path};
-    of_board *const boards[] = {hj_set_router, hj_set_lifetime};
+    of_board *const boards[] = {hj_set_router, hj_set_lifetime,
+                                hj_set_echo_drop};
     uint32_t (*port)(hj_board *, size_t, uint32_t, uint32_t, uint32_t,
                      uint32_t, uint32_t) = hj_set_port;
     uint32_t (*route)(const hj_board *, size_t, hj_record *, size_t, uint32_t,
@@ -103,8 +125,9 @@ int accessors(void)
                                                 hj_precedence};
     uint16_t (*slot)(hj_answer) = hj_slot;
     uint32_t (*const of_verdict[])(hj_verdict) = {
-        hj_ended_by,  hj_local,     hj_onward,           hj_took,
-        hj_dropped,   hj_data_from, hj_rewritten_octets, hj_rewritten};
+        hj_ended_by, hj_local,     hj_onward,           hj_took,
+        hj_dropped,  hj_data_from, hj_rewritten_octets, hj_rewritten,
+        hj_reply_octets};
     uint32_t (*octets)(hj_verdict, uint32_t) = hj_header_octets;
     const uint8_t *(*header)(const uint8_t *, uint32_t) = hj_header;
     uint32_t (*const of_found[])(hj_found) = {hj_found_refusal, hj_is_found,
@@ -129,7 +152,9 @@ int constants(void)
                           HJ_PATHS,         HJ_QUEUE,
                           HJ_PORT_NUMBERS,  HJ_ROUTE_NUMBERS,
                           HJ_GROUP_NUMBERS, HJ_PATH_NUMBERS,
-                          HJ_PAIR_NUMBERS,  HJ_PAIRS};
+                          HJ_PAIR_NUMBERS,  HJ_PAIRS,
+                          HJ_MESSAGE_WORDS, HJ_REQUEST_OCTETS,
+                          HJ_REPLY_OCTETS};
     const int classes[] = {HJ_INVALID,        HJ_UNICAST,
                            HJ_MULTICAST,      HJ_NET_BROADCAST,
                            HJ_DOMAIN_BROADCAST, HJ_SCPS_BROADCAST,
@@ -141,7 +166,9 @@ int constants(void)
                          HJ_CAPABLE_NONE, HJ_CAPABLE_CHECKSUM,
                          HJ_CAPABLE_HOP_COUNT, HJ_CAPABLE_BOTH,
                          HJ_LOCAL_NO,     HJ_DELIVERED,
-                         HJ_NOT_ASKED,    HJ_SENT_ON};
+                         HJ_NOT_ASKED,    HJ_SENT_ON,
+                         HJ_NO_REPLY,     HJ_TP_SCMP,
+                         HJ_ECHO_REPLY,   HJ_ECHO_REQUEST};
 
     return version[0] + versions[0] + limits[0] + classes[0] + codes[0];
 }
@@ -166,7 +193,7 @@ int numbers(void)
         HJ_IN_ADDR_ERRORS,    HJ_IN_UNKNOWN_PROTOS, HJ_IN_DELIVERS,
         HJ_FORW_HOP_DISCARD,  HJ_FORW_DATAGRAMS, HJ_OUT_NO_ROUTES,
         HJ_OUT_DISCARDS,      HJ_LEFT_DOMAIN,    HJ_TOO_BIG_COUNT,
-        HJ_FLOOD_UNMARKED_COUNT, HJ_PAIRS_HELD_COUNT};
+        HJ_FLOOD_UNMARKED_COUNT, HJ_PAIRS_HELD_COUNT, HJ_OUT_REQUESTS};
 
-    return refusals[0] + counters[16];
+    return refusals[0] + counters[17];
 }

@@ -5,7 +5,7 @@
  */
 #include "harpjuniper.h"
 
-#define MIXED_LAST 11
+#define MIXED_LAST 13
 
 #ifndef MIXED
 #define MIXED 0
@@ -15,17 +15,16 @@
 #define MISSION &mission, HJ_MISSION_WORDS
 #define ROUTES routes, HJ_ROUTES
 
+hj_board board;
+hj_mission mission;
+hj_record routes[HJ_ROUTES];
+uint8_t octets[HJ_OUTPUT_ROOM];
+hj_arrival arrival;
+
 int mixed(void);
 
 int mixed(void)
 {
-    static hj_board board;
-    static hj_mission mission;
-    static hj_record routes[HJ_ROUTES];
-    static uint8_t octets[HJ_OUTPUT_ROOM];
-    hj_arrival arrival = {0, 0, 0};
-
-    (void)board, (void)mission, (void)routes, (void)octets, (void)arrival;
 #if MIXED == 0
     return hj_refusal(hj_take(BOARD, MISSION, 0)) +
            hj_ended_by(hj_receive(BOARD, MISSION, ROUTES, arrival, octets, 0,
@@ -55,5 +54,10 @@ int mixed(void)
     return hj_set_lifetime(MISSION, 0) != 0;
 #elif MIXED == 11 /* and the last second the mission's */
     return hj_refusal(hj_last_second(BOARD)) != 0;
+#elif MIXED == 12 /* echo drop is the board's, for both missions */
+    return hj_set_echo_drop(MISSION, 1) != 0;
+#elif MIXED == 13 /* the two words of an echo swapped */
+    return hj_ended_by(hj_echo(MISSION, BOARD, ROUTES, 0, 0, octets, 0, octets,
+                               0)) != 0;
 #endif
 }

@@ -50,13 +50,28 @@ WRAPPED(uint32_t, hj_set_lifetime, hj_board *board, size_t board_words,
 WRAPPED(hj_answer, hj_get_lifetime, BOARD);
 WRAPPED(hj_answer, hj_last_second, SEEN);
 WRAPPED(hj_answer, hj_pair_word, SEEN, uint32_t place, uint32_t word);
+WRAPPED(hj_verdict, hj_echo, BOARD, MISSION, ROUTES, uint32_t port,
+        uint16_t slot, const uint8_t *octets, size_t length, uint8_t *output,
+        size_t room);
+WRAPPED(uint32_t, hj_read_echo_words, const uint8_t *message, size_t count,
+        uint32_t *words, size_t word_count);
+WRAPPED(hj_answer, hj_build_request, uint16_t identifier, uint16_t sequence,
+        const uint8_t *data, size_t data_octets, uint8_t *output, size_t room);
+WRAPPED(hj_answer, hj_build_reply, uint16_t identifier, uint16_t sequence,
+        uint8_t hops, uint8_t format, uint64_t stamp, uint32_t mtu,
+        uint32_t rate, const uint8_t *data, size_t data_octets,
+        uint8_t *output, size_t room);
+WRAPPED(uint32_t, hj_set_echo_drop, hj_board *board, size_t board_words,
+        uint32_t drop);
+WRAPPED(hj_answer, hj_get_echo_drop, BOARD);
 
 /* Where the counters of a mission's state begin, its last second stands and its
- * pairs begin; and the lifetime on the board. */
+ * pairs begin; and the lifetime and echo drop on the board. */
 #define COUNTERS_AT 393
-#define LAST_SECOND_AT 410
-#define PAIRS_AT 411
+#define LAST_SECOND_AT 411
+#define PAIRS_AT 412
 #define LIFETIME_AT 41
+#define ECHO_DROP_AT 42
 
 uint32_t __wrap_hj_class(uint32_t address)
 {
@@ -309,4 +324,138 @@ hj_answer __wrap_hj_pair_word(SEEN, uint32_t place, uint32_t word)
     if (fault() == 46 && place == HJ_PAIRS)
         place--;
     return __real_hj_pair_word(LENT_MISSION, place, word);
+}
+
+/* ---- Echo requests and messages ------------------------------------------ */
+
+/* What a wrong hj_echo may count. */
+static void touch_counters(hj_verdict verdict, hj_mission *mission)
+{
+    uint32_t *counters = mission->words + COUNTERS_AT;
+    uint32_t onward = hj_onward(verdict);
+
+    if (fault() == 47 && onward == HJ_SENT_ON)
+        counters[HJ_FORW_DATAGRAMS]++;
+    if (fault() == 48 && (onward == HJ_NO_ROUTE || onward == HJ_TOO_BIG))
+        counters[HJ_OUT_REQUESTS]--; /* replies that no port took */
+    if (fault() == 49 && hj_ended_by(verdict) == HJ_DONE &&
+        onward == HJ_NO_REPLY)
+        counters[HJ_IN_RECEIVES]++; /* counted for the request */
+    if (fault() == 50 && hj_ended_by(verdict) == HJ_SHORT_OUTPUT)
+        counters[HJ_OUT_REQUESTS]++;
+    if (fault() == 51 && onward == HJ_SENT_ON)
+        mission->words[LAST_SECOND_AT]++; /* a second accepted */
+}
+
+/* What it may do to a reply. Its message follows a header of four-octet
+ * addresses, without basic QOS and checksum. */
+static void touch_reply(hj_verdict verdict, const uint8_t *octets,
+                        uint8_t *output)
+{
+    uint32_t count = hj_reply_octets(verdict);
+
+    if (fault() == 52 && count > 0)
+        output[count] ^= 1; /* an octet behind it */
+    if (fault() == 53 && hj_onward(verdict) == HJ_QUEUES_FULL)
+        output[0] ^= 1; /* one that was dropped */
+    if (fault() == 54 && count > 0)
+        ((uint8_t *)octets)[0] ^= 1;
+    if (count > HOP_AT && (output[2] & 1) == 0 && output[3] == 0x61) {
+        if (fault() == 55)
+            output[HOP_AT]--; /* hop count 63 */
+        if (fault() == 56)
+            output[HOP_AT + 1 + 8]--; /* the request's, one less */
+    }
+}
+
+/* Answered though echo drop is on. */
+static hj_verdict without_drop(BOARD, MISSION, ROUTES, uint32_t port,
+                               uint16_t slot, const uint8_t *octets,
+                               size_t length, uint8_t *output, size_t room)
+{
+    hj_board open = *board;
+
+    open.words[ECHO_DROP_AT] = 0;
+    return __real_hj_echo(&open, board_words, LENT_MISSION, LENT_ROUTES, port,
+                          slot, octets, length, output, room);
+}
+
+hj_verdict __wrap_hj_echo(BOARD, MISSION, ROUTES, uint32_t port, uint16_t slot,
+                          const uint8_t *octets, size_t length,
+                          uint8_t *output, size_t room)
+{
+    hj_verdict verdict;
+
+    if (fault() == 57 && board_words == HJ_BOARD_WORDS)
+        return without_drop(LENT_BOARD, LENT_MISSION, LENT_ROUTES, port, slot,
+                            octets, length, output, room);
+    if (fault() == 58)
+        slot = 0; /* another entry waits */
+    verdict = __real_hj_echo(LENT_BOARD, LENT_MISSION, LENT_ROUTES, port, slot,
+                             octets, length, output, room);
+    if (mission_words == HJ_MISSION_WORDS)
+        touch_counters(verdict, mission);
+    touch_reply(verdict, octets, output);
+    if (fault() == 59 && hj_ended_by(verdict) == HJ_BAD_NUMBER)
+        return HJ_NO_PORT;
+    if (fault() == 60 && hj_onward(verdict) == HJ_SENT_ON)
+        return verdict - ((hj_verdict)1 << 40); /* one octet less */
+    if (fault() == 61 && hj_onward(verdict) == HJ_TOO_BIG)
+        return verdict - ((hj_verdict)3 << 16); /* 11 for 14 */
+    return verdict;
+}
+
+uint32_t __wrap_hj_read_echo_words(const uint8_t *message, size_t count,
+                                   uint32_t *words, size_t word_count)
+{
+    uint32_t refusal =
+        __real_hj_read_echo_words(message, count, words, word_count);
+
+    if (fault() == 62 && refusal == HJ_BAD_CHECKSUM)
+        return HJ_DONE;
+    if (fault() == 63 && refusal == HJ_DONE)
+        words[5] &= 3; /* not the whole octet */
+    return refusal;
+}
+
+hj_answer __wrap_hj_build_request(uint16_t identifier, uint16_t sequence,
+                                  const uint8_t *data, size_t data_octets,
+                                  uint8_t *output, size_t room)
+{
+    hj_answer built = __real_hj_build_request(identifier, sequence, data,
+                                              data_octets, output, room);
+
+    if (fault() == 64 && hj_value(built) > 0 && hj_value(built) < room)
+        output[hj_value(built)] ^= 1;
+    return built;
+}
+
+hj_answer __wrap_hj_build_reply(uint16_t identifier, uint16_t sequence,
+                                uint8_t hops, uint8_t format, uint64_t stamp,
+                                uint32_t mtu, uint32_t rate,
+                                const uint8_t *data, size_t data_octets,
+                                uint8_t *output, size_t room)
+{
+    hj_answer built =
+        __real_hj_build_reply(identifier, sequence, hops, format, stamp, mtu,
+                              rate, data, data_octets, output, room);
+
+    if (fault() == 65 && hj_refusal(built) == HJ_DATA_TOO_LONG)
+        return (hj_answer)HJ_SHORT_OUTPUT << 32;
+    return built;
+}
+
+uint32_t __wrap_hj_set_echo_drop(hj_board *board, size_t board_words,
+                                 uint32_t drop)
+{
+    return __real_hj_set_echo_drop(board, board_words,
+                                   fault() == 66 ? drop & 1 : drop);
+}
+
+hj_answer __wrap_hj_get_echo_drop(BOARD)
+{
+    hj_answer answer = __real_hj_get_echo_drop(LENT_BOARD);
+
+    return fault() == 67 && hj_refusal(answer) == HJ_DONE ? answer ^ 1
+                                                          : answer;
 }

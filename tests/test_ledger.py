@@ -72,8 +72,8 @@ class Ledger(unittest.TestCase):
         self.refused("relay-queues.trace", "waiting 1 0 = 32", "waiting 1 0 = 31", "took = handed out + waiting")
 
     def test_each_counter(self):
-        counters = "counters 0 = 24 6 2 12 1 2 0 0 1 0 0 0 0 0 0 0 0"
-        for at in range(3, 20):
+        counters = "counters 0 = 24 6 2 12 1 2 0 0 1 0 0 0 0 0 0 0 0 0"
+        for at in range(3, 21):
             words = counters.split()
             words[at] = str(int(words[at]) + 1)
             self.refused("relay-refusals.trace", counters, " ".join(words), "FAILED")
@@ -89,9 +89,9 @@ class Ledger(unittest.TestCase):
         self.refused("relay-queues.trace", line, other, "15 without a full port")
 
     def test_discards_beyond_their_bounds(self):
-        line = "counters 0 = 34 0 0 0 0 0 0 0 0 0 33 0 2 0 0 0 0"
+        line = "counters 0 = 34 0 0 0 0 0 0 0 0 0 33 0 2 0 0 0 0 0"
         for discards in (0, 3):
-            other = f"counters 0 = 34 0 0 0 0 0 0 0 0 0 33 0 {discards} 0 0 0 0"
+            other = f"counters 0 = 34 0 0 0 0 0 0 0 0 0 33 0 {discards} 0 0 0 0 0"
             self.refused("relay-queues.trace", line, other, "npOutDiscards within its bounds")
 
     FLOOD = "20106a4b0a0408020a0a0a043c010203"
@@ -149,6 +149,43 @@ class Ledger(unittest.TestCase):
         line = f"receive 0 9 400 {self.FLOOD} 6 0 = 0 0 1 8 {self.FLOOD}"
         self.refused("relay-floods.trace", line, line[:-1] + "4", "a header says something else")
 
+    ASKED = "echo 0 20 100 20171a610a0a0a020a04090e0508008f93000100026869 0"
+    REPLY = "202b1b610a04090e0a0a0a02405d550000922f000100020500000000000000000000000064000000006869"
+
+    def test_another_reply(self):
+        line = f"{self.ASKED} = 0 1 8 {self.REPLY}"
+        for old, new, says in (("202b", "202a", "a length field that is not header and data"),
+                               ("0a04090e0a", "0a0409100a", "a reply names another system"),
+                               ("0a0a0a02", "0a0a0b02", "a reply names another system"),
+                               ("405d55", "3f5d55", "a reply's header says something else"),
+                               ("1b61", "5b61", "a reply's header says something else"),
+                               ("0000922f", "0800922f", "a reply that is none"),
+                               ("922f0001", "922f0002", "another identifier or sequence number"),
+                               ("0002050000", "0002040000", "a reply tells another hop count, timestamp or rate"),
+                               ("64000000006869", "64000000016869", "a reply tells another hop count, timestamp or rate"),
+                               ("6869", "686a", "a reply has other data")):
+            self.assertEqual(self.REPLY.count(old), 1, old)
+            self.refused("relay-echo.trace", line, f"{self.ASKED} = 0 1 8 {self.REPLY.replace(old, new)}", says)
+
+    def test_a_reply_to_what_gets_none(self):
+        for octets, says in (("20161a410a0a0a020a04090e08008f93000100026869", "what gets none"),  # no hop count
+                             ("20141aa1100a0a0a230508008f93000100026869", "what gets none"),  # no source
+                             ("201b1a6b0a0a0a020a04090e3c0501020308008f93000100026869", "what gets none"),  # a flood
+                             ("20171a610a0a0a020a04090e050d008a93000100026869", "what is no request"),
+                             ("20171a610a0a0a020a04090e0508018f92000100026869", "what is no request"),
+                             ("20141a610a0a0a020a04090e0508008f93000100", "what is no request")):
+            status, output = ledger([f"echo 0 20 100 {octets} 0 = 0 1 8 {self.REPLY}"])
+            self.assertEqual(status, 1, output)
+            self.assertIn(f"a reply to {says}", output)
+
+    def test_replies_are_counted_and_wait(self):
+        line = f"{self.ASKED} = 0 1 8 {self.REPLY}"
+        self.refused("relay-echo.trace", line, f"{self.ASKED} = 0 0 0 -", "an entry exactly where one waits")
+        self.refused("relay-echo.trace", line, f"{self.ASKED} = 0 11 0 -", "npOutNoRoutes")
+        self.refused("relay-echo.trace", line, f"{self.ASKED} = 0 15 0 -", "15 without a full port")
+        self.refused("relay-echo.trace", line, f"{self.ASKED} = 0 1 9 {self.REPLY}",
+                     "one port exactly where a reply is sent")
+
     def test_a_mark(self):
         self.refused("relay-queues.trace", "waiting 1 0 = 32", "waiting 1 0 = 32 !", "no good answer")
 
@@ -163,9 +200,12 @@ class Whole(unittest.TestCase):
              "set_group 0 e0000105 1 1 0 = 0", "set_path 0 0a000007 1 1 0 = 0",
              "receive 0 7 400 - 0 0 = 1 0 0 0 -", "take 0 0 = 18 0 0", "waiting 0 0 = 0",
              "search 0a04090e 0 = 0 24 0", "search 0a04080e 0 = -",
-             "counters 0 = 1 1 0 0 0 0 0 0 0 0 0 0 0 0 0 0 0", "set_lifetime 5 = 0", "sweep 5 0 = 0",
-             "pairs 0 = -", "clear_route 0 = 0", "clear_group 0 0 = 0", "clear_path 0 0 = 0"]
-    COVERAGE = ("build/coverage", "headers=0", "builds=0", "addresses=0", "checksums=0", "histories=0")
+             "counters 0 = 1 1 0 0 0 0 0 0 0 0 0 0 0 0 0 0 0 0", "set_lifetime 5 = 0", "sweep 5 0 = 0",
+             "pairs 0 = -", "clear_route 0 = 0", "clear_group 0 0 = 0", "clear_path 0 0 = 0",
+             "set_echo_drop 0 = 0", "echo 0 7 8191 - 0 = 0 0 0 -", "read_echo 08008f93000100026869 = 0 8 1 2 6869",
+             "read_echo 0000922f000100020500000000000000000000000064000000006869 = 0 0 1 2 6869 5 0 "
+             "0000000000000000 100 0", "read_echo 08 = 1", "build_echo 10 1 2 6869 = 0 08008f93000100026869"]
+    COVERAGE = ("build/coverage", "headers=0", "builds=0", "addresses=0", "checksums=0", "messages=0", "histories=0")
 
     def test_whole_lines(self):
         self.assertNotIn("no good answer", ledger(self.LINES)[1])

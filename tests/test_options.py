@@ -12,7 +12,7 @@ import unittest
 
 ROOT = os.path.dirname(os.path.dirname(os.path.abspath(__file__)))
 PROGRAMS = [f"build/{name}" for name in ("replay", "plain", "generate", "coverage", "ledger", "bench", "soak",
-                                         "flood", "rehearsal")]
+                                         "flood", "rehearsal", "silent-leg")]
 PROGRAMS.append("scripts/bench")
 # Those that take no argument but the options.
 WITHOUT_ARGUMENTS = ("build/replay", "build/plain", "build/ledger")
@@ -68,8 +68,9 @@ class Options(unittest.TestCase):
         runs = [(program, "--help") for program in PROGRAMS[:-1]]
         runs += [("build/replay",), ("build/plain",), ("build/ledger",), ("build/bench", "stack"),
                  ("build/flood", "nodes=2", "links=1"), ("build/rehearsal", "scenarios/biocide.txt"),
-                 ("build/generate", "headers=1", "builds=0", "addresses=0", "checksums=0", "histories=0"),
-                 ("build/coverage", "headers=0", "builds=0", "addresses=0", "checksums=0", "histories=0")]
+                 ("build/silent-leg", "scenarios/biocide.txt", "ControlRoom", "0", "10.2.2.14"),
+                 ("build/generate", "headers=1", "builds=0", "addresses=0", "checksums=0", "messages=0", "histories=0"),
+                 ("build/coverage", "headers=0", "builds=0", "addresses=0", "checksums=0", "messages=0", "histories=0")]
         for program, *words in runs:
             with open("/dev/full", "w", encoding="ascii") as full:
                 ended = subprocess.run([os.path.join(ROOT, program), *words], input="class 0a04090f = 2\n",
@@ -104,7 +105,7 @@ class Calls(unittest.TestCase):
     def test_each_word_is_told(self):
         places = {"replay --help": run("build/replay", "--help")[1], "man/replay.1": text_of("man/replay.1"),
                   "docs/TRACE.md": text_of("docs/TRACE.md")}
-        self.assertEqual(len(self.WORDS), 24)
+        self.assertEqual(len(self.WORDS), 28)
         for place, text in places.items():
             for word in self.WORDS:
                 self.assertRegex(text, rf"\b{word}\b", place)
@@ -140,7 +141,8 @@ class Files(unittest.TestCase):
         for name, uses in self.uses().items():
             for other in uses:
                 folder, of = name.split("/")[0], other.split("/")[0]
-                self.assertIn(of, {folder, "harpjuniper"} | ({"shared", "plain"} if folder != "plain" else set()),
+                common = {"shared", "plain", "scenario"} if folder != "plain" else set()
+                self.assertIn(of, {folder, "harpjuniper"} | common,
                               f"{name} uses {other}")
 
 

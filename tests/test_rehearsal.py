@@ -1,7 +1,8 @@
 #!/usr/bin/env python3
 """build/rehearsal: the customer's story goes as it should; a bad line, a failed
 expectation, relays that lose, swap or repeat entries, relays whose headers name another
-unit, and relays that do not know a flooded order again are each found out.
+unit, relays that do not know a flooded order again and relays that answer echoes wrongly
+are each found out.
 """
 import os
 import re
@@ -24,6 +25,13 @@ node Right host
 port Right 0 10.2.2.14 255.255.255.0 1500
 link Left 0 Middle 0 64000
 link Middle 1 Right 0 2400
+"""
+
+
+# The same with wider ports and ways back.
+ECHO = SMALL.replace(" 30\n", " 1500\n") + """\
+route Middle 1 10.1.1.4 255.255.255.255 0 up
+route Right 0 0.0.0.0 0.0.0.0 0 up
 """
 
 
@@ -313,13 +321,56 @@ class Story(unittest.TestCase):
                  "held: 0 before, 0 after\n", "pairs held: 1 ", "| pairs held: 1\n",
                  "as expected: mission 0 is told the same by both", "Stormy receives \"STORM\"", "taken by port 3\n")
 
+    def test_an_echo_is_answered(self):
+        self.has("27", "ControlRoom sends echo request 7.1 from 10.1.1.4 to 10.2.2.14 by port 0\n",
+                 "header 17 + data 24 = 41 octets\n", "North receives echo request 7.1 by port 0\n",
+                 "here: not delivered (0)", "SouthUnit receives echo request 7.1", "here: DELIVERED (1)",
+                 "answers the echo: 55 octets; taken by port 0\n", "counters: npOutRequests 1 (+1)\n",
+                 "SouthUnit port 0 to South port 0: echo reply 7.1 from 10.2.2.14 to 10.1.1.4\n",
+                 "55 octets at 64000 bit/s: 6.9 ms on the wire; hop count 64; slot 0,",
+                 "North port 0 to ControlRoom port 0: echo reply 7.1", "hop count 61; slot ",
+                 "ControlRoom receives echo reply 7.1", "the reply says: identifier 7, sequence 1, hop count seen 5, "
+                 "MTU 1500, timestamp 77, 16 octets of data\n")
+        self.assertEqual(self.scenes["27"].count("answers "), 1)
+
+    def test_each_relay_on_the_way_answers(self):
+        self.has("28", "North receives echo request 7.2", "onward: sent on (1); taken by port 2\n",
+                 "answers the echo: 39 octets; taken by port 0\n", "Buoy receives echo request 7.2",
+                 "REFUSED (10), hop count used up; no port took it\n", "answers the echo: 39 octets; taken by port 0\n",
+                 "hop count seen 1, MTU 1500, no timestamp, 0 octets of data\n", "1 sent, 14 arrivals")
+
+    def test_no_echo_to_many(self):
+        for_many = "answers no echo: the request is for a broadcast or multicast address\n"
+        self.has("29", "North receives echo request 7.4", "here: DELIVERED (1)", for_many, "North receives echo "
+                 "request 7.5", for_many, "North receives echo request 7.6", "answers no echo: the request has no hop "
+                 "count\n", "North receives echo request 7.7", "answers no echo: the request is flooded\n")
+        self.assertEqual(self.scenes["29"].count(for_many), 6)
+        self.lacks("29", "answers the echo")
+
+    def test_echo_drop_and_no_way_back(self):
+        self.has("30", "South receives echo request 7.8", "here: DELIVERED (1)", "answers no echo: echo drop is on\n",
+                 "SouthUnit receives echo request 7.9", "answers the echo: REFUSED (11), no route; no port took it\n",
+                 "counters: npOutNoRoutes 1 (+1), npOutRequests 4 (+1)\n")
+
+    def test_a_reply_is_not_answered(self):
+        self.has("31", "Buoy receives echo request 7.10", "answers the echo: 39 octets", "North receives echo reply "
+                 "7.10 by port 2\n", "here: DELIVERED (1)", "the reply says: identifier 7, sequence 10,")
+        self.assertEqual(self.scenes["31"].count("answers the echo"), 1)
+
+    def test_a_cut_link_loses_what_is_on_it(self):
+        self.has("32", "(Buoy port 1 is cut off: what it sends and gets is lost)\n", "Buoy receives",
+                 "sent on (1); taken by port 1\n", "Buoy port 1 to South port 1: echo request 7.11 is LOST, the link is "
+                 "cut\n")
+        self.has("33", "(Buoy port 1 has its link again)\n", "; 0 lost)\n")
+        self.assertEqual(self.output.count("LOST"), 1)
+
     def test_counters_and_ledger(self):
         self.assertIn(
-            "\nNorth\n   counters: npInReceives 63, npInUnknownProtos 1, npInDelivers 1, npForwDatagrams 61, "
-            "npOutNoRoutes 1, npOutDiscards 2; all others 0\n"
-            "   port 0: granted 2 = handed out 2 + waiting 0 + dropped 0\n"
-            "   port 1: granted 3 = handed out 3 + waiting 0 + dropped 0\n"
-            "   port 2: granted 58 = handed out 56 + waiting 0 + dropped 2\n"
+            "\nNorth\n   counters: npInReceives 87, npInUnknownProtos 1, npInDelivers 11, npForwDatagrams 81, "
+            "npOutNoRoutes 1, npOutDiscards 2, npOutRequests 5; all others 0\n"
+            "   port 0: granted 18 = handed out 18 + waiting 0 + dropped 0\n"
+            "   port 1: granted 4 = handed out 4 + waiting 0 + dropped 0\n"
+            "   port 2: granted 67 = handed out 65 + waiting 0 + dropped 2\n"
             "   port 3: granted 1 = handed out 1 + waiting 0 + dropped 0\n"
             "   port 4: granted 0 = handed out 0 + waiting 0 + dropped 0\n", self.output)
         self.assertIn(
@@ -537,7 +588,7 @@ class Small(unittest.TestCase):
                            ("send Left 0 to 14 from 4 speed 3 data \"x\"", "found 'speed'"),
                            ("send Left 0 to 14 from 4 data \"x", "a quote that ends the text"),
                            ("send Left 0 to 14 from 4 data x", "the data as \"text\", found 'x'"),
-                           ("send Left 0 to 14 from 4", "times or data, found the end of the line"),
+                           ("send Left 0 to 14 from 4", "times, echo or data, found the end of the line"),
                            ("send Left 0 to 14 from 4 stamp data \"x\"", "a stamp, 0 to 4294967295, found 'data'"),
                            ("send Left 0 to 14 from 4 stamp 4294967296 data \"x\"", "found '4294967296'"),
                            ("send Left 0 to 14 from 4 stamps 4294967295 times 2 data \"x\"",
@@ -558,6 +609,19 @@ class Small(unittest.TestCase):
                            ("expect Left pairs 65", "how many pairs, 0 to 64, found '65'"),
                            ("expect Left refused 31", "a number, 1 to 30, found '31'"),
                            ("send Left 1 to 14 from 4 data \"x\"", "a port with a link"),
+                           ("send Left 0 to 14 from 4 echo 7", "a sequence number, 0 to 65535, found the end"),
+                           ("send Left 0 to 14 from 4 echo 65536 1", "an identifier, 0 to 65535, found '65536'"),
+                           ("send Left 0 to 14 from 4 echo 1 1 octets 401", "octets of data, 0 to 400, found '401'"),
+                           ("send Left 0 to 14 from 4 echo 1 1 data \"x\"", "the end of the line, found 'data "),
+                           ("echo-drop Left", "'on' or 'off', found the end of the line"),
+                           ("echo-drop Left 1", "'on' or 'off', found '1'"),
+                           ("cut Left 1", "a port with a link, found 'Left'"),
+                           ("cut Left 0 in", "the end of the line, found 'in'"),
+                           ("mend Middle 2", "a port with a link, found 'Middle'"),
+                           ("mend Left 0 out", "the end of the line, found 'out'"),
+                           ("expect Left replies", "how many replies, found the end of the line"),
+                           ("expect Left reply 1", "a sequence number, 0 to 65535, found the end of the line"),
+                           ("expect Left reply 1 1 rate 3", "from, hops, mtu, stamp or octets, found 'rate 3'"),
                            ("take Left 8", "a port, 0 to 7, found '8'"),
                            ("foretell Middle 1 \"dose\"", "the data of an entry that waits on the port, found 'dose'"),
                            ("foretell Middle 2 \"dose\"", "a port with a link"),
@@ -633,6 +697,104 @@ class Small(unittest.TestCase):
         self.assertRegex(output, r"   port 2: granted .*  DOES NOT CLOSE\n")
         self.assertIn("the ledger DOES NOT CLOSE.", output)
         self.assertIn("NOT AS FORETOLD (take 1): North port 2 keeps \"STOP the biocide pump\" at take 1\n", output)
+
+    def test_relays_that_answer_wrongly(self):
+        """Under another name, to another system, with another hop count: each in the first scene of echoes."""
+        with open(STORY, encoding="ascii") as file:
+            story = file.read()
+        text = story.split("\nscene 1.")[0] + "\nscene 27." + story.split("\nscene 27.")[1].split("\nscene 28.")[0]
+        said = "ControlRoom reply 7 1 from 10.2.2.14 hops 5 mtu 1500 stamp 77 octets 16"
+        named = "NOT AS NAMED: SouthUnit port 0 took echo reply 7.1 from %s; the request came from 10.1.1.4 to 10.2.2.14\n"
+        for wrong, line in (("stranger", named % "10.2.2.46 to 10.1.1.4"), ("astray", named % "10.2.2.14 to 10.1.1.36"),
+                            ("less", f"NOT AS EXPECTED: {said}\n"), ("", f"as expected: {said}\n")):
+            status, output, complaints = fly_text(text, program="rehearsal_wrong", WRONG_RELAY=wrong)
+            self.assertEqual((status, complaints), (int(wrong != ""), ""), output)
+            self.assertIn(line, output)
+
+    def test_why_there_is_no_answer(self):
+        """A call that is refused as a whole has its number; echo drop is on with any word but 0."""
+        text = ECHO + "echo-drop Right on\nsend Left 0 to 10.2.2.14 from 10.1.1.4 hops 8 echo 7 1\nrun\n"
+        for wrong, why in (("", "echo drop is on"), ("two", "echo drop is on"), ("cramped", "too little room for the output")):
+            output = fly_text(text, program="rehearsal_wrong", WRONG_RELAY=wrong)[1]
+            self.assertIn(f"answers no echo: {why}\n", output)
+
+    def test_a_reply_waits_like_any_other_entry(self):
+        """It has the request's precedence, a full queue drops it, and its take is foretold."""
+        order = "send Left 0 to 10.2.2.14 from 10.1.1.4 %s\n"
+        text = ECHO + "hold Right 0\n" + order % "hops 8 precedence 1 echo 1 1" + order % "hops 8 precedence 3 echo 1 2"
+        text += order % "hops 8 echo 1 3 octets 3" + "run\nexpect Right waiting 0 3\nrelease Right 0\nrun\n"
+        status, output, _ = fly_text(text)
+        self.assertEqual(status, 0, output)
+        told = re.findall(r"Right port 0 to Middle port 1: echo reply (1\.\d) .*\n.*precedence (\d)", output)
+        self.assertEqual(told, [("1.2", "3"), ("1.1", "1"), ("1.3", "0")])
+        self.assertIn("\nRight\n   counters: npInReceives 3, npInDelivers 3, npOutRequests 3; all others 0\n", output)
+        text = ECHO + "hold Right 0\nquiet\n" + order % "hops 8 times 33 echo 1 1" + "run\nloud\n"
+        status, output, _ = fly_text(text + "expect Right waiting 0 32\nexpect Right counter npOutDiscards 1\n"
+                                     "expect Right counter npOutRequests 33\n")
+        self.assertEqual(status, 0, output)
+        self.assertIn("   port 0: granted 33 = handed out 0 + waiting 32 + dropped 1\n", output)
+
+    def test_a_reply_is_cut_at_the_arrival_port_s_mtu(self):
+        text = ECHO.replace("port Right 0 10.2.2.14 255.255.255.0 1500", "port Right 0 10.2.2.14 255.255.255.0 %u")
+        order = "send Left 0 to 10.2.2.14 from 10.1.1.4 hops 8 echo 9 9 octets 20\nrun\nexpect Left repl%s\n"
+        for mtu, says in ((60, "y 9 9 mtu 60 octets 20"), (59, "y 9 9 mtu 59 octets 20"), (58, "y 9 9 octets 19"),
+                          (39, "y 9 9 octets 0"), (38, "ies 0")):
+            status, output, _ = fly_text(text % mtu + order % says)
+            self.assertEqual(status, 0, output)
+            self.assertEqual("answers no echo: the port's MTU leaves no room for a reply\n" in output, mtu == 38)
+
+    def test_one_octet_echoes(self):
+        """The request is written with four octets on its way, and the reply comes back with four."""
+        text = ECHO + ("route Middle 2 10.1.1.20 255.255.255.255 1 up\nport Right 1 10.1.1.20 255.255.255.0 1500\n"
+                       "send Left 0 to 20 from 4 hops 8 intermediate echo 5 6\nrun\nexpect Left replies 2\n"
+                       "expect Left reply 5 6 from 10.1.1.2 hops 8\nexpect Left reply 5 6 from 10.1.1.20 hops 7\n")
+        status, output, _ = fly_text(text)
+        self.assertEqual(status, 0, output)
+        self.assertIn("Middle port 0 to Left port 0: echo reply 5.6 from 2 to 4\n", output)
+        self.assertIn("Right port 0 to Middle port 1: echo reply 5.6 from 10.1.1.20 to 10.1.1.4\n", output)
+
+    def test_a_failed_expectation_of_a_reply(self):
+        order = ECHO + "send Left 0 to 10.2.2.14 from 10.1.1.4 hops 8 stamp 4 echo 1 2 octets 3\nrun\n"
+        right = "Left reply 1 2 from 10.2.2.14 hops 7 mtu 1500 stamp 4 octets 3"
+        for wrong in ("Left reply 1 3", "Left reply 2 2", "Left reply 1 2 from 10.1.1.2", "Left reply 1 2 hops 8",
+                      "Left reply 1 2 mtu 30", "Left reply 1 2 stamp 0", "Left reply 1 2 octets 2", "Left replies 0",
+                      "Left replies 2", "Right reply 1 2", "Right replies 1"):
+            status, output, complaints = fly_text(order + f"expect {wrong}\nexpect {right}\n")
+            self.assertEqual((status, complaints), (1, ""), wrong)
+            self.assertIn(f"NOT AS EXPECTED: {wrong}\n", output)
+            self.assertIn("1 of 2 expectations held", output)
+
+    def test_a_scene_begins_without_replies(self):
+        echo = "send Left 0 to 10.2.2.14 from 10.1.1.4 hops 8 echo 1 2\nrun\nexpect Left replies 1\n"
+        status, output, _ = fly_text(ECHO + echo + "scene y\nexpect Left replies 0\n" + echo)
+        self.assertEqual(status, 0, output)
+
+    def test_what_is_lost_on_a_link(self):
+        """What is on it when it is cut, and what is sent while it is; not what is sent after it is mended."""
+        order = "send Left 0 to 10.2.2.14 from 10.1.1.4 data \"%s\"\n"
+        text = (SMALL + order % "one" + "cut %s\nmend Left 0\nrun\nexpect Middle nothing\ncut %s\n" + order % "two"
+                + "mend Middle 0\nrun\nexpect Middle nothing\n" + order % "three" + "run\nexpect Right delivered \"three\""
+                "\nexpect Middle arrivals 1\n")
+        for end in "Left 0", "Middle 0", "Left 0 out":
+            status, output, _ = fly_text(text % (end, end))
+            self.assertEqual((status, output.count(" is LOST, the link is cut\n")), (0, 2), output)
+        status, output, _ = fly_text(SMALL + "cut Middle 0 out\n" + order % "four" + "run\nexpect Middle arrivals 1\n")
+        self.assertEqual((status, output.count("LOST")), (0, 0), output)
+
+    def test_what_is_lost_is_counted_while_it_is_quiet(self):
+        output = fly_text(SMALL + "cut Left 0\nquiet\nsend Left 0 to 14 from 4 times 3 data \"x\"\nrun\nloud\n")[1]
+        self.assertIn("(not shown: 3 sent, 0 arrivals, 0 of them dropped by a full port; 3 lost)\n", output)
+
+    def test_echoes_of_two_missions_side_by_side(self):
+        """Equal answers are, and one with echo drop differs."""
+        twin = ECHO.replace("Left", "Left2").replace("Middle", "Middle2").replace("Right", "Right2")
+        order = "send Left%s 0 to 10.1.1.2 from 10.1.1.4 hops 8 echo 1 2\n"
+        for drop, status in ("off", 0), ("on", 1):
+            text = ECHO + twin + f"echo-drop Middle2 {drop}\n" + order % "" + order % "2" + "run\nbeside Middle Middle2\n"
+            ended, output, _ = fly_text(text)
+            self.assertEqual(ended, status, output)
+            self.assertIn("port 0, slot 0: an echo: onward 1, took 1, dropped 0", output)
+            self.assertEqual("  NOT EQUAL\n" in output, status == 1)
 
     def test_a_take_that_cannot_be_sent(self):
         order = "send Left 0 to 10.2.2.14 from 10.1.1.4 data \"dose\"\n"

@@ -561,9 +561,10 @@ int hj_take(int port,
 class Exports(Tree):
     """scripts/check-exports with stand-ins for nm."""
 
-    def check(self, symbols, names="hj_class\nhj_take\n", header=HEADER):
+    def check(self, symbols, names="hj_class\nhj_take\n", header=HEADER, needed="memset\n"):
         self.copy_script("check-exports")
         self.write("exports.txt", names)
+        self.write("imports.txt", needed)
         self.write("include/harpjuniper.h", header)
         shown = "".join(f"echo '{symbol}'\n" for symbol in symbols)
         for nm in ("nm", "x86_64-linux-gnu-nm"):
@@ -571,7 +572,7 @@ class Exports(Tree):
         path = os.path.join(self.root, "bin") + os.pathsep + os.environ["PATH"]
         return self.run_script(os.path.join(self.root, "scripts/check-exports"), path=path)
 
-    GOOD = ("", "a.o:", "0000 T hj_class", "0010 T hj_take", "0020 T rt_other")
+    GOOD = ("", "a.o:", "0000 T hj_class", "0010 T hj_take", "U memset", "U rt_other", "", "b.o:", "0020 T rt_other")
 
     def refused(self, says, *words, **more):
         status, output = self.check(*words, **more)
@@ -579,13 +580,24 @@ class Exports(Tree):
         self.assertIn(says, output)
 
     def test_the_list(self):
-        self.assertEqual(self.check(self.GOOD), (0, "check-exports: 2 functions\n"))
+        self.assertEqual(self.check(self.GOOD), (0, "check-exports: 2 functions, 1 needed from outside\n"))
 
     def test_a_function_too_many(self):
         self.refused("> hj_put", self.GOOD + ("0030 T hj_put",))
 
     def test_a_function_too_few(self):
-        self.refused("< hj_take", self.GOOD[:3])
+        self.refused("< hj_take", self.GOOD[:3] + self.GOOD[4:])
+
+    def test_what_is_needed_from_outside(self):
+        self.refused("> memcpy", self.GOOD + ("U memcpy",))
+        self.refused("> weak", self.GOOD + ("w weak",))
+        self.refused("< memcpy", self.GOOD, needed="memcpy\nmemset\n")
+        self.refused("> memset", self.GOOD, needed="")
+        self.refused("not sorted", self.GOOD, needed="memset\nmemcpy\n")
+
+    def test_nothing_needed_from_outside(self):
+        nothing = self.check([symbol for symbol in self.GOOD if "memset" not in symbol], needed="")
+        self.assertEqual(nothing, (0, "check-exports: 2 functions, 0 needed from outside\n"))
 
     def test_something_that_is_no_code(self):
         self.refused("D hj_table", self.GOOD + ("0030 D hj_table",))

@@ -22,7 +22,8 @@ FAULTS = [
     MISSION,                               # a counter too low
     MISSION,                               # 17 counted
     "odd onward half",                     # 12 for 11
-    f"copies dropped, and not|{MISSION}|plain answers otherwise",
+    # the ports that dropped theirs not told
+    f"copies dropped, and not|not the ports that are due of a flood|{MISSION}|plain answers otherwise",
     "not what the list says",              # a search, 0 ones for none
     MISSION,                               # a search that writes
     "not what the list says",              # a route not up hides another
@@ -55,6 +56,27 @@ FAULTS = [
     "not what the words say",              # the last second, one less
     "not what the words say",              # the halves of a time exchanged
     "not what the words say",              # a place beyond the last
+    MISSION,                               # a reply in npForwDatagrams
+    MISSION,                               # 11 and 14 not in npOutRequests
+    MISSION,                               # a request counted
+    MISSION,                               # 17 counted
+    MISSION,                               # a second accepted
+    "the output's octets|beyond what was lent",  # an octet behind the reply
+    "the output's octets",                 # a dropped reply written
+    "the octets lent to be read",          # the request changed
+    "the output's octets",                 # hop count 63 in the reply
+    "the output's octets",                 # the request's hop count, one less
+    "not the answer that is due to an echo request",  # echo drop passed over
+    MISSION,                               # another slot waits
+    "not the refusal that is due",         # an echo, 16 for 21
+    "not the answer that is due to an echo request",  # the reply's octets, one less
+    "not the answer that is due to an echo request",  # 11 for 14
+    "plain answers otherwise",             # a wrong checksum passed over
+    "plain answers otherwise",             # a format cut to two bits
+    "the output's octets",                 # an octet behind a request
+    "plain answers otherwise",             # 17 for 20
+    "not the refusal that is due",         # echo drop 2 taken
+    "not what the words say",              # echo drop, told turned over
 ]
 
 

@@ -1,9 +1,10 @@
 /*
  * wrong_relay.c: wrong relays, to show that the rehearsal and the flood find
- * them out. They stand in for hj_take, hj_receive_at, hj_sweep and hj_counter
- * (by the linker's --wrap) in build/rehearsal_wrong and build/flood_wrong; the
- * variable WRONG_RELAY says which one. Where it is not set, or is another word,
- * the relay is the right one.
+ * them out, and that silent-leg says what they answer. They stand in for
+ * hj_take, hj_receive_at, hj_sweep, hj_counter, hj_echo and hj_set_echo_drop
+ * (by the linker's --wrap) in build/rehearsal_wrong, build/flood_wrong and
+ * build/silent-leg_wrong; the variable WRONG_RELAY says which one. Where it is
+ * not set, or is another word, the relay is the right one.
  *
  *   lose      loses the first entry where two or more wait: its ledger does
  *             not close
@@ -20,6 +21,12 @@
  *   eager     frees in a sweep each pair that is a second old, whatever the
  *             lifetime
  *   miscount  counts one datagram too many as sent on
+ *   stranger  answers an echo under the name of another system
+ *   astray    sends the reply to another system than the one that asked
+ *   less      says that an echo request came with a hop count one lower
+ *   deaf      refuses what comes by port 2, as if that were not set up
+ *   cramped   answers no echo, as if it were lent too little room
+ *   two       keeps echo drop, where it is on, as a 2, which no call writes
  */
 #include <stdbool.h>
 #include <stdlib.h>
@@ -36,11 +43,20 @@
         uint8_t *output, size_t room
 #define ARRIVED(octets)                                                        \
     routes, route_count, port, slot, second, octets, length, output, room
+#define REQUEST                                                                \
+    const hj_record *routes, size_t route_count, uint32_t port, uint16_t slot, \
+        const uint8_t *octets, size_t length, uint8_t *output, size_t room
 
 hj_answer __real_hj_take(BOARD, MISSION, uint32_t port);
 hj_answer __wrap_hj_take(BOARD, MISSION, uint32_t port);
 hj_verdict __real_hj_receive_at(BOARD, MISSION, ARRIVAL);
 hj_verdict __wrap_hj_receive_at(BOARD, MISSION, ARRIVAL);
+hj_verdict __real_hj_echo(BOARD, MISSION, REQUEST);
+hj_verdict __wrap_hj_echo(BOARD, MISSION, REQUEST);
+uint32_t __real_hj_set_echo_drop(hj_board *board, size_t board_words,
+                                 uint32_t drop);
+uint32_t __wrap_hj_set_echo_drop(hj_board *board, size_t board_words,
+                                 uint32_t drop);
 uint32_t __real_hj_sweep(BOARD, MISSION, uint32_t second);
 uint32_t __wrap_hj_sweep(BOARD, MISSION, uint32_t second);
 hj_answer __real_hj_counter(const hj_mission *mission, size_t mission_words,
@@ -207,6 +223,56 @@ uint32_t __wrap_hj_sweep(BOARD, MISSION, uint32_t second)
                            second);
 }
 
+/* ---- Echoes ------------------------------------------------------------ */
+
+/* The reply's message again, with a hop count that is one lower. */
+static void say_less(uint8_t *output, const hj_reading *reading)
+{
+    static uint8_t data[HJ_MOST_LENGTH];
+    uint8_t *octets = output + reading->header;
+    uint32_t count = reading->length - reading->header;
+    hj_message message;
+
+    (void)hj_read_echo(octets, count, &message);
+    memcpy(data, octets + message.data_from, count - message.data_from);
+    message.hop_count = (message.hop_count - 1) & 0xff;
+    (void)hj_build_echo(&message, data, count - message.data_from, octets,
+                        count);
+}
+
+hj_verdict __wrap_hj_echo(BOARD, MISSION, REQUEST)
+{
+    size_t lent = wrong("cramped") ? 0 : room;
+    hj_verdict verdict =
+        __real_hj_echo(LENT, routes, route_count, port, slot, octets, length,
+                       output, lent);
+    hj_reading reading = hj_read(output, hj_reply_octets(verdict));
+
+    if (hj_onward(verdict) != HJ_SENT_ON)
+        return verdict;
+    if (wrong("less"))
+        say_less(output, &reading);
+    if (!wrong("stranger") && !wrong("astray"))
+        return verdict;
+    if (wrong("stranger"))
+        reading.fields.source_low ^= 0x20;
+    else
+        reading.fields.destination_low ^= 0x20;
+    write_again(&reading, output);
+    return verdict;
+}
+
+/* Echo drop is the board's last word. */
+uint32_t __wrap_hj_set_echo_drop(hj_board *board, size_t board_words,
+                                 uint32_t drop)
+{
+    uint32_t refusal = __real_hj_set_echo_drop(board, board_words, drop);
+
+    if (wrong("two") && refusal == HJ_DONE)
+        board->words[HJ_BOARD_WORDS - 1] *= 2;
+    return refusal;
+}
+
 /* ---- What is wrapped besides ------------------------------------------- */
 
 hj_answer __wrap_hj_counter(const hj_mission *mission, size_t mission_words,
@@ -224,6 +290,8 @@ hj_verdict __wrap_hj_receive_at(BOARD, MISSION, ARRIVAL)
     bool flooded = fields.routing == 3 && fields.stamp_format != HJ_STAMP_NONE;
     hj_verdict verdict;
 
+    if (port == 2 && wrong("deaf"))
+        return HJ_NO_PORT;
     if (flooded && wrong("forget"))
         return receive_restamped(LENT, ARRIVED(octets), new_stamp());
     if (flooded && wrong("source"))

@@ -11,7 +11,7 @@
  * lines, as those between bench_begin and bench_end (scripts/bench). Its first
  * line is a measure of nothing, the cost of the marks. `stack` prints the lines
  * with the octets of stack that the call has written to. Measured are receive,
- * sweep, take and read.
+ * echo, sweep, take, read, read_echo and build_echo.
  *
  * The awkward case is a call that differs on the two sides: what is measured is
  * then not the same, and the program fails.
@@ -88,9 +88,24 @@ static const char *kind_of_receive(const struct bench_answer *answer)
     return answer->local == 1 ? "receive, delivered" : "receive, other";
 }
 
+/* As the trace of echo requests has them. */
+static const char *kind_of_echo(const struct bench_answer *answer)
+{
+    if (answer->onward != 1)
+        return "echo, no reply";
+    return bench_call.count > 1000 ? "echo, answered, 1,000 octets of data"
+                                   : "echo, answered, 32 octets of data";
+}
+
 static const char *kind_of(const struct bench_answer *answer)
 {
     switch (bench_call.which) {
+    case CALL_ECHO:
+        return kind_of_echo(answer);
+    case CALL_READ_ECHO:
+        return "read_echo, 32 octets of data";
+    case CALL_BUILD_REQUEST:
+        return "build_echo, 32 octets of data";
     case CALL_RECEIVE:
         return kind_of_receive(answer);
     case CALL_TAKE:

@@ -22,8 +22,13 @@ struct bench_answer {
     uint32_t slot, precedence;
     uint32_t pairs; /* held after a sweep */
     uint32_t length;
-    uint8_t output[400];
+    uint32_t octets; /* of a reply, or of a message that was built */
+    uint32_t type, identifier; /* of a message that was read */
+    uint8_t output[8191];
 };
+
+/* What receive is lent of the output. */
+#define BENCH_HEADERS 400
 
 struct bench_call {
     enum call which;

@@ -36,7 +36,7 @@ static void receive(void)
     verdict = hj_receive(&board, HJ_BOARD_WORDS, mission, HJ_MISSION_WORDS,
                          routes, bench_call.records, arrival,
                          bench_call.octets, bench_call.count, answer->output,
-                         sizeof answer->output);
+                         BENCH_HEADERS);
     bench_end();
     answer->refusal = hj_ended_by(verdict);
     answer->local = hj_local(verdict);
@@ -46,6 +46,57 @@ static void receive(void)
     answer->header = hj_data_from(verdict);
     answer->rewritten = hj_rewritten(verdict);
     answer->rewritten_octets = hj_rewritten_octets(verdict);
+}
+
+static void echo(void)
+{
+    const uint32_t *n = bench_call.numbers;
+    hj_mission *mission = &missions[bench_call.mission];
+    struct bench_answer *answer = &bench_call.answer;
+    hj_verdict verdict;
+
+    memset(answer, 0, sizeof *answer);
+    bench_begin();
+    verdict = hj_echo(&board, HJ_BOARD_WORDS, mission, HJ_MISSION_WORDS,
+                      routes, bench_call.records, n[0], (uint16_t)n[1],
+                      bench_call.octets, bench_call.count, answer->output,
+                      sizeof answer->output);
+    bench_end();
+    answer->refusal = hj_ended_by(verdict);
+    answer->onward = hj_onward(verdict);
+    answer->took = hj_took(verdict);
+    answer->dropped = hj_dropped(verdict);
+    answer->octets = hj_reply_octets(verdict);
+}
+
+static void read_message(void)
+{
+    struct bench_answer *answer = &bench_call.answer;
+    hj_message message;
+
+    memset(answer, 0, sizeof *answer);
+    bench_begin();
+    hj_read_echo(bench_call.octets, bench_call.count, &message);
+    bench_end();
+    answer->refusal = message.refusal;
+    answer->type = message.type;
+    answer->identifier = message.identifier;
+}
+
+static void build_message(void)
+{
+    const uint32_t *n = bench_call.numbers;
+    struct bench_answer *answer = &bench_call.answer;
+    hj_answer built;
+
+    memset(answer, 0, sizeof *answer);
+    bench_begin();
+    built = hj_build_request((uint16_t)n[1], (uint16_t)n[2],
+                             bench_call.octets, bench_call.count,
+                             answer->output, sizeof answer->output);
+    bench_end();
+    answer->refusal = hj_refusal(built);
+    answer->octets = hj_value(built);
 }
 
 static void sweep(void)
@@ -95,6 +146,9 @@ static void read_header(void)
 
 void (*const bench_ours[CALLS])(void) = {
     [CALL_RECEIVE] = receive,
+    [CALL_ECHO] = echo,
+    [CALL_READ_ECHO] = read_message,
+    [CALL_BUILD_REQUEST] = build_message,
     [CALL_SWEEP] = sweep,
     [CALL_TAKE] = take,
     [CALL_READ] = read_header,

@@ -8,6 +8,7 @@
 #include <string.h>
 
 #include "plain/plain_header.h"
+#include "plain/plain_message.h"
 #include "plain/plain_relay.h"
 #include "shared/plainly.h"
 
@@ -42,8 +43,7 @@ static void receive(void)
     memset(answer, 0, sizeof *answer);
     bench_begin();
     verdict = plain_receive(&view, n[0], slot, n[3], bench_call.octets,
-                            bench_call.count, answer->output,
-                            sizeof answer->output);
+                            bench_call.count, answer->output, BENCH_HEADERS);
     bench_end();
     answer->refusal = verdict.refusal;
     answer->local = verdict.local;
@@ -53,6 +53,64 @@ static void receive(void)
     answer->header = verdict.arriving_octets;
     answer->rewritten = verdict.rewritten.bits;
     answer->rewritten_octets = verdict.rewritten_octets;
+}
+
+static void echo(void)
+{
+    const uint32_t *n = bench_call.numbers;
+    struct bench_answer *answer = &bench_call.answer;
+    plain_view view = plainly_view(&relay, bench_call.mission, list());
+    plain_slot slot = {(uint16_t)n[1]};
+    plain_echoed echoed;
+
+    memset(answer, 0, sizeof *answer);
+    bench_begin();
+    echoed = plain_echo(&view, n[0], slot, bench_call.octets,
+                        bench_call.count, answer->output,
+                        sizeof answer->output);
+    bench_end();
+    answer->refusal = echoed.refusal;
+    answer->onward = echoed.onward;
+    answer->took = echoed.took.bits;
+    answer->dropped = echoed.dropped.bits;
+    answer->octets = echoed.reply_octets;
+}
+
+static void read_message(void)
+{
+    struct bench_answer *answer = &bench_call.answer;
+    plain_message message;
+    plain_refusal refusal;
+
+    memset(answer, 0, sizeof *answer);
+    memset(&message, 0, sizeof message);
+    bench_begin();
+    refusal =
+        plain_message_read(bench_call.octets, bench_call.count, &message);
+    bench_end();
+    answer->refusal = refusal;
+    answer->type = message.type;
+    answer->identifier = message.identifier;
+}
+
+static void build_message(void)
+{
+    const uint32_t *n = bench_call.numbers;
+    struct bench_answer *answer = &bench_call.answer;
+    plain_message message = {.identifier = (uint16_t)n[1],
+                             .sequence = (uint16_t)n[2],
+                             .data = bench_call.octets,
+                             .data_octets = bench_call.count};
+    size_t written = 0;
+    plain_refusal refusal;
+
+    memset(answer, 0, sizeof *answer);
+    bench_begin();
+    refusal = plain_request_build(&message, answer->output,
+                                  sizeof answer->output, &written);
+    bench_end();
+    answer->refusal = refusal;
+    answer->octets = (uint32_t)written;
 }
 
 static void sweep(void)
@@ -102,6 +160,9 @@ static void read_header(void)
 
 void (*const bench_plain[CALLS])(void) = {
     [CALL_RECEIVE] = receive,
+    [CALL_ECHO] = echo,
+    [CALL_READ_ECHO] = read_message,
+    [CALL_BUILD_REQUEST] = build_message,
     [CALL_SWEEP] = sweep,
     [CALL_TAKE] = take,
     [CALL_READ] = read_header,

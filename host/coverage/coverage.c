@@ -2,8 +2,8 @@
  * coverage: reads an answered trace and says how often each answer and each
  * element was reached in it.
  *
- *     coverage headers=N builds=N addresses=N checksums=N histories=N
- *              < ANSWERED
+ *     coverage headers=N builds=N addresses=N checksums=N messages=N
+ *              histories=N < ANSWERED
  *
  * It prints a table, and fails (status 1) where something was reached under 100
  * times, where fewer calls ran than stated, or where a line holds no answer or
@@ -11,11 +11,13 @@
  * would show nothing; this is what says that it did not.
  *
  * What is counted of headers, addresses and checksums stands in headers.c and
- * its lists, what is counted of the relay in relay.c and its lists.
+ * its lists, of echo messages in messages.c, and what is counted of the relay
+ * in relay.c and its lists.
  */
 #include <stdio.h>
 
 #include "headers.h"
+#include "messages.h"
 #include "relay.h"
 #include "shared/answered.h"
 #include "shared/options.h"
@@ -32,11 +34,19 @@ static bool count_line(enum call of, const struct trace_call *call,
                : count_header_line(of, call, answer);
 }
 
-enum { HEADERS, BUILDS, ADDRESSES, CHECKSUMS, HISTORIES, SETTINGS };
+enum {
+    HEADERS,
+    BUILDS,
+    ADDRESSES,
+    CHECKSUMS,
+    MESSAGES,
+    HISTORIES,
+    SETTINGS
+};
 
 static const char HELP[] =
     "usage: coverage [--help | --version] headers=N builds=N addresses=N\n"
-    "                checksums=N histories=N < ANSWERED\n"
+    "                checksums=N messages=N histories=N < ANSWERED\n"
     "\n"
     "Says how often each answer and each element was reached in an answered\n"
     "trace (docs/TRACE.md). The numbers are those that `generate` was given.\n"
@@ -54,6 +64,8 @@ static void say_calls(const struct setting *stated)
     say_row("class", calls.class, stated[ADDRESSES].value);
     say_row("path", calls.path, stated[ADDRESSES].value);
     say_row("checksum", calls.checksum, stated[CHECKSUMS].value);
+    say_row("read_echo", read_echo_calls(), stated[MESSAGES].value);
+    say_row("build_echo", build_echo_calls(), stated[MESSAGES].value / 3);
     say_row("the relay's, 200 a history", relay_calls(),
             200 * stated[HISTORIES].value);
 }
@@ -66,6 +78,7 @@ int main(int count, char **arguments)
                                        [BUILDS] = {"builds", 0},
                                        [ADDRESSES] = {"addresses", 0},
                                        [CHECKSUMS] = {"checksums", 0},
+                                       [MESSAGES] = {"messages", 0},
                                        [HISTORIES] = {"histories", 0}};
 
     if (status != OPTIONS_GO_ON)
@@ -73,8 +86,8 @@ int main(int count, char **arguments)
     if (!settings_take(&PROGRAM, stated, SETTINGS, arguments + 1))
         return 2;
     if (count != 1 + SETTINGS) {
-        fputs("coverage: say each of headers, builds, addresses, checksums and "
-              "histories\n"
+        fputs("coverage: say each of headers, builds, addresses, checksums, "
+              "messages and histories\n"
               "coverage: try --help\n",
               stderr);
         return 2;

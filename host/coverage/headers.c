@@ -12,6 +12,7 @@
 #include <string.h>
 
 #include "header_lists.h"
+#include "messages.h"
 #include "table.h"
 
 static uint64_t number_of(struct trace_word word)
@@ -170,6 +171,10 @@ bool count_header_line(enum call of, const struct trace_call *call,
         return true;
     case CALL_CHECKSUM:
         return count_checksum(call, answer);
+    case CALL_READ_ECHO:
+        return count_read_echo(call, answer);
+    case CALL_BUILD_REQUEST:
+        return count_build_echo(call, answer);
     default:
         return false;
     }
@@ -249,4 +254,5 @@ void say_headers(void)
     say_reads_and_builds();
     say_addresses();
     say_checksums();
+    say_messages();
 }

@@ -1,6 +1,6 @@
 /*
- * headers.h: what was reached of the words read, build, class, path and
- * checksum, which are lent no state.
+ * headers.h: what was reached of the words that are lent no state: read, build,
+ * class, path and checksum, and by messages.c read_echo and build_echo.
  */
 #ifndef HEADERS_H
 #define HEADERS_H

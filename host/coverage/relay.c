@@ -13,11 +13,12 @@
 #include <stdio.h>
 #include <string.h>
 
+#include "echoes.h"
 #include "floods.h"
 #include "relay_lists.h"
 #include "table.h"
 
-#define COUNTERS 17
+#define COUNTERS 18
 
 static struct view view = {.places = TRACE_RECORDS};
 
@@ -336,6 +337,8 @@ static bool count_number(enum call of, const struct trace_call *call,
         count_sweep(&view, asked.n[0], asked.number);
     if (of == CALL_TAKE && asked.number == 0)
         tally.precedence[number(answer->words[2]) % 16]++;
+    if (of == CALL_ECHO)
+        return count_echo(&view, call, answer);
     return of != CALL_RECEIVE || read_receipt(call, answer);
 }
 
@@ -452,6 +455,7 @@ static void say_calls(void)
     }
     say_numbers(CALL_TAKE);
     say_numbers(CALL_RECEIVE);
+    say_numbers(CALL_ECHO);
 }
 
 static void say_halves(void)
@@ -520,7 +524,7 @@ static void say_counters(void)
         "npForwDatagrams moved", "npOutNoRoutes moved",
         "npOutDiscards moved",   "left domain moved",
         "too big moved",         "flood unmarked moved",
-        "pairs held moved"};
+        "pairs held moved",      "npOutRequests moved"};
 
     puts("Counters:");
     say_list(MOVED, tally.moved, COUNTERS);
@@ -533,6 +537,7 @@ void say_relay(void)
     say_list(REFUSED_NAMES, tally.of_refused, LENGTH(REFUSED_NAMES));
     say_halves();
     say_floods();
+    say_echoes();
     say_settings();
     say_searches();
     say_queues();

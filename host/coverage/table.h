@@ -9,7 +9,7 @@
 #include <stddef.h>
 #include <stdint.h>
 
-#define LENGTH(array) (sizeof(array) / sizeof *(array))
+#include "shared/length.h"
 
 /* What must be reached so often. */
 #define LEAST 100

@@ -1,7 +1,8 @@
 /*
  * view.c: noting answered calls, and what a destination names. A setting, a
  * take or a sweep counts where its answer is 0; a receipt, by its second, its
- * onward half and the ports that took; a line of the list always.
+ * onward half and the ports that took; a reply, by the port that took it; a
+ * line of the list always.
  */
 #include "view.h"
 
@@ -32,6 +33,11 @@ static void note_router(struct view *view, const struct trace_word *words)
 static void note_lifetime(struct view *view, const struct trace_word *words)
 {
     view->lifetime = number(words[0]);
+}
+
+static void note_echo_drop(struct view *view, const struct trace_word *words)
+{
+    view->echo_drop = number(words[0]);
 }
 
 static void note_port(struct view *view, const struct trace_word *words)
@@ -206,6 +212,7 @@ void view_note(struct view *view, enum call of, const struct trace_call *call,
         [CALL_SWEEP] = note_sweep,
         [CALL_SET_ROUTER] = note_router,
         [CALL_SET_LIFETIME] = note_lifetime,
+        [CALL_SET_ECHO_DROP] = note_echo_drop,
         [CALL_SET_PORT] = note_port,
         [CALL_SET_ROUTE] = note_route,
         [CALL_SET_GROUP] = note_group,
@@ -219,6 +226,8 @@ void view_note(struct view *view, enum call of, const struct trace_call *call,
 
     if (of == CALL_RECEIVE && accepts(number(answer->words[0])))
         note_receipt(view, call->words + 1, answer->words);
+    if (of == CALL_ECHO)
+        note_taken(view, number(answer->words[2]));
     if (of < CALLS &&
         (answer->count == 0 || !trace_is(answer->words[0], "0")))
         return;

@@ -62,6 +62,7 @@ struct view_mission {
 struct view {
     uint32_t router;
     uint32_t lifetime;
+    uint32_t echo_drop;
     struct view_port ports[VIEW_PORTS];
     struct view_mission missions[TRACE_MISSIONS];
     uint32_t mission; /* whose call is looked at */

@@ -237,7 +237,7 @@ static size_t choose_data(const struct world *world, const struct form *form,
     size_t came = header_octets(form);
     size_t sends = header_octets(&sent);
     size_t length = world->ports[port].mtu + random_below(random, 3);
-    uint32_t rare = route != NULL && came != sends ? 24 : 200;
+    uint32_t rare = route != NULL && came != sends ? 18 : 200;
 
     if (!random_one_in(random, length > 1000 ? rare : 2) || length <= sends)
         return random_below(random, 6);

@@ -1,8 +1,8 @@
 /*
  * history.c: histories of the whole relay. A history is `new`, the settings of
- * a node of some shape, and then datagrams, takes, sweeps and changes of
- * settings, with the counters, the queues and the pairs looked at, and routes
- * searched for, now and then and at its end.
+ * a node of some shape, and then datagrams, echo requests, takes, sweeps and
+ * changes of settings, with the counters, the queues and the pairs looked at,
+ * and routes searched for, now and then and at its end.
  *
  * Two missions share the node, and their calls come in any order. The shapes
  * say how many of the ports are the second one's; where it has none, its calls
@@ -17,6 +17,7 @@
 #include "history.h"
 
 #include "arrivals.h"
+#include "echoes.h"
 #include "entries.h"
 #include "line.h"
 #include "ports.h"
@@ -26,7 +27,7 @@
 #include "shared/world.h"
 
 #define QUEUE 32
-#define CALLS 240
+#define CALLS 270
 #define SEARCHES 16 /* at the end */
 
 struct shape {
@@ -42,33 +43,36 @@ struct shape {
     uint32_t sweeps;
     uint32_t floods; /* of 100 datagrams */
     uint32_t pairs;  /* that they are drawn from */
+    uint32_t echoes; /* of 100 datagrams, those that an answer is asked for */
 };
 
 static const struct shape SHAPES[] = {
     /* a router in all networks */
-    {1, ALL_NETS, 6, 2, 16, 8, 8, 20, 4, 2, 6, 12},
+    {1, ALL_NETS, 6, 2, 16, 8, 8, 20, 4, 2, 6, 12, 12},
     /* in one domain */
-    {1, ONE_DOMAIN, 6, 3, 16, 8, 8, 20, 3, 2, 6, 12},
+    {1, ONE_DOMAIN, 6, 3, 16, 8, 8, 20, 3, 2, 6, 12, 12},
     /* between domains */
-    {1, DOMAINS, 7, 3, 16, 8, 8, 20, 3, 2, 6, 12},
+    {1, DOMAINS, 7, 3, 16, 8, 8, 20, 3, 2, 6, 12, 12},
     /* outside net 10 */
-    {1, INTERNET, 4, 0, 12, 6, 4, 20, 3, 1, 6, 12},
+    {1, INTERNET, 4, 0, 12, 6, 4, 20, 3, 1, 6, 12, 24},
     /* hardly emptied: queues fill */
-    {1, ONE_DOMAIN, 3, 0, 12, 8, 8, 2, 1, 2, 10, 12},
+    {1, ONE_DOMAIN, 3, 0, 12, 8, 8, 2, 1, 2, 10, 12, 12},
     /* every place written */
-    {1, DOMAINS, 8, 4, 64, 16, 16, 6, 1, 1, 4, 12},
+    {1, DOMAINS, 8, 4, 64, 16, 16, 6, 1, 1, 4, 12, 12},
     /* one port alone for each */
-    {1, ALL_NETS, 2, 1, 8, 8, 6, 20, 0, 2, 6, 12},
+    {1, ALL_NETS, 2, 1, 8, 8, 6, 20, 0, 2, 6, 12, 6},
     /* a host */
-    {0, ALL_NETS, 4, 1, 6, 6, 6, 10, 3, 1, 8, 12},
+    {0, ALL_NETS, 4, 1, 6, 6, 6, 10, 3, 1, 8, 12, 20},
     /* settings above all */
-    {1, ALL_NETS, 4, 2, 6, 6, 6, 10, 60, 1, 6, 12},
+    {1, ALL_NETS, 4, 2, 6, 6, 6, 10, 60, 1, 6, 12, 12},
     /* two ports, hardly emptied */
-    {1, DOMAINS, 4, 2, 8, 8, 8, 1, 1, 1, 4, 12},
+    {1, DOMAINS, 4, 2, 8, 8, 8, 1, 1, 1, 4, 12, 12},
     /* floods above all, swept */
-    {1, ONE_DOMAIN, 5, 2, 6, 4, 4, 25, 2, 10, 70, 24},
+    {1, ONE_DOMAIN, 5, 2, 6, 4, 4, 25, 2, 10, 70, 24, 4},
     /* more pairs than places, hardly swept */
-    {1, DOMAINS, 4, 0, 4, 4, 4, 25, 0, 0, 95, WORLD_PAIRS},
+    {1, DOMAINS, 4, 0, 4, 4, 4, 25, 0, 0, 95, WORLD_PAIRS, 0},
+    /* echo requests above all */
+    {1, DOMAINS, 6, 2, 16, 4, 4, 25, 3, 1, 4, 12, 80},
 };
 
 /* Whose call comes next. */
@@ -213,6 +217,8 @@ static void write_call(const struct shape *shape, struct world *world,
         history_setting(world, random);
     else if (draw < shape->takes + shape->settings + shape->sweeps)
         sweep(world, random);
+    else if (random_below(random, 100) < shape->echoes)
+        history_echo(world, random);
     else
         history_receive(world, random);
 }
@@ -228,6 +234,7 @@ static void write_long_list(const struct shape *shape, struct world *world,
         draw_mission(shape, world, random);
         history_record(world, random);
         history_receive(world, random);
+        history_echo(world, random);
         line_asked(CALL_SEARCH, searched_address(world, random),
                    world->mission);
         history_set_route(world, i, random);

@@ -21,12 +21,15 @@ static uint32_t port_mask(uint32_t address, struct random *random)
 
 static uint32_t choose_mtu(struct random *random)
 {
-    static const uint32_t SMALL[] = {1, 12, 16, 20, 24, 32, 40, 576};
+    static const uint32_t SMALL[] = {1,  12, 16, 20, 24, 32, 33, 34,
+                                     38, 39, 39, 40, 40, 576};
+    static const uint32_t MIDDLE[] = {42, 48, 60, 64, 100, 200};
 
     switch (random_below(random, 8)) {
     case 0:
         return PICK(SMALL);
     case 1:
+        return PICK(MIDDLE);
     case 2:
     case 3:
         return WORLD_MOST_LENGTH - 1;

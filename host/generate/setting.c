@@ -47,6 +47,14 @@ void history_set_lifetime(struct world *world, struct random *random)
     line_number(CALL_SET_LIFETIME, world->lifetime);
 }
 
+void history_set_echo_drop(struct world *world, struct random *random)
+{
+    static const uint32_t DROP[] = {0, 0, 0, 1, 1, 2, 0xffffffff};
+
+    (void)world;
+    line_number(CALL_SET_ECHO_DROP, PICK(DROP));
+}
+
 static void any_port(struct world *world, struct random *random)
 {
     if (random_one_in(random, 2))
@@ -109,7 +117,7 @@ void history_setting(struct world *world, struct random *random)
     static any_setting *const KINDS[] = {
         any_router, any_port, any_port, any_port,  any_route,
         any_route,  any_group, any_path, any_clear, history_record,
-        history_record, history_set_lifetime};
+        history_record, history_set_lifetime, history_set_echo_drop};
 
     PICK(KINDS)(world, random);
 }

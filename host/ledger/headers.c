@@ -27,6 +27,11 @@ void headers_note_port(uint32_t port, uint32_t address)
     addresses[port % PORTS] = address;
 }
 
+uint32_t headers_address(uint32_t port)
+{
+    return addresses[port % PORTS];
+}
+
 uint32_t headers_named(const struct arriving *header, uint32_t address,
                        uint32_t port)
 {

@@ -15,6 +15,9 @@
 void headers_begin(void);
 void headers_note_port(uint32_t port, uint32_t address);
 
+/* The address of a port; 0 where it has none. */
+uint32_t headers_address(uint32_t port);
+
 /* An address of a header, as it is read by a port. */
 uint32_t headers_named(const struct arriving *header, uint32_t address,
                        uint32_t port);

@@ -5,12 +5,14 @@
  *     ledger < ANSWERED
  *
  * Each mission has its own books. For each port: what took an entry, one copy
- * per port and receipt and each with a header, is what was handed out by takes
- * and what waits (`waiting` lines). Each entry handed out is the oldest of the
- * highest precedence that waits, by a plain list. Each header says what the
- * octets that came said (headers.c). Between two frees of a pair at most one of
- * its floods goes on, and what is kept is what a `pairs` line says (floods.c).
- * Each counter of a `counters` line is what the answers since `new` add up to.
+ * per port and receipt and each with a header, and the replies to echo
+ * requests, is what was handed out by takes and what waits (`waiting` lines).
+ * Each entry handed out is the oldest of the highest precedence that waits, by
+ * a plain list. Each header says what the octets that came said (headers.c), and each
+ * reply what answers its request (replies.c). Between two frees of a pair at
+ * most one of its floods goes on, and what is kept is what a `pairs` line says
+ * (floods.c). Each counter of a `counters` line is what the answers since `new`
+ * add up to.
  *
  * The awkward counter is npOutDiscards: an answer gives the ports that took an
  * entry, not those that dropped theirs. Only a port with 32 waiting drops one,
@@ -24,14 +26,16 @@
 
 #include "floods.h"
 #include "headers.h"
+#include "replies.h"
 #include "shared/answered.h"
 #include "shared/arriving.h"
 #include "shared/options.h"
 
 #define PORTS 8
 #define QUEUE 32
-#define COUNTERS 17
+#define COUNTERS 18
 #define OUT_DISCARDS 12
+#define OUT_REQUESTS 17
 
 struct entry {
     uint32_t slot, precedence;
@@ -50,6 +54,7 @@ static struct book *book = books; /* of the mission whose call it is */
 
 static struct {
     uint64_t receipts, takes, counters, waiting, copies, exact, sweeps, pairs;
+    uint64_t echoes, replies;
 } seen;
 
 static bool balanced = true;
@@ -223,6 +228,71 @@ static bool book_receive(const struct trace_call *call,
     return true;
 }
 
+/* ---- Echo requests ------------------------------------------------------- */
+
+/* One reply, made and then sent, refused or dropped. */
+static void count_reply(uint32_t onward)
+{
+    book->counters[OUT_REQUESTS]++;
+    if (onward != 1)
+        count(onward);
+    if (onward != 15)
+        return;
+    expect(full_ports() > 0, "15 without a full port", 1, 0);
+    book->least_discards++;
+    book->most_discards++;
+}
+
+static uint32_t port_in(uint32_t set)
+{
+    uint32_t port = 0;
+
+    while (port < PORTS && (set >> port & 1) == 0)
+        port++;
+    return port;
+}
+
+static void book_reply(const struct trace_call *call,
+                       const struct trace_call *answer, const uint8_t *octets,
+                       size_t length)
+{
+    static uint8_t reply[TRACE_MOST_OCTETS];
+    uint32_t port = port_in(number(answer->words[2]));
+    struct entry newcomer = {number(call->words[2]), 0};
+    const char *wrong;
+    size_t count = 0;
+
+    trace_octets(answer->words[3], reply, &count);
+    wrong = reply_wrong(number(call->words[1]), octets, length, port, reply,
+                        count);
+    expect(wrong == NULL, wrong, 0, 1);
+    newcomer.precedence = arriving_read(octets, length).precedence;
+    enter(port, newcomer);
+    seen.replies++;
+}
+
+static bool book_echo(const struct trace_call *call,
+                      const struct trace_call *answer)
+{
+    static uint8_t octets[TRACE_MOST_OCTETS];
+    uint32_t refusal = number(answer->words[0]);
+    uint32_t onward = number(answer->words[1]);
+    bool sent = refusal == 0 && onward == 1;
+    size_t length;
+
+    seen.echoes++;
+    if (!trace_octets(call->words[4], octets, &length))
+        return false;
+    expect(ports_in(number(answer->words[2])) == sent,
+           "one port exactly where a reply is sent", sent,
+           ports_in(number(answer->words[2])));
+    if (refusal == 0 && onward != 0)
+        count_reply(onward);
+    if (sent && port_in(number(answer->words[2])) < PORTS)
+        book_reply(call, answer, octets, length);
+    return true;
+}
+
 /* ---- Takes, sweeps, pairs, waiting, counters ----------------------------- */
 
 static bool book_take(const struct trace_call *call,
@@ -306,7 +376,7 @@ static bool book_counters(const struct trace_call *answer)
         "npInAddrErrors",  "npInUnknownProtos", "npInDelivers",
         "npForwHopDiscard", "npForwDatagrams",  "npOutNoRoutes",
         "npOutDiscards",   "left domain",       "too big",
-        "flood unmarked",  "pairs held"};
+        "flood unmarked",  "pairs held",        "npOutRequests"};
 
     seen.counters++;
     for (int i = 0; i < COUNTERS; i++) {
@@ -363,6 +433,8 @@ static bool book_line(enum call of, const struct trace_call *call,
     switch (of) {
     case CALL_RECEIVE:
         return book_receive(call, answer);
+    case CALL_ECHO:
+        return book_echo(call, answer);
     case CALL_TAKE:
         return book_take(call, answer);
     case CALL_WAITING:
@@ -393,7 +465,7 @@ static const char HELP[] =
     "Recounts an answered trace (docs/TRACE.md) from its calls and answers\n"
     "alone: for each mission and port the copies taken, handed out and\n"
     "waiting, the order of what is handed out, what each header sent on\n"
-    "says, the seconds and pairs of floods, and each counter.\n"
+    "and each reply says, the seconds and pairs of floods, and each counter.\n"
     "\n"
     "Status: 0 the books balance; 1 they do not, or a line has no good\n"
     "answer; 2 bad usage, or the output failed.\n";
@@ -407,12 +479,13 @@ int main(int count, char **arguments)
     if (status != OPTIONS_GO_ON)
         return status;
     good = answered_lines(book_line);
-    printf("ledger: %" PRIu64 " receipts, %" PRIu64 " copies, %" PRIu64
+    printf("ledger: %" PRIu64 " receipts, %" PRIu64 " echo lines, %" PRIu64
+           " replies, %" PRIu64 " copies with these, %" PRIu64
            " takes, %" PRIu64 " waiting lines, %" PRIu64 " sweeps, %" PRIu64
            " pairs lines, %" PRIu64
            " counters lines (npOutDiscards exact in %" PRIu64 ")\n",
-           seen.receipts, seen.copies, seen.takes, seen.waiting, seen.sweeps,
-           seen.pairs, seen.counters, seen.exact);
+           seen.receipts, seen.echoes, seen.replies, seen.copies, seen.takes,
+           seen.waiting, seen.sweeps, seen.pairs, seen.counters, seen.exact);
     if (!good || !balanced)
         puts("ledger: FAILED: the books do not balance");
     return options_end(&PROGRAM, good && balanced ? 0 : 1);

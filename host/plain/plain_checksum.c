@@ -9,7 +9,7 @@
  */
 #include "plain_checksum.h"
 
-uint16_t plain_checksum(const uint8_t *octets, size_t count)
+static uint64_t sum_of(const uint8_t *octets, size_t count)
 {
     uint64_t sum = 0;
     size_t even = count - count % 2;
@@ -18,7 +18,23 @@ uint16_t plain_checksum(const uint8_t *octets, size_t count)
         sum += (uint32_t)octets[at] << 8 | octets[at + 1];
     if (even < count)
         sum += (uint32_t)octets[even] << 8;
+    return sum;
+}
+
+static uint16_t complement_of(uint64_t sum)
+{
     while (sum >> 16 != 0)
         sum = (sum & 0xffff) + (sum >> 16);
     return (uint16_t)(~sum & 0xffff);
+}
+
+uint16_t plain_checksum(const uint8_t *octets, size_t count)
+{
+    return complement_of(sum_of(octets, count));
+}
+
+uint16_t plain_checksum_around(const uint8_t *octets, size_t count, size_t at)
+{
+    return complement_of(sum_of(octets, at) +
+                         sum_of(octets + at + 2, count - at - 2));
 }

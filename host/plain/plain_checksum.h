@@ -10,4 +10,8 @@
  * odd. No octets at all sum to 0 and answer ffff. */
 uint16_t plain_checksum(const uint8_t *octets, size_t count);
 
+/* The same, where the word at this even place counts as zero: the checksum
+ * itself, in a message that carries it in its midst. */
+uint16_t plain_checksum_around(const uint8_t *octets, size_t count, size_t at);
+
 #endif

@@ -18,8 +18,6 @@
 
 #include <string.h>
 
-enum { FIRST_HOP_COUNT = 64 };
-
 /* Those of the set whose ports lie in another domain than the arrival port. A
  * port that is not the mission's has no address and no MTU for it; a group or
  * a path names such a port only where the board was made fresh alone. */
@@ -37,11 +35,6 @@ static plain_set outside_domain(const plain_view *view, plain_set set,
     return set;
 }
 
-static bool asks_for(uint32_t capabilities, plain_capabilities element)
-{
-    return capabilities == element || capabilities == PLAIN_ASKS_BOTH;
-}
-
 static void widen(const plain_datagram *d, plain_fields *fields)
 {
     fields->extended = 1;
@@ -54,9 +47,10 @@ static void settle_headers(const plain_datagram *d, plain_set far,
                            plain_copies *copies)
 {
     plain_fields *fields = &copies->fields;
-    bool add_checksum = asks_for(copies->capabilities, PLAIN_ASKS_CHECKSUM) &&
+    uint32_t asked = copies->capabilities;
+    bool add_checksum = plain_asks_for(asked, PLAIN_ASKS_CHECKSUM) &&
                         !d->header.fields.checksum_present;
-    bool add_hop = asks_for(copies->capabilities, PLAIN_ASKS_HOP_COUNT) &&
+    bool add_hop = plain_asks_for(asked, PLAIN_ASKS_HOP_COUNT) &&
                    !d->header.fields.hop_present;
 
     copies->rewritten = add_checksum || add_hop ? copies->ports : far;
@@ -71,7 +65,7 @@ static void settle_headers(const plain_datagram *d, plain_set far,
         fields->hop--;
     if (add_hop) {
         fields->hop_present = 1;
-        fields->hop = FIRST_HOP_COUNT;
+        fields->hop = PLAIN_FIRST_HOP_COUNT;
     }
     copies->rewritten_octets = plain_header_measure(fields);
 }

@@ -6,26 +6,7 @@
 #ifndef PLAIN_COPIES_H
 #define PLAIN_COPIES_H
 
-#include "plain_header.h"
-#include "plain_relay.h"
-
-/* What is known of a datagram once no check refuses it. */
-typedef struct {
-    plain_header header;
-    uint32_t arrival;
-    uint32_t second; /* at which it came */
-    bool flooded;
-    bool by_path;
-    plain_address destination;     /* where not by path; as four octets */
-    plain_address source;          /* likewise */
-    plain_path path;               /* where by path */
-    plain_class class;             /* of the destination, else invalid */
-    bool for_this_node;            /* a port's address, limited broadcast */
-    bool our_broadcast;
-    bool subscribed;               /* multicast, on the arrival port */
-    const plain_group *group;      /* where multicast */
-    const plain_path_place *place; /* where by path */
-} plain_datagram;
+#include "plain_datagram.h"
 
 /* A copy leaves by the header that came, or by the rewritten one, which is
  * the same for all ports that have it. */
@@ -36,12 +17,6 @@ typedef struct {
     plain_fields fields;       /* its fields, where there is such a port */
     uint32_t rewritten_octets; /* how long it is, likewise */
 } plain_copies;
-
-/* The first three octets of an address. */
-static inline uint32_t plain_domain(plain_address address)
-{
-    return address.bits & 0xffffff00;
-}
 
 /* Leaves of the ports wanted, of which there is one, those granted, and
  * settles their headers: 0, or 10, 13 or 14. */

@@ -1,4 +1,4 @@
-/* The seventeen counters, each modulo 2^32. */
+/* The eighteen counters, each modulo 2^32. */
 #ifndef PLAIN_COUNTERS_H
 #define PLAIN_COUNTERS_H
 
@@ -24,15 +24,16 @@ typedef enum {
     PLAIN_TOO_BIG_COUNT = 14,
     PLAIN_FLOOD_UNMARKED_COUNT = 15,
     PLAIN_PAIRS_HELD_COUNT = 16,
-    PLAIN_COUNTERS = 17
+    PLAIN_OUT_REQUESTS = 17, /* echo replies, sent or refused */
+    PLAIN_COUNTERS = 18
 } plain_counter;
 
 typedef struct { uint32_t counts[PLAIN_COUNTERS]; } plain_counters;
 
 void plain_count(plain_counters *counters, plain_counter counter);
 
-/* One in the counter of a received datagram's refusal, 1 to 15, 26, 28 or 30;
- * none where it has no counter. */
+/* One in the counter of a refusal, 1 to 15, 26, 28 or 30, of a datagram that
+ * was received or of an echo reply; none where it has no counter. */
 void plain_count_refusal(plain_counters *counters, plain_refusal refusal);
 
 #endif

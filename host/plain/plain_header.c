@@ -20,6 +20,7 @@
 #include <string.h>
 
 #include "plain_checksum.h"
+#include "plain_wire.h"
 
 /* Header bit n (16 to 39, most significant first) of the control word. */
 #define BIT(n) ((uint32_t)1 << (39 - (n)))
@@ -161,24 +162,15 @@ static bool lay_out(const uint8_t *octets, uint32_t length, uint32_t control,
     return at <= length;
 }
 
-static uint64_t number_at(const uint8_t *octets, uint32_t count)
-{
-    uint64_t number = 0;
-
-    for (uint32_t at = 0; at < count; at++)
-        number = number << 8 | octets[at];
-    return number;
-}
-
 static plain_wide address_at(const uint8_t *octets, uint32_t count)
 {
     plain_wide address = {0, 0};
 
     if (count == 16) {
-        address.high = number_at(octets, 8);
-        address.low = number_at(octets + 8, 8);
+        address.high = plain_number_at(octets, 8);
+        address.low = plain_number_at(octets + 8, 8);
     } else {
-        address.low = number_at(octets, count);
+        address.low = plain_number_at(octets, count);
     }
     return address;
 }
@@ -205,7 +197,7 @@ static void take_stamp(const uint8_t *octets, const layout *where,
         at++;
         count--;
     }
-    fields->time = number_at(octets + at, count);
+    fields->time = plain_number_at(octets + at, count);
 }
 
 static void take_fields(const uint8_t *octets, uint32_t control,
@@ -246,7 +238,7 @@ static bool checksum_good(const uint8_t *octets, uint32_t header_length)
 {
     const uint8_t *element = octets + header_length - CHECKSUM_OCTETS;
 
-    return number_at(element, CHECKSUM_OCTETS) ==
+    return plain_number_at(element, CHECKSUM_OCTETS) ==
            checksum_due(octets, header_length);
 }
 
@@ -354,13 +346,6 @@ static uint32_t shortest_control(const plain_fields *fields)
 }
 
 /* Each put_ function writes at the place given and answers the next one. */
-static uint8_t *put_number(uint8_t *at, uint64_t number, uint32_t count)
-{
-    for (uint32_t left = count; left > 0; left--)
-        *at++ = (uint8_t)(number >> (8 * (left - 1)) & 0xff);
-    return at;
-}
-
 static uint8_t *put_control(uint8_t *at, uint32_t control)
 {
     *at++ = (uint8_t)(control >> 16 & 0xff);
@@ -374,10 +359,10 @@ static uint8_t *put_control(uint8_t *at, uint32_t control)
 static uint8_t *put_address(uint8_t *at, plain_wide address, uint32_t count)
 {
     if (count == 16) {
-        at = put_number(at, address.high, 8);
-        return put_number(at, address.low, 8);
+        at = plain_put_number(at, address.high, 8);
+        return plain_put_number(at, address.low, 8);
     }
-    return put_number(at, address.low, count);
+    return plain_put_number(at, address.low, count);
 }
 
 static uint8_t *put_stamp(uint8_t *at, const plain_fields *fields)
@@ -385,10 +370,10 @@ static uint8_t *put_stamp(uint8_t *at, const plain_fields *fields)
     uint32_t count = plain_stamp_octets(fields->stamp_format, fields->p_field);
 
     if (fields->stamp_format == PLAIN_STAMP_EXPLICIT) {
-        at = put_number(at, fields->p_field, 1);
+        at = plain_put_number(at, fields->p_field, 1);
         count--;
     }
-    return put_number(at, fields->time, count);
+    return plain_put_number(at, fields->time, count);
 }
 
 /* All elements from the control field to the one before the checksum. */
@@ -402,19 +387,20 @@ static void put_elements(uint8_t *at, uint32_t control,
     if (fields->source_present)
         at = put_address(at, fields->source, count);
     if (fields->basic_qos_present)
-        at = put_number(at, fields->precedence << 4 | fields->routing << 2 |
-                                fields->program, 1);
+        at = plain_put_number(at, fields->precedence << 4 |
+                                      fields->routing << 2 | fields->program,
+                              1);
     if (fields->hop_present)
-        at = put_number(at, fields->hop, 1);
+        at = plain_put_number(at, fields->hop, 1);
     at = put_stamp(at, fields);
     if (fields->expanded_present)
-        put_number(at, fields->expanded, 1);
+        plain_put_number(at, fields->expanded, 1);
 }
 
 static void put_checksum(uint8_t *header, uint32_t header_length)
 {
-    put_number(header + header_length - CHECKSUM_OCTETS,
-               checksum_due(header, header_length), CHECKSUM_OCTETS);
+    plain_put_number(header + header_length - CHECKSUM_OCTETS,
+                     checksum_due(header, header_length), CHECKSUM_OCTETS);
 }
 
 uint32_t plain_header_measure(const plain_fields *fields)
@@ -434,7 +420,8 @@ uint32_t plain_header_measure(const plain_fields *fields)
 void plain_header_write(const plain_fields *fields, uint32_t header_length,
                         uint32_t data, uint8_t *output)
 {
-    put_number(output, (uint32_t)VERSION << 13 | (header_length + data), 2);
+    plain_put_number(output, (uint32_t)VERSION << 13 | (header_length + data),
+                     2);
     put_elements(output + 2, shortest_control(fields), fields);
     if (fields->checksum_present)
         put_checksum(output, header_length);

@@ -21,7 +21,8 @@ enum {
     PLAIN_LENGTH_MOST = 8191, /* 13 bits; the largest MTU too */
     PLAIN_HEADER_MOST = 50,
     PLAIN_OUTPUT_ROOM = 400, /* of a received datagram: 50 for each port */
-    PLAIN_DATA_MOST = 8141
+    PLAIN_DATA_MOST = 8141,
+    PLAIN_FIRST_HOP_COUNT = 64 /* of an added one, and of a reply */
 };
 
 typedef enum {

@@ -1,8 +1,8 @@
 /*
  * What is fresh, whose a port is, and the ports' queues as seen from outside.
  * All zeros is the fresh board: a host (router no), no port set up, lifetime
- * 0; and but for the number a fresh mission: places empty, queues empty, no
- * pair kept, counters and last second 0.
+ * 0, echo drop off; and but for the number a fresh mission: places empty,
+ * queues empty, no pair kept, counters and last second 0.
  */
 #include "plain_relay.h"
 

@@ -39,6 +39,12 @@ typedef enum {
     PLAIN_ASKS_BOTH = 4
 } plain_capabilities;
 
+static inline bool plain_asks_for(uint32_t capabilities,
+                                  plain_capabilities element)
+{
+    return capabilities == element || capabilities == PLAIN_ASKS_BOTH;
+}
+
 typedef struct {
     plain_address address;
     plain_mask mask;
@@ -93,6 +99,7 @@ typedef struct {
 typedef struct {
     uint32_t router;
     uint32_t lifetime;               /* of a pair, in seconds */
+    uint32_t echo_drop;              /* whether no echo request is answered */
     plain_set set_up;                /* the ports that are */
     plain_set owned[PLAIN_MISSIONS]; /* those of each mission */
     plain_port ports[PLAIN_PORTS];
@@ -135,7 +142,7 @@ typedef struct {
     uint32_t rewritten_octets; /* of the rewritten header, 0 for none */
 } plain_verdict;
 
-/* A host without ports, lifetime 0. */
+/* A host without ports, lifetime 0, echo drop off. */
 void plain_board_fresh(plain_board *board);
 
 /* All places and queues empty, no pair kept, all counters and the last second
@@ -171,6 +178,7 @@ plain_set plain_own_ports(const plain_view *view);
  * operator's. */
 plain_refusal plain_set_router(plain_board *board, uint32_t router);
 plain_refusal plain_set_lifetime(plain_board *board, uint32_t lifetime);
+plain_refusal plain_set_echo_drop(plain_board *board, uint32_t drop);
 plain_refusal plain_set_port(plain_board *board, uint32_t number,
                              const plain_port *port);
 plain_refusal plain_set_route(const plain_board *board, plain_list list,
@@ -191,6 +199,28 @@ plain_verdict plain_receive(const plain_view *view, uint32_t arrival,
                             plain_slot slot, uint32_t second,
                             const uint8_t *octets, size_t count,
                             uint8_t *output, size_t room);
+
+/* What became of an echo request: the numbers here, or 11, 14 or 15. */
+enum {
+    PLAIN_REPLY_NONE = 0,
+    PLAIN_REPLY_SENT = 1
+};
+
+typedef struct {
+    plain_refusal refusal; /* 21, 16 or 17; all else is then 0 */
+    uint32_t onward;
+    plain_set took;        /* the port that took the reply's entry */
+    plain_set dropped;     /* the port that was full */
+    uint32_t reply_octets; /* of the reply, 0 where none was sent */
+} plain_echoed;
+
+/* Answers an echo request that came by the arrival port; the slot is the
+ * reply's. The room is at least that port's MTU. Of the output, which must not
+ * overlap the octets, only the reply is written, and only where it is sent. For
+ * the request nothing is counted. */
+plain_echoed plain_echo(const plain_view *view, uint32_t arrival,
+                        plain_slot slot, const uint8_t *octets, size_t count,
+                        uint8_t *output, size_t room);
 
 /* Frees the pairs of the mission whose age is over the board's lifetime; 29
  * with nothing changed. */

@@ -36,6 +36,14 @@ plain_refusal plain_set_lifetime(plain_board *board, uint32_t lifetime)
     return PLAIN_GOOD;
 }
 
+plain_refusal plain_set_echo_drop(plain_board *board, uint32_t drop)
+{
+    if (!flag_good(drop))
+        return PLAIN_SET_CODE;
+    board->echo_drop = drop;
+    return PLAIN_GOOD;
+}
+
 static bool port_mask_good(const plain_port *port)
 {
     uint32_t ones = plain_mask_ones(port->mask);

@@ -1,112 +1,24 @@
 /*
  * The verdict on one received datagram, in the steps of page 01 with those of
- * page 02, W-207, for flooded ones: the checks that end the call, the local
- * half, the ports wanted. What comes of the copies for these ports is in
+ * page 02, W-207, for flooded ones. What the datagram is, and the local half,
+ * is in plain_datagram.c; what comes of the copies for the ports wanted is in
  * plain_copies.c.
  *
  * The steps of the onward half hand on a set of ports that only grows smaller
  * and end the half by a refusal. A set that is empty from the start, without a
  * refusal, is "not asked".
  *
- * The awkward cases: a path is never compared with an address, even of the
- * same number, so a datagram has either a destination or a path and the
- * findings of the other kind stay "no"; a one-octet address is filled in from
- * the arrival port, never from the port it leaves by; and a flooded datagram's
- * pair is kept as soon as its ports are asked for, whatever becomes of them.
+ * The awkward case: a flooded datagram's pair is kept as soon as its ports are
+ * asked for, whatever becomes of them.
  */
 #include "plain_copies.h"
 #include "plain_list.h"
 #include "plain_pairs.h"
-#include "plain_search.h"
-
-/* The assigned numbers of table 3-2, as 2^n; 0 is reserved, not assigned. */
-#define ASSIGNED_TP_IDS \
-    (1u << 1 | 1u << 4 | 1u << 5 | 1u << 6 | 1u << 8 | 1u << 10 | 1u << 11)
 
 static plain_set without(plain_set set, uint32_t port)
 {
     set.bits &= ~((uint32_t)1 << port);
     return set;
-}
-
-/* Steps 5 and 6: fills in what is one octet, then judges the classes. */
-static plain_refusal judge_addresses(const plain_view *view, plain_datagram *d)
-{
-    const plain_fields *fields = &d->header.fields;
-    plain_address own = view->board->ports[d->arrival].address;
-    uint32_t domain = fields->extended ? 0 : plain_domain(own);
-    uint32_t destination = domain | (uint32_t)fields->destination.low;
-
-    if (!fields->extended && own.bits >> 24 != 10)
-        return PLAIN_NO_DOMAIN;
-    d->by_path = !fields->source_present;
-    d->class = PLAIN_INVALID;
-    if (d->by_path) {
-        d->path.bits = destination;
-        return plain_path_valid(d->path) ? PLAIN_GOOD : PLAIN_BAD_ADDRESS;
-    }
-    d->destination.bits = destination;
-    d->source.bits = domain | (uint32_t)fields->source.low;
-    d->class = plain_address_class(d->destination);
-    if (d->class == PLAIN_INVALID ||
-        plain_address_class(d->source) != PLAIN_UNICAST)
-        return PLAIN_BAD_ADDRESS;
-    return PLAIN_GOOD;
-}
-
-/* Steps 2 to 6, and 28 after them. */
-static plain_refusal judge(const plain_view *view, const uint8_t *octets,
-                           size_t count, plain_datagram *d)
-{
-    const plain_fields *fields = &d->header.fields;
-    plain_refusal refusal = plain_header_read(octets, count, &d->header);
-
-    if (refusal != PLAIN_GOOD)
-        return refusal;
-    d->flooded = fields->routing == PLAIN_ROUTING_FLOOD;
-    if (fields->ipv6 ||
-        (fields->routing != PLAIN_ROUTING_POINT_TO_POINT && !d->flooded))
-        return PLAIN_NOT_CARRIED;
-    refusal = judge_addresses(view, d);
-    if (refusal != PLAIN_GOOD)
-        return refusal;
-    if (d->flooded &&
-        (d->by_path || fields->stamp_format == PLAIN_STAMP_NONE))
-        return PLAIN_FLOOD_UNMARKED;
-    return PLAIN_GOOD;
-}
-
-/* Looks up all that either half will ask. */
-static void recognise(const plain_view *view, plain_datagram *d)
-{
-    d->for_this_node = false;
-    d->our_broadcast = false;
-    d->subscribed = false;
-    d->group = NULL;
-    d->place = NULL;
-    if (d->by_path) {
-        d->place = plain_search_path(view->mission, d->path);
-        return;
-    }
-    d->for_this_node = d->class == PLAIN_LIMITED_BROADCAST ||
-                       plain_search_own(view, d->destination);
-    d->our_broadcast = plain_search_broadcast(view, d->destination);
-    if (d->class == PLAIN_MULTICAST)
-        d->group = plain_search_group(view->mission, d->destination);
-    if (d->group != NULL)
-        d->subscribed = plain_set_has(d->group->subscribed, d->arrival);
-}
-
-static uint32_t local_half(const plain_datagram *d)
-{
-    bool here = d->place != NULL && d->place->here;
-
-    if (!d->for_this_node && !d->our_broadcast && !d->subscribed && !here &&
-        !d->header.fields.intermediate)
-        return PLAIN_LOCAL_NO;
-    if ((ASSIGNED_TP_IDS >> d->header.fields.tp_id & 1) == 0)
-        return PLAIN_UNKNOWN_TP_ID;
-    return PLAIN_LOCAL_DELIVERED;
 }
 
 /* Keeps the pair. The destination decides nothing here. */
@@ -248,15 +160,13 @@ plain_verdict plain_receive(const plain_view *view, uint32_t arrival,
     if (verdict.refusal != PLAIN_GOOD)
         return verdict;
     plain_count(&view->mission->counters, PLAIN_IN_RECEIVES);
-    d.arrival = arrival;
-    d.second = second;
-    verdict.refusal = judge(view, octets, count, &d);
+    verdict.refusal = plain_datagram_judge(view, arrival, octets, count, &d);
     if (verdict.refusal != PLAIN_GOOD) {
         plain_count_refusal(&view->mission->counters, verdict.refusal);
         return verdict;
     }
-    recognise(view, &d);
-    verdict.local = local_half(&d);
+    d.second = second;
+    verdict.local = plain_local_half(&d);
     verdict.arriving_octets = d.header.header_length;
     verdict.onward = onward_half(view, &d, slot, &copies, &verdict);
     count_halves(&view->mission->counters, &verdict);

@@ -43,8 +43,8 @@ typedef struct {
 /* A fresh board and fresh missions, and a list of 512 empty records. */
 void plain_session_fresh(plain_session *session);
 
-/* The words of the relay, and those for headers, addresses and checksum; the
- * last of each has no name. */
+/* The words of the relay, and those for headers, addresses, checksum and
+ * messages; the last of each has no name. */
 extern const plain_meaning plain_relay_words[];
 extern const plain_meaning plain_header_words[];
 

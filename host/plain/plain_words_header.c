@@ -1,5 +1,6 @@
 /*
- * The words class, path, checksum, read and build.
+ * The words class, path, checksum, read and build, and read_echo and build_echo
+ * for the messages of an echo.
  *
  * The awkward case is build: a number out of range must reach the library,
  * which refuses it by 19, while a line whose words do not go together (some of
@@ -11,6 +12,7 @@
 #include "plain_address.h"
 #include "plain_checksum.h"
 #include "plain_header.h"
+#include "plain_message.h"
 #include "plain_words.h"
 
 enum { UNTOUCHED = 0xa5 };
@@ -265,11 +267,80 @@ static bool answer_build(plain_session *session, const plain_word *arguments)
     return true;
 }
 
+/* Octets, or "-" for none. */
+static void put_octets(plain_text *text, const uint8_t *octets, size_t count)
+{
+    plain_text_string(text, count > 0 ? " " : " -");
+    plain_text_octets(text, octets, count);
+}
+
+static void put_message(plain_text *text, const plain_message *message)
+{
+    put_number(text, message->type);
+    put_number(text, message->identifier);
+    put_number(text, message->sequence);
+    put_octets(text, message->data, message->data_octets);
+    if (message->type == PLAIN_ECHO_REQUEST)
+        return;
+    put_number(text, message->hops);
+    put_number(text, message->format);
+    plain_text_string(text, " ");
+    plain_text_digits(text, message->timestamp, 16);
+    put_number(text, message->mtu);
+    put_number(text, message->rate);
+}
+
+static bool answer_read_echo(plain_session *session,
+                             const plain_word *arguments)
+{
+    plain_octets *octets = &session->octets;
+    plain_message message;
+    plain_refusal refusal;
+
+    if (!plain_word_octets(arguments[0], octets))
+        return false;
+    refusal = plain_message_read(octets->start, octets->count, &message);
+    plain_text_string(&session->text, " =");
+    put_number(&session->text, refusal);
+    if (refusal == PLAIN_GOOD)
+        put_message(&session->text, &message);
+    return true;
+}
+
+static bool answer_build_echo(plain_session *session,
+                              const plain_word *arguments)
+{
+    plain_octets *octets = &session->octets;
+    plain_message request = {PLAIN_ECHO_REQUEST, 0, 0, 0, 0, 0, 0, 0, NULL, 0};
+    uint32_t room, identifier, sequence;
+    size_t written = 0;
+    plain_refusal refusal;
+
+    if (!plain_word_number(arguments[0], PLAIN_ROOM_MOST, &room) ||
+        !plain_word_number(arguments[1], UINT16_MAX, &identifier) ||
+        !plain_word_number(arguments[2], UINT16_MAX, &sequence) ||
+        !plain_word_octets(arguments[3], octets))
+        return false;
+    request.identifier = (uint16_t)identifier;
+    request.sequence = (uint16_t)sequence;
+    request.data = octets->start;
+    request.data_octets = octets->count;
+    plain_output_lend(session, room);
+    refusal = plain_request_build(&request, session->output, room, &written);
+    plain_text_string(&session->text, " =");
+    put_number(&session->text, refusal);
+    plain_text_string(&session->text, " ");
+    plain_output_answer(session, room, (uint32_t)written);
+    return true;
+}
+
 const plain_meaning plain_header_words[] = {
     {"class", 1, answer_class},
     {"path", 1, answer_path},
     {"checksum", 1, answer_checksum},
     {"read", 1, answer_read},
     {"build", 16, answer_build},
+    {"read_echo", 1, answer_read_echo},
+    {"build_echo", 4, answer_build_echo},
     {NULL, 0, NULL},
 };

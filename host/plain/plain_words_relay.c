@@ -1,6 +1,6 @@
 /*
  * The words of the relay: new, the settings, the list of routes, receive,
- * sweep, pairs, take, counters, waiting and search. Numbers are as wide as the
+ * echo, sweep, pairs, take, counters, waiting and search. Numbers are as wide as the
  * library's, so that a place 700 or a port 9 reaches it and gets its refusal;
  * only a slot has 16 bits, and a mission is 0 or 1.
  *
@@ -145,6 +145,16 @@ static bool answer_set_lifetime(plain_session *session,
                        plain_set_lifetime(&session->board, lifetime));
 }
 
+static bool answer_set_echo_drop(plain_session *session,
+                                 const plain_word *arguments)
+{
+    uint32_t drop;
+
+    if (!take_number(arguments[0], &drop))
+        return false;
+    return put_refusal(session, plain_set_echo_drop(&session->board, drop));
+}
+
 static bool answer_set_port(plain_session *session,
                             const plain_word *arguments)
 {
@@ -263,32 +273,71 @@ static void put_outputs(plain_session *session, uint32_t room, plain_set ports)
     plain_output_rest(session, room);
 }
 
+/* What receive and echo are both lent; the octets are the session's. */
+typedef struct {
+    uint32_t port;
+    plain_slot slot;
+    uint32_t room;
+} arrival;
+
+static bool take_arrival(plain_session *session, const plain_word *words,
+                         arrival *lent)
+{
+    uint32_t slot;
+
+    if (!take_number(words[0], &lent->port) ||
+        !plain_word_number(words[1], UINT16_MAX, &slot) ||
+        !plain_word_number(words[2], PLAIN_ROOM_MOST, &lent->room) ||
+        !plain_word_octets(words[3], &session->octets))
+        return false;
+    lent->slot.number = (uint16_t)slot;
+    return true;
+}
+
 static bool answer_receive(plain_session *session,
                            const plain_word *arguments)
 {
     plain_octets *octets = &session->octets;
-    uint32_t port, number, room, second;
-    plain_slot slot;
+    uint32_t second;
+    arrival lent;
     plain_view view;
     plain_verdict verdict;
 
-    if (!take_number(arguments[0], &port) ||
-        !plain_word_number(arguments[1], UINT16_MAX, &number) ||
-        !plain_word_number(arguments[2], PLAIN_ROOM_MOST, &room) ||
-        !plain_word_octets(arguments[3], octets) ||
+    if (!take_arrival(session, arguments, &lent) ||
         !take_number(arguments[4], &second) ||
         !take_view(session, arguments[5], &view))
         return false;
-    slot.number = (uint16_t)number;
-    plain_output_lend(session, room);
-    verdict = plain_receive(&view, port, slot, second, octets->start,
-                            octets->count, session->output, room);
+    plain_output_lend(session, lent.room);
+    verdict = plain_receive(&view, lent.port, lent.slot, second,
+                            octets->start, octets->count, session->output,
+                            lent.room);
     put_refusal(session, verdict.refusal);
     put_number(session, verdict.local);
     put_number(session, verdict.onward);
     put_number(session, verdict.took.bits);
     plain_text_string(&session->text, " ");
-    put_outputs(session, room, verdict.took);
+    put_outputs(session, lent.room, verdict.took);
+    return true;
+}
+
+static bool answer_echo(plain_session *session, const plain_word *arguments)
+{
+    plain_octets *octets = &session->octets;
+    arrival lent;
+    plain_view view;
+    plain_echoed echoed;
+
+    if (!take_arrival(session, arguments, &lent) ||
+        !take_view(session, arguments[4], &view))
+        return false;
+    plain_output_lend(session, lent.room);
+    echoed = plain_echo(&view, lent.port, lent.slot, octets->start,
+                        octets->count, session->output, lent.room);
+    put_refusal(session, echoed.refusal);
+    put_number(session, echoed.onward);
+    put_number(session, echoed.took.bits);
+    plain_text_string(&session->text, " ");
+    plain_output_answer(session, lent.room, echoed.reply_octets);
     return true;
 }
 
@@ -424,6 +473,7 @@ static bool answer_search(plain_session *session, const plain_word *arguments)
 
 const plain_meaning plain_relay_words[] = {
     {"receive", 6, answer_receive},
+    {"echo", 5, answer_echo},
     {"take", 2, answer_take},
     {"sweep", 2, answer_sweep},
     {"pairs", 1, answer_pairs},
@@ -435,6 +485,7 @@ const plain_meaning plain_relay_words[] = {
     {"new", 0, answer_new},
     {"set_router", 1, answer_set_router},
     {"set_lifetime", 1, answer_set_lifetime},
+    {"set_echo_drop", 1, answer_set_echo_drop},
     {"set_port", 5, answer_set_port},
     {"set_route", 7, answer_set_route},
     {"set_group", 5, answer_set_group},

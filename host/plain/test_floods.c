@@ -328,7 +328,6 @@ static void test_unmarked(void)
     CHECK_EQUAL(held(), 0);
     CHECK_EQUAL(PLAIN_FLOOD_UNMARKED_COUNT, 15);
     CHECK_EQUAL(PLAIN_PAIRS_HELD_COUNT, 16);
-    CHECK_EQUAL(PLAIN_COUNTERS, 17);
 }
 
 static void test_28_after_6_and_7(void)

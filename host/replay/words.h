@@ -26,6 +26,11 @@ answer_word answer_checksum;
 answer_word answer_read;
 answer_word answer_build;
 
+/* words_echo.c: echo messages, and answering one. */
+answer_word answer_read_echo;
+answer_word answer_build_echo;
+answer_word answer_echo;
+
 /* words_pairs.c: the pairs that a mission holds. */
 answer_word answer_pairs;
 

@@ -14,8 +14,19 @@
 
 /* A good header is told with its length, its own length and its fields. */
 #define READ_ANSWERS 17
+/* A request is told with its identifier, sequence number and data, a reply with
+ * five fields more. */
+#define REQUEST_ANSWERS 5
+#define REPLY_ANSWERS 10
 /* A route that was found is told by its place, ones and port. */
 #define SEARCH_ANSWERS 3
+
+static size_t message_answers(const struct trace_call *answer)
+{
+    return answer->count > 1 && trace_is(answer->words[1], "0")
+               ? REPLY_ANSWERS
+               : REQUEST_ANSWERS;
+}
 
 /* The words that this answer of the call has at least. */
 static size_t answers_of(enum call of, const struct trace_call *answer)
@@ -24,6 +35,8 @@ static size_t answers_of(enum call of, const struct trace_call *answer)
 
     if (of == CALL_READ && begun && trace_is(answer->words[0], "0"))
         return READ_ANSWERS;
+    if (of == CALL_READ_ECHO && begun && trace_is(answer->words[0], "0"))
+        return message_answers(answer);
     if (of == CALL_SEARCH && begun && !trace_is(answer->words[0], "-") &&
         !(answer->count == 1 && trace_is(answer->words[0], "21")))
         return SEARCH_ANSWERS;

@@ -18,7 +18,7 @@ struct library_lent {
 };
 
 /* Makes a call that is lent something and takes nothing but numbers, which is
- * each but hj_receive_at; gives what it returned. */
+ * each but hj_receive_at and hj_echo; gives what it returned. */
 uint64_t library_call(enum call call, const struct library_lent *lent,
                       const uint32_t *numbers);
 

@@ -32,6 +32,8 @@ static plain_refusal set_board(plain_board *board, plain_list list,
         return plain_set_router(board, n[0]);
     case CALL_SET_LIFETIME:
         return plain_set_lifetime(board, n[0]);
+    case CALL_SET_ECHO_DROP:
+        return plain_set_echo_drop(board, n[0]);
     case CALL_SET_PORT:
         return plain_set_port(board, n[0], &port);
     case CALL_SET_ROUTE:

@@ -12,6 +12,8 @@
 #include <stdbool.h>
 #include <stdint.h>
 
+#include "length.h"
+
 struct random {
     uint64_t state;
 };
@@ -43,8 +45,7 @@ static inline void random_octets(struct random *random, uint8_t *octets,
         octets[i] = (uint8_t)random_below(random, 256);
 }
 
-/* How many an array has, and one of them, drawn from `random`. */
-#define LENGTH(array) ((uint32_t)(sizeof(array) / sizeof *(array)))
+/* One of an array, drawn from `random`. */
 #define PICK(array) (array)[random_below(random, LENGTH(array))]
 
 #endif

@@ -17,8 +17,8 @@
 #define TRACE_MOST_LINE 40000
 /* Octets that a word of such a line can stand for. */
 #define TRACE_MOST_OCTETS (TRACE_MOST_LINE / 2)
-/* `build` and its sixteen arguments. */
-#define TRACE_MOST_WORDS 17
+/* The eighteen numbers that `counters` answers; `build` has one word less. */
+#define TRACE_MOST_WORDS 18
 /* Missions are numbered from 0. */
 #define TRACE_MISSIONS 2
 /* Records of a fresh list, and the most that a trace may give it. */

@@ -18,6 +18,7 @@
 
 #define SOAK_PARTS 24
 #define SOAK_MOST_ROOM 500
+#define SOAK_MOST_REPLY 8400 /* room for a reply, or a message */
 #define SOAK_MOST_WORDS 2000
 #define SOAK_MOST_RECORDS 1024
 
@@ -62,22 +63,24 @@ enum {
     TOLD_DROPPED,
     TOLD_DATA_FROM,
     TOLD_REWRITTEN_OCTETS,
-    TOLD_REWRITTEN
+    TOLD_REWRITTEN,
+    TOLD_REPLY_OCTETS /* of a reply alone, in the place of the last three */
 };
 
-/* Where the words have what: ports and the lifetime on the board, the others in
- * a mission's state, whose first word is its number. */
+/* Where the words have what: ports, the lifetime and echo drop on the board,
+ * the others in a mission's state, whose first word is its number. */
 enum {
     SOAK_PORTS_AT = 1,
     SOAK_PORT_WORDS = 5,
     SOAK_LIFETIME_AT = 41,
+    SOAK_ECHO_DROP_AT = 42,
     SOAK_GROUPS_AT = 1,
     SOAK_PATHS_AT = 65,
     SOAK_QUEUES_AT = 129,
     SOAK_QUEUE_WORDS = HJ_QUEUE + 1,
     SOAK_COUNTERS_AT = 393,
-    SOAK_LAST_SECOND_AT = 410,
-    SOAK_PAIRS_AT = 411
+    SOAK_LAST_SECOND_AT = 411,
+    SOAK_PAIRS_AT = 412
 };
 
 #endif

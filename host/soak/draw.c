@@ -8,8 +8,10 @@
 
 #include <string.h>
 
+#include "messages.h"
 #include "numbers.h"
 #include "octets.h"
+#include "shared/echoes.h"
 #include "shared/floods.h"
 
 static uint32_t draw_set(const struct world *world, struct random *random)
@@ -87,6 +89,8 @@ void soak_draw_setting(struct soak_call *call, enum call which,
         n[0] = !random_one_in(random, 8);
     } else if (which == CALL_SET_LIFETIME) {
         n[0] = floods_lifetime(world, random);
+    } else if (which == CALL_SET_ECHO_DROP) {
+        n[0] = random_one_in(random, 8);
     } else if (which == CALL_SWEEP) {
         n[0] = floods_sweep(world, random);
     } else if (which == CALL_SET_PORT) {
@@ -123,6 +127,21 @@ static void draw_receive(struct soak_call *call, struct world *world,
     soak_draw_octets(call, world, random);
 }
 
+static void draw_echo(struct soak_call *call, const struct world *world,
+                      struct random *random)
+{
+    static struct datagram datagram;
+
+    call->numbers[0] = random_one_in(random, 24)
+                           ? soak_odd_number(world, random)
+                           : world_port(world, random);
+    call->numbers[1] = random_below(random, 65536);
+    call->room = echoes_room(world, call->numbers[0], random);
+    echoes_request(world, call->numbers[0], &datagram, random);
+    call->count = datagram.count;
+    memcpy(call->octets, datagram.octets, datagram.count);
+}
+
 /* A port, a place or a counter, of which some are beyond the last; or an
  * address, mostly one that a route is for. */
 static void draw_look(struct soak_call *call, const struct world *world,
@@ -148,6 +167,11 @@ static void draw_stateless(struct soak_call *call, const struct world *world,
     call->room = random_below(random, SOAK_MOST_ROOM + 1);
     if (call->which == CALL_BUILD)
         soak_draw_fields(call, world, random);
+    else if (call->which == CALL_READ_ECHO)
+        soak_draw_message(call, random);
+    else if (call->which == CALL_BUILD_REQUEST ||
+             call->which == CALL_BUILD_REPLY)
+        soak_draw_build(call, world, random);
     else
         soak_draw_octets(call, world, random);
 }
@@ -167,6 +191,8 @@ void soak_draw_call(struct soak_call *call, enum call which,
             spoil(call, world, random);
     } else if (which == CALL_RECEIVE) {
         draw_receive(call, world, random);
+    } else if (which == CALL_ECHO) {
+        draw_echo(call, world, random);
     } else {
         draw_look(call, world, random);
     }

@@ -45,6 +45,42 @@ static void put_answer(uint64_t *parts, hj_answer answer)
     parts[1] = hj_value(answer);
 }
 
+static void read_message(const struct soak_call *call, const uint8_t *octets,
+                         uint64_t *parts)
+{
+    hj_message message;
+
+    parts[0] = hj_read_echo(octets, call->count, &message);
+    parts[1] = message.type;
+    parts[2] = message.identifier;
+    parts[3] = message.sequence;
+    parts[4] = message.data_from;
+    parts[5] = message.hop_count;
+    parts[6] = message.format;
+    parts[7] = message.stamp;
+    parts[8] = message.mtu;
+    parts[9] = message.rate;
+}
+
+/* The numbers in the order of hj_build_reply, the timestamp as two. */
+static hj_answer build_message(const struct soak_call *call,
+                               const uint8_t *data, uint8_t *output)
+{
+    const uint32_t *n = call->numbers;
+    hj_message message = {0};
+
+    message.type = call->which == CALL_BUILD_REQUEST ? HJ_ECHO_REQUEST
+                                                     : HJ_ECHO_REPLY;
+    message.identifier = (uint16_t)n[0];
+    message.sequence = (uint16_t)n[1];
+    message.hop_count = (uint8_t)n[2];
+    message.format = (uint8_t)n[3];
+    message.stamp = (uint64_t)n[4] << 32 | n[5];
+    message.mtu = n[6];
+    message.rate = n[7];
+    return hj_build_echo(&message, data, call->count, output, call->room);
+}
+
 static void stateless(const struct soak_call *call, const uint8_t *octets,
                       uint8_t *output, uint64_t *parts)
 {
@@ -64,6 +100,13 @@ static void stateless(const struct soak_call *call, const uint8_t *octets,
         break;
     case CALL_CHECKSUM:
         parts[1] = hj_checksum(octets, call->count);
+        break;
+    case CALL_READ_ECHO:
+        read_message(call, octets, parts);
+        break;
+    case CALL_BUILD_REQUEST:
+    case CALL_BUILD_REPLY:
+        put_answer(parts, build_message(call, octets, output));
         break;
     case CALL_BOARD_WORDS:
         parts[1] = hj_board_words();
@@ -95,6 +138,25 @@ static void receive(const struct soak_call *call,
     answer->parts[TOLD_DATA_FROM] = hj_data_from(verdict);
     answer->parts[TOLD_REWRITTEN_OCTETS] = hj_rewritten_octets(verdict);
     answer->parts[TOLD_REWRITTEN] = hj_rewritten(verdict);
+}
+
+static void echo(const struct soak_call *call, const struct library_lent *lent,
+                 const uint8_t *octets, uint8_t *output,
+                 struct soak_answer *answer)
+{
+    hj_verdict verdict =
+        hj_echo(lent->board, lent->board_words, lent->mission,
+                lent->mission_words, lent->routes, lent->route_count,
+                call->numbers[0], (uint16_t)call->numbers[1], octets,
+                call->count, output, call->room);
+
+    answer->parts[0] = hj_ended_by(verdict);
+    answer->parts[TOLD_LOCAL] = hj_local(verdict);
+    answer->parts[TOLD_ONWARD] = hj_onward(verdict);
+    answer->parts[TOLD_TOOK] = hj_took(verdict);
+    answer->parts[TOLD_DROPPED] = hj_dropped(verdict);
+    answer->parts[TOLD_REWRITTEN] = verdict >> 56; /* 0 here */
+    answer->parts[TOLD_REPLY_OCTETS] = hj_reply_octets(verdict);
 }
 
 static void put_taken(uint64_t *parts, hj_answer taken)
@@ -139,6 +201,8 @@ void soak_ours(const struct soak_call *call, const struct library_lent *lent,
         stateless(call, octets, output, answer->parts);
     else if (call->which == CALL_RECEIVE)
         receive(call, lent, octets, output, answer);
+    else if (call->which == CALL_ECHO)
+        echo(call, lent, octets, output, answer);
     else
         by_numbers(call, lent, answer->parts);
 }

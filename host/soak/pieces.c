@@ -36,7 +36,7 @@ bool pieces_make(void)
            soak_lent_make(&other_mission, words) &&
            soak_lent_make(&other_routes, records) &&
            soak_lent_make(&octets, DATAGRAM_MOST_LENT) &&
-           soak_lent_make(&output, SOAK_MOST_ROOM);
+           soak_lent_make(&output, SOAK_MOST_REPLY);
 }
 
 /* Octets of any one value. */
@@ -278,8 +278,11 @@ static void own_garbage(struct random *random)
 
     if (random_one_in(random, 3))
         return;
-    for (uint32_t port = 1; port <= HJ_PORTS; port++)
+    for (uint32_t port = 1; port <= HJ_PORTS; port++) {
         of_board[SOAK_PORT_WORDS * port] = random_below(random, 3);
+        if (random_one_in(random, 2)) /* an MTU that room can be lent for */
+            of_board[SOAK_PORT_WORDS * port - 1] = random_below(random, 200);
+    }
     for (uint32_t i = 0; i < HJ_MISSIONS; i++) {
         *(uint32_t *)soak_lent_piece(&missions[i]) = random_below(random, 3);
         soak_lent_keep(&missions[i]);
@@ -325,6 +328,7 @@ static void remember_garbage(const struct world *world, struct random *random)
         hj_board *of_all = (hj_board *)soak_lent_piece(&board);
 
         of_all->words[SOAK_LIFETIME_AT] = random_below(random, 10);
+        of_all->words[SOAK_ECHO_DROP_AT] = 0;
         soak_lent_keep(&board);
     }
 }

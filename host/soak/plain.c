@@ -12,6 +12,7 @@
 
 #include "plain/plain_checksum.h"
 #include "plain/plain_header.h"
+#include "plain/plain_message.h"
 #include "plain/plain_relay.h"
 #include "shared/plainly.h"
 
@@ -79,6 +80,47 @@ static void build(const struct soak_call *call, uint8_t *output,
     parts[1] = parts[0] == PLAIN_GOOD ? header : 0;
 }
 
+static void read_message(const struct soak_call *call, uint64_t *parts)
+{
+    plain_message message;
+
+    parts[0] = plain_message_read(call->octets, call->count, &message);
+    if (parts[0] != PLAIN_GOOD)
+        return;
+    parts[1] = message.type;
+    parts[2] = message.identifier;
+    parts[3] = message.sequence;
+    parts[4] = (uint64_t)(message.data - call->octets);
+    parts[5] = message.hops;
+    parts[6] = message.format;
+    parts[7] = message.timestamp;
+    parts[8] = message.mtu;
+    parts[9] = message.rate;
+}
+
+static void build_message(const struct soak_call *call, uint8_t *output,
+                          uint64_t *parts)
+{
+    const uint32_t *n = call->numbers;
+    plain_message message = {.identifier = (uint16_t)n[0],
+                             .sequence = (uint16_t)n[1],
+                             .hops = (uint8_t)n[2],
+                             .format = (uint8_t)n[3],
+                             .timestamp = (uint64_t)n[4] << 32 | n[5],
+                             .mtu = n[6],
+                             .rate = n[7],
+                             .data = call->octets,
+                             .data_octets = call->count};
+    size_t written = 0;
+
+    parts[0] = call->which == CALL_BUILD_REQUEST
+                   ? plain_request_build(&message, output, call->room,
+                                         &written)
+                   : plain_reply_build(&message, output, call->room,
+                                       &written);
+    parts[1] = parts[0] == PLAIN_GOOD ? written : 0;
+}
+
 static void stateless(const struct soak_call *call, uint8_t *output,
                       uint64_t *parts)
 {
@@ -95,6 +137,11 @@ static void stateless(const struct soak_call *call, uint8_t *output,
         parts[1] = plain_path_valid(path);
     else if (call->which == CALL_CHECKSUM)
         parts[1] = plain_checksum(call->octets, call->count);
+    else if (call->which == CALL_READ_ECHO)
+        read_message(call, parts);
+    else if (call->which == CALL_BUILD_REQUEST ||
+             call->which == CALL_BUILD_REPLY)
+        build_message(call, output, parts);
     else if (call->which == CALL_BOARD_WORDS)
         parts[1] = HJ_BOARD_WORDS;
     else if (call->which == CALL_MISSION_WORDS)
@@ -129,6 +176,22 @@ static void receive(const struct soak_call *call, uint8_t *output,
     parts[TOLD_REWRITTEN] = verdict.rewritten.bits;
 }
 
+static void echo(const struct soak_call *call, uint8_t *output,
+                 uint64_t *parts)
+{
+    plain_view view = plainly_view(&relay, call->mission, list_of(call));
+    plain_slot slot = {(uint16_t)call->numbers[1]};
+    plain_echoed echoed = plain_echo(&view, call->numbers[0], slot,
+                                     call->octets, call->count, output,
+                                     call->room);
+
+    parts[0] = echoed.refusal;
+    parts[TOLD_ONWARD] = echoed.onward;
+    parts[TOLD_TOOK] = echoed.took.bits;
+    parts[TOLD_DROPPED] = echoed.dropped.bits;
+    parts[TOLD_REPLY_OCTETS] = echoed.reply_octets;
+}
+
 static void take(const struct soak_call *call, uint64_t *parts)
 {
     plain_view view = plainly_view(&relay, call->mission, list_of(call));
@@ -149,6 +212,8 @@ static void look(const struct soak_call *call, uint64_t *parts)
         parts[1] = relay.board.router;
     } else if (call->which == CALL_GET_LIFETIME) {
         parts[1] = relay.board.lifetime;
+    } else if (call->which == CALL_GET_ECHO_DROP) {
+        parts[1] = relay.board.echo_drop;
     } else if (call->which == CALL_LAST_SECOND) {
         parts[1] = mission->last_second;
     } else if (call->which == CALL_WAITING) {
@@ -258,6 +323,8 @@ static void with_state(const struct soak_call *call, uint8_t *output,
                                call->which, call->numbers);
     else if (call->which == CALL_RECEIVE)
         receive(call, output, parts);
+    else if (call->which == CALL_ECHO)
+        echo(call, output, parts);
     else if (call->which == CALL_TAKE)
         take(call, parts);
     else if (call->which == CALL_SEARCH)

@@ -7,7 +7,8 @@
  *
  * The reader's part comes from host/plain: a header that is refused there is
  * refused here by the same number. What the list gives is list.c's, what is due
- * of the headers sent on is that of headers.c, and of floods that of floods.c.
+ * of the headers sent on is that of headers.c, of floods that of floods.c, and
+ * of echo requests that of echoes.c.
  *
  * The awkward case is a queue in a state that no history leaves. Entries behind
  * those that wait, and counts over 32, are words like any other: a newcomer
@@ -19,6 +20,7 @@
 #include <stdbool.h>
 #include <string.h>
 
+#include "echoes.h"
 #include "floods.h"
 #include "headers.h"
 #include "list.h"
@@ -156,11 +158,13 @@ static const char *set_board(const struct soak_call *call,
                              const struct soak_answer *answer,
                              const struct library_lent *due)
 {
-    bool of_router = call->which == CALL_SET_ROUTER;
+    uint32_t at = call->which == CALL_SET_ROUTER     ? 0
+                  : call->which == CALL_SET_LIFETIME ? SOAK_LIFETIME_AT
+                                                     : SOAK_ECHO_DROP_AT;
 
-    if (of_router && call->numbers[0] > 1)
+    if (at != SOAK_LIFETIME_AT && call->numbers[0] > 1)
         return only(answer, HJ_BAD_CODE);
-    due->board->words[of_router ? 0 : SOAK_LIFETIME_AT] = call->numbers[0];
+    due->board->words[at] = call->numbers[0];
     return only(answer, HJ_DONE);
 }
 
@@ -193,6 +197,8 @@ static const char *looked(const struct soak_call *call,
         told.parts[1] = due->board->words[0];
     else if (call->which == CALL_GET_LIFETIME)
         told.parts[1] = due->board->words[SOAK_LIFETIME_AT];
+    else if (call->which == CALL_GET_ECHO_DROP)
+        told.parts[1] = due->board->words[SOAK_ECHO_DROP_AT];
     else if (call->which == CALL_LAST_SECOND)
         told.parts[1] = due->mission->words[SOAK_LAST_SECOND_AT];
     else if (soak_list_too_long(call) || call->numbers[0] >= places(call) ||
@@ -440,6 +446,52 @@ static const char *received(const struct soak_call *call,
     return carried(&sent, output);
 }
 
+/* ---- Replies ------------------------------------------------------------- */
+
+/* What a reply that is made counts and writes. */
+static const char *replied(const struct soak_call *call,
+                           const struct soak_reply *reply,
+                           const struct library_lent *due, uint8_t *output)
+{
+    ++*record(due, ON_COUNTER, HJ_OUT_REQUESTS);
+    if (reply->onward == HJ_QUEUES_FULL)
+        ++*record(due, ON_COUNTER, HJ_OUT_DISCARDS);
+    if (reply->onward != HJ_SENT_ON) {
+        count_one(due, reply->onward);
+        return NULL;
+    }
+    memcpy(output, reply->octets, reply->count);
+    return put(queue(due, reply->port), call->numbers[1] & 0xffff,
+               reply->precedence);
+}
+
+static const char *echoed(const struct soak_call *call,
+                          const struct soak_answer *answer,
+                          const struct library_lent *due, uint8_t *output)
+{
+    static struct soak_reply reply;
+    struct soak_answer told = {{0}};
+
+    if (soak_list_too_long(call))
+        return only(answer, HJ_BAD_NUMBER);
+    if (!is_set_up(due, call->numbers[0]))
+        return only(answer, HJ_NO_PORT);
+    if (call->room < record(due, ON_PORT, call->numbers[0])[3])
+        return only(answer, HJ_SHORT_OUTPUT);
+    soak_reply_due(call, due, &reply);
+    told.parts[TOLD_ONWARD] = reply.onward;
+    if (reply.onward == HJ_SENT_ON) {
+        told.parts[TOLD_TOOK] = (uint64_t)1 << reply.port;
+        told.parts[TOLD_REPLY_OCTETS] = reply.count;
+    }
+    if (reply.onward == HJ_QUEUES_FULL)
+        told.parts[TOLD_DROPPED] = (uint64_t)1 << reply.port;
+    if (memcmp(&told, answer, sizeof told) != 0)
+        return "not the answer that is due to an echo request";
+    return reply.onward == HJ_NO_REPLY ? NULL
+                                       : replied(call, &reply, due, output);
+}
+
 const char *soak_rules(const struct soak_call *call,
                        const struct soak_answer *answer,
                        const struct library_lent *due, uint8_t *output)
@@ -452,6 +504,8 @@ const char *soak_rules(const struct soak_call *call,
         return set(call, answer, due);
     if (call->which == CALL_RECEIVE)
         return received(call, answer, due, output);
+    if (call->which == CALL_ECHO)
+        return echoed(call, answer, due, output);
     if (call->which == CALL_TAKE)
         return taken(call, answer, due);
     if (call->which == CALL_SEARCH)

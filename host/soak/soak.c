@@ -4,13 +4,13 @@
  *     soak [seed=N] [calls=N]
  *
  * The run goes round by threes. First a history: a fresh board and two fresh
- * missions, settings, and then datagrams, takes, sweeps and other calls of
- * both, each made on host/plain too, which must answer the same; at its end
- * every number that can be asked is compared, and the ledger of each mission's
- * ports must close. Then what it left, with a few words changed, and calls on
- * it. Then garbage words and records, and calls on them. One call in eight is
- * lent words of a wrong number, one in six of those with a list another list,
- * of the next length in turn, and others are lent nothing.
+ * missions, settings, and then datagrams, echo requests, takes, sweeps and
+ * other calls of both, each made on host/plain too, which must answer the same;
+ * at its end every number that can be asked is compared, and the ledger of each
+ * mission's ports must close. Then what it left, with a few words changed, and
+ * calls on it. Then garbage words and records, and calls on them. One call in
+ * eight is lent words of a wrong number, one in six of those with a list
+ * another list, of the next length in turn, and others are lent nothing.
  *
  * After each call the board, both missions' states, the list, the octets and
  * the output, with the guards around them, must be what is due (rules.c). The
@@ -123,6 +123,8 @@ static void count_end(void)
         tally.onward[answer.parts[TOLD_ONWARD]]++;
         count_flood();
     }
+    if (call.which == CALL_ECHO && answer.parts[0] == HJ_DONE)
+        tally.replies[answer.parts[TOLD_ONWARD]]++;
     if (call.which == CALL_RECEIVE && answer.parts[TOLD_TOOK] != 0)
         tally.sent[soak_sent_as(&answer)]++;
 }
@@ -164,8 +166,9 @@ static bool make_wrong_length(void)
 
 static void note_in_books(void)
 {
-    for (uint32_t port = 0; port < HJ_PORTS && call.which == CALL_RECEIVE;
-         port++) {
+    bool sends = call.which == CALL_RECEIVE || call.which == CALL_ECHO;
+
+    for (uint32_t port = 0; port < HJ_PORTS && sends; port++) {
         books[call.mission][port].took += answer.parts[TOLD_TOOK] >> port & 1;
         books[call.mission][port].dropped +=
             answer.parts[TOLD_DROPPED] >> port & 1;
@@ -245,7 +248,9 @@ static enum call draw_which(void)
         return draw_of(KIND_SETTING, KIND_CLEARING);
     if (draw < 36)
         return draw_of(KIND_LOOK, KIND_LOOK);
-    return draw < 50 ? CALL_TAKE : CALL_RECEIVE;
+    if (draw < 50)
+        return CALL_TAKE;
+    return draw < 62 ? CALL_ECHO : CALL_RECEIVE;
 }
 
 static bool make_any(enum soak_state sort)
@@ -435,7 +440,10 @@ static bool run_history(void)
     for (uint32_t i = 0; good && i < calls; i++) {
         if (!takes && i % 4 != 0) {
             world.mission = random_one_in(random, 3);
-            soak_draw_call(&call, CALL_RECEIVE, &world, random);
+            soak_draw_call(&call,
+                           random_one_in(random, 8) ? CALL_ECHO
+                                                    : CALL_RECEIVE,
+                           &world, random);
             good = make(SOAK_HISTORY);
         } else {
             good = make_any(SOAK_HISTORY);

@@ -28,6 +28,20 @@ static void say_fields(const hj_fields *fields)
         printf("%02x", (unsigned)at[i]);
 }
 
+/* Whether the call is lent an output, and octets to read. */
+static bool has_room(enum call which)
+{
+    return which == CALL_RECEIVE || which == CALL_ECHO ||
+           which == CALL_BUILD || which == CALL_BUILD_REQUEST ||
+           which == CALL_BUILD_REPLY;
+}
+
+static bool has_octets(enum call which)
+{
+    return (has_room(which) && which != CALL_BUILD) || which == CALL_READ ||
+           which == CALL_READ_ECHO || which == CALL_CHECKSUM;
+}
+
 void soak_say_call(const struct soak_call *call)
 {
     printf("%s", call_facts[call->which].name);
@@ -40,14 +54,13 @@ void soak_say_call(const struct soak_call *call)
                call->mission_words);
     if (call_facts[call->which].lent & LENT_R)
         printf(", %zu records", call->records);
-    if (call->which == CALL_RECEIVE || call->which == CALL_BUILD)
+    if (has_room(call->which))
         printf(", room %zu", call->room);
     if (call->which == CALL_BUILD)
         printf(", data %zu", call->data);
     if (call->which == CALL_BUILD)
         say_fields(&call->fields);
-    else if (call->which == CALL_RECEIVE || call->which == CALL_READ ||
-             call->which == CALL_CHECKSUM)
+    else if (has_octets(call->which))
         say_octets(call);
     putchar('\n');
 }
@@ -128,6 +141,21 @@ static struct ends onward_ends(const struct soak_tally *tally)
     return ends;
 }
 
+/* Likewise what became of an echo request. */
+static struct ends reply_ends(const struct soak_tally *tally)
+{
+    struct ends ends = {"reply",
+                        {[HJ_NO_REPLY] = true,
+                         [HJ_SENT_ON] = true,
+                         [HJ_NO_ROUTE] = true,
+                         [HJ_TOO_BIG] = true,
+                         [HJ_QUEUES_FULL] = true},
+                        {0}};
+
+    memcpy(ends.times, tally->replies, sizeof ends.times);
+    return ends;
+}
+
 static bool say_ends(const struct ends *ends, bool aloud)
 {
     bool met = true;
@@ -149,12 +177,16 @@ static bool say_ends(const struct ends *ends, bool aloud)
 
 static bool all_ends(const struct soak_tally *tally, bool aloud)
 {
-    static const char *const GROUPS[] = {"hj_read_words", "hj_build_words",
-                                         SETTINGS,        "hj_receive_at",
-                                         "hj_sweep",      "hj_take",
-                                         READING};
+    static const char *const GROUPS[] = {
+        "hj_read_words",    "hj_build_words", "hj_read_echo_words",
+        "hj_build_request", "hj_build_reply", SETTINGS,
+        "hj_receive_at",    "hj_echo",        "hj_sweep",
+        "hj_take",          READING};
     struct ends ends = onward_ends(tally);
     bool met = say_ends(&ends, aloud);
+
+    ends = reply_ends(tally);
+    met = say_ends(&ends, aloud) && met;
 
     for (size_t i = 0; i < sizeof GROUPS / sizeof *GROUPS; i++) {
         ends = ends_of(tally, GROUPS[i]);
@@ -173,9 +205,9 @@ void soak_say_tally(const struct soak_tally *tally)
                tally->made[which], tally->wrong_made[which]);
     printf("%-22s%12" PRIu64 "%22" PRIu64 "\n\n", "all", tally->calls,
            wrong_calls(tally));
-    say("boards of 0 to 100 words tried, but 42",
+    say("boards of 0 to 100 words tried, but 43",
         lengths_met(tally->wrong_boards, MOST_BOARDS));
-    say("missions of 0 to 745 words tried, but 731",
+    say("missions of 0 to 745 words tried, but 732",
         lengths_met(tally->wrong_missions, MOST_MISSIONS));
     say("lists of 0 to 530 records tried",
         lengths_met(tally->lists, MOST_LISTS));

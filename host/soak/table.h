@@ -45,6 +45,7 @@ struct soak_tally {
      * onward halves of the verdicts beside them. */
     uint64_t ends[CALLS][CALL_NUMBERS];
     uint64_t onward[CALL_NUMBERS];
+    uint64_t replies[CALL_NUMBERS]; /* what became of echo requests */
     uint64_t sent[SOAK_SENT]; /* datagrams, by their headers */
     uint64_t found[2]; /* searches in histories, without a route and with one */
     uint64_t over[2];  /* of them, where a longer one that is not up matches */

@@ -25,17 +25,17 @@ use Rattle.records.specs.SetUp.{isSetUp}
 use Rattle.sets.specs.Limits.{portCount, groupPlaces, pathPlaces}
 use Rattle.state.specs.Relay.{Mission, Relay, groupAt, pathAt, groupIn, pathIn, withGroup, withPath, putGroup, putPath}
 use Rattle.state.specs.Relay.{withMission, allGroups, allPaths}
-use Rattle.state.specs.Seen.{Board, State, ownedAt, putRouter, putOwned, onMission, onSeated, freshState}
+use Rattle.state.specs.Seen.{Board, State, ownedAt, putRouter, putDrop, putOwned, onMission, onSeated, freshState}
 use Rattle.state.proofs.Sizes.{Sized, SizedBoard}
 use Rattle.state.proofs.Places.{owned-back, put-group-back, put-path-back, group-back, path-back, owned-left, group-left, path-left}
 use Rattle.settings.specs.Refusals.{placeRefused}
 use Rattle.settings.proofs.Values.{place-taken}
-use Rattle.refusals.specs.Lists.{portChecks, routeChecks, clearRouteChecks, groupChecks, pathChecks, routerChecks, missionChecks, clearChecks}
+use Rattle.refusals.specs.Lists.{portChecks, routeChecks, clearRouteChecks, groupChecks, pathChecks, flagChecks, missionChecks, clearChecks}
 use Rattle.refusals.proofs.Places.{place-there}
 use Rattle.refusals.proofs.Chains.{areNumbers}
 use Rattle.refusals.proofs.Decided.{port-decided, route-decided, clear-route-decided}
 use Rattle.adjust.specs.Settled.{settled, newPort, newGroup, newPath}
-use Rattle.adjust.specs.Settled.{settledRouter, settledPort, settledRoute, settledGroup, settledPath, settledFresh}
+use Rattle.adjust.specs.Settled.{settledRouter, settledDrop, settledPort, settledRoute, settledGroup, settledPath, settledFresh}
 use Rattle.adjust.specs.Settled.{clearedRoute, clearedGroup, clearedPath}
 
 -- ---- any call
@@ -55,8 +55,11 @@ module _ {S : Type 0} (refusal : ℕ) (new old : S) where
       cases false = refl
 
 -- ---- what is taken is read back
-pub router-taken : (b : Board) (router : ℕ) → firstOf (routerChecks router) ≡ 0 → settledRouter b router .router ≡ router
+pub router-taken : (b : Board) (router : ℕ) → firstOf (flagChecks router) ≡ 0 → settledRouter b router .router ≡ router
 router-taken b router none = ap (λ (x : Board). x .router) (taken-new _ (putRouter b router) b none)
+
+pub drop-taken : (b : Board) (drop : ℕ) → firstOf (flagChecks drop) ≡ 0 → settledDrop b drop .drop ≡ drop
+drop-taken b drop none = ap (λ (x : Board). x .drop) (taken-new _ (putDrop b drop) b none)
 
 pub fresh-taken : (s : State) (n : ℕ) → firstOf (missionChecks n) ≡ 0 → settledFresh s n ≡ freshState n
 fresh-taken s n none = taken-new _ (freshState n) s none
@@ -172,7 +175,7 @@ module _ (r : Relay) (n i : ℕ) where
 
 -- No other part: with the part that was written put back, all is as it was before.
 abbrev pub backPorts : Board → Board → Board
-backPorts b y = record { router = y .router; ports = b .ports; lifetime = y .lifetime }
+backPorts b y = record { router = y .router; ports = b .ports; lifetime = y .lifetime; drop = y .drop }
 
 abbrev pub backGroups : Relay → Relay → Relay
 backGroups r y = withMission y (allGroups (y .mission) (r .mission .groups))
@@ -183,6 +186,9 @@ backPaths r y = withMission y (allPaths (y .mission) (r .mission .paths))
 module _ (b : Board) (n : ℕ) where
   pub router-apart : (x : ℕ) → putRouter (settled n (putRouter b x) b) (b .router) ≡ b
   router-apart x = unchanged n (putRouter b x) b (λ (y : Board). putRouter y (b .router)) refl
+
+  pub drop-apart : (x : ℕ) → putDrop (settled n (putDrop b x) b) (b .drop) ≡ b
+  drop-apart x = unchanged n (putDrop b x) b (λ (y : Board). putDrop y (b .drop)) refl
 
   pub port-apart : (i : ℕ) (x : OwnedPort) → backPorts b (settled n (putOwned b i x) b) ≡ b
   port-apart i x = unchanged n (putOwned b i x) b (backPorts b) refl

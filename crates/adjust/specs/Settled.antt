@@ -16,8 +16,8 @@ use Rattle.records.specs.declared.PathPlace.{PathPlace}
 use Rattle.records.specs.Fresh.{freshGroup, freshPath}
 use Rattle.sets.specs.Limits.{groupPlaces, pathPlaces}
 use Rattle.state.specs.Relay.{Mission, Relay, putGroup, putPath, withGroup, withPath}
-use Rattle.state.specs.Seen.{Board, State, putRouter, putOwned, freshState}
-use Rattle.refusals.specs.Lists.{portChecks, routeChecks, clearRouteChecks, groupChecks, pathChecks, routerChecks, missionChecks, clearChecks}
+use Rattle.state.specs.Seen.{Board, State, putRouter, putDrop, putOwned, freshState}
+use Rattle.refusals.specs.Lists.{portChecks, routeChecks, clearRouteChecks, groupChecks, pathChecks, flagChecks, missionChecks, clearChecks}
 
 -- a refused setting changes nothing
 abbrev pub settled : {A : Type 0} → ℕ → A → A → A
@@ -47,7 +47,10 @@ newPath path send here = record { filled = 1; path = path; send = send; here = h
 
 -- ---- what each call of the operator leaves
 abbrev pub settledRouter : Board → ℕ → Board
-settledRouter b router = settled (firstOf (routerChecks router)) (putRouter b router) b
+settledRouter b router = settled (firstOf (flagChecks router)) (putRouter b router) b
+
+abbrev pub settledDrop : Board → ℕ → Board
+settledDrop b drop = settled (firstOf (flagChecks drop)) (putDrop b drop) b
 
 abbrev pub settledPort : Board → ℕ → Address → Mask → ℕ → ℕ → Board
 settledPort b p address mask mtu mission =

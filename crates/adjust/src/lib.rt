@@ -1,5 +1,5 @@
-// The settings calls: router or host, a port, and a mission made fresh. Groups and paths stand in the module `groups_and_paths`; routes, which stand in a
-// list of their own, in the crate `route_calls`.
+// The settings calls: router or host, whether echo requests are dropped, a port, and a mission made fresh. Groups and paths stand in the module
+// `groups_and_paths`; routes, which stand in a list of their own, in the crate `route_calls`.
 //
 // Each call asks first what refuses it (crate `refusals`), and writes one place of the board or of the mission only where nothing does: a refused call
 // answers its number and changes nothing, a taken one answers 0 and its record stands in the place. A filled record has 1 as its flag,
@@ -16,19 +16,32 @@ ghost use mathlib.Core.Path.{_≡_};
 ghost use lib.ListN.{length};
 ghost use Rattle.checks.specs.Order.{firstOf};
 ghost use Rattle.state.specs.Layout.{boardWords, decodeBoard, missionWords, decode};
-ghost use Rattle.refusals.specs.Lists.{portChecks, routerChecks, missionChecks};
-ghost use Rattle.adjust.specs.Settled.{settledRouter, settledPort, settledFresh};
+ghost use Rattle.refusals.specs.Lists.{portChecks, flagChecks, missionChecks};
+ghost use Rattle.adjust.specs.Settled.{settledRouter, settledDrop, settledPort, settledFresh};
 
 // 1 makes the node a router, 0 a host.
 pub fn set_router(board: &mut [u32], router: u32) -> u32
     requires { ⌜ length (now board) ≡ boardWords ⌝ }
-    ensures answer { λ r. ⌜ r ≡ firstOf (routerChecks router) ⌝ }
+    ensures answer { λ r. ⌜ r ≡ firstOf (flagChecks router) ⌝ }
     ensures left { λ _. ⌜ decodeBoard (now (board .exit)) ≡ settledRouter (decodeBoard (now (board .entry))) router ⌝ }
 {
     let Check::Passed = settings::check_flag(router) else {
         return 24;
     };
     state_board::put_router(board, router);
+    0
+}
+
+// 1 drops all echo requests, 0 answers them.
+pub fn set_drop(board: &mut [u32], drop: u32) -> u32
+    requires { ⌜ length (now board) ≡ boardWords ⌝ }
+    ensures answer { λ r. ⌜ r ≡ firstOf (flagChecks drop) ⌝ }
+    ensures left { λ _. ⌜ decodeBoard (now (board .exit)) ≡ settledDrop (decodeBoard (now (board .entry))) drop ⌝ }
+{
+    let Check::Passed = settings::check_flag(drop) else {
+        return 24;
+    };
+    state_board::put_drop(board, drop);
     0
 }
 

@@ -6,7 +6,9 @@ use Prim.Native.Nat.{ℕ, _+_, _*_, _/_, _%_, _^_, _<_}
 use mathlib.Core.Path.{_≡_, ap, _∙_}
 use lib.Arith.{digits-div, digits-mod}
 use Rattle.checks.specs.Answer.{refusalNumber}
-use Rattle.answers.specs.Answers.{rulingParts, headerParts, partAt, refusalIn, slotIn, precedenceIn, valueIn}
+use Rattle.verdict.specs.Numbers.{onwardNumber}
+use Rattle.verdict.specs.declared.Ruling.{Ruling}
+use Rattle.answers.specs.Answers.{rulingParts, headerParts, replyNumber, partAt, wideAt, refusalIn, slotIn, precedenceIn, valueIn}
 
 pub digit : (n q x r : ℕ) {m k : ℕ} → n ≡ (q * k + x) * m + r → r < m → x < k → n / m % k ≡ x
 digit n q x r {m} {k} e h l = ap (λ y. y / m % k) e ∙ ap (λ y. y % k) (digits-div (q * k + x) h) ∙ digits-mod q l
@@ -39,6 +41,45 @@ eight a b c d f g h k a-low b-low c-low d-low f-low g-low h-low k-low =
       at-48 = digit n k h (rulingParts a b c d f + g * 2 ^ 40) (omega arith) (omega arith) h-low;
       at-56 = digit n 0 k (rulingParts a b c d f + g * 2 ^ 40 + h * 2 ^ 48) (omega arith) (omega arith) k-low;
       above = div-eq-of-lt (omega arith);
+    }
+
+-- ---- answering an echo request: four parts of eight bits, nothing between the first two, and the octets of the reply
+pub record ReplyRead (n refusal onward took dropped octets : ℕ) : Type 0 where
+  pub at-0 : partAt 0 n ≡ refusal
+  pub at-8 : partAt 8 n ≡ 0
+  pub at-16 : partAt 16 n ≡ onward
+  pub at-24 : partAt 24 n ≡ took
+  pub at-32 : partAt 32 n ≡ dropped
+  pub wide : wideAt 40 n ≡ octets
+  pub above : n / 2 ^ 64 ≡ 0
+
+two-octets : (below octets : ℕ) → below < 2 ^ 40 → octets < 65536 → wideAt 40 (headerParts below (octets % 256) (octets / 256 % 256) 0) ≡ octets
+unfolding headerParts
+two-octets below octets low h = digit (headerParts below (octets % 256) (octets / 256 % 256) 0) 0 octets below (omega arith) low h
+
+five-low : (a c d f : ℕ) → a < 256 → c < 256 → d < 256 → f < 256 → rulingParts a 0 c d f < 2 ^ 40
+unfolding rulingParts
+five-low a c d f a-low c-low d-low f-low = omega arith
+
+pub reply-read :
+    (refusal : ℕ) (x : Ruling) (octets : ℕ) → refusal < 256 → onwardNumber (x .onward) < 256 → x .took < 256 → x .dropped < 256 → octets < 65536
+    → ReplyRead (replyNumber refusal x octets) refusal (onwardNumber (x .onward)) (x .took) (x .dropped) octets
+unfolding replyNumber
+reply-read refusal x octets refusal-low onward-low took-low dropped-low octets-low =
+    let a = refusal % 256 in
+    let c = onwardNumber (x .onward) % 256 in
+    let d = x .took % 256 in
+    let f = x .dropped % 256 in
+    let low : (n : ℕ) → n % 256 < 256 = λ n. omega arith in
+    let e = eight a 0 c d f (octets % 256) (octets / 256 % 256) 0 (low refusal) (omega arith) (low (onwardNumber (x .onward))) (low (x .took)) (low (x .dropped)) (low octets) (low (octets / 256)) (omega arith) in
+    record {
+      at-0 = e .at-0 ∙ mod-eq-of-lt refusal-low;
+      at-8 = e .at-8;
+      at-16 = e .at-16 ∙ mod-eq-of-lt onward-low;
+      at-24 = e .at-24 ∙ mod-eq-of-lt took-low;
+      at-32 = e .at-32 ∙ mod-eq-of-lt dropped-low;
+      wide = two-octets (rulingParts a 0 c d f) octets (five-low a c d f (low refusal) (low (onwardNumber (x .onward))) (low (x .took)) (low (x .dropped))) octets-low;
+      above = e .above;
     }
 
 -- ---- taking

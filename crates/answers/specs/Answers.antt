@@ -4,6 +4,7 @@ use Prim.Native.Nat.{ℕ, _+_, _*_, _/_, _%_, _^_}
 use Rattle.checks.specs.Answer.{refusalNumber}
 use Rattle.queue.specs.declared.Entry.{Entry}
 use Rattle.verdict.specs.Numbers.{localNumber, onwardNumber}
+use Rattle.verdict.specs.declared.Ruling.{Ruling}
 use Rattle.judge.specs.declared.Ending.{Ending}
 use Rattle.taking.specs.declared.Taking.{Taking}
 use Rattle.taking.specs.declared.Taking.the-variants.{Handed, Refused}
@@ -34,6 +35,20 @@ receiveNumber e =
     (e .size % 256)
     (e .legs .octets % 256)
     (e .legs .rewritten % 256)
+
+-- ---- answering an echo request: the parts of the ruling at the same places, and the octets of the reply in sixteen bits from 40 on (hj_reply_octets); there
+-- is no local half
+unfoldable pub replyNumber : ℕ → Ruling → ℕ → ℕ
+replyNumber refusal x octets =
+    headerParts
+    (rulingParts (refusal % 256) 0 (onwardNumber (x .onward) % 256) (x .took % 256) (x .dropped % 256))
+    (octets % 256)
+    (octets / 256 % 256)
+    0
+
+-- sixteen bits, from this one up
+abbrev pub wideAt : ℕ → ℕ → ℕ
+wideAt low n = n / 2 ^ low % 65536
 
 -- ---- taking: the precedence above the slot
 abbrev pub entryNumber : Entry → ℕ

@@ -1,14 +1,16 @@
 // What C is told of a call on datagrams, as one number.
 //
 // Receiving answers eight bits for each part, from the lowest on: the refusal, the local half, the onward half, the ports that took an entry,
-// those that dropped it, the octets of the header that came, those of the header that was rewritten, and the ports that got it. Taking answers the refusal above 32 bits of entry: the precedence above the
-// slot. The awkward case is a part over 255, which no ending has: each is taken modulo 256 all the same, so that no part can reach into the
-// next.
+// those that dropped it, the octets of the header that came, those of the header that was rewritten, and the ports that got it. Answering an echo request
+// answers the first five of its reply, which has no local half, and then its octets in sixteen bits. Taking answers the refusal above 32 bits of entry: the
+// precedence above the slot. The awkward case is a part over 255, which no ending has: each is taken modulo 256 all the same, so that no part can reach into
+// the next.
 use judge::Ending;
 use taking::Taking;
+use verdict::Ruling;
 ghost use mathlib.Core.Path.{_≡_};
 ghost use Prim.Native.Nat.{_%_, _^_, _<_};
-ghost use Rattle.answers.specs.Answers.{rulingParts, headerParts, receiveNumber, takingNumber};
+ghost use Rattle.answers.specs.Answers.{rulingParts, headerParts, receiveNumber, replyNumber, takingNumber};
 
 // One part of an answer.
 fn part(x: u32) -> u64
@@ -62,6 +64,21 @@ pub fn receive_number(e: Ending) -> u64
         octets_part(legs.octets),
         part(legs.rewritten),
     )
+}
+
+// What answering an echo request answers, with so many octets of reply.
+pub fn reply_number(refusal: u32, x: Ruling, octets: usize) -> u64
+    ensures { λ r. ⌜ r ≡ replyNumber refusal x octets ⌝ }
+{
+    let onward = x.onward;
+    let below = ruling_parts(
+        part(refusal),
+        0,
+        part(verdict::onward_number(onward)),
+        part(x.took),
+        part(x.dropped),
+    );
+    header_parts(below, octets_part(octets), octets_part(octets / 256), 0)
 }
 
 // What taking answers.

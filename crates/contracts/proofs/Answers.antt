@@ -12,13 +12,15 @@ use Rattle.state.specs.Relay.{Mission, Relay}
 use Rattle.state.specs.Seen.{Board, State, freshBoard, putLifetime, onMission, onMemory, onSeated}
 use Rattle.state.specs.Layout.{boardWords, decodeBoard, encodeBoard, missionWords, decode, encode}
 use Rattle.state.proofs.Sizes.{SizedBoard, board-sized}
-use Rattle.adjust.specs.Settled.{settledFresh, settledRouter, settledPort, settledGroup, settledPath, clearedGroup, clearedPath}
+use Rattle.adjust.specs.Settled.{settledFresh, settledRouter, settledDrop, settledPort, settledGroup, settledPath, clearedGroup, clearedPath}
 use Rattle.floods.specs.Sweep.{sweptMemory}
 use Rattle.taking.specs.Taking.{takenRelay}
 use Rattle.relay.specs.Received.{heardEnding, heardMemory, receivedState}
 use Rattle.lent_state.specs.View.{Lent, Held, Other, byLent, lentBoard, lent, toldBoard, changedBoard, changed, changedBoth, changedRelay}
 use Rattle.lent_state.proofs.Calls.{board-held-changed, board-other-changed, held-changed, other-changed}
 use Rattle.harpjuniper_receive.specs.Face.{receiveWords}
+use Rattle.answering.specs.Echoed.{echoReply, repliedState}
+use Rattle.harpjuniper_echo.specs.Face.{echoWords}
 use Rattle.contracts.specs.Promised.{
   Result,
   Exported,
@@ -27,6 +29,9 @@ use Rattle.contracts.specs.Promised.{
   hj-class,
   hj-path,
   hj-checksum,
+  hj-read-echo-words,
+  hj-build-request,
+  hj-build-reply,
   hj-board-words,
   hj-mission-words,
   hj-fresh-board,
@@ -34,6 +39,7 @@ use Rattle.contracts.specs.Promised.{
   hj-set-router,
   hj-set-port,
   hj-set-lifetime,
+  hj-set-echo-drop,
   hj-set-route,
   hj-clear-route,
   hj-set-group,
@@ -42,6 +48,7 @@ use Rattle.contracts.specs.Promised.{
   hj-clear-path,
   hj-get-router,
   hj-get-lifetime,
+  hj-get-echo-drop,
   hj-port-word,
   hj-route-word,
   hj-group-word,
@@ -50,6 +57,7 @@ use Rattle.contracts.specs.Promised.{
   hj-pair-word,
   hj-search,
   hj-receive-at,
+  hj-echo,
   hj-take,
   hj-counter,
   hj-waiting,
@@ -58,9 +66,9 @@ use Rattle.contracts.specs.Promised.{
 }
 use Rattle.contracts.specs.Contracts.{Spot, Lying, Contract, Says, Passable}
 use Rattle.contracts.proofs.Formed.{Formed, decode-formed, words-length, words-hold, board-length, board-holds}
-use Rattle.contracts.proofs.Kept.{KeptIn, set-router-kept, set-port-kept, set-lifetime-kept, fresh-board-kept, set-group-kept, set-path-kept}
-use Rattle.contracts.proofs.Kept.{clear-group-kept, clear-path-kept, taken-kept, heard-kept, received-kept, swept-kept}
-use Rattle.contracts.proofs.Kept.{mission-kept, memory-kept, seated-kept, fresh-kept}
+use Rattle.contracts.proofs.Kept.{KeptIn, set-router-kept, set-port-kept, set-lifetime-kept, set-drop-kept, fresh-board-kept}
+use Rattle.contracts.proofs.Kept.{set-group-kept, set-path-kept, clear-group-kept, clear-path-kept, taken-kept}
+use Rattle.contracts.proofs.Kept.{heard-kept, received-kept, replied-kept, swept-kept, mission-kept, memory-kept, seated-kept, fresh-kept}
 use Rattle.contracts.proofs.Rows.{row-contract}
 
 -- ---- the board: words that have this view
@@ -87,6 +95,9 @@ board-left (hj-build-words n size o) fits = ([], refl)
 board-left (hj-class a) fits = ([], refl)
 board-left (hj-path p) fits = ([], refl)
 board-left (hj-checksum octets) fits = ([], refl)
+board-left (hj-read-echo-words octets n) fits = ([], refl)
+board-left (hj-build-request identifier sequence echoed o) fits = ([], refl)
+board-left (hj-build-reply identifier sequence hops format stamp mtu rate echoed o) fits = ([], refl)
 board-left hj-board-words fits = ([], refl)
 board-left hj-mission-words fits = ([], refl)
 board-left (hj-fresh-board b) fits = board-left-by b (λ (x : Board). freshBoard) (λ x h. fresh-board-kept)
@@ -96,6 +107,7 @@ board-left (hj-set-port b p address mask mtu mission) fits =
     board-left-by b (λ (x : Board). settledPort x p (record { 0 = address }) (record { 0 = mask }) mtu mission)
     (λ x h. set-port-kept x h p (record { 0 = address }) (record { 0 = mask }) mtu mission)
 board-left (hj-set-lifetime b lifetime) fits = board-left-by b (λ (x : Board). putLifetime x lifetime) (λ x h. set-lifetime-kept x h lifetime)
+board-left (hj-set-echo-drop b drop) fits = board-left-by b (λ (x : Board). settledDrop x drop) (λ x h. set-drop-kept x h drop)
 board-left (hj-set-route b rs i prefix mask p availability capabilities mission) fits = (b, refl)
 board-left (hj-clear-route rs i) fits = ([], refl)
 board-left (hj-set-group b m i address send subscribed) fits = (b, refl)
@@ -104,6 +116,7 @@ board-left (hj-clear-group m i) fits = ([], refl)
 board-left (hj-clear-path m i) fits = ([], refl)
 board-left (hj-get-router b) fits = (b, refl)
 board-left (hj-get-lifetime b) fits = (b, refl)
+board-left (hj-get-echo-drop b) fits = (b, refl)
 board-left (hj-port-word b p word) fits = (b, refl)
 board-left (hj-route-word rs i word) fits = ([], refl)
 board-left (hj-group-word m i word) fits = ([], refl)
@@ -112,6 +125,7 @@ board-left (hj-last-second m) fits = ([], refl)
 board-left (hj-pair-word m i word) fits = ([], refl)
 board-left (hj-search b m rs a) fits = (b, refl)
 board-left (hj-receive-at b m rs p slot second octets o) fits = (b, refl)
+board-left (hj-echo b m rs p slot octets o) fits = (b, refl)
 board-left (hj-take b m p) fits = (b, refl)
 board-left (hj-counter m i) fits = ([], refl)
 board-left (hj-waiting m p) fits = ([], refl)
@@ -158,12 +172,23 @@ received-left b m rs p slot second octets o fits =
     (heardMemory x s rs p second octets (length o)) (heard-kept x s rs p second octets (length o) (h .memory))
     (heardEnding x s rs p second octets (length o)))
 
+replied-left : (b m : List ℕ) (rs : List Record) (p slot : ℕ) (octets o : List ℕ) → slot < 65536
+    → StateSome (echoWords b m rs p slot octets (length o))
+unfolding echoWords
+replied-left b m rs p slot octets o fits =
+    both-left-by b m
+    (λ (x : Board) (s : State). repliedState x s (record { 0 = slot }) (echoReply x s rs p octets (length o)))
+    (λ x s h. replied-kept x s h (record { 0 = slot }) fits (echoReply x s rs p octets (length o)))
+
 mission-left : (c : Exported) → Passable c → StateSome (promised c .mission)
 mission-left (hj-read-words octets n) fits = ([], refl)
 mission-left (hj-build-words n size o) fits = ([], refl)
 mission-left (hj-class a) fits = ([], refl)
 mission-left (hj-path p) fits = ([], refl)
 mission-left (hj-checksum octets) fits = ([], refl)
+mission-left (hj-read-echo-words octets n) fits = ([], refl)
+mission-left (hj-build-request identifier sequence echoed o) fits = ([], refl)
+mission-left (hj-build-reply identifier sequence hops format stamp mtu rate echoed o) fits = ([], refl)
 mission-left hj-board-words fits = ([], refl)
 mission-left hj-mission-words fits = ([], refl)
 mission-left (hj-fresh-board b) fits = ([], refl)
@@ -171,6 +196,7 @@ mission-left (hj-fresh-mission m number) fits = left-by m (λ (x : State). settl
 mission-left (hj-set-router b router) fits = ([], refl)
 mission-left (hj-set-port b p address mask mtu mission) fits = ([], refl)
 mission-left (hj-set-lifetime b lifetime) fits = ([], refl)
+mission-left (hj-set-echo-drop b drop) fits = ([], refl)
 mission-left (hj-set-route b rs i prefix mask p availability capabilities mission) fits = ([], refl)
 mission-left (hj-clear-route rs i) fits = ([], refl)
 mission-left (hj-set-group b m i address send subscribed) fits =
@@ -182,6 +208,7 @@ mission-left (hj-clear-group m i) fits = left-by m (onMission (λ (x : Mission).
 mission-left (hj-clear-path m i) fits = left-by m (onMission (λ (x : Mission). clearedPath x i)) (mission-kept (λ x h. clear-path-kept x h i))
 mission-left (hj-get-router b) fits = ([], refl)
 mission-left (hj-get-lifetime b) fits = ([], refl)
+mission-left (hj-get-echo-drop b) fits = ([], refl)
 mission-left (hj-port-word b p word) fits = ([], refl)
 mission-left (hj-route-word rs i word) fits = ([], refl)
 mission-left (hj-group-word m i word) fits = (m, refl)
@@ -189,7 +216,8 @@ mission-left (hj-path-word m i word) fits = (m, refl)
 mission-left (hj-last-second m) fits = (m, refl)
 mission-left (hj-pair-word m i word) fits = (m, refl)
 mission-left (hj-search b m rs a) fits = (m, refl)
-mission-left (hj-receive-at b m rs p slot second octets o) fits = received-left b m rs p slot second octets o (fits b m rs p slot second octets o refl)
+mission-left (hj-receive-at b m rs p slot second octets o) fits = received-left b m rs p slot second octets o (fits .0 b m rs p slot second octets o refl)
+mission-left (hj-echo b m rs p slot octets o) fits = replied-left b m rs p slot octets o (fits .1 b m rs p slot octets o refl)
 mission-left (hj-take b m p) fits = seated-left-by b m (λ (x : Relay). takenRelay x p) (λ x h. taken-kept x h p)
 mission-left (hj-counter m i) fits = (m, refl)
 mission-left (hj-waiting m p) fits = (m, refl)

@@ -1,5 +1,5 @@
 -- Which boards and states words hold: those in which each list is as long as the layout says and each slot is one that its type holds (page 01,
--- "Numbers that hold everywhere"). Any 42 words hold such a board, any 731 such a state, and each of these has its words. Assumes nothing.
+-- "Numbers that hold everywhere"). Any 43 words hold such a board, any 732 such a state, and each of these has its words. Assumes nothing.
 use native.Mathlib.Omega.{arith}
 use native.Mathlib.Nat.{suc-mul, zero-mul}
 use Prim.Native.Nat.{ℕ, zero, suc, _+_, _*_, _<_}
@@ -167,7 +167,7 @@ module _ (b : Board) (sized : SizedBoard b) where
   ports = kept ownedOf ownedWords 5 8 (b .ports) sized (each (b .ports) (λ x. (refl, refl)))
 
   board-written : List (List ℕ)
-  board-written = (b .router ∷ []) ∷ flat ownedWords (b .ports) ∷ (b .lifetime ∷ []) ∷ []
+  board-written = (b .router ∷ []) ∷ flat ownedWords (b .ports) ∷ (b .lifetime ∷ []) ∷ (b .drop ∷ []) ∷ []
 
   board-lengths : map length board-written ≡ boardSections
   unfolding board-written

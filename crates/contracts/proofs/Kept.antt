@@ -32,13 +32,13 @@ use Rattle.records.specs.declared.Pair.{Pair}
 use Rattle.records.specs.declared.Group.{Group}
 use Rattle.records.specs.declared.PathPlace.{PathPlace}
 use Rattle.state.specs.Relay.{Mission, Memory, Relay, putGroup, putPath, putQueue, portSetUp, queueIn}
-use Rattle.state.specs.Seen.{Board, State, freshBoard, freshState, putRouter, putOwned, putLifetime, onMission, onMemory, onSeated, seated}
+use Rattle.state.specs.Seen.{Board, State, freshBoard, freshState, putRouter, putOwned, putLifetime, putDrop, onMission, onMemory, onSeated, seated}
 use Rattle.state.specs.Layout.{freshBoardWords, freshWords}
 use Rattle.state.proofs.Fresh.{fresh, fresh-length, fresh-board}
 use Rattle.state.proofs.Sizes.{SizedBoard, board-sized, owned-sizes, lifetime-sizes, group-sizes, path-sizes, queue-sizes}
-use Rattle.refusals.specs.Lists.{portChecks, groupChecks, pathChecks, routerChecks, missionChecks, clearChecks}
+use Rattle.refusals.specs.Lists.{portChecks, groupChecks, pathChecks, flagChecks, missionChecks, clearChecks}
 use Rattle.adjust.specs.Settled.{newPort, newGroup, newPath}
-use Rattle.adjust.specs.Settled.{settledFresh, settledRouter, settledPort, settledGroup, settledPath, clearedGroup, clearedPath}
+use Rattle.adjust.specs.Settled.{settledFresh, settledRouter, settledDrop, settledPort, settledGroup, settledPath, clearedGroup, clearedPath}
 use Rattle.taking.specs.Taking.{without, takenRelay}
 use Rattle.header.specs.Read.{readOf}
 use Rattle.header.specs.declared.Read.{Read}
@@ -55,11 +55,13 @@ use Rattle.judge.specs.Ending.{callChecks, arrivalAt}
 use Rattle.judge.specs.Remembered.{headerMemory, octetsMemory, memoryOf}
 use Rattle.judge.specs.declared.ruling.Arrival.{Arrival}
 use Rattle.judge.specs.declared.Ending.{Ending}
-use Rattle.tally.specs.Tally.{Move, movesOf, countedAt, countedAll}
+use Rattle.tally.specs.Tally.{Move, movesOf, replyMoves, countedAt, countedAll}
 use Rattle.tally.specs.declared.Counter.{Counter}
 use Rattle.tally.specs.declared.Counter.the-variants as counter
 use Rattle.relay.specs.Outgoing.{enteredIf, enteredAll}
 use Rattle.relay.specs.Received.{newEntry, receivedRelay, receivedState, heardMemory}
+use Rattle.replies.specs.declared.sending.Replied.{Replied}
+use Rattle.answering.specs.Echoed.{asEnding, repliedState}
 use Rattle.contracts.proofs.Formed.{SlotFits, FormedQueue, FormedMission, FormedMemory, FormedCounters, Formed, decode-formed}
 
 -- ---- what holds of each element
@@ -132,7 +134,7 @@ module _ (q : Queue) (formed : FormedQueue q) where
 -- ---- the board
 module _ (b : Board) (sized : SizedBoard b) where
   pub set-router-kept : (router : ℕ) → SizedBoard (settledRouter b router)
-  set-router-kept router = either SizedBoard (eqb (firstOf (routerChecks router)) 0) {a = putRouter b router} {b = b} sized sized
+  set-router-kept router = either SizedBoard (eqb (firstOf (flagChecks router)) 0) {a = putRouter b router} {b = b} sized sized
 
   pub set-port-kept : (p : ℕ) (address : Address) (mask : Mask) (mtu mission : ℕ) → SizedBoard (settledPort b p address mask mtu mission)
   set-port-kept p address mask mtu mission =
@@ -141,6 +143,9 @@ module _ (b : Board) (sized : SizedBoard b) where
 
   pub set-lifetime-kept : (lifetime : ℕ) → SizedBoard (putLifetime b lifetime)
   set-lifetime-kept lifetime = lifetime-sizes b lifetime ∙ sized
+
+  pub set-drop-kept : (drop : ℕ) → SizedBoard (settledDrop b drop)
+  set-drop-kept drop = either SizedBoard (eqb (firstOf (flagChecks drop)) 0) {a = putDrop b drop} {b = b} sized sized
 
 pub fresh-board-kept : SizedBoard freshBoard
 fresh-board-kept = rw (← fresh-board) (board-sized freshBoardWords)
@@ -249,6 +254,16 @@ received-kept b s h slot fits k remembered e =
       mission = all-entered-kept (newEntry slot e) fits (e .ruling .took) (seated b s) (h .mission) portCount;
       memory = remembered;
       counters = all-counted-kept (movesOf e) (s .counters) (h .counters);
+    }
+
+-- a reply is entered as a datagram is, and nothing is remembered of it
+pub replied-kept : (b : Board) (s : State) → Formed s → (slot : Slot) → slot .0 < 65536 → (e : Replied) → Formed (repliedState b s slot e)
+unfolding receivedRelay
+replied-kept b s h slot fits e =
+    record {
+      mission = all-entered-kept (newEntry slot (asEnding e)) fits (e .ruling .took) (seated b s) (h .mission) portCount;
+      memory = h .memory;
+      counters = all-counted-kept (replyMoves (e .ruling)) (s .counters) (h .counters);
     }
 
 -- ---- what is the mission's own alone changes, or what it remembers, and the counters stay

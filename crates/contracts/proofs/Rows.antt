@@ -25,6 +25,9 @@ use Rattle.contracts.specs.Promised.{
   hj-class,
   hj-path,
   hj-checksum,
+  hj-read-echo-words,
+  hj-build-request,
+  hj-build-reply,
   hj-board-words,
   hj-mission-words,
   hj-fresh-board,
@@ -32,6 +35,7 @@ use Rattle.contracts.specs.Promised.{
   hj-set-router,
   hj-set-port,
   hj-set-lifetime,
+  hj-set-echo-drop,
   hj-set-route,
   hj-clear-route,
   hj-set-group,
@@ -40,6 +44,7 @@ use Rattle.contracts.specs.Promised.{
   hj-clear-path,
   hj-get-router,
   hj-get-lifetime,
+  hj-get-echo-drop,
   hj-port-word,
   hj-route-word,
   hj-group-word,
@@ -48,6 +53,7 @@ use Rattle.contracts.specs.Promised.{
   hj-pair-word,
   hj-search,
   hj-receive-at,
+  hj-echo,
   hj-take,
   hj-counter,
   hj-waiting,
@@ -179,6 +185,10 @@ module _ (y : Lying) (x : Result) where
   contract-is-row (hj-class a) = looks x (lentTo (hj-class a)) _
   contract-is-row (hj-path p) = looks x (lentTo (hj-path p)) _
   contract-is-row (hj-checksum octets) = looks x (lentTo (hj-checksum octets)) _
+  contract-is-row (hj-read-echo-words octets n) = on-numbers x (lentTo (hj-read-echo-words octets n)) _ _
+  contract-is-row (hj-build-request identifier sequence echoed o) = on-output x (lentTo (hj-build-request identifier sequence echoed o)) _ _
+  contract-is-row (hj-build-reply identifier sequence hops format stamp mtu rate echoed o) =
+      on-output x (lentTo (hj-build-reply identifier sequence hops format stamp mtu rate echoed o)) _ _
   contract-is-row hj-board-words = looks x (lentTo hj-board-words) _
   contract-is-row hj-mission-words = looks x (lentTo hj-mission-words) _
   contract-is-row (hj-fresh-board b) = on-board x (lentTo (hj-fresh-board b)) _ _
@@ -186,6 +196,7 @@ module _ (y : Lying) (x : Result) where
   contract-is-row (hj-set-router b router) = on-board x (lentTo (hj-set-router b router)) _ _
   contract-is-row (hj-set-port b p address mask mtu mission) = on-board x (lentTo (hj-set-port b p address mask mtu mission)) _ _
   contract-is-row (hj-set-lifetime b lifetime) = on-board x (lentTo (hj-set-lifetime b lifetime)) _ _
+  contract-is-row (hj-set-echo-drop b drop) = on-board x (lentTo (hj-set-echo-drop b drop)) _ _
   contract-is-row (hj-set-route b rs i prefix mask p availability capabilities mission) =
       on-routes x (lentTo (hj-set-route b rs i prefix mask p availability capabilities mission)) _ _
   contract-is-row (hj-clear-route rs i) = on-routes x (lentTo (hj-clear-route rs i)) _ _
@@ -195,6 +206,7 @@ module _ (y : Lying) (x : Result) where
   contract-is-row (hj-clear-path m i) = on-mission x (lentTo (hj-clear-path m i)) _ _
   contract-is-row (hj-get-router b) = looks x (lentTo (hj-get-router b)) _
   contract-is-row (hj-get-lifetime b) = looks x (lentTo (hj-get-lifetime b)) _
+  contract-is-row (hj-get-echo-drop b) = looks x (lentTo (hj-get-echo-drop b)) _
   contract-is-row (hj-port-word b p word) = looks x (lentTo (hj-port-word b p word)) _
   contract-is-row (hj-route-word rs i word) = looks x (lentTo (hj-route-word rs i word)) _
   contract-is-row (hj-group-word m i word) = looks x (lentTo (hj-group-word m i word)) _
@@ -203,6 +215,7 @@ module _ (y : Lying) (x : Result) where
   contract-is-row (hj-pair-word m i word) = looks x (lentTo (hj-pair-word m i word)) _
   contract-is-row (hj-search b m rs a) = looks x (lentTo (hj-search b m rs a)) _
   contract-is-row (hj-receive-at b m rs p slot second octets o) = hears x (lentTo (hj-receive-at b m rs p slot second octets o)) _ _ _
+  contract-is-row (hj-echo b m rs p slot octets o) = hears x (lentTo (hj-echo b m rs p slot octets o)) _ _ _
   contract-is-row (hj-take b m p) = on-mission x (lentTo (hj-take b m p)) _ _
   contract-is-row (hj-counter m i) = looks x (lentTo (hj-counter m i)) _
   contract-is-row (hj-waiting m p) = looks x (lentTo (hj-waiting m p)) _

@@ -1,5 +1,5 @@
 -- The contract of each call from C, as it stands in the source (crates harpjuniper*, src/): what it says of what is told and left, for whatever is
--- lent. No clause is written again here: `Learnt` of a function's `Reads` is what the clauses of its contract tell its caller, and of the five that are
+-- lent. No clause is written again here: `Learnt` of a function's `Reads` is what the clauses of its contract tell its caller, and of the six that are
 -- lent a list specs/Walked.antt names it (page 01, "What a promise has to shut out": "No public function lacks such a promise"). Assumes nothing.
 use Prim.Native.Nat.{ℕ, _<_}
 use mathlib.Core.Path.{_≡_}
@@ -13,6 +13,9 @@ use Rattle.harpjuniper.proofs.hj_build_words as build-words
 use Rattle.harpjuniper_address.proofs.hj_class as class
 use Rattle.harpjuniper_address.proofs.hj_path as form
 use Rattle.harpjuniper_address.proofs.hj_checksum as checksum
+use Rattle.harpjuniper_messages.proofs.hj_read_echo_words as read-echo-words
+use Rattle.harpjuniper_messages.proofs.hj_build_request as build-request
+use Rattle.harpjuniper_messages.proofs.hj_build_reply as build-reply
 use Rattle.harpjuniper_settings.proofs.hj_board_words as board-words
 use Rattle.harpjuniper_settings.proofs.hj_mission_words as mission-words
 use Rattle.harpjuniper_settings.proofs.hj_fresh_board as fresh-board
@@ -20,12 +23,14 @@ use Rattle.harpjuniper_settings.proofs.hj_fresh_mission as fresh-mission
 use Rattle.harpjuniper_settings.proofs.hj_set_router as set-router
 use Rattle.harpjuniper_settings.proofs.hj_set_port as set-port
 use Rattle.harpjuniper_settings.proofs.hj_set_lifetime as set-lifetime
+use Rattle.harpjuniper_settings.proofs.hj_set_echo_drop as set-echo-drop
 use Rattle.harpjuniper_settings.proofs.groups_and_paths.hj_set_group as set-group
 use Rattle.harpjuniper_settings.proofs.groups_and_paths.hj_set_path as set-path
 use Rattle.harpjuniper_settings.proofs.groups_and_paths.hj_clear_group as clear-group
 use Rattle.harpjuniper_settings.proofs.groups_and_paths.hj_clear_path as clear-path
 use Rattle.harpjuniper_reads.proofs.hj_get_router as get-router
 use Rattle.harpjuniper_reads.proofs.hj_get_lifetime as get-lifetime
+use Rattle.harpjuniper_reads.proofs.hj_get_echo_drop as get-echo-drop
 use Rattle.harpjuniper_reads.proofs.hj_port_word as port-word
 use Rattle.harpjuniper_reads.proofs.hj_group_word as group-word
 use Rattle.harpjuniper_reads.proofs.hj_path_word as path-word
@@ -45,6 +50,9 @@ use Rattle.contracts.specs.Promised.{
   hj-class,
   hj-path,
   hj-checksum,
+  hj-read-echo-words,
+  hj-build-request,
+  hj-build-reply,
   hj-board-words,
   hj-mission-words,
   hj-fresh-board,
@@ -52,6 +60,7 @@ use Rattle.contracts.specs.Promised.{
   hj-set-router,
   hj-set-port,
   hj-set-lifetime,
+  hj-set-echo-drop,
   hj-set-route,
   hj-clear-route,
   hj-set-group,
@@ -60,6 +69,7 @@ use Rattle.contracts.specs.Promised.{
   hj-clear-path,
   hj-get-router,
   hj-get-lifetime,
+  hj-get-echo-drop,
   hj-port-word,
   hj-route-word,
   hj-group-word,
@@ -68,12 +78,13 @@ use Rattle.contracts.specs.Promised.{
   hj-pair-word,
   hj-search,
   hj-receive-at,
+  hj-echo,
   hj-take,
   hj-counter,
   hj-waiting,
   hj-sweep,
 }
-use Rattle.contracts.specs.Walked.{searches, sets-route, clears-route, reads-word, receives}
+use Rattle.contracts.specs.Walked.{searches, sets-route, clears-route, reads-word, receives, echoes}
 
 -- ---- where lent slices lie, and until when: whatever the caller chose
 pub record Spot : Type 0 where
@@ -162,6 +173,26 @@ module _ (y : Lying) where
       let c = hj-checksum octets in
       (x .left ≡ lentTo c)
       × checksum.Reads.Learnt (once y) (from octets, tt) (x .answer) (from octets, tt)
+  Contract (hj-read-echo-words octets n) x =
+      let c = hj-read-echo-words octets n in
+      NumbersAlone (lentTo c) (x .left)
+      × read-echo-words.Reads.Learnt (twice y) (from octets, (among n, tt)) (x .answer) (from octets, (among (x .left .numbers), tt))
+  Contract (hj-build-request identifier sequence echoed o) x =
+      let c = hj-build-request identifier sequence echoed o in
+      OutputAlone (lentTo c) (x .left)
+      × build-request.Reads.Learnt
+      (twice y)
+      (identifier, (sequence, (from echoed, (into o, tt))))
+      (x .answer)
+      (identifier, (sequence, (from echoed, (into (x .left .output), tt))))
+  Contract (hj-build-reply identifier sequence hops format stamp mtu rate echoed o) x =
+      let c = hj-build-reply identifier sequence hops format stamp mtu rate echoed o in
+      OutputAlone (lentTo c) (x .left)
+      × build-reply.Reads.Learnt
+      (twice y)
+      (identifier, (sequence, (hops, (format, (stamp, (mtu, (rate, (from echoed, (into o, tt)))))))))
+      (x .answer)
+      (identifier, (sequence, (hops, (format, (stamp, (mtu, (rate, (from echoed, (into (x .left .output), tt)))))))))
   Contract hj-board-words x =
       let c = hj-board-words in
       (x .left ≡ lentTo c)
@@ -194,6 +225,10 @@ module _ (y : Lying) where
       let c = hj-set-lifetime b lifetime in
       BoardAlone (lentTo c) (x .left)
       × set-lifetime.Reads.Learnt (once y) (at b, (lifetime, tt)) (x .answer) (at (x .left .board), (lifetime, tt))
+  Contract (hj-set-echo-drop b drop) x =
+      let c = hj-set-echo-drop b drop in
+      BoardAlone (lentTo c) (x .left)
+      × set-echo-drop.Reads.Learnt (once y) (at b, (drop, tt)) (x .answer) (at (x .left .board), (drop, tt))
   Contract (hj-set-route b rs i prefix mask p availability capabilities mission) x =
       let c = hj-set-route b rs i prefix mask p availability capabilities mission in
       RoutesAlone (lentTo c) (x .left)
@@ -238,6 +273,10 @@ module _ (y : Lying) where
       let c = hj-get-lifetime b in
       (x .left ≡ lentTo c)
       × get-lifetime.Reads.Learnt (once y) (at b, tt) (x .answer) (at b, tt)
+  Contract (hj-get-echo-drop b) x =
+      let c = hj-get-echo-drop b in
+      (x .left ≡ lentTo c)
+      × get-echo-drop.Reads.Learnt (once y) (at b, tt) (x .answer) (at b, tt)
   Contract (hj-port-word b p word) x =
       let c = hj-port-word b p word in
       (x .left ≡ lentTo c)
@@ -274,6 +313,14 @@ module _ (y : Lying) where
       (at b, (of m, (listed rs, (p, (slot, (second, (from octets, (into o, tt))))))))
       (x .answer)
       (at b, (of (x .left .mission), (listed rs, (p, (slot, (second, (from octets, (into (x .left .output), tt))))))))
+  Contract (hj-echo b m rs p slot octets o) x =
+      let c = hj-echo b m rs p slot octets o in
+      HearsAlone (lentTo c) (x .left)
+      × echoes
+      (y .lifetimes)
+      (at b, (of m, (listed rs, (p, (slot, (from octets, (into o, tt)))))))
+      (x .answer)
+      (at b, (of (x .left .mission), (listed rs, (p, (slot, (from octets, (into (x .left .output), tt)))))))
   Contract (hj-take b m p) x =
       let c = hj-take b m p in
       MissionAlone (lentTo c) (x .left)
@@ -297,4 +344,6 @@ Says c x = (y : Lying) × Contract y c x
 
 -- What C can pass: numbers here have no end and C's have, which matters of one argument alone, the slot, a number of 16 bits.
 abbrev pub Passable : Exported → Type 0
-Passable c = (b m : List ℕ) (rs : List Record) (p slot second : ℕ) (l o : List ℕ) → c ≡ hj-receive-at b m rs p slot second l o → slot < 65536
+Passable c =
+    ((b m : List ℕ) (rs : List Record) (p slot second : ℕ) (l o : List ℕ) → c ≡ hj-receive-at b m rs p slot second l o → slot < 65536)
+    × ((b m : List ℕ) (rs : List Record) (p slot : ℕ) (l o : List ℕ) → c ≡ hj-echo b m rs p slot l o → slot < 65536)

@@ -12,30 +12,38 @@ use Rattle.address.specs.Class.{classOf, classNumber}
 use Rattle.address.specs.Path.{pathForm, pathNumber}
 use Rattle.checksum.specs.Sum.{checksumOf}
 use Rattle.header.specs.Read.{readOf}
+use Rattle.echo.specs.Message.{readingOf as messageIn}
+use Rattle.echo.specs.Built.{builtOf, builtOutput}
 use Rattle.sets.specs.Limits.{groupPlaces, pathPlaces}
 use Rattle.routes.specs.declared.Record.{Record}
 use Rattle.state.specs.Relay.{Relay, Mission}
 use Rattle.state.specs.Seen.{Board, State, freshBoard, putLifetime, onMission, onMemory}
 use Rattle.state.specs.Layout.{boardWords, missionWords}
 use Rattle.lent_state.specs.View.{Lent, lent, lentBoard, toldBoard, changedBoard, told, changed, toldBoth, changedBoth, toldRelay, changedRelay}
-use Rattle.refusals.specs.Lists.{portChecks, routeChecks, clearRouteChecks, groupChecks, pathChecks, routerChecks, clearChecks, missionChecks}
-use Rattle.adjust.specs.Settled.{newRecord, settledFresh, settledRouter, settledPort, settledRoute, clearedRoute, settledGroup, settledPath, clearedGroup, clearedPath}
+use Rattle.refusals.specs.Lists.{portChecks, routeChecks, clearRouteChecks, groupChecks, pathChecks, flagChecks, clearChecks, missionChecks}
+use Rattle.adjust.specs.Settled.{newRecord, settledFresh, settledRouter, settledDrop, settledPort, settledRoute, clearedRoute}
+use Rattle.adjust.specs.Settled.{settledGroup, settledPath, clearedGroup, clearedPath}
 use Rattle.floods.specs.Sweep.{sweepChecks, sweptMemory}
 use Rattle.taking.specs.Taking.{takenRelay}
 use Rattle.harpjuniper.specs.Face.{readingOf, readAnswer, readLeft, buildWordsAnswer, buildWordsOutput}
+use Rattle.harpjuniper_messages.specs.Face.{readAnswer as readEchoAnswer, readLeft as readEchoLeft, requestOf, replyOf, builtAnswer}
 use Rattle.harpjuniper_reads.specs.Back.{portAnswer, groupAnswer, pathAnswer, pairAnswer}
 use Rattle.harpjuniper_routes.specs.Face.{searchTold, routeWordTold}
 use Rattle.harpjuniper_receive.specs.Face.{receiveAnswer, receiveWords, receiveOutput}
+use Rattle.harpjuniper_echo.specs.Face.{echoAnswer, echoWords, echoOutput}
 use Rattle.harpjuniper_relay.specs.Face.{takeAnswer, counterAnswer, waitingAnswer}
 
 -- ---- the calls, each with what it is lent and told: b is a board's words, m a mission's, rs a list of routes, o an output, n the words of a header's
--- numbers
+-- or a message's numbers
 pub data Exported : Type 0 where
   hj-read-words : List ℕ → List ℕ → Exported
   hj-build-words : List ℕ → ℕ → List ℕ → Exported
   hj-class : ℕ → Exported
   hj-path : ℕ → Exported
   hj-checksum : List ℕ → Exported
+  hj-read-echo-words : List ℕ → List ℕ → Exported
+  hj-build-request : ℕ → ℕ → List ℕ → List ℕ → Exported
+  hj-build-reply : ℕ → ℕ → ℕ → ℕ → ℕ → ℕ → ℕ → List ℕ → List ℕ → Exported
   hj-board-words : Exported
   hj-mission-words : Exported
   hj-fresh-board : List ℕ → Exported
@@ -43,6 +51,7 @@ pub data Exported : Type 0 where
   hj-set-router : List ℕ → ℕ → Exported
   hj-set-port : List ℕ → ℕ → ℕ → ℕ → ℕ → ℕ → Exported
   hj-set-lifetime : List ℕ → ℕ → Exported
+  hj-set-echo-drop : List ℕ → ℕ → Exported
   hj-set-route : List ℕ → List Record → ℕ → ℕ → ℕ → ℕ → ℕ → ℕ → ℕ → Exported
   hj-clear-route : List Record → ℕ → Exported
   hj-set-group : List ℕ → List ℕ → ℕ → ℕ → ℕ → ℕ → Exported
@@ -51,6 +60,7 @@ pub data Exported : Type 0 where
   hj-clear-path : List ℕ → ℕ → Exported
   hj-get-router : List ℕ → Exported
   hj-get-lifetime : List ℕ → Exported
+  hj-get-echo-drop : List ℕ → Exported
   hj-port-word : List ℕ → ℕ → ℕ → Exported
   hj-route-word : List Record → ℕ → ℕ → Exported
   hj-group-word : List ℕ → ℕ → ℕ → Exported
@@ -59,6 +69,7 @@ pub data Exported : Type 0 where
   hj-pair-word : List ℕ → ℕ → ℕ → Exported
   hj-search : List ℕ → List ℕ → List Record → ℕ → Exported
   hj-receive-at : List ℕ → List ℕ → List Record → ℕ → ℕ → ℕ → List ℕ → List ℕ → Exported
+  hj-echo : List ℕ → List ℕ → List Record → ℕ → ℕ → List ℕ → List ℕ → Exported
   hj-take : List ℕ → List ℕ → ℕ → Exported
   hj-counter : List ℕ → ℕ → Exported
   hj-waiting : List ℕ → ℕ → Exported
@@ -107,6 +118,9 @@ aMission m = record { board = []; mission = m; routes = []; output = []; numbers
 abbrev aList : List Record → Things
 aList rs = record { board = []; mission = []; routes = rs; output = []; numbers = [] }
 
+abbrev anOutput : List ℕ → Things
+anOutput o = record { board = []; mission = []; routes = []; output = o; numbers = [] }
+
 abbrev both : List ℕ → List ℕ → Things
 both b m = record { board = b; mission = m; routes = []; output = []; numbers = [] }
 
@@ -116,6 +130,9 @@ lentTo (hj-build-words n size o) = record { board = []; mission = []; routes = [
 lentTo (hj-class a) = nothing
 lentTo (hj-path p) = nothing
 lentTo (hj-checksum octets) = nothing
+lentTo (hj-read-echo-words octets n) = record { board = []; mission = []; routes = []; output = []; numbers = n }
+lentTo (hj-build-request identifier sequence echoed o) = anOutput o
+lentTo (hj-build-reply identifier sequence hops format stamp mtu rate echoed o) = anOutput o
 lentTo hj-board-words = nothing
 lentTo hj-mission-words = nothing
 lentTo (hj-fresh-board b) = aBoard b
@@ -123,6 +140,7 @@ lentTo (hj-fresh-mission m number) = aMission m
 lentTo (hj-set-router b router) = aBoard b
 lentTo (hj-set-port b p address mask mtu mission) = aBoard b
 lentTo (hj-set-lifetime b lifetime) = aBoard b
+lentTo (hj-set-echo-drop b drop) = aBoard b
 lentTo (hj-set-route b rs i prefix mask p availability capabilities mission) =
     record { board = b; mission = []; routes = rs; output = []; numbers = [] }
 lentTo (hj-clear-route rs i) = aList rs
@@ -132,6 +150,7 @@ lentTo (hj-clear-group m i) = aMission m
 lentTo (hj-clear-path m i) = aMission m
 lentTo (hj-get-router b) = aBoard b
 lentTo (hj-get-lifetime b) = aBoard b
+lentTo (hj-get-echo-drop b) = aBoard b
 lentTo (hj-port-word b p word) = aBoard b
 lentTo (hj-route-word rs i word) = aList rs
 lentTo (hj-group-word m i word) = aMission m
@@ -140,6 +159,7 @@ lentTo (hj-last-second m) = aMission m
 lentTo (hj-pair-word m i word) = aMission m
 lentTo (hj-search b m rs a) = record { board = b; mission = m; routes = rs; output = []; numbers = [] }
 lentTo (hj-receive-at b m rs p slot second octets o) = record { board = b; mission = m; routes = rs; output = o; numbers = [] }
+lentTo (hj-echo b m rs p slot octets o) = record { board = b; mission = m; routes = rs; output = o; numbers = [] }
 lentTo (hj-take b m p) = both b m
 lentTo (hj-counter m i) = aMission m
 lentTo (hj-waiting m p) = aMission m
@@ -200,18 +220,29 @@ promised (hj-build-words n size o) =
 promised (hj-class a) = looking nothing (classNumber (classOf a))
 promised (hj-path p) = looking nothing (pathNumber (pathForm p))
 promised (hj-checksum octets) = looking nothing (checksumOf octets)
+promised (hj-read-echo-words octets n) =
+    let c = hj-read-echo-words octets n in
+    numbersLeft (looking (lentTo c) (readEchoAnswer (length n) (messageIn octets))) (readEchoLeft (messageIn octets) n)
+promised (hj-build-request identifier sequence echoed o) =
+    let m = requestOf identifier sequence in
+    outputLeft (looking (anOutput o) (builtAnswer (builtOf m (length echoed) (length o)))) (builtOutput m echoed o)
+promised (hj-build-reply identifier sequence hops format stamp mtu rate echoed o) =
+    let m = replyOf identifier sequence hops format stamp mtu rate in
+    outputLeft (looking (anOutput o) (builtAnswer (builtOf m (length echoed) (length o)))) (builtOutput m echoed o)
 promised hj-board-words = looking nothing boardWords
 promised hj-mission-words = looking nothing missionWords
 promised (hj-fresh-board b) = onBoard (hj-fresh-board b) b (λ (x : Board). 0) (λ (x : Board). freshBoard)
 promised (hj-fresh-mission m number) =
     onState (hj-fresh-mission m number) m (λ (x : State). firstOf (missionChecks number)) (λ (x : State). settledFresh x number)
 promised (hj-set-router b router) =
-    onBoard (hj-set-router b router) b (λ (x : Board). firstOf (routerChecks router)) (λ (x : Board). settledRouter x router)
+    onBoard (hj-set-router b router) b (λ (x : Board). firstOf (flagChecks router)) (λ (x : Board). settledRouter x router)
 promised (hj-set-port b p address mask mtu mission) =
     onBoard (hj-set-port b p address mask mtu mission) b
     (λ (x : Board). firstOf (portChecks x p (record { 0 = address }) (record { 0 = mask }) mtu mission))
     (λ (x : Board). settledPort x p (record { 0 = address }) (record { 0 = mask }) mtu mission)
 promised (hj-set-lifetime b lifetime) = onBoard (hj-set-lifetime b lifetime) b (λ (x : Board). 0) (λ (x : Board). putLifetime x lifetime)
+promised (hj-set-echo-drop b drop) =
+    onBoard (hj-set-echo-drop b drop) b (λ (x : Board). firstOf (flagChecks drop)) (λ (x : Board). settledDrop x drop)
 promised (hj-set-route b rs i prefix mask p availability capabilities mission) =
     let c = hj-set-route b rs i prefix mask p availability capabilities mission in
     let x = newRecord prefix mask p availability capabilities mission in
@@ -231,6 +262,7 @@ promised (hj-clear-path m i) =
     onState (hj-clear-path m i) m (λ (x : State). firstOf (clearChecks i pathPlaces)) (onMission (λ (x : Mission). clearedPath x i))
 promised (hj-get-router b) = looking (aBoard b) (toldBoard (λ (x : Board). x .router) (refusalNumber 21) b)
 promised (hj-get-lifetime b) = looking (aBoard b) (toldBoard (λ (x : Board). x .lifetime) (refusalNumber 21) b)
+promised (hj-get-echo-drop b) = looking (aBoard b) (toldBoard (λ (x : Board). x .drop) (refusalNumber 21) b)
 promised (hj-port-word b p word) = looking (aBoard b) (toldBoard (λ (x : Board). portAnswer x p word) (refusalNumber 21) b)
 promised (hj-route-word rs i word) = looking (aList rs) (routeWordTold rs i word)
 promised (hj-group-word m i word) = looking (aMission m) (told (λ (x : State). groupAnswer (x .mission) i word) (refusalNumber 21) m)
@@ -243,6 +275,11 @@ promised (hj-receive-at b m rs p slot second octets o) =
     outputLeft
     (missionLeft (looking (lentTo c) (receiveAnswer b m rs p second octets (length o))) (receiveWords b m rs p slot second octets (length o)))
     (receiveOutput b m rs p second octets o)
+promised (hj-echo b m rs p slot octets o) =
+    let c = hj-echo b m rs p slot octets o in
+    outputLeft
+    (missionLeft (looking (lentTo c) (echoAnswer b m rs p octets (length o))) (echoWords b m rs p slot octets (length o)))
+    (echoOutput b m rs p octets o)
 promised (hj-take b m p) =
     missionLeft (looking (both b m) (toldRelay (λ (x : Relay). takeAnswer x p) (refusalNumber 16) b m)) (changedRelay (λ (x : Relay). takenRelay x p) b m)
 promised (hj-counter m i) = looking (aMission m) (told (λ (x : State). counterAnswer (x .counters) i) (refusalNumber 21) m)

@@ -27,11 +27,15 @@ use Rattle.history.specs.Calls.{
   class,
   form,
   checksum,
+  readEcho,
+  buildRequest,
+  buildReply,
   boardSize,
   missionSize,
   MissionCall,
   sets,
   hears,
+  echoes,
   takes,
   sweeps,
   looks,
@@ -103,6 +107,7 @@ left-as-lent b m (sets (setPath i path send here)) = (refl, refl)
 left-as-lent b m (sets (clearGroup i)) = (refl, refl)
 left-as-lent b m (sets (clearPath i)) = (refl, refl)
 left-as-lent b m (hears rs p slot when octets output) = (refl, refl)
+left-as-lent b m (echoes rs p slot octets output) = (refl, refl)
 left-as-lent b m (takes p) = (refl, refl)
 left-as-lent b m (sweeps when) = (refl, refl)
 left-as-lent b m (looks (groupWord i word)) = (refl, refl)
@@ -117,6 +122,9 @@ left-as-lent b m (looks (build fields size output)) = (refl, refl)
 left-as-lent b m (looks (class a)) = (refl, refl)
 left-as-lent b m (looks (form p)) = (refl, refl)
 left-as-lent b m (looks (checksum octets)) = (refl, refl)
+left-as-lent b m (looks (readEcho octets)) = (refl, refl)
+left-as-lent b m (looks (buildRequest i n echoed output)) = (refl, refl)
+left-as-lent b m (looks (buildReply i n seen echoed output)) = (refl, refl)
 left-as-lent b m (looks boardSize) = (refl, refl)
 left-as-lent b m (looks missionSize) = (refl, refl)
 

@@ -25,10 +25,15 @@ use Rattle.verdict.specs.Numbers.{localNumber, onwardNumber}
 use Rattle.taking.specs.Taking.{takeOutcome}
 use Rattle.tally.specs.Tally.{Move, countedAll}
 use Rattle.judge.specs.declared.Ending.{Ending}
+use Rattle.replies.specs.declared.sending.Replied.{Replied}
+use Rattle.answering.specs.Echoed.{asEnding}
 use Rattle.relay.specs.Received.{receivedRelay}
 use Rattle.answers.specs.Answers.{partAt, refusalIn}
 use Rattle.harpjuniper.specs.Face.{Reading, readingCount, readAnswer, readLeft, buildWordsAnswer, buildWordsOutput}
-use Rattle.contracts.specs.Promised.{Things, Result, Promise, Allows, lentTo, looking, hj-read-words, hj-build-words}
+use Rattle.echo.specs.declared.Reading.{Reading as Message}
+use Rattle.harpjuniper_messages.specs.Face.{messageCount}
+use Rattle.harpjuniper_messages.specs.Face as messages
+use Rattle.contracts.specs.Promised.{Things, Result, Promise, Allows, lentTo, looking, hj-read-words, hj-build-words, hj-read-echo-words}
 use Rattle.contracts.specs.Contracts.{Says}
 use Rattle.contracts.proofs.Answers.{each-call-answers}
 use Rattle.contracts.proofs.Rows.{says-row, one-result-by-contract, row-contract}
@@ -48,12 +53,16 @@ use Rattle.history.specs.Calls.{
   class,
   form,
   checksum,
+  readEcho,
+  buildRequest,
+  buildReply,
   boardSize,
   missionSize,
   OperatorCall,
   MissionCall,
   sets,
   hears,
+  echoes,
   takes,
   sweeps,
   looks,
@@ -61,17 +70,18 @@ use Rattle.history.specs.Calls.{
   operator,
   own,
 }
-use Rattle.history.specs.Seat.{Seat, relayIn, heardBy}
+use Rattle.history.specs.Seat.{Seat, relayIn, heardBy, answeringBy, repliedBy}
 use Rattle.history.specs.Outcome as outcome
 use Rattle.history.specs.Answers.{answersOf, stands}
 use Rattle.history.specs.Transport.{SameButTpid, SameButLocal, localBy}
 use Rattle.history.proofs.Answered.{every-answer-is-listed}
 use Rattle.history.proofs.Untaken.{took-none}
 use Rattle.history.proofs.Refusals.{nobody-took, output-as-lent}
+use Rattle.history.proofs.Replying.{reply-took-none}
 use Rattle.history.proofs.Sums.{moves-as-written}
 use Rattle.history.proofs.Transport as transport
 use Rattle.demands.specs.Trace.{Customer, Step, operates, flies, stepOf, Words, missionOf, made, wordsAfter, seatOf, relayOf, Gives}
-use Rattle.demands.specs.ReadOut.{ownOut, readOut, ownIn, memoryIn, hearsNothing, counterAt}
+use Rattle.demands.specs.ReadOut.{ownOut, readOut, ownIn, memoryIn, countsNothing, counterAt}
 use Rattle.demands.specs.Demand1.{Unchanged, OwnRemembers, Remembers, LocalAlone, Lacks, lackNumber, refusedOwn, AnswersLack, HasLong, refusedAs, MissionLacks, Demand1}
 use Rattle.demands.proofs.Lane.{madeBy}
 use Rattle.demands.proofs.Promised.{promisedBy, nextState}
@@ -84,7 +94,7 @@ use Rattle.demands.proofs.Fitting.{refusal-out}
 use Rattle.demands.proofs.ReadOut.{read-out}
 use Rattle.demands.proofs.Output.{told}
 use Rattle.demands.proofs.Remembers.{left-memory, heard-leaves}
-use Rattle.demands.proofs.Whole.{whole, left-whole, operator-refused, own-refused, lackAnswer, operator-lacks, own-lacks, longAnswer, long-left}
+use Rattle.demands.proofs.Whole.{whole, left-whole, reply-unwritten, operator-refused, own-refused, lackAnswer, operator-lacks, own-lacks, longAnswer, long-left}
 
 -- ---- a refusal leaves all but the counters of a datagram
 -- where all is left, so is this
@@ -127,8 +137,40 @@ module _ (who : Customer) (steps : List Step) where
           numbers = row .numbers;
         }
 
-  -- a refused call that is no datagram leaves all
-  quiet-leaves : (c : MissionCall) → hearsNothing c ≡ true → (x : Result) (g : Gives steps (flies who c) x)
+  -- a reply that no port took
+  module _ (rs : List Record) (p : ℕ) (slot : Slot) (octets output : List ℕ) (x : Result) (g : Gives steps (flies who (echoes rs p slot octets output)) x) where
+    abbrev answer : Replied
+    answer = repliedBy seat rs p octets (length output)
+
+    left-state : decode (x .left .mission) ≡ nextState seat (counters who steps) (own (echoes rs p slot octets output))
+    left-state =
+        let c = own (echoes rs p slot octets output) in
+        held-words (x .left .mission) (nextState seat (counters who steps) c) (gives-row who steps c x g .mission) .1
+
+    replied-memory : memoryIn (x .left .mission) ≡ memoryIn (missionOf who (g .before))
+    replied-memory =
+        ap (λ (s : State). s .memory) left-state ∙ ap (λ (s : State). s .memory) (sym (before-own who steps (flies who (echoes rs p slot octets output)) x g))
+
+    replied-unchanged : answer .ruling .took ≡ 0 → Unchanged (lentTo (made (g .before) (flies who (echoes rs p slot octets output)))) (x .left)
+    replied-unchanged none =
+        let c = echoes rs p slot octets output in
+        let row = gives-row who steps (own c) x g in
+        let before = before-own who steps (flies who c) x g in
+        let hold = words-hold who (g .lent) steps (g .before) (g .begun) in
+        record {
+          board = board-injective (x .left .board) (g .before .board) (row .board ∙ sym (hold .0));
+          mission =
+              ap (λ (s : State). s .mission) left-state
+              ∙ ap (λ (r : Relay). r .mission) (nobody-took (relayIn seat) slot (asEnding answer) none)
+              ∙ ap (λ (s : State). s .mission) (sym before);
+          number = ap (λ (s : State). s .number) left-state ∙ ap (λ (s : State). s .number) (sym before);
+          routes = row .routes;
+          output = row .output ∙ reply-unwritten (answeringBy seat rs p octets (length output)) answer octets output none;
+          numbers = row .numbers;
+        }
+
+  -- a refused call that hears no datagram and answers none leaves all
+  quiet-leaves : (c : MissionCall) → countsNothing c ≡ true → (x : Result) (g : Gives steps (flies who c) x)
       → outcome.isRefusal (outcome.ownOutcome seat c .answer) ≡ true → x .left ≡ lentTo (made (g .before) (flies who c))
   quiet-leaves c quiet x g h =
       let hold = words-hold who (g .lent) steps (g .before) (g .begun) in
@@ -147,6 +189,7 @@ module _ (who : Customer) (steps : List Step) where
   own-leaves (sets s) x g h = all-unchanged _ _ (quiet-leaves (sets s) refl x g h)
   own-leaves (hears rs p slot second octets output) x g h =
       heard-unchanged rs p slot second octets output x g (took-none seat rs p second octets (length output) h)
+  own-leaves (echoes rs p slot octets output) x g h = replied-unchanged rs p slot octets output x g (reply-took-none seat rs p octets (length output) h)
   own-leaves (takes p) x g h = all-unchanged _ _ (quiet-leaves (takes p) refl x g h)
   own-leaves (sweeps second) x g h = all-unchanged _ _ (quiet-leaves (sweeps second) refl x g h)
   own-leaves (looks l) x g h = all-unchanged _ _ (quiet-leaves (looks l) refl x g h)
@@ -169,6 +212,7 @@ module _ (who : Customer) (steps : List Step) where
   own-remembers (sets s) x g h = same-memory (quiet-leaves (sets s) refl x g h)
   own-remembers (hears rs p slot second octets output) x g h =
       heard-leaves who steps rs p slot second octets output x g (took-none seat rs p second octets (length output) h)
+  own-remembers (echoes rs p slot octets output) x g h = replied-memory rs p slot octets output x g
   own-remembers (takes p) x g h = same-memory (quiet-leaves (takes p) refl x g h)
   own-remembers (sweeps second) x g h = same-memory (quiet-leaves (sweeps second) refl x g h)
   own-remembers (looks l) x g h = same-memory (quiet-leaves (looks l) refl x g h)
@@ -229,12 +273,17 @@ ended-lack : (t : Bool) → outcome.ended (partAt 0 (pick t 21 16)) (partAt 8 (p
 ended-lack true = refl
 ended-lack false = refl
 
+replied-lack : (t : Bool) → outcome.replied (partAt 0 (pick t 21 16)) (partAt 16 (pick t 21 16)) (partAt 24 (pick t 21 16)) ≡ outcome.replied (pick t 21 16) 0 0
+replied-lack true = refl
+replied-lack false = refl
+
 read-21 : refusalIn (refusalNumber 21) ≡ 21
 read-21 = refusal-out 21 (omega arith)
 
 own-lack-out : (b m : List ℕ) (c : MissionCall) → MissionLacks b m c → ownOut c (lackAnswer (own c)) ≡ refusedOwn c (lackNumber c)
 own-lack-out b m (sets s) w = refl
 own-lack-out b m (hears rs p slot second octets output) w = ended-lack (tooLong rs)
+own-lack-out b m (echoes rs p slot octets output) w = replied-lack (tooLong rs)
 own-lack-out b m (takes p) w = rw (refusal-out 16 (omega arith))
 own-lack-out b m (sweeps second) w = refl
 own-lack-out b m (looks (groupWord i word)) w = rw read-21
@@ -249,6 +298,9 @@ own-lack-out b m (looks (build fields size output)) w = absurd w
 own-lack-out b m (looks (class a)) w = absurd w
 own-lack-out b m (looks (form p)) w = absurd w
 own-lack-out b m (looks (checksum octets)) w = absurd w
+own-lack-out b m (looks (readEcho octets)) w = absurd w
+own-lack-out b m (looks (buildRequest i n echoed output)) w = absurd w
+own-lack-out b m (looks (buildReply i n seen echoed output)) w = absurd w
 own-lack-out b m (looks boardSize) w = absurd w
 own-lack-out b m (looks missionSize) w = absurd w
 
@@ -272,6 +324,7 @@ long-out (operator (orders o)) h = refl
 long-out (operator (views v)) h = ap outcome.number read-21
 long-out (own (sets s)) h = absurd h
 long-out (own (hears rs p slot second octets output)) h = refl
+long-out (own (echoes rs p slot octets output)) h = refl
 long-out (own (takes p)) h = absurd h
 long-out (own (sweeps second)) h = absurd h
 long-out (own (looks (groupWord i word))) h = absurd h
@@ -286,6 +339,9 @@ long-out (own (looks (build fields size output))) h = absurd h
 long-out (own (looks (class a))) h = absurd h
 long-out (own (looks (form p))) h = absurd h
 long-out (own (looks (checksum octets))) h = absurd h
+long-out (own (looks (readEcho octets))) h = absurd h
+long-out (own (looks (buildRequest i n echoed output))) h = absurd h
+long-out (own (looks (buildReply i n seen echoed output))) h = absurd h
 long-out (own (looks boardSize)) h = absurd h
 long-out (own (looks missionSize)) h = absurd h
 
@@ -313,15 +369,20 @@ module _ (n : List ℕ) where
   unfolding buildWordsAnswer buildWordsOutput
   build-other wrong size room o = (rw (ne-eqb (length n) fieldWords wrong), rw (ne-eqb (length n) fieldWords wrong))
 
--- ---- a call that hears no datagram counts nothing
-no-moves : (x : Seat) (c : MissionCall) → hearsNothing c ≡ true → outcome.ownOutcome x c .moves ≡ []
+  message-other : (length n ≡ messageCount → ⊥) → (r : Message) → (messages.readAnswer (length n) r ≡ 21) × (messages.readLeft r n ≡ n)
+  unfolding messages.readAnswer messages.readLeft
+  message-other wrong r = (rw (ne-eqb (length n) messageCount wrong), rw (ne-eqb (length n) messageCount wrong))
+
+-- ---- a call that hears no datagram and answers none counts nothing
+no-moves : (x : Seat) (c : MissionCall) → countsNothing c ≡ true → outcome.ownOutcome x c .moves ≡ []
 no-moves x (sets s) h = refl
 no-moves x (hears rs p slot second octets output) h = true-false (sym h)
+no-moves x (echoes rs p slot octets output) h = true-false (sym h)
 no-moves x (takes p) h = quiet-taking p (takeOutcome (relayIn x) p)
 no-moves x (sweeps second) h = refl
 no-moves x (looks l) h = refl
 
-counters-stay : (who : Customer) (steps : List Step) (c : MissionCall) (x : Result) (g : Gives steps (flies who c) x) → hearsNothing c ≡ true
+counters-stay : (who : Customer) (steps : List Step) (c : MissionCall) (x : Result) (g : Gives steps (flies who c) x) → countsNothing c ≡ true
     → decode (missionOf who (wordsAfter (g .before) (flies who c) x)) .counters ≡ decode (missionOf who (g .before)) .counters
 counters-stay who steps c x g none =
     ap (λ (s : State). s .counters) (gives-next who steps (own c) x g)
@@ -353,11 +414,15 @@ demand-1 =
           (is, ap (stands (answersOf c)) is ∙ every-answer-is-listed (seatOf who steps) c);
       other-words = other-words;
       long-lists = long-lists;
-      other-numbers = λ octets n size o x y reads builds.
+      other-numbers = λ octets n size o x y z reads builds echo.
           let read = says-row (hj-read-words octets n) x reads in
-          let built = says-row (hj-build-words n size o) y builds in (
+          let built = says-row (hj-build-words n size o) y builds in
+          let message = says-row (hj-read-echo-words octets n) z echo in (
             λ wrong. (read .answer ∙ read-other n wrong _ .0, read .numbers ∙ read-other n wrong _ .1),
-            λ wrong. (built .answer ∙ build-other n wrong size (length o) o .0, built .output ∙ build-other n wrong size (length o) o .1),
+            (
+              λ wrong. (built .answer ∙ build-other n wrong size (length o) o .0, built .output ∙ build-other n wrong size (length o) o .1),
+              λ wrong. (message .answer ∙ message-other n wrong _ .0, message .numbers ∙ message-other n wrong _ .1),
+            ),
           );
       nobody-checks-first = given.nobody-checks-first;
       refusal-leaves = λ who steps c x g h. call-leaves who steps c x g (is-refused who steps c x g h);

@@ -78,6 +78,7 @@ use Rattle.history.specs.Calls.{
   setRouter,
   setPort,
   setLifetime,
+  setDrop,
   setRoute,
   clearRoute,
   orders,
@@ -85,6 +86,7 @@ use Rattle.history.specs.Calls.{
   portWord,
   routerFlag,
   lifetimeWord,
+  dropFlag,
   recordWord,
   Setting,
   setGroup,
@@ -109,11 +111,11 @@ use Rattle.history.specs.Calls.{
 use Rattle.history.specs.Calls as look
 use Rattle.history.specs.Seat.{Seat, freshSeat, stateOf, heardBy, memoryBy}
 use Rattle.history.specs.Outcome.{entry, ofTaking, outcome, next, runFrom, seatAfter}
-use Rattle.history.specs.Parts.{Part, theRouter, thePort, theLifetime, theGroup, thePath, About, settingIn}
+use Rattle.history.specs.Parts.{Part, theRouter, thePort, theLifetime, theDrop, theGroup, thePath, About, settingIn}
 use Rattle.history.specs.Line.{Copy, entryOf, takingOf, lineAt}
 use Rattle.history.specs.Marked.{Marked, markedCases}
 use Rattle.history.specs.Ranges.{Octets, EntryFits, CopyFits}
-use Rattle.history.proofs.Domain.{WasRead, set-up-small, NamesTheSame, goesOf, goes-out, waiting-copies-name-the-same}
+use Rattle.history.proofs.Domain.{WasRead, set-up-small, NamesTheSame, waiting-copies-name-the-same}
 use Rattle.history.proofs.Heard.{heard-is}
 use Rattle.history.proofs.Holds.{holds-until-changed}
 use Rattle.history.proofs.Keys.{keys-unique}
@@ -132,13 +134,13 @@ use Rattle.demands.proofs.Held.{reading-left, reading-answer, build-ans
 use Rattle.demands.proofs.Traced.{history-more, board-is, held-words}
 use Rattle.demands.proofs.Told.{gives-row, gives-board, counters, setting-told, order-told}
 use Rattle.demands.proofs.Fitting.{history-passed}
-use Rattle.demands.proofs.ReadOut.{read-out}
+use Rattle.demands.proofs.ReadOut.{told-refusal, told-value, read-out}
 use Rattle.demands.proofs.Output.{told, was, takes-some, header-found, as-many, others-stay}
 use Rattle.demands.proofs.Remembers.{before-memory, page-memory, sweep-memory, sweep-own}
 
 -- ---- reading
 no-slot : (s n : List ℕ) → Passable (hj-read-words s n)
-no-slot s n b m rs p slot now l o e = true-false cc
+no-slot s n = (λ b m rs p slot now l o e. true-false cc, λ b m rs p slot l o e. true-false cc)
 
 reads : (s : List ℕ) → Reads s (readingOf (readOf s))
 reads s =
@@ -196,7 +198,7 @@ module _ (fields : Numbers) (size : ℕ) where
   builds : (lent : List ℕ) → Builds fields size lent (buildAnswer fields size (length lent)) (buildOutput fields size lent)
   builds lent =
       let c = hj-build-words (numbersWords fields) size lent in
-      let a = each-call-answers c (λ b m rs p slot now l o e. true-false cc) in
+      let a = each-call-answers c (λ b m rs p slot now l o e. true-false cc, λ b m rs p slot l o e. true-false cc) in
       let row = says-row c (a .0) (a .1) in
       (a .0, (a .1, (row .answer ∙ build-answer fields size (length lent), row .output ∙ build-output fields size lent)))
 
@@ -209,14 +211,7 @@ module _ (fields : Numbers) (size : ℕ) where
   abbrev checks : ℕ → Checks
   checks room = (noRoom room, 17) ∷ (fieldsOut fields, 19) ∷ (tooMuchData size, 20) ∷ []
 
-  -- a refusal stands above 32 bits of value; a header has at most 50 octets
-  answer-case : (n m value : ℕ) (t : Bool) → eqb m 0 ≡ t → (m ≡ 0 → value < 2 ^ 32) → n ≢ 0 → (pick t value (refusalNumber m) ≡ refusalNumber n) ↔ (m ≡ n)
-  answer-case n m value true e small some = (
-    λ is. absurd (let low = small (eqb-true m 0 e) in some (omega (arith, is, low))),
-    λ is. absurd (some (sym is ∙ eqb-true m 0 e)),
-  )
-  answer-case n m value false e small some = (λ is. omega (arith, is), λ is. ap refusalNumber is)
-
+  -- a header has at most 50 octets
   module _ (words : Words fields) (room : ℕ) where
     built-small : firstOf (numbersChecks fields size room) ≡ 0 → sizeOf (fieldsFrom fields) < 2 ^ 32
     unfolding numbersChecks
@@ -229,21 +224,17 @@ module _ (fields : Numbers) (size : ℕ) where
     unfolding buildAnswer numbersChecks
     refused-is n some =
         let m = firstOf (checks room) in
-        let is = answer-case n m (sizeOf (fieldsFrom fields)) (eqb m 0) refl built-small some in
+        let is = told-refusal n m (sizeOf (fieldsFrom fields)) (eqb m 0) refl built-small some in
         let by = decided (checks room) refl .1 n some in
         (λ e. by .0 (is .0 e), λ h. is .1 (by .1 h))
 
     -- where the answer is below 2^32, nothing was refused
-    passed-case : (m value : ℕ) (t : Bool) → eqb m 0 ≡ t → pick t value (refusalNumber m) < 2 ^ 32 → m ≡ 0
-    passed-case m value true e low = eqb-true m 0 e
-    passed-case m value false e low = omega (arith, low)
-
     passed : buildAnswer fields size room < 2 ^ 32 → noneHolds (checks room)
     unfolding buildAnswer numbersChecks
     passed low =
         let m = firstOf (checks room) in
         decided (checks room) refl .0 .0
-        (passed-case m (sizeOf (fieldsFrom fields)) (eqb m 0) refl low)
+        (told-value m (sizeOf (fieldsFrom fields)) (eqb m 0) refl low)
 
 build-then-read : (fields : Numbers) (size : ℕ) (lent left userData : List ℕ) (answer : ℕ) → Words fields → Builds fields size lent answer left
     → answer < 2 ^ 32 → size ≤ length userData
@@ -272,6 +263,7 @@ orders-decided : (b : Board) (o : Order) → Decided (orderChecks b o)
 orders-decided b (setRouter x) = decided (orderChecks b (setRouter x)) refl
 orders-decided b (setPort p address mask mtu mission) = decided (orderChecks b (setPort p address mask mtu mission)) refl
 orders-decided b (setLifetime x) = decided (orderChecks b (setLifetime x)) refl
+orders-decided b (setDrop x) = decided (orderChecks b (setDrop x)) refl
 orders-decided b (setRoute rs i prefix mask port availability capabilities mission) =
     decided (orderChecks b (setRoute rs i prefix mask port availability capabilities mission)) refl
 orders-decided b (clearRoute rs i) = decided (orderChecks b (clearRoute rs i)) refl
@@ -299,6 +291,7 @@ settings-back : (who : Customer) (steps : List Step) (part : Part) (word : ℕ) 
 settings-back who steps theRouter word x g = gives-row who steps (operator (views routerFlag)) x g .answer
 settings-back who steps (thePort p) word x g = gives-row who steps (operator (views (portWord p word))) x g .answer
 settings-back who steps theLifetime word x g = gives-row who steps (operator (views lifetimeWord)) x g .answer
+settings-back who steps theDrop word x g = gives-row who steps (operator (views dropFlag)) x g .answer
 settings-back who steps (theGroup i) word x g = gives-row who steps (own (looks (groupWord i word))) x g .answer
 settings-back who steps (thePath i) word x g = gives-row who steps (own (looks (pathWord i word))) x g .answer
 
@@ -561,8 +554,7 @@ module _ (who : Customer) (steps : List Step) where
     goes-case true is nobody out e handed = true-false cc
     goes-case true is (one c others) out e handed =
         let inside = is-port r p is in
-        let names = (rw out at (chosen-each (rankBy entryOf) (NamesTheSame (portIn r p)) (lineAt p m h) (waiting-copies-name-the-same p inside m h))) .0 in
-        let came = (rw out at fits) .0 .1 in
+        let names = (rw out at (chosen-each (rankBy entryOf) (NamesTheSame (portIn r p)) (lineAt p m h) (waiting-copies-name-the-same p inside m h (history-passed who steps (g .begun .passed))))) .0 in
         record {
           copy = c;
           others = others;
@@ -570,8 +562,8 @@ module _ (who : Customer) (steps : List Step) where
           entry = cc handed;
           came = names .came;
           read = names .read;
-          goes = goesOf names;
-          reads = goes-out names came .0;
+          goes = names .goes;
+          reads = names .reads;
           domain = names .domain;
           aim = names .aim;
           origin = names .origin;

@@ -34,7 +34,7 @@ use Rattle.history.proofs.Heard.{heard-is}
 use Rattle.history.proofs.Sums.{counted-as-written}
 use Rattle.history.proofs.Ledger as ledgers
 use Rattle.history.proofs.Line.{queue-waits, out-or-waiting, taken-in-turn, line-in-turn}
-use Rattle.history.proofs.Foretold.{foretold-over-histories, answers-are-handed, stands-behind, refused-idle, other-take-idle, idle-counts-nothing, not-taken-idle, setting-idle, sweep-idle, look-idle, operator-idle}
+use Rattle.history.proofs.Foretold.{foretold-over-histories, answers-are-handed, stands-behind, refused-idle, other-take-idle, idle-counts-nothing, not-taken-idle, not-replied-idle, setting-idle, sweep-idle, look-idle, operator-idle}
 use Rattle.history.proofs.Takes.{take-is}
 use Rattle.history.proofs.Fair.{fair}
 use Rattle.demands.specs.Trace.{Customer, numberOf, Step, flies, Words, Trace, AllPass, Begun, historyOf, seatOf, relayFor, Gives}
@@ -64,17 +64,17 @@ module _ (who : Customer) (steps : List Step) where
   abbrev seat : Seat
   seat = seatOf who steps
 
-  counter-reads : (i : ℕ) (x : Result) → i < counterCount → Gives steps (flies who (looks (counter i))) x → x .answer ≡ counterIn (counters who steps) i
+  pub counter-reads : (i : ℕ) (x : Result) → i < counterCount → Gives steps (flies who (looks (counter i))) x → x .answer ≡ counterIn (counters who steps) i
   counter-reads i x inside g = gives-row who steps (own (looks (counter i))) x g .answer ∙ counter-is (counters who steps) i inside
 
-  waiting-reads : (p : ℕ) (x : Result) → p < portCount → Gives steps (flies who (looks (waiting p))) x → x .answer ≡ queueAt (seat .mission) p .count
+  pub waiting-reads : (p : ℕ) (x : Result) → p < portCount → Gives steps (flies who (looks (waiting p))) x → x .answer ≡ queueAt (seat .mission) p .count
   waiting-reads p x inside g = gives-row who steps (own (looks (waiting p))) x g .answer ∙ waiting-is (seat .mission) p inside
 
   many-wait : (p : ℕ) → p < portCount → queueAt (seat .mission) p .count ≡ length (lineAt p m h)
   many-wait p inside = waits-count entryOf (queue-waits p inside m h)
 
   -- a queue that is not under 32 has 32
-  full-is : (p : ℕ) → p < portCount → ltb (queueAt (seat .mission) p .count) entryPlaces ≡ false → queueAt (seat .mission) p .count ≡ entryPlaces
+  pub full-is : (p : ℕ) → p < portCount → ltb (queueAt (seat .mission) p .count) entryPlaces ≡ false → queueAt (seat .mission) p .count ≡ entryPlaces
   full-is p inside full =
       let fits = waits-fits entryOf (queue-waits p inside m h) in
       let over = ltb-false (queueAt (seat .mission) p .count) entryPlaces full in
@@ -145,7 +145,7 @@ demand-3 =
       foretold-behind = λ m cs c p x inside placed. stands-behind p m cs c x placed inside;
       foretold-idle = λ m cs ds c p x idle. idle-counts-nothing p m x cs c ds idle;
       foretold-refused = λ m cs c p. refused-idle p m cs c;
-      foretold-others = λ m cs p. (other-take-idle p m cs, (not-taken-idle p m cs, (setting-idle p m cs, (sweep-idle p m cs, (look-idle p m cs, operator-idle p m cs)))));
+      foretold-others = λ m cs p. (other-take-idle p m cs, (not-taken-idle p m cs, (not-replied-idle p m cs, (setting-idle p m cs, (sweep-idle p m cs, (look-idle p m cs, operator-idle p m cs))))));
       handed-is-told = λ who steps later p w v u b t all.
           entries-told who p later steps w v u b t all ∙ sym (answers-are-handed p (numberOf who) (historyOf who later) (historyOf who steps));
     }

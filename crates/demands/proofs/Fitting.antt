@@ -33,10 +33,11 @@ use Rattle.records.specs.declared.PathPlace.{PathPlace}
 use Rattle.records.specs.declared.PairPlace.{PairPlace}
 use Rattle.sets.specs.Limits.{portCount, groupPlaces, pathPlaces, pairPlaces}
 use Rattle.state.specs.Relay.{Memory, Relay, portIn}
-use Rattle.state.specs.Seen.{Board, freshBoard, freshMission, freshMemory, ownedAt}
+use Rattle.state.specs.Seen.{Board, freshBoard, freshMission, freshMemory, putRouter, putLifetime, putDrop, ownedAt}
 use Rattle.state.specs.Layout.{ownedWords, groupWords, pathWords, pairWords}
 use Rattle.state.proofs.Seen.{seen-at}
 use Rattle.floods.specs.Sweep.{isOld, sweptPlace, swept, sweepChecks, sweptMemory}
+use Rattle.answering.specs.Echoed.{asEnding}
 use Rattle.adjust.specs.Settled.{newPort, newGroup, newPath}
 use Rattle.lent_state.specs.Read.{wordAnswer, placeAnswer}
 use Rattle.lent_state.specs.View.{tooLong}
@@ -46,12 +47,13 @@ use Rattle.route_calls.specs.Calls.{recordWords}
 use Rattle.harpjuniper_reads.specs.Back.{portAnswer, groupAnswer, pathAnswer, pairAnswer}
 use Rattle.harpjuniper_routes.specs.Face.{routeWordTold}
 use Rattle.contracts.proofs.Kept.{set-each, getD-each, replicate-each}
-use Rattle.history.specs.Seat.{Seat, freshSeat, relayIn, relayWith, heardBy, memoryBy}
+use Rattle.history.specs.Seat.{Seat, freshSeat, relayIn, relayWith, heardBy, memoryBy, repliedBy}
 use Rattle.history.specs.Calls.{
   Order,
   setRouter,
   setPort,
   setLifetime,
+  setDrop,
   setRoute,
   clearRoute,
   orders,
@@ -63,6 +65,7 @@ use Rattle.history.specs.Calls.{
   clearPath,
   sets,
   hears,
+  echoes,
   takes,
   sweeps,
   looks,
@@ -117,11 +120,13 @@ one-passed : (c : Call) → CallPasses c → Passed c
 one-passed (operator (orders (setRouter x))) p = tt
 one-passed (operator (orders (setPort q address mask mtu mission))) p = tt
 one-passed (operator (orders (setLifetime x))) p = p
+one-passed (operator (orders (setDrop x))) p = tt
 one-passed (operator (orders (setRoute rs i prefix mask q availability capabilities mission))) p = tt
 one-passed (operator (orders (clearRoute rs i))) p = tt
 one-passed (operator (views v)) p = tt
 one-passed (own (sets s)) p = tt
 one-passed (own (hears rs at slot when octets output)) p = p
+one-passed (own (echoes rs at slot octets output)) p = p
 one-passed (own (takes q)) p = tt
 one-passed (own (sweeps when)) p = p
 one-passed (own (looks l)) p = p
@@ -178,12 +183,13 @@ port-fits = (none-fits, (none-fits, (none-fits, (none-fits, (none-fits, tt)))))
 
 order-fits : (b : Board) (o : Order) → OperatorPasses (orders o) → BoardFits b → BoardFits (boardLeft b o)
 order-fits b (setRouter x) p h =
-    either BoardFits (eqb (firstOf (orderChecks b (setRouter x))) 0) {a = record { router = x; ports = b .ports; lifetime = b .lifetime }} {b = b} h h
+    either BoardFits (eqb (firstOf (orderChecks b (setRouter x))) 0) {a = putRouter b x} {b = b} h h
 order-fits b (setPort q address mask mtu mission) p h =
     either BoardFits (eqb (firstOf (orderChecks b (setPort q address mask mtu mission))) 0)
     (set-each PortFits (b .ports) q (newPort address mask mtu mission) (one-fits, p) h) h
 order-fits b (setLifetime x) p h =
-    either BoardFits (eqb (firstOf (orderChecks b (setLifetime x))) 0) {a = record { router = b .router; ports = b .ports; lifetime = x }} {b = b} h h
+    either BoardFits (eqb (firstOf (orderChecks b (setLifetime x))) 0) {a = putLifetime b x} {b = b} h h
+order-fits b (setDrop x) p h = either BoardFits (eqb (firstOf (orderChecks b (setDrop x))) 0) {a = putDrop b x} {b = b} h h
 order-fits b (setRoute rs i prefix mask q availability capabilities mission) p h =
     either BoardFits (eqb (firstOf (orderChecks b (setRoute rs i prefix mask q availability capabilities mission))) 0) h h
 order-fits b (clearRoute rs i) p h = either BoardFits (eqb (firstOf (orderChecks b (clearRoute rs i))) 0) h h
@@ -230,6 +236,12 @@ unfolding seenPort
 seen-fits b h n p =
     either (λ (x : Port). x .address .0 < 2 ^ 32) (owns n (ownedAt b p)) (getD-each PortFits (b .ports) p freshOwned port-fits h .1 .0) none-fits
 
+-- and its MTU
+seen-mtu-fits : (b : Board) → BoardFits b → (n p : ℕ) → seenPort n (ownedAt b p) .mtu < 2 ^ 32
+unfolding seenPort
+seen-mtu-fits b h n p =
+    either (λ (x : Port). x .mtu < 2 ^ 32) (owns n (ownedAt b p)) (getD-each PortFits (b .ports) p freshOwned port-fits h .1 .1 .1 .0) none-fits
+
 address-fits : (x : Seat) (rs : List Record) → BoardFits (x .board) → (p : ℕ) → portIn (relayWith x rs) p .address .0 < 2 ^ 32
 address-fits x rs h p = rw (seen-at (x .board) p (x .number)) (seen-fits (x .board) h (x .number) p)
 
@@ -263,6 +275,8 @@ next-fits x (own (hears rs q slot when octets output)) p h = (
     heard-fits x rs q when octets (length output) (p .1 .0) (p .1 .1) (h .0) (h .1 .1),
   ),
 )
+next-fits x (own (echoes rs q slot octets output)) p h =
+    (h .0, (subst OwnFits (sym (received-settings (relayIn x) slot (asEnding (repliedBy x rs q octets (length output))))) (h .1 .0), h .1 .1))
 next-fits x (own (takes q)) p h = (h .0, (subst OwnFits (sym (taken-settings (relayIn x) q)) (h .1 .0), h .1 .1))
 next-fits x (own (sweeps when)) p h = (h .0, (h .1 .0, sweep-fits (x .board .lifetime) when (x .memory) (h .1 .1)))
 next-fits x (own (looks l)) p h = h
@@ -285,6 +299,9 @@ fresh-fits n = (
 module _ (who : Customer) (steps : List Step) (all : AllPass steps) where
   fits : Fits (seatOf who steps)
   fits = all-fits (historyOf who steps) (freshSeat (numberOf who)) (history-passes who steps all) (fresh-fits (numberOf who))
+
+  pub mtu-fits : (rs : List Record) (p : ℕ) → portIn (relayWith (seatOf who steps) rs) p .mtu < 2 ^ 32
+  mtu-fits rs p = rw (seen-at (seatOf who steps .board) p (seatOf who steps .number)) (seen-mtu-fits (seatOf who steps .board) (fits .0) (seatOf who steps .number) p)
 
   pub port-out : (p word : ℕ) → refusalIn (portAnswer (seatOf who steps .board) p word) ≡ wordRefusal p portCount word 5
   unfolding portAnswer

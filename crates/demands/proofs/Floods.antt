@@ -48,7 +48,7 @@ use Rattle.page.specs.Table.{somePort, nobody}
 use Rattle.page.proofs.Sets.{empty-is}
 use Rattle.harpjuniper_reads.specs.Back.{pairAnswer}
 use Rattle.contracts.specs.Promised.{Result}
-use Rattle.history.specs.Calls.{pairWord, lastSecond, MissionCall, sets, hears, takes, sweeps, looks, Call, operator, own}
+use Rattle.history.specs.Calls.{pairWord, lastSecond, MissionCall, sets, hears, echoes, takes, sweeps, looks, Call, operator, own}
 use Rattle.history.specs.Seat.{Seat, heardBy}
 use Rattle.history.specs.Outcome.{ownOutcome, next}
 use Rattle.history.specs.Answers.{listed}
@@ -159,6 +159,7 @@ module _ (who : Customer) (q : Pair) where
   goes-agree steps (hears rs at slot second octets output) x g =
       ap₂ (λ (p : Pair) (n : ℕ). one (isFlooded (headerOf octets .fields) && (samePair p q && listed (1 ∷ 10 ∷ 11 ∷ 13 ∷ 14 ∷ 15 ∷ []) n)))
       (pair-on who (g .lent) steps (g .before) (g .begun) at octets) (told who steps rs at slot second octets output x g .onward)
+  goes-agree steps (echoes rs at slot octets output) x g = refl
   goes-agree steps (takes p) x g = refl
   goes-agree steps (sweeps second) x g = refl
   goes-agree steps (looks l) x g = refl
@@ -166,6 +167,7 @@ module _ (who : Customer) (q : Pair) where
   frees-agree : Agree who (frees who q) (freesOwn q)
   frees-agree steps (sets s) x g = refl
   frees-agree steps (hears rs at slot second octets output) x g = refl
+  frees-agree steps (echoes rs at slot octets output) x g = refl
   frees-agree steps (takes p) x g = refl
   frees-agree steps (sweeps second) x g =
       let seat = seatOf who steps in
@@ -271,7 +273,7 @@ unfolding pairAnswer wordAnswer
 pair-word k i word inside small = simp (lt-ltb i pairPlaces inside, lt-ltb word 5 small)
 
 -- the trace before its first step
-begin : {w v : Words} {steps : List Step} → (b : Begun w steps v)
+pub begin : {w v : Words} {steps : List Step} → (b : Begun w steps v)
     → Begun w [] (record { board = b .board .left .board; zero = b .zero .left .mission; one = b .one .left .mission })
 begin b =
     record {

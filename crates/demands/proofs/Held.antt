@@ -29,25 +29,37 @@ use Rattle.judge.specs.declared.Ending.{Ending}
 use Rattle.relay.specs.Outgoing.{sentOutput}
 use Rattle.relay.specs.Received.{heardEnding, heardMemory, receivedState}
 use Rattle.lent_state.specs.View.{Lent, Held, lentBoard, lent, byLent, onLent, toldBoard, changedBoard, told, changed, toldBoth, changedBoth, changedRelay, tooLong}
-use Rattle.answers.specs.Answers.{rulingParts, headerParts, receiveNumber}
+use Rattle.echo.specs.Message.{readingOf as echoOf}
+use Rattle.echo.specs.declared.Reading.{Reading as Message}
+use Rattle.replies.specs.Replied.{repliedTo, repliedOutput}
+use Rattle.replies.specs.declared.Answering.{Answering}
+use Rattle.replies.specs.declared.sending.Replied.{Replied}
+use Rattle.answering.specs.Echoed.{echoAnswering, echoReply, repliedState}
+use Rattle.answering.specs.Split.{numberFor}
+use Rattle.answers.specs.Answers.{rulingParts, headerParts, receiveNumber, replyNumber}
 use Rattle.harpjuniper.specs.Face.{Reading, readingOf, readingWords, readingCount, readAnswer, readLeft}
 use Rattle.harpjuniper.specs.Face.{buildAnswer, buildOutput, buildWordsAnswer, buildWordsOutput}
+use Rattle.harpjuniper_messages.specs.Face.{messageCount, leftBy}
+use Rattle.harpjuniper_messages.specs.Face as messages
+use Rattle.harpjuniper_echo.specs.Face.{echoAnswer, echoWords, echoOutput}
 use Rattle.route_calls.specs.Search.{searchAnswer}
 use Rattle.harpjuniper_routes.specs.Face.{searchTold}
 use Rattle.harpjuniper_receive.specs.Face.{receiveAnswer, receiveWords, receiveOutput}
 use Rattle.contracts.specs.Promised.{Result, Promise, Allows, promised}
-use Rattle.history.specs.Seat.{Seat, stateOf, relayIn, relayWith, heardBy, memoryBy}
+use Rattle.history.specs.Seat.{Seat, stateOf, relayIn, relayWith, heardBy, memoryBy, answeringBy, repliedBy}
 use Rattle.history.specs.Outcome.{ofTaking, next}
 use Rattle.history.specs.Calls.{
   Order,
   setRouter,
   setPort,
   setLifetime,
+  setDrop,
   setRoute,
   clearRoute,
   View,
   routerFlag,
   lifetimeWord,
+  dropFlag,
   portWord,
   recordWord,
   orders,
@@ -70,10 +82,14 @@ use Rattle.history.specs.Calls.{
   class,
   form,
   checksum,
+  readEcho,
+  buildRequest,
+  buildReply,
   boardSize,
   missionSize,
   sets,
   hears,
+  echoes,
   takes,
   sweeps,
   looks,
@@ -122,6 +138,15 @@ pub build-output : (fields : Numbers) (size : ℕ) (output : List ℕ) → build
 unfolding buildWordsOutput
 build-output fields size output = rw (words-count fields, numbers-again fields)
 
+-- ---- echo messages in words
+pub message-left : (r : Message) → messages.readLeft r (replicate messageCount 0) ≡ leftBy r (replicate messageCount 0)
+unfolding messages.readLeft
+message-left r = refl
+
+pub message-answer : (r : Message) → messages.readAnswer (length {A = ℕ} (replicate messageCount 0)) r ≡ messages.refusalIn r
+unfolding messages.readAnswer
+message-answer r = refl
+
 -- ---- a take counts nothing
 pub quiet-taking : (p : ℕ) (t : Taking) → ofTaking p t .moves ≡ []
 quiet-taking p (Handed e) = refl
@@ -145,6 +170,24 @@ module _ (x : Seat) (l : List ℕ) (rs : List Record) (p second : ℕ) (octets :
       → pick t 21 (receiveNumber (heardBy x rs p second octets room)) ≡ receiveNumber (heardBy x rs p second octets room)
   answer-case true long = long-heard long
   answer-case false short = refl
+
+-- ---- a reply: likewise
+module _ (x : Seat) (l : List ℕ) (rs : List Record) (p : ℕ) (octets : List ℕ) (room : ℕ) where
+  answering-any : echoAnswering (x .board) (stateOf x l) rs p octets room ≡ answeringBy x rs p octets room
+  unfolding echoAnswering
+  answering-any = refl
+
+  replied-any : echoReply (x .board) (stateOf x l) rs p octets room ≡ repliedBy x rs p octets room
+  unfolding echoReply echoAnswering
+  replied-any = refl
+
+  long-replied : tooLong rs ≡ true → 21 ≡ numberFor (repliedBy x rs p octets room)
+  unfolding echoReply echoAnswering repliedTo replyNumber rulingParts headerParts
+  long-replied long = rw long
+
+  replied-case : (t : Bool) → tooLong rs ≡ t → pick t 21 (numberFor (repliedBy x rs p octets room)) ≡ numberFor (repliedBy x rs p octets room)
+  replied-case true long = long-replied long
+  replied-case false short = refl
 
 -- ---- words that hold the board and the state
 module _ (b m : List ℕ) (x : Seat) (l : List ℕ) (board : lentBoard b ≡ Held (x .board)) (mission : lent m ≡ Held (stateOf x l)) where
@@ -195,6 +238,28 @@ module _ (b m : List ℕ) (x : Seat) (l : List ℕ) (board : lentBoard b ≡ Hel
     unfolding receiveOutput
     heard-output = both-told _ output ∙ ap (λ (z : Ending). sentOutput z octets output) (heard-any x l rs p second octets (length output))
 
+  -- a reply
+  module _ (rs : List Record) (p : ℕ) (octets output : List ℕ) where
+    replied-answer : echoAnswer b m rs p octets (length output) ≡ numberFor (repliedBy x rs p octets (length output))
+    unfolding echoAnswer
+    replied-answer =
+        ap (pick (tooLong rs) 21) (both-told _ 16 ∙ ap numberFor (replied-any x l rs p octets (length output)))
+        ∙ replied-case x l rs p octets (length output) (tooLong rs) refl
+
+    replied-output : echoOutput b m rs p octets output
+        ≡ repliedOutput (answeringBy x rs p octets (length output)) (repliedBy x rs p octets (length output)) octets output
+    unfolding echoOutput
+    replied-output =
+        both-told _ output
+        ∙ ap₂ (λ (a : Answering) (z : Replied). repliedOutput a z octets output) (answering-any x l rs p octets (length output))
+        (replied-any x l rs p octets (length output))
+
+  replied-words : (rs : List Record) (p : ℕ) (slot : Slot) (octets output : List ℕ)
+      → echoWords b m rs p (slot .0) octets (length output) ≡ Held (nextState x l (own (echoes rs p slot octets output)))
+  unfolding echoWords
+  replied-words rs p slot octets output =
+      both-changed _ ∙ ap (λ (z : Replied). Held (repliedState (x .board) s slot z)) (replied-any x l rs p octets (length output))
+
   search-answer : (rs : List Record) (a : Address) → searchTold b m rs (a .0) ≡ pick (tooLong rs) 21 (searchAnswer (relayWith x rs) a)
   unfolding searchTold
   search-answer rs a = ap (pick (tooLong rs) 21) (both-told _ 21)
@@ -214,12 +279,14 @@ module _ (b m : List ℕ) (x : Seat) (l : List ℕ) (board : lentBoard b ≡ Hel
   order-row (setRouter z) = same-promise (board-told _ _) (board-changed _) refl refl refl refl
   order-row (setPort p address mask mtu number) = same-promise (board-told _ _) (board-changed _) refl refl refl refl
   order-row (setLifetime z) = same-promise (board-told _ _) (board-changed _) refl refl refl refl
+  order-row (setDrop z) = same-promise (board-told _ _) (board-changed _) refl refl refl refl
   order-row (setRoute rs i prefix mask p availability capabilities number) = same-promise (board-told _ _) board refl (board-told _ _) refl refl
   order-row (clearRoute rs i) = refl
 
   view-row : (v : View) → promised (madeBy b m (operator (views v))) ≡ promisedBy x l (operator (views v))
   view-row routerFlag = same-promise (board-told _ _) board refl refl refl refl
   view-row lifetimeWord = same-promise (board-told _ _) board refl refl refl refl
+  view-row dropFlag = same-promise (board-told _ _) board refl refl refl refl
   view-row (portWord p word) = same-promise (board-told _ _) board refl refl refl refl
   view-row (recordWord rs i word) = refl
 
@@ -252,6 +319,9 @@ module _ (b m : List ℕ) (x : Seat) (l : List ℕ) (board : lentBoard b ≡ Hel
   look-row (class a) = refl
   look-row (form p) = refl
   look-row (checksum octets) = refl
+  look-row (readEcho octets) = same-promise (message-answer (echoOf octets)) refl refl refl refl (message-left (echoOf octets))
+  look-row (buildRequest i n echoed output) = refl
+  look-row (buildReply i n seen echoed output) = refl
   look-row boardSize = refl
   look-row missionSize = refl
 
@@ -262,6 +332,8 @@ module _ (b m : List ℕ) (x : Seat) (l : List ℕ) (board : lentBoard b ≡ Hel
   row-is (own (sets z)) = setting-row z
   row-is (own (hears rs p slot second octets output)) =
       same-promise (heard-answer rs p slot second octets output) board (heard-words rs p slot second octets output) refl (heard-output rs p slot second octets output) refl
+  row-is (own (echoes rs p slot octets output)) =
+      same-promise (replied-answer rs p octets output) board (replied-words rs p slot octets output) refl (replied-output rs p octets output) refl
   row-is (own (takes p)) = same-promise (both-told _ _) board (take-words p) refl refl refl
   row-is (own (sweeps second)) = same-promise (both-told _ _) board (both-changed _) refl refl refl
   row-is (own (looks z)) = look-row z
@@ -276,6 +348,7 @@ module _ (b m : List ℕ) (x : Seat) (l : List ℕ) (board : lentBoard b ≡ Hel
     order-after (setRouter z) k = (k .board, mission)
     order-after (setPort p address mask mtu number) k = (k .board, mission)
     order-after (setLifetime z) k = (k .board, mission)
+    order-after (setDrop z) k = (k .board, mission)
     order-after (setRoute rs i prefix mask p availability capabilities number) k = (
       k .board ∙ ap Held (sym (either-way (eqb (firstOf (orderChecks (x .board) (setRoute rs i prefix mask p availability capabilities number))) 0) (x .board))),
       mission,
@@ -288,6 +361,7 @@ module _ (b m : List ℕ) (x : Seat) (l : List ℕ) (board : lentBoard b ≡ Hel
     view-after : (v : View) → After (operator (views v))
     view-after routerFlag k = (k .board, mission)
     view-after lifetimeWord k = (k .board, mission)
+    view-after dropFlag k = (k .board, mission)
     view-after (portWord p word) k = (k .board, mission)
     view-after (recordWord rs i word) k = (board, mission)
 
@@ -310,6 +384,9 @@ module _ (b m : List ℕ) (x : Seat) (l : List ℕ) (board : lentBoard b ≡ Hel
     look-after (class a) k = (board, mission)
     look-after (form p) k = (board, mission)
     look-after (checksum octets) k = (board, mission)
+    look-after (readEcho octets) k = (board, mission)
+    look-after (buildRequest i n echoed output) k = (board, mission)
+    look-after (buildReply i n seen echoed output) k = (board, mission)
     look-after boardSize k = (board, mission)
     look-after missionSize k = (board, mission)
 
@@ -319,6 +396,7 @@ module _ (b m : List ℕ) (x : Seat) (l : List ℕ) (board : lentBoard b ≡ Hel
     words-after (operator (views v)) k = view-after v k
     words-after (own (sets z)) k = setting-after z k
     words-after (own (hears rs p slot second octets output)) k = (board, k .mission)
+    words-after (own (echoes rs p slot octets output)) k = (board, k .mission)
     words-after (own (takes p)) k = (board, k .mission)
     words-after (own (sweeps second)) k = (board, k .mission)
     words-after (own (looks z)) k = look-after z k

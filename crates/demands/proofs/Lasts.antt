@@ -1,4 +1,4 @@
--- There is a trace for any steps that C can make: whatever words are lent first, 42 for a board and 731 for each mission, they are made fresh, and each
+-- There is a trace for any steps that C can make: whatever words are lent first, 43 for a board and 732 for each mission, they are made fresh, and each
 -- step after that has a result that its contract allows. Assumes nothing.
 use Prim.Native.Nat.{ℕ}
 use mathlib.Core.Path.{_≡_, refl, _∙_}
@@ -13,10 +13,12 @@ use Rattle.history.specs.Calls.{
   setRouter,
   setPort,
   setLifetime,
+  setDrop,
   setRoute,
   clearRoute,
   routerFlag,
   lifetimeWord,
+  dropFlag,
   portWord,
   recordWord,
   OperatorCall,
@@ -38,11 +40,15 @@ use Rattle.history.specs.Calls.{
   class,
   form,
   checksum,
+  readEcho,
+  buildRequest,
+  buildReply,
   boardSize,
   missionSize,
   MissionCall,
   sets,
   hears,
+  echoes,
   takes,
   sweeps,
   looks,
@@ -51,40 +57,48 @@ use Rattle.demands.specs.Trace.{first, second, Step, operates, flies, Wo
 use Rattle.demands.specs.Trace.{MissionPasses, Passes, AllPass}
 use Rattle.demands.proofs.Fresh.{fresh-board-answers, fresh-mission-answers, number-taken}
 
--- only hj_receive_at is passed a slot
+-- only hj_receive_at and hj_echo are passed a slot
 operator-passable : (b : List ℕ) (c : OperatorCall) → Passable (operatorBy b c)
-operator-passable b (orders (setRouter x)) d m rs p slot now l o e = true-false cc
-operator-passable b (orders (setPort q address mask mtu mission)) d m rs p slot now l o e = true-false cc
-operator-passable b (orders (setLifetime x)) d m rs p slot now l o e = true-false cc
-operator-passable b (orders (setRoute ls i prefix mask q availability capabilities mission)) d m rs p slot now l o e = true-false cc
-operator-passable b (orders (clearRoute ls i)) d m rs p slot now l o e = true-false cc
-operator-passable b (views routerFlag) d m rs p slot now l o e = true-false cc
-operator-passable b (views lifetimeWord) d m rs p slot now l o e = true-false cc
-operator-passable b (views (portWord q word)) d m rs p slot now l o e = true-false cc
-operator-passable b (views (recordWord ls i word)) d m rs p slot now l o e = true-false cc
+operator-passable b (orders (setRouter x)) = (λ d m rs p slot now l o e. true-false cc, λ d m rs p slot l o e. true-false cc)
+operator-passable b (orders (setPort q address mask mtu mission)) = (λ d m rs p slot now l o e. true-false cc, λ d m rs p slot l o e. true-false cc)
+operator-passable b (orders (setLifetime x)) = (λ d m rs p slot now l o e. true-false cc, λ d m rs p slot l o e. true-false cc)
+operator-passable b (orders (setDrop x)) = (λ d m rs p slot now l o e. true-false cc, λ d m rs p slot l o e. true-false cc)
+operator-passable b (orders (setRoute ls i prefix mask q availability capabilities mission)) = (λ d m rs p slot now l o e. true-false cc, λ d m rs p slot l o e. true-false cc)
+operator-passable b (orders (clearRoute ls i)) = (λ d m rs p slot now l o e. true-false cc, λ d m rs p slot l o e. true-false cc)
+operator-passable b (views routerFlag) = (λ d m rs p slot now l o e. true-false cc, λ d m rs p slot l o e. true-false cc)
+operator-passable b (views lifetimeWord) = (λ d m rs p slot now l o e. true-false cc, λ d m rs p slot l o e. true-false cc)
+operator-passable b (views dropFlag) = (λ d m rs p slot now l o e. true-false cc, λ d m rs p slot l o e. true-false cc)
+operator-passable b (views (portWord q word)) = (λ d m rs p slot now l o e. true-false cc, λ d m rs p slot l o e. true-false cc)
+operator-passable b (views (recordWord ls i word)) = (λ d m rs p slot now l o e. true-false cc, λ d m rs p slot l o e. true-false cc)
 
 mission-passable : (b n : List ℕ) (c : MissionCall) → MissionPasses c → Passable (missionBy b n c)
-mission-passable b n (sets (setGroup i address send subscribed)) fits d m rs p slot now l o e = true-false cc
-mission-passable b n (sets (setPath i to send here)) fits d m rs p slot now l o e = true-false cc
-mission-passable b n (sets (clearGroup i)) fits d m rs p slot now l o e = true-false cc
-mission-passable b n (sets (clearPath i)) fits d m rs p slot now l o e = true-false cc
-mission-passable b n (hears ls q s when octets output) fits d m rs p slot now l o e = let same : s .0 ≡ slot = cc in rw (← same) (fits .0)
-mission-passable b n (takes q) fits d m rs p slot now l o e = true-false cc
-mission-passable b n (sweeps when) fits d m rs p slot now l o e = true-false cc
-mission-passable b n (looks (groupWord i word)) fits d m rs p slot now l o e = true-false cc
-mission-passable b n (looks (pathWord i word)) fits d m rs p slot now l o e = true-false cc
-mission-passable b n (looks (pairWord i word)) fits d m rs p slot now l o e = true-false cc
-mission-passable b n (looks lastSecond) fits d m rs p slot now l o e = true-false cc
-mission-passable b n (looks (search ls a)) fits d m rs p slot now l o e = true-false cc
-mission-passable b n (looks (counter i)) fits d m rs p slot now l o e = true-false cc
-mission-passable b n (looks (waiting q)) fits d m rs p slot now l o e = true-false cc
-mission-passable b n (looks (read octets)) fits d m rs p slot now l o e = true-false cc
-mission-passable b n (looks (build fields size output)) fits d m rs p slot now l o e = true-false cc
-mission-passable b n (looks (class a)) fits d m rs p slot now l o e = true-false cc
-mission-passable b n (looks (form a)) fits d m rs p slot now l o e = true-false cc
-mission-passable b n (looks (checksum octets)) fits d m rs p slot now l o e = true-false cc
-mission-passable b n (looks boardSize) fits d m rs p slot now l o e = true-false cc
-mission-passable b n (looks missionSize) fits d m rs p slot now l o e = true-false cc
+mission-passable b n (sets (setGroup i address send subscribed)) fits = (λ d m rs p slot now l o e. true-false cc, λ d m rs p slot l o e. true-false cc)
+mission-passable b n (sets (setPath i to send here)) fits = (λ d m rs p slot now l o e. true-false cc, λ d m rs p slot l o e. true-false cc)
+mission-passable b n (sets (clearGroup i)) fits = (λ d m rs p slot now l o e. true-false cc, λ d m rs p slot l o e. true-false cc)
+mission-passable b n (sets (clearPath i)) fits = (λ d m rs p slot now l o e. true-false cc, λ d m rs p slot l o e. true-false cc)
+mission-passable b n (hears ls q s when octets output) fits =
+    (λ d m rs p slot now l o e. let same : s .0 ≡ slot = cc in rw (← same) (fits .0), λ d m rs p slot l o e. true-false cc)
+mission-passable b n (echoes ls q s octets output) fits =
+    (λ d m rs p slot now l o e. true-false cc, λ d m rs p slot l o e. let same : s .0 ≡ slot = cc in rw (← same) (fits .0))
+mission-passable b n (takes q) fits = (λ d m rs p slot now l o e. true-false cc, λ d m rs p slot l o e. true-false cc)
+mission-passable b n (sweeps when) fits = (λ d m rs p slot now l o e. true-false cc, λ d m rs p slot l o e. true-false cc)
+mission-passable b n (looks (groupWord i word)) fits = (λ d m rs p slot now l o e. true-false cc, λ d m rs p slot l o e. true-false cc)
+mission-passable b n (looks (pathWord i word)) fits = (λ d m rs p slot now l o e. true-false cc, λ d m rs p slot l o e. true-false cc)
+mission-passable b n (looks (pairWord i word)) fits = (λ d m rs p slot now l o e. true-false cc, λ d m rs p slot l o e. true-false cc)
+mission-passable b n (looks lastSecond) fits = (λ d m rs p slot now l o e. true-false cc, λ d m rs p slot l o e. true-false cc)
+mission-passable b n (looks (search ls a)) fits = (λ d m rs p slot now l o e. true-false cc, λ d m rs p slot l o e. true-false cc)
+mission-passable b n (looks (counter i)) fits = (λ d m rs p slot now l o e. true-false cc, λ d m rs p slot l o e. true-false cc)
+mission-passable b n (looks (waiting q)) fits = (λ d m rs p slot now l o e. true-false cc, λ d m rs p slot l o e. true-false cc)
+mission-passable b n (looks (read octets)) fits = (λ d m rs p slot now l o e. true-false cc, λ d m rs p slot l o e. true-false cc)
+mission-passable b n (looks (build fields size output)) fits = (λ d m rs p slot now l o e. true-false cc, λ d m rs p slot l o e. true-false cc)
+mission-passable b n (looks (class a)) fits = (λ d m rs p slot now l o e. true-false cc, λ d m rs p slot l o e. true-false cc)
+mission-passable b n (looks (form a)) fits = (λ d m rs p slot now l o e. true-false cc, λ d m rs p slot l o e. true-false cc)
+mission-passable b n (looks (checksum octets)) fits = (λ d m rs p slot now l o e. true-false cc, λ d m rs p slot l o e. true-false cc)
+mission-passable b n (looks (readEcho octets)) fits = (λ d m rs p slot now l o e. true-false cc, λ d m rs p slot l o e. true-false cc)
+mission-passable b n (looks (buildRequest i k echoed output)) fits = (λ d m rs p slot now l o e. true-false cc, λ d m rs p slot l o e. true-false cc)
+mission-passable b n (looks (buildReply i k seen echoed output)) fits = (λ d m rs p slot now l o e. true-false cc, λ d m rs p slot l o e. true-false cc)
+mission-passable b n (looks boardSize) fits = (λ d m rs p slot now l o e. true-false cc, λ d m rs p slot l o e. true-false cc)
+mission-passable b n (looks missionSize) fits = (λ d m rs p slot now l o e. true-false cc, λ d m rs p slot l o e. true-false cc)
 
 pub passable : (w : Words) (c : Step) → Passes c → Passable (made w c)
 passable w (operates c) fits = operator-passable (w .board) c
@@ -102,9 +116,9 @@ module _ (w : Words) (board : length (w .board) ≡ boardWords) (zero : length (
   -- Any such words can be lent first, and any steps follow.
   pub begun-lasts : (cs : List Step) → AllPass cs → (v : Words) × Begun w cs v
   begun-lasts cs fit =
-      let a = each-call-answers (hj-fresh-board (w .board)) (λ d m rs p slot now l o e. true-false cc) in
-      let b = each-call-answers (hj-fresh-mission (w .zero) 0) (λ d m rs p slot now l o e. true-false cc) in
-      let c = each-call-answers (hj-fresh-mission (w .one) 1) (λ d m rs p slot now l o e. true-false cc) in
+      let a = each-call-answers (hj-fresh-board (w .board)) (λ d m rs p slot now l o e. true-false cc, λ d m rs p slot l o e. true-false cc) in
+      let b = each-call-answers (hj-fresh-mission (w .zero) 0) (λ d m rs p slot now l o e. true-false cc, λ d m rs p slot l o e. true-false cc) in
+      let c = each-call-answers (hj-fresh-mission (w .one) 1) (λ d m rs p slot now l o e. true-false cc, λ d m rs p slot l o e. true-false cc) in
       let rest = trace-lasts cs fit (record { board = a .0 .left .board; zero = b .0 .left .mission; one = c .0 .left .mission }) in (
         rest .0,
         record {

@@ -2,12 +2,15 @@
 -- `contracts`, without the words. That C is told this after any trace is proved: `gives-row`, in proofs/Told.antt. Assumes nothing.
 use Prim.Native.Nat.{ℕ}
 use mathlib.Core.List.{List, []}
-use lib.ListN.{length}
+use lib.ListN.{length, replicate}
 use Rattle.checks.specs.Order.{pick, firstOf}
 use Rattle.address.specs.Class.{classOf, classNumber}
 use Rattle.address.specs.Path.{pathForm, pathNumber}
 use Rattle.checksum.specs.Sum.{checksumOf}
 use Rattle.header.specs.Read.{readOf}
+use Rattle.echo.specs.Message.{readingOf as echoOf}
+use Rattle.echo.specs.Built.{builtOf, builtOutput}
+use Rattle.echo.specs.declared.Kind.the-variants.{Reply}
 use Rattle.numbers.specs.InWords.{numbersWords}
 use Rattle.routes.specs.declared.Record.{Record}
 use Rattle.state.specs.Seen.{Board, State}
@@ -16,25 +19,31 @@ use Rattle.tally.specs.Tally.{countedAll}
 use Rattle.lent_state.specs.View.{Lent, Held, lentBoard, lent, tooLong}
 use Rattle.relay.specs.Outgoing.{sentOutput}
 use Rattle.floods.specs.Sweep.{sweepChecks}
+use Rattle.replies.specs.Replied.{repliedOutput}
+use Rattle.answering.specs.Split.{numberFor}
 use Rattle.answers.specs.Answers.{receiveNumber}
 use Rattle.harpjuniper.specs.Face.{readingOf, readingWords, buildAnswer, buildOutput}
+use Rattle.harpjuniper_messages.specs.Face.{messageCount, refusalIn as readRefusal, leftBy, requestOf, builtAnswer}
 use Rattle.route_calls.specs.Search.{searchAnswer}
 use Rattle.harpjuniper_routes.specs.Face.{routeWordTold}
 use Rattle.harpjuniper_reads.specs.Back.{portAnswer, groupAnswer, pathAnswer, pairAnswer}
 use Rattle.harpjuniper_relay.specs.Face.{takeAnswer, counterAnswer, waitingAnswer}
 use Rattle.contracts.specs.Promised.{Promise}
-use Rattle.history.specs.Seat.{Seat, stateOf, relayIn, relayWith, heardBy}
+use Rattle.history.specs.Seat.{Seat, stateOf, relayIn, relayWith, heardBy, answeringBy, repliedBy}
+use Rattle.history.specs.Looks.{messageFrom}
 use Rattle.history.specs.Outcome.{outcome, next}
 use Rattle.history.specs.Calls.{
   Order,
   setRouter,
   setPort,
   setLifetime,
+  setDrop,
   setRoute,
   clearRoute,
   View,
   routerFlag,
   lifetimeWord,
+  dropFlag,
   portWord,
   recordWord,
   OperatorCall,
@@ -58,11 +67,15 @@ use Rattle.history.specs.Calls.{
   class,
   form,
   checksum,
+  readEcho,
+  buildRequest,
+  buildReply,
   boardSize,
   missionSize,
   MissionCall,
   sets,
   hears,
+  echoes,
   takes,
   sweeps,
   looks,
@@ -112,6 +125,7 @@ module _ (x : Seat) (l : List ℕ) where
       let o = setPort p address mask mtu mission in
       onBoard (firstOf (orderChecks (x .board) o)) (boardLeft (x .board) o) []
   orderPromised (setLifetime y) = onBoard (firstOf (orderChecks (x .board) (setLifetime y))) (boardLeft (x .board) (setLifetime y)) []
+  orderPromised (setDrop y) = onBoard (firstOf (orderChecks (x .board) (setDrop y))) (boardLeft (x .board) (setDrop y)) []
   orderPromised (setRoute rs i prefix mask p availability capabilities mission) =
       let o = setRoute rs i prefix mask p availability capabilities mission in
       onBoard (firstOf (orderChecks (x .board) o)) (x .board) (listLeft (x .board) o)
@@ -121,6 +135,7 @@ module _ (x : Seat) (l : List ℕ) where
   abbrev viewPromised : View → Promise
   viewPromised routerFlag = onBoard (x .board .router) (x .board) []
   viewPromised lifetimeWord = onBoard (x .board .lifetime) (x .board) []
+  viewPromised dropFlag = onBoard (x .board .drop) (x .board) []
   viewPromised (portWord p word) = onBoard (portAnswer (x .board) p word) (x .board) []
   viewPromised (recordWord rs i word) = promise (routeWordTold rs i word) noBoard noMission rs [] []
 
@@ -154,6 +169,14 @@ module _ (x : Seat) (l : List ℕ) where
   lookPromised (class a) = asking (classNumber (classOf (a .0)))
   lookPromised (form p) = asking (pathNumber (pathForm (p .0)))
   lookPromised (checksum octets) = asking (checksumOf octets)
+  lookPromised (readEcho octets) =
+      let r = echoOf octets in
+      promise (readRefusal r) noBoard noMission [] [] (leftBy r (replicate messageCount 0))
+  lookPromised (buildRequest i n echoed output) =
+      promise (builtAnswer (builtOf (requestOf i n) (length echoed) (length output))) noBoard noMission [] (builtOutput (requestOf i n) echoed output) []
+  lookPromised (buildReply i n seen echoed output) =
+      let message = messageFrom (Reply seen) i n in
+      promise (builtAnswer (builtOf message (length echoed) (length output))) noBoard noMission [] (builtOutput message echoed output) []
   lookPromised boardSize = asking boardWords
   lookPromised missionSize = asking missionWords
 
@@ -162,6 +185,10 @@ module _ (x : Seat) (l : List ℕ) where
   ownPromised (hears rs p slot second octets output) =
       let e = heardBy x rs p second octets (length output) in
       onBoth (receiveNumber e) (nextState (own (hears rs p slot second octets output))) rs (sentOutput e octets output)
+  ownPromised (echoes rs p slot octets output) =
+      let e = repliedBy x rs p octets (length output) in
+      onBoth (numberFor e) (nextState (own (echoes rs p slot octets output))) rs
+      (repliedOutput (answeringBy x rs p octets (length output)) e octets output)
   ownPromised (takes p) = onBoth (takeAnswer (relayIn x) p) (nextState (own (takes p))) [] []
   ownPromised (sweeps second) = onBoth (firstOf (sweepChecks (x .memory) second)) (nextState (own (sweeps second))) [] []
   ownPromised (looks l) = lookPromised l

@@ -2,16 +2,22 @@
 use native.Mathlib.Omega.{arith}
 use Prim.Native.Nat.{ℕ, _%_, _^_, _<_}
 use mathlib.Core.Path.{_≡_, refl, sym, ap, _∙_}
+use mathlib.Core.Logic.{_↔_, _≢_}
 use mathlib.Core.Bool.{Bool, true, false}
 use mathlib.Core.List.{List, [], _∷_}
 use lib.ListN.{length}
 use lib.Dec.{eqb, ltb}
-use borrow.Author.Tests.{eqb-true, ltb-true, ne-eqb}
+use borrow.Author.Tests.{eqb-true, ltb-true, ltb-false, ne-eqb}
 use Rattle.checks.specs.Order.{pick, firstOf}
 use Rattle.checks.specs.Answer.{refusalNumber}
-use Rattle.header.specs.Build.{sizeOf}
-use Rattle.header.specs.Limits.{noRoom, tooMuchData}
+use Rattle.header.specs.Build.{sizeOf, builtBy}
+use Rattle.header.specs.Limits.{noRoom, mostData, tooMuchData}
 use Rattle.header.proofs.BuiltLaws.{built-size}
+use Rattle.echo.specs.Message.{echoChecks, messageOf, readingOf as echoOf}
+use Rattle.echo.specs.Built.{sizeWith, buildChecks, builtOf}
+use Rattle.echo.specs.declared.Kind.the-variants.{Reply}
+use Rattle.echo.specs.declared.Message.{Message}
+use Rattle.echo.specs.declared.Reading.the-variants as reading
 use Rattle.numbers.specs.Fields.{fieldsFrom}
 use Rattle.numbers.specs.Words.{Words}
 use Rattle.numbers.specs.declared.Numbers.{Numbers}
@@ -26,12 +32,14 @@ use Rattle.answers.proofs.Digits.{entry-parts}
 use Rattle.harpjuniper.specs.Face.{fieldsOut, numbersChecks, buildAnswer}
 use Rattle.harpjuniper.proofs.Promises.{fields-in}
 use Rattle.harpjuniper_relay.specs.Face.{counterAnswer, waitingAnswer}
+use Rattle.harpjuniper_messages.specs.Face.{refusalIn as readRefusal, requestOf, builtAnswer}
 use Rattle.contracts.specs.Promised.{Result}
 use Rattle.history.specs.Seat.{Seat}
 use Rattle.history.specs.Calls.{
   View,
   routerFlag,
   lifetimeWord,
+  dropFlag,
   portWord,
   recordWord,
   orders,
@@ -49,11 +57,15 @@ use Rattle.history.specs.Calls.{
   class,
   form,
   checksum,
+  readEcho,
+  buildRequest,
+  buildReply,
   boardSize,
   missionSize,
   MissionCall,
   sets,
   hears,
+  echoes,
   takes,
   sweeps,
   looks,
@@ -61,7 +73,7 @@ use Rattle.history.specs.Calls.{
   operator,
   own,
 }
-use Rattle.history.specs.Looks.{viewNumber, lookNumber}
+use Rattle.history.specs.Looks.{viewNumber, messageFrom, lookNumber}
 use Rattle.history.specs.Line.{Copy, entryOf, takingOf, lineAt}
 use Rattle.history.specs.Outcome.{seatAfter}
 use Rattle.history.specs.Outcome as outcome
@@ -75,6 +87,7 @@ use Rattle.demands.specs.Trace.{Customer, numberOf, Step, operates, flie
 use Rattle.demands.specs.ReadOut.{takenOut, lookOut, ownOut, readOut}
 use Rattle.demands.proofs.Fitting.{value-out, refusal-out, history-passed, port-out, group-out, path-out, pair-out, record-out}
 use Rattle.demands.proofs.Told.{gives-row, setting-told, order-seen}
+use Rattle.demands.proofs.Replied.{reply-back}
 
 -- where a test decides between a value and a refusal
 either-out : (t : Bool) (value n : ℕ) → (t ≡ true → value < 2 ^ 32) → n < 2 ^ 32 → refusalIn (pick t value (refusalNumber n)) ≡ pick t 0 n
@@ -133,6 +146,60 @@ build-out fields size room words =
     omega (arith, most))
     (build-low (noRoom room) (fieldsOut fields) (tooMuchData size))
 
+-- a value, or a refusal above its 32 bits: which refusal it is, and that there is none
+pub told-refusal : (n m value : ℕ) (t : Bool) → eqb m 0 ≡ t → (m ≡ 0 → value < 2 ^ 32) → n ≢ 0 → (pick t value (refusalNumber m) ≡ refusalNumber n) ↔ (m ≡ n)
+told-refusal n m value true e small some = (
+  λ is. absurd (let low = small (eqb-true m 0 e) in some (omega (arith, is, low))),
+  λ is. absurd (some (sym is ∙ eqb-true m 0 e)),
+)
+told-refusal n m value false e small some = (λ is. omega (arith, is), λ is. ap refusalNumber is)
+
+pub told-value : (m value : ℕ) (t : Bool) → eqb m 0 ≡ t → pick t value (refusalNumber m) < 2 ^ 32 → m ≡ 0
+told-value m value true e low = eqb-true m 0 e
+told-value m value false e low = omega (arith, low)
+
+-- echo messages: what is read is refused by the first check that holds, and what is built has at most 8,141 octets
+pub message-refusal : (s : List ℕ) → readRefusal (echoOf s) ≡ firstOf (echoChecks s)
+unfolding echoOf
+message-refusal s = let n = firstOf (echoChecks s) in by n (messageOf s) (eqb n 0) refl
+  where
+    by : (n : ℕ) (k : Message) (t : Bool) → eqb n 0 ≡ t → readRefusal (pick t (reading.Good k) (reading.Refused n)) ≡ n
+    by n k true e = sym (eqb-true n 0 e)
+    by n k false e = refl
+
+message-low : (a b : Bool) → firstOf ((a, 17) ∷ (b, 20) ∷ []) < 2 ^ 32
+unfolding firstOf
+message-low true b = omega arith
+message-low false true = omega arith
+message-low false false = omega arith
+
+-- the answer as one choice
+pub built-as : (k : Message) (n room : ℕ)
+    → builtAnswer (builtOf k n room)
+    ≡ pick (eqb (firstOf (buildChecks k n room)) 0) (sizeWith k n) (refusalNumber (firstOf (buildChecks k n room)))
+unfolding builtOf
+built-as k n room = by (firstOf (buildChecks k n room)) (eqb (firstOf (buildChecks k n room)) 0) refl
+  where
+    by : (m : ℕ) (t : Bool) → eqb m 0 ≡ t → builtAnswer (builtBy m (sizeWith k n)) ≡ pick t (sizeWith k n) (refusalNumber m)
+    by m true e = rw e
+    by m false e = rw e
+
+pub message-small : (k : Message) (n room : ℕ) → firstOf (buildChecks k n room) ≡ 0 → sizeWith k n < 2 ^ 32
+unfolding buildChecks
+message-small k n room z =
+    let none = decided (buildChecks k n room) refl .0 .0 z in
+    let most = ltb-false mostData (sizeWith k n) (none .1 .0) in
+    omega (arith, most)
+
+message-numbers : (k : Message) (n room : ℕ) → firstOf (buildChecks k n room) < 2 ^ 32
+unfolding buildChecks
+message-numbers k n room = message-low (ltb room (sizeWith k n)) (tooMuchData (sizeWith k n))
+
+message-out : (k : Message) (n room : ℕ) → refusalIn (builtAnswer (builtOf k n room)) ≡ firstOf (buildChecks k n room)
+message-out k n room =
+    let m = firstOf (buildChecks k n room) in
+    ap refusalIn (built-as k n room) ∙ answer-out (eqb m 0) m (sizeWith k n) refl (message-small k n room) (message-numbers k n room)
+
 module _ (who : Customer) (steps : List Step) where
   abbrev h : List Call
   h = historyOf who steps
@@ -150,6 +217,9 @@ module _ (who : Customer) (steps : List Step) where
   view-out lifetimeWord x g =
       ap refusalIn (gives-row who steps (operator (views lifetimeWord)) x g .answer)
       ∙ value-out (seat .board .lifetime) (seconds-fit m h (history-passed who steps (g .begun .passed)) .1)
+  view-out dropFlag x g =
+      let flag = in-range m h .flags .drop in
+      ap refusalIn (gives-row who steps (operator (views dropFlag)) x g .answer) ∙ value-out (seat .board .drop) (omega (arith, flag))
   view-out (portWord p word) x g =
       ap refusalIn (gives-row who steps (operator (views (portWord p word))) x g .answer) ∙ port-out who steps (g .begun .passed) p word
   view-out (recordWord rs i word) x g =
@@ -175,6 +245,12 @@ module _ (who : Customer) (steps : List Step) where
   look-out (class a) x g = gives-row who steps (own (looks (class a))) x g .answer
   look-out (form p) x g = gives-row who steps (own (looks (form p))) x g .answer
   look-out (checksum octets) x g = gives-row who steps (own (looks (checksum octets))) x g .answer
+  look-out (readEcho octets) x g = gives-row who steps (own (looks (readEcho octets))) x g .answer ∙ message-refusal octets
+  look-out (buildRequest i n echoed output) x g =
+      ap refusalIn (gives-row who steps (own (looks (buildRequest i n echoed output))) x g .answer) ∙ message-out (requestOf i n) (length echoed) (length output)
+  look-out (buildReply i n seen echoed output) x g =
+      ap refusalIn (gives-row who steps (own (looks (buildReply i n seen echoed output))) x g .answer)
+      ∙ message-out (messageFrom (Reply seen) i n) (length echoed) (length output)
   look-out boardSize x g = gives-row who steps (own (looks boardSize)) x g .answer
   look-out missionSize x g = gives-row who steps (own (looks missionSize)) x g .answer
 
@@ -184,6 +260,10 @@ module _ (who : Customer) (steps : List Step) where
       let c = hears rs p slot second octets output in
       let back = read-back seat rs p second octets (length output) in
       ap (ownOut c) (gives-row who steps (own c) x g .answer) ∙ rw (back .refusal, back .local, back .onward, back .took)
+  own-out (echoes rs p slot octets output) x g =
+      let c = echoes rs p slot octets output in
+      let back = reply-back seat rs p octets output in
+      ap (ownOut c) (gives-row who steps (own c) x g .answer) ∙ rw (back .at-0, back .at-16, back .at-24)
   own-out (takes p) x g =
       let line = lineAt p m h in
       let is = take-is m h p in

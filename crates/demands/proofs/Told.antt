@@ -18,6 +18,7 @@ use Rattle.history.specs.Calls.{
   setRouter,
   setPort,
   setLifetime,
+  setDrop,
   setRoute,
   clearRoute,
   orders,
@@ -106,7 +107,7 @@ module _ (who : Customer) (cs : List Step) (c : Step) (x : Result) (g : Gives cs
   pub before-own : decode (missionOf who (g .before)) ≡ stateAfter (numberOf who) (historyOf who cs)
   before-own = words-own who (g .lent) cs (g .before) (g .begun)
 
--- A call of the customer's moves each counter by what page 01's table gives this call, which is nothing for all but a datagram.
+-- A call of the customer's moves each counter by what page 01's table gives this call, which is nothing for all but a datagram and a reply.
 pub counters-move : (who : Customer) (cs : List Step) (c : MissionCall) (x : Result) (g : Gives cs (flies who c) x) (i : ℕ) → i < counterCount
     → counterIn (decode (missionOf who (wordsAfter (g .before) (flies who c) x)) .counters) i
     ≡ (counterIn (decode (missionOf who (g .before)) .counters) i + sumAt (outcome (seatOf who cs) (own c) .moves) i) % 2 ^ 32
@@ -137,6 +138,9 @@ module _ (who : Customer) (cs : List Step) (x : Result) where
   order-seen (setLifetime y) g =
       let k = gives-row who cs (operator (orders (setLifetime y))) x g in
       (k .answer, k .routes ∙ sym (either-way (eqb (firstOf (orderChecks (seatOf who cs .board) (setLifetime y))) 0) []))
+  order-seen (setDrop y) g =
+      let k = gives-row who cs (operator (orders (setDrop y))) x g in
+      (k .answer, k .routes ∙ sym (either-way (eqb (firstOf (orderChecks (seatOf who cs .board) (setDrop y))) 0) []))
   order-seen (setRoute rs i prefix mask p availability capabilities mission) g =
       let k = gives-row who cs (operator (orders (setRoute rs i prefix mask p availability capabilities mission))) x g in
       (k .answer, k .routes)

@@ -7,6 +7,7 @@ use mathlib.Core.Logic.{_⊎_, ⊎-elim}
 use mathlib.Core.List.{List}
 use lib.ListN.{length, replicate}
 use lib.Dec.{eqb}
+use borrow.Author.Tests.{eq-eqb, not-true}
 use Rattle.checks.specs.Order.{pick, firstOf}
 use Rattle.checks.specs.Answer.{refusalNumber}
 use Rattle.checks.proofs.Bools.{true-false}
@@ -14,6 +15,14 @@ use Rattle.address.specs.declared.Slot.{Slot}
 use Rattle.header.specs.Read.{readOf}
 use Rattle.header.specs.declared.Read.{Read}
 use Rattle.header.specs.declared.Read.the-variants as read
+use Rattle.header.specs.Build.{builtBy, outputBy}
+use Rattle.header.specs.declared.Built.the-variants as built
+use Rattle.echo.specs.Message.{messageOctets, readingOf as echoOf}
+use Rattle.echo.specs.Built.{sizeWith, buildChecks, builtOf, builtOutput}
+use Rattle.echo.specs.declared.Kind.the-variants.{Reply}
+use Rattle.echo.specs.declared.Message.{Message}
+use Rattle.echo.specs.declared.Reading.{Reading}
+use Rattle.echo.specs.declared.Reading.the-variants as reading
 use Rattle.numbers.specs.InWords.{numbersWords}
 use Rattle.routes.specs.declared.Record.{Record}
 use Rattle.state.specs.Relay.{Relay, Memory}
@@ -27,6 +36,10 @@ use Rattle.tally.specs.Tally.{counterFor, countedAt, countedAll}
 use Rattle.floods.specs.Sweep.{swept, sweepChecks, sweptMemory}
 use Rattle.judge.specs.Ending.{refusedBy}
 use Rattle.judge.specs.declared.Ending.{Ending}
+use Rattle.replies.specs.Replied.{noReply, repliedTo, repliedOutput}
+use Rattle.replies.specs.declared.Answering.{Answering}
+use Rattle.replies.specs.declared.sending.Replied.{Replied}
+use Rattle.answering.specs.Echoed.{asEnding, echoAnswering, echoReply, repliedState}
 use Rattle.relay.specs.Received.{heardEnding, heardMemory, receivedState}
 use Rattle.relay.specs.Outgoing.{sentOutput}
 use Rattle.lent_state.specs.View.{Lent, Held, Other, lentBoard, lent, byLent, onLent, toldBoard, changedBoard, told, changed, toldBoth, changedBoth, tooLong}
@@ -34,10 +47,13 @@ use Rattle.lent_state.proofs.Calls.{board-other-told, board-other-changed, othe
 use Rattle.lent_state.proofs.Calls.{no-board-told, no-board-changed, no-mission-told, no-mission-changed}
 use Rattle.lent_state.proofs.Same.{board-injective, lent-injective}
 use Rattle.harpjuniper.specs.Face.{readingOf, readingWords, readingCount, numbersChecks, buildOutput}
+use Rattle.harpjuniper_messages.specs.Face.{messageCount, refusalIn as readRefusal, leftBy, requestOf}
+use Rattle.harpjuniper_echo.specs.Face.{echoAnswer, echoWords, echoOutput}
 use Rattle.harpjuniper_routes.specs.Face.{searchTold, routeWordTold}
 use Rattle.harpjuniper_receive.specs.Face.{receiveAnswer, receiveWords, receiveOutput}
 use Rattle.contracts.specs.Promised.{Things, Result, Promise, Allows, lentTo, looking, promised}
 use Rattle.contracts.proofs.OneResult.{same-things}
+use Rattle.history.specs.Looks.{messageFrom}
 use Rattle.history.specs.Seat.{Seat, stateOf, relayIn}
 use Rattle.history.specs.Outcome.{isRefusal, ofTaking, outcome}
 use Rattle.history.specs.Calls.{
@@ -45,11 +61,13 @@ use Rattle.history.specs.Calls.{
   setRouter,
   setPort,
   setLifetime,
+  setDrop,
   setRoute,
   clearRoute,
   View,
   routerFlag,
   lifetimeWord,
+  dropFlag,
   portWord,
   recordWord,
   OperatorCall,
@@ -73,11 +91,15 @@ use Rattle.history.specs.Calls.{
   class,
   form,
   checksum,
+  readEcho,
+  buildRequest,
+  buildReply,
   boardSize,
   missionSize,
   MissionCall,
   sets,
   hears,
+  echoes,
   takes,
   sweeps,
   looks,
@@ -95,10 +117,11 @@ use Rattle.history.specs.Calls.{
   settle,
 }
 use Rattle.history.proofs.Refusals.{nobody-took, output-as-lent, refused-take-leaves}
-use Rattle.demands.specs.ReadOut.{hearsNothing}
+use Rattle.demands.specs.ReadOut.{countsNothing}
 use Rattle.demands.specs.Demand1.{NoBoard, NoMission, OperatorLacks, MissionLacks, HasLong}
 use Rattle.demands.proofs.Lane.{madeBy}
 use Rattle.demands.proofs.Promised.{promisedBy, nextState}
+use Rattle.demands.proofs.ReadOut.{message-refusal}
 use Rattle.demands.proofs.Held.{either-way, same-promise, quiet-taking}
 
 -- Where a call's promise is that of a look, all is left as it was lent.
@@ -133,6 +156,25 @@ taken-old : (r : Relay) (p : ℕ) (t : Taking) → takeOutcome r p ≡ t → isR
 taken-old r p (Handed e) is h = true-false (sym h)
 taken-old r p (Refused n) is h = refused-take-leaves r p n is
 
+-- of an echo message that is refused
+refused-message : (r : Reading) → not (eqb (readRefusal r) 0) ≡ true → leftBy r (replicate messageCount 0) ≡ replicate messageCount 0
+refused-message (reading.Refused n) h = refl
+refused-message (reading.Good k) h = true-false (sym h)
+
+-- and of one that is not built
+pub unbuilt : (k : Message) (echoed output : List ℕ) → not (eqb (firstOf (buildChecks k (length echoed) (length output))) 0) ≡ true
+    → builtOutput k echoed output ≡ output
+unfolding builtOutput builtOf
+unbuilt k echoed output h = by (firstOf (buildChecks k (length echoed) (length output))) h
+  where
+    by : (n : ℕ) → not (eqb n 0) ≡ true → outputBy (builtBy n (sizeWith k (length echoed))) (messageOctets k echoed) output ≡ output
+    by n some = ap (λ (t : Bool). outputBy (pick t (built.Done (sizeWith k (length echoed))) (built.Refused n)) (messageOctets k echoed) output) (not-true (eqb n 0) some)
+
+-- what is written of a reply that no port took
+pub reply-unwritten : (a : Answering) (e : Replied) (octets output : List ℕ) → e .ruling .took ≡ 0 → repliedOutput a e octets output ≡ output
+unfolding repliedOutput
+reply-unwritten a e octets output none = rw (eq-eqb (e .ruling .took) 0 none)
+
 refused-reading : (r : Read) → not (eqb (readingOf r .refusal) 0) ≡ true → readingWords (readingOf r) ≡ replicate readingCount 0
 unfolding readingOf readingWords numbersWords
 refused-reading (read.Refused n) h = refl
@@ -163,6 +205,7 @@ module _ (b m : List ℕ) (x : Seat) (l : List ℕ) (board : lentBoard b ≡ Hel
   order-left (setPort p address mask mtu number) h =
       same-promise refl (same-board (board-old (setPort p address mask mtu number) h)) refl refl refl refl
   order-left (setLifetime y) h = same-promise refl (same-board (board-old (setLifetime y) h)) refl refl refl refl
+  order-left (setDrop y) h = same-promise refl (same-board (board-old (setDrop y) h)) refl refl refl refl
   order-left (setRoute rs i prefix mask p availability capabilities number) h =
       same-promise refl (sym board) refl (list-old (setRoute rs i prefix mask p availability capabilities number) h) refl refl
   order-left (clearRoute rs i) h = same-promise refl refl refl (list-old (clearRoute rs i) h) refl refl
@@ -170,6 +213,7 @@ module _ (b m : List ℕ) (x : Seat) (l : List ℕ) (board : lentBoard b ≡ Hel
   view-left : (v : View) → LeftBy (operator (views v))
   view-left routerFlag h = same-promise refl (sym board) refl refl refl refl
   view-left lifetimeWord h = same-promise refl (sym board) refl refl refl refl
+  view-left dropFlag h = same-promise refl (sym board) refl refl refl refl
   view-left (portWord p word) h = same-promise refl (sym board) refl refl refl refl
   view-left (recordWord rs i word) h = refl
 
@@ -215,17 +259,23 @@ module _ (b m : List ℕ) (x : Seat) (l : List ℕ) (board : lentBoard b ≡ Hel
   look-left (class a) h = refl
   look-left (form p) h = refl
   look-left (checksum octets) h = refl
+  look-left (readEcho octets) h = same-promise refl refl refl refl refl (refused-message (echoOf octets) (ap (λ (n : ℕ). not (eqb n 0)) (message-refusal octets) ∙ h))
+  look-left (buildRequest i n echoed output) h =
+      same-promise refl refl refl refl (unbuilt (requestOf i n) echoed output h) refl
+  look-left (buildReply i n seen echoed output) h =
+      same-promise refl refl refl refl (unbuilt (messageFrom (Reply seen) i n) echoed output h) refl
   look-left boardSize h = refl
   look-left missionSize h = refl
 
-  -- A refused call of the operator's leaves all, and so does a customer's that is no datagram.
+  -- A refused call of the operator's leaves all, and so does a customer's that hears no datagram and answers none.
   pub operator-refused : (c : OperatorCall) → LeftBy (operator c)
   operator-refused (orders o) h = order-left o h
   operator-refused (views v) h = view-left v h
 
-  pub own-refused : (c : MissionCall) → hearsNothing c ≡ true → LeftBy (own c)
+  pub own-refused : (c : MissionCall) → countsNothing c ≡ true → LeftBy (own c)
   own-refused (sets s) quiet h = setting-left s h
   own-refused (hears rs p slot second octets output) quiet h = true-false (sym quiet)
+  own-refused (echoes rs p slot octets output) quiet h = true-false (sym quiet)
   own-refused (takes p) quiet h = take-left p h
   own-refused (sweeps second) quiet h = sweep-left second h
   own-refused (looks z) quiet h = look-left z h
@@ -236,6 +286,7 @@ lackAnswer (operator (orders o)) = 21
 lackAnswer (operator (views v)) = refusalNumber 21
 lackAnswer (own (sets s)) = 21
 lackAnswer (own (hears rs p slot second octets output)) = pick (tooLong rs) 21 16
+lackAnswer (own (echoes rs p slot octets output)) = pick (tooLong rs) 21 16
 lackAnswer (own (takes p)) = refusalNumber 16
 lackAnswer (own (sweeps second)) = 21
 lackAnswer (own (looks (groupWord i word))) = refusalNumber 21
@@ -250,6 +301,9 @@ lackAnswer (own (looks (build fields size output))) = 21
 lackAnswer (own (looks (class a))) = 21
 lackAnswer (own (looks (form p))) = 21
 lackAnswer (own (looks (checksum octets))) = 21
+lackAnswer (own (looks (readEcho octets))) = 21
+lackAnswer (own (looks (buildRequest i n echoed output))) = 21
+lackAnswer (own (looks (buildReply i n seen echoed output))) = 21
 lackAnswer (own (looks boardSize)) = 21
 lackAnswer (own (looks missionSize)) = 21
 
@@ -288,6 +342,19 @@ module _ (b m : List ℕ) where
       unfolding receiveOutput
       heard-output = both-told _ output
 
+    module _ (rs : List Record) (p slot : ℕ) (octets output : List ℕ) where
+      replied-answer : echoAnswer b m rs p octets (length output) ≡ pick (tooLong rs) 21 16
+      unfolding echoAnswer
+      replied-answer = ap (pick (tooLong rs) 21) (both-told _ 16)
+
+      replied-words : echoWords b m rs p slot octets (length output) ≡ lent m
+      unfolding echoWords
+      replied-words = both-changed _
+
+      replied-output : echoOutput b m rs p octets output ≡ output
+      unfolding echoOutput
+      replied-output = both-told _ output
+
     search-lacks : (rs : List Record) (a : ℕ) → searchTold b m rs a ≡ 21
     unfolding searchTold
     search-lacks rs a = ap (pick (tooLong rs) 21) (both-told _ 21) ∙ either-way (tooLong rs) 21
@@ -296,11 +363,13 @@ module _ (b m : List ℕ) where
   operator-lacks (orders (setRouter x)) w = same-promise (board-told w _ _) (board-changed w _) refl refl refl refl
   operator-lacks (orders (setPort p address mask mtu mission)) w = same-promise (board-told w _ _) (board-changed w _) refl refl refl refl
   operator-lacks (orders (setLifetime x)) w = same-promise (board-told w _ _) (board-changed w _) refl refl refl refl
+  operator-lacks (orders (setDrop x)) w = same-promise (board-told w _ _) (board-changed w _) refl refl refl refl
   operator-lacks (orders (setRoute rs i prefix mask p availability capabilities mission)) w =
       same-promise (board-told w _ _) refl refl (board-told w _ _) refl refl
   operator-lacks (orders (clearRoute rs i)) w = absurd w
   operator-lacks (views routerFlag) w = same-promise (board-told w _ _) refl refl refl refl refl
   operator-lacks (views lifetimeWord) w = same-promise (board-told w _ _) refl refl refl refl refl
+  operator-lacks (views dropFlag) w = same-promise (board-told w _ _) refl refl refl refl refl
   operator-lacks (views (portWord p word)) w = same-promise (board-told w _ _) refl refl refl refl refl
   operator-lacks (views (recordWord rs i word)) w = absurd w
 
@@ -317,6 +386,9 @@ module _ (b m : List ℕ) where
   look-lacks (class a) w = absurd w
   look-lacks (form p) w = absurd w
   look-lacks (checksum octets) w = absurd w
+  look-lacks (readEcho octets) w = absurd w
+  look-lacks (buildRequest i n echoed output) w = absurd w
+  look-lacks (buildReply i n seen echoed output) w = absurd w
   look-lacks boardSize w = absurd w
   look-lacks missionSize w = absurd w
 
@@ -328,6 +400,9 @@ module _ (b m : List ℕ) where
   own-lacks (hears rs p slot second octets output) w =
       same-promise (heard-answer w rs p (slot .0) second octets output) refl (heard-words w rs p (slot .0) second octets output) refl
       (heard-output w rs p (slot .0) second octets output) refl
+  own-lacks (echoes rs p slot octets output) w =
+      same-promise (replied-answer w rs p (slot .0) octets output) refl (replied-words w rs p (slot .0) octets output) refl
+      (replied-output w rs p (slot .0) octets output) refl
   own-lacks (takes p) w = same-promise (both-told w _ _) refl (both-changed w _) refl refl refl
   own-lacks (sweeps second) w = same-promise (both-told w _ _) refl (both-changed w _) refl refl refl
   own-lacks (looks z) w = look-lacks z w
@@ -379,6 +454,19 @@ module _ (rs : List Record) (long : tooLong rs ≡ true) (x : Board) (s : State)
       ap₂ (receivedState x s slot) long-memory long-ending
       ∙ ap (λ (r : Relay). record { number = s .number; mission = r .mission; memory = s .memory; counters = s .counters }) (nobody-took (seated x s) slot (refusedBy 21) refl)
 
+-- nor does a reply
+module _ (rs : List Record) (long : tooLong rs ≡ true) (x : Board) (s : State) (p : ℕ) (octets : List ℕ) (room : ℕ) where
+  long-reply : echoReply x s rs p octets room ≡ noReply 21
+  unfolding echoReply echoAnswering repliedTo
+  long-reply = rw long
+
+  long-replied : (slot : Slot) → repliedState x s slot (echoReply x s rs p octets room) ≡ s
+  unfolding countedAt
+  long-replied slot =
+      ap (repliedState x s slot) long-reply
+      ∙ ap (λ (r : Relay). record { number = s .number; mission = r .mission; memory = s .memory; counters = s .counters })
+      (nobody-took (seated x s) slot (asEnding (noReply 21)) refl)
+
 module _ (b m : List ℕ) (rs : List Record) (long : tooLong rs ≡ true) where
   route-answer : (i : ℕ) (x : Record) → toldBoard (λ (y : Board). firstOf (routeChecks y rs i x)) 21 b ≡ 21
   unfolding firstOf
@@ -420,21 +508,42 @@ module _ (b m : List ℕ) (rs : List Record) (long : tooLong rs ≡ true) where
         ap (λ (e : Ending). sentOutput e octets output) (long-ending rs long x s p second octets (length output))
         ∙ output-as-lent (refusedBy 21) octets output refl))
 
+  module _ (p : ℕ) (slot : Slot) (octets output : List ℕ) where
+    no-answer : echoAnswer b m rs p octets (length output) ≡ 21
+    unfolding echoAnswer
+    no-answer = rw long
+
+    no-words : echoWords b m rs p (slot .0) octets (length output) ≡ lent m
+    unfolding echoWords
+    no-words = board-so _ (lent m) b (λ x. own-stays _ m (λ s. long-replied rs long x s p octets (length output) slot))
+
+    no-output : echoOutput b m rs p octets output ≡ output
+    unfolding echoOutput
+    no-output =
+        board-so _ output b (λ x.
+        own-so _ output m (λ s.
+        reply-unwritten (echoAnswering x s rs p octets (length output)) (echoReply x s rs p octets (length output)) octets output
+        (ap (λ (e : Replied). e .ruling .took) (long-reply rs long x s p octets (length output)))))
+
 pub long-left : (b m : List ℕ) (c : Call) → HasLong c → Leaves b m c (longAnswer c)
 long-left b m (operator (orders (setRouter x))) h = true-false (sym h)
 long-left b m (operator (orders (setPort p address mask mtu mission))) h = true-false (sym h)
 long-left b m (operator (orders (setLifetime x))) h = true-false (sym h)
+long-left b m (operator (orders (setDrop x))) h = true-false (sym h)
 long-left b m (operator (orders (setRoute rs i prefix mask p availability capabilities mission))) h =
     let x = newRecord prefix mask p availability capabilities mission in
     same-promise (route-answer b m rs h i x) refl refl (route-list b m rs h i x) refl refl
 long-left b m (operator (orders (clearRoute rs i))) h = same-promise (clear-answer b m rs h i) refl refl (clear-list b m rs h i) refl refl
 long-left b m (operator (views routerFlag)) h = absurd h
 long-left b m (operator (views lifetimeWord)) h = absurd h
+long-left b m (operator (views dropFlag)) h = absurd h
 long-left b m (operator (views (portWord p word))) h = absurd h
 long-left b m (operator (views (recordWord rs i word))) h = same-promise (word-answer b m rs h i word) refl refl refl refl refl
 long-left b m (own (sets s)) h = absurd h
 long-left b m (own (hears rs p slot second octets output)) h =
     same-promise (long-answer b m rs h p slot second octets output) refl (long-words b m rs h p slot second octets output) refl (long-output b m rs h p slot second octets output) refl
+long-left b m (own (echoes rs p slot octets output)) h =
+    same-promise (no-answer b m rs h p slot octets output) refl (no-words b m rs h p slot octets output) refl (no-output b m rs h p slot octets output) refl
 long-left b m (own (takes p)) h = absurd h
 long-left b m (own (sweeps second)) h = absurd h
 long-left b m (own (looks (groupWord i word))) h = absurd h
@@ -449,5 +558,8 @@ long-left b m (own (looks (build fields size output))) h = absurd h
 long-left b m (own (looks (class a))) h = absurd h
 long-left b m (own (looks (form p))) h = absurd h
 long-left b m (own (looks (checksum octets))) h = absurd h
+long-left b m (own (looks (readEcho octets))) h = absurd h
+long-left b m (own (looks (buildRequest i n echoed output))) h = absurd h
+long-left b m (own (looks (buildReply i n seen echoed output))) h = absurd h
 long-left b m (own (looks boardSize)) h = absurd h
 long-left b m (own (looks missionSize)) h = absurd h

@@ -1,8 +1,8 @@
--- Wrong relays for two customers (page 02, W-208, W-214 and W-207), each told by what it would give back to C. None of them is a relay whose calls keep
+-- Wrong relays for two customers (page 02, W-208, W-214, W-207 and W-203), each told by what it would give back to C. None of them is a relay whose calls keep
 -- their contracts: for each there are steps after which it would have to give back something else. That there are such steps at all, for any words to begin
 -- with, is demand 1. Assumes nothing.
 use native.Mathlib.Omega.{arith}
-use Prim.Native.Nat.{ℕ, _+_, _*_, _<_}
+use Prim.Native.Nat.{ℕ, _+_, _*_, _%_, _^_, _<_}
 use mathlib.Core.Path.{_≡_, refl, sym, ap, _∙_}
 use mathlib.Core.Bool.{Bool, true, _&&_}
 use mathlib.Core.Logic.{_≢_}
@@ -28,7 +28,9 @@ use Rattle.meaning.specs.Names.{floodRouting}
 use Rattle.records.specs.Held.{holdsPair}
 use Rattle.floods.specs.Memory.{isHeld, freePlace, soughtPair}
 use Rattle.next_leg.specs.Leg.{nextFields}
-use Rattle.page.specs.Table.{oneOctet, liesFar}
+use Rattle.page.specs.Table.{oneOctet, liesFar, aimAt, broadcastOfOurs, somePort, broadcastOf, equalsPort}
+use Rattle.page.specs.Replies.{goesToMany}
+use Rattle.replies.specs.Replied.{callChecks}
 use Rattle.sets.specs.Sets.{inSet}
 use Rattle.routes.specs.Records.{emptyRecord}
 use Rattle.routes.specs.declared.Record.{Record}
@@ -43,13 +45,14 @@ use Rattle.contracts.specs.Contracts.{Says}
 use Rattle.contracts.proofs.Answers.{each-call-answers}
 use Rattle.contracts.proofs.Kept.{getD-each}
 use Rattle.answers.specs.Answers.{partAt}
-use Rattle.history.specs.Calls.{Order, setRouter, setPort, setRoute, orders, MissionCall, hears, takes, looks, counter, waiting, Call, own}
+use Rattle.history.specs.Calls.{Order, setRouter, setPort, setDrop, setRoute, orders, MissionCall, hears, echoes, takes, looks, counter, waiting, Call, own}
 use Rattle.history.specs.Marked.{port, routerWithPorts, route, allRoutes, datagram}
 use Rattle.history.specs.Ranges.{Octets}
 use Rattle.history.proofs.Marked.{opened}
-use Rattle.history.proofs.WrongRelays.{ended-by}
-use Rattle.demands.specs.Trace.{Customer, first, second, Step, operates, flies, stepOf, Words, made, historyOf, boardOf, relayFor, Passes, AllPass, Gives}
-use Rattle.demands.specs.ReadOut.{onwardIn, tookIn, dataFrom, headerOut, wireBy}
+use Rattle.history.specs.Outcome.{Answer, number, ended, replied, entry}
+use Rattle.history.proofs.WrongRelays.{ended-by, ping, cases}
+use Rattle.demands.specs.Trace.{Customer, first, second, Step, operates, flies, stepOf, Words, missionOf, made, wordsAfter, historyOf, boardOf, relayFor, Passes, AllPass, Gives}
+use Rattle.demands.specs.ReadOut.{endedBy, onwardIn, tookIn, dataFrom, headerOut, wireBy, counterAt}
 use Rattle.demands.specs.Demand1.{NoBoard}
 use Rattle.demands.proofs.Traced.{history-more}
 use Rattle.demands.proofs.Lasts.{passable, gives-lasts}
@@ -57,6 +60,8 @@ use Rattle.demands.proofs.Told.{gives-row, order-told}
 use Rattle.demands.proofs.Output.{told}
 use Rattle.demands.proofs.Demand1.{demand-1}
 use Rattle.demands.proofs.Demand2.{demand-2}
+use Rattle.demands.proofs.ReadOut.{read-out}
+use Rattle.demands.proofs.Echoes.{echoes-hold}
 use Rattle.demands.proofs.Over.{pass-more}
 use Rattle.demands.proofs.Apart.{apart}
 
@@ -283,6 +288,84 @@ pairing-by-addresses wrong =
     let goes : onwardIn (g .0) ≡ 1 = told first ours [] 4 slot 0 (flooding 9) output (g .0) (g .1) .onward in
     let other : onwardIn (k .0) ≡ 1 = told first flooded [] 4 slot 0 (flooding 10) output (k .0) (k .1) .onward in
     let kept-back = wrong ours 4 slot 0 (flooding 9) (flooding 10) output (g .0) (k .0) (g .1) goes refl (k .1) in omega (arith, other, kept-back)
+
+-- ---- what is answered (page 02, W-203)
+-- an echo request that the first customer's port 4 hears, and port 0 sends the reply to; and the same steps with requests dropped
+abbrev request : MissionCall
+request = echoes (allRoutes 0) 4 (record { 0 = 1 }) ping (replicate 1500 0)
+
+abbrev dropping : List Step
+dropping = ours ++ (operates (orders (setDrop 1)) ∷ [])
+
+request-passes : Passes (flies first request)
+request-passes = (omega arith, octets-pass ping refl)
+
+dropping-pass : AllPass dropping
+dropping-pass = pass-more ours (operates (orders (setDrop 1))) ports-pass tt
+
+-- what is read out of an answer to it
+abbrev answered : Answer → ℕ × ℕ
+answered (number n) = (n, 0)
+answered (ended refusal local onward took) = (refusal, onward)
+answered (replied refusal onward took) = (refusal, onward)
+answered (entry e) = (0, 0)
+
+-- It does not answer a request that is dropped.
+pub answering-though-dropped :
+    ((steps : List Step) (rs : List Record) (at : ℕ) (slot : Slot) (octets output : List ℕ) (x y : Result)
+    → Gives steps (flies first (echoes rs at slot octets output)) x → onwardIn x ≡ 1
+    → Gives (steps ++ (operates (orders (setDrop 1)) ∷ [])) (flies first (echoes rs at slot octets output)) y → onwardIn y ≡ 1)
+    → ⊥
+unfolding opened
+answering-though-dropped wrong =
+    let slot : Slot = record { 0 = 1 } in
+    let output : List ℕ = replicate 1500 0 in
+    let g = given ours ports-pass (flies first request) request-passes in
+    let k = given dropping dropping-pass (flies first request) request-passes in
+    let goes : onwardIn (g .0) ≡ 1 = ap (λ (a : Answer). answered a .1) (read-out first ours (own request) (g .0) (g .1) ∙ cases .echoed) in
+    let ends : endedBy (k .0) ≡ 0 = ap (λ (a : Answer). answered a .0) (read-out first dropping (own request) (k .0) (k .1) ∙ cases .unechoed) in
+    let again = wrong ours (allRoutes 0) 4 slot ping output (g .0) (k .0) (g .1) goes (k .1) in
+    let is = echoes-hold .answers first dropping (allRoutes 0) 4 slot ping output (k .0) (k .1) refl .answered ends .0 (λ z. omega (arith, again, z)) in
+    let off : _≡_ {A = ℕ} 1 0 = is .taken in omega (arith, off)
+
+-- the same request to 172.16.4.255, which is a broadcast of the net of port 4
+abbrev toAll : List ℕ
+toAll = take 7 ping ++ (255 ∷ drop 8 ping)
+
+-- Nor one to a broadcast address that is no port's own.
+pub answering-broadcasts :
+    ((steps : List Step) (rs : List Record) (at : ℕ) (slot : Slot) (octets output : List ℕ) (x : Result)
+    → Gives steps (flies first (echoes rs at slot octets output)) x → endedBy x ≡ 0
+    → goesToMany (relayFor first steps rs) (aimAt (relayFor first steps rs) at octets) ≡ true → onwardIn x ≢ 0)
+    → ⊥
+unfolding opened callChecks broadcastOfOurs somePort broadcastOf equalsPort
+answering-broadcasts wrong =
+    let slot : Slot = record { 0 = 1 } in
+    let output : List ℕ = replicate 1500 0 in
+    let g = given ours ports-pass (flies first (echoes (allRoutes 0) 4 slot toAll output)) (omega arith, octets-pass toAll refl) in
+    let is = echoes-hold .answers first ours (allRoutes 0) 4 slot toAll output (g .0) (g .1) refl in
+    let ends : endedBy (g .0) ≡ 0 = is .refusal .0 .1 (refl, (refl, tt)) in
+    let told = is .answered ends .0 (wrong ours (allRoutes 0) 4 slot toAll output (g .0) (g .1) ends refl) in
+    true-false (sym (told .to-one))
+
+-- It does not count a reply in npForwDatagrams.
+pub forwarding-replies :
+    ((steps : List Step) (rs : List Record) (at : ℕ) (slot : Slot) (octets output : List ℕ) (x : Result)
+    (g : Gives steps (flies first (echoes rs at slot octets output)) x) → onwardIn x ≡ 1
+    → counterAt (missionOf first (wordsAfter (g .before) (flies first (echoes rs at slot octets output)) x)) 10
+    ≡ (counterAt (missionOf first (g .before)) 10 + 1) % 2 ^ 32)
+    → ⊥
+forwarding-replies wrong =
+    let slot : Slot = record { 0 = 1 } in
+    let output : List ℕ = replicate 1500 0 in
+    let g = given ours ports-pass (flies first request) request-passes in
+    let goes : onwardIn (g .0) ≡ 1 = ap (λ (a : Answer). answered a .1) (read-out first ours (own request) (g .0) (g .1) ∙ cases .echoed) in
+    let more = wrong ours (allRoutes 0) 4 slot ping output (g .0) (g .1) goes in
+    let none = echoes-hold .counts first ours (allRoutes 0) 4 slot ping output (g .0) (g .1) 10 (omega arith) in
+    modulo (counterAt (missionOf first (g .1 .before)) 10) (sym none ∙ more)
+  where
+    modulo : (n : ℕ) → (n + 0) % 2 ^ 32 ≡ (n + 1) % 2 ^ 32 → ⊥
+    modulo n e = omega (arith, e)
 
 -- ---- the order of tests
 -- It does not look at the words before the list: of one that is too long it says 21, not 16.

@@ -27,17 +27,20 @@ use Rattle.verdict.specs.Numbers.{localNumber}
 use Rattle.judge.specs.Remembered.{isUnheard}
 use Rattle.page.specs.Memory.{keptPlace, pageMemory}
 use Rattle.harpjuniper.specs.Face.{readingCount}
-use Rattle.contracts.specs.Promised.{Things, Result, lentTo, Exported, hj-fresh-board, hj-fresh-mission, hj-read-words, hj-build-words}
+use Rattle.harpjuniper_messages.specs.Face.{messageCount}
+use Rattle.contracts.specs.Promised.{Things, Result, lentTo, Exported, hj-fresh-board, hj-fresh-mission, hj-read-words, hj-build-words, hj-read-echo-words}
 use Rattle.contracts.specs.Contracts.{Lying, Contract, Says, Passable}
 use Rattle.contracts.specs.Functions.{functionOf, Unchecked}
 use Rattle.history.specs.Calls.{
   setRouter,
   setPort,
   setLifetime,
+  setDrop,
   setRoute,
   clearRoute,
   routerFlag,
   lifetimeWord,
+  dropFlag,
   portWord,
   recordWord,
   OperatorCall,
@@ -59,11 +62,15 @@ use Rattle.history.specs.Calls.{
   class,
   form,
   checksum,
+  readEcho,
+  buildRequest,
+  buildReply,
   boardSize,
   missionSize,
   MissionCall,
   sets,
   hears,
+  echoes,
   takes,
   sweeps,
   looks,
@@ -77,7 +84,7 @@ use Rattle.history.specs.Answers.{answersOf, listed, stands}
 use Rattle.history.specs.Sums.{givenBy}
 use Rattle.history.specs.Transport.{SameButTpid, localBy}
 use Rattle.demands.specs.Trace.{Customer, Step, operates, flies, stepOf, Words, missionOf, made, wordsAfter, Passes, AllPass, seatOf, relayFor, Gives}
-use Rattle.demands.specs.ReadOut.{hearsNothing, readOut, operatorOut, ownOut, endedBy, localIn, onwardIn, tookIn, droppedIn, ownIn, memoryIn, counterAt}
+use Rattle.demands.specs.ReadOut.{countsNothing, readOut, operatorOut, ownOut, endedBy, localIn, onwardIn, tookIn, droppedIn, ownIn, memoryIn, counterAt}
 
 -- ---- what a refusal leaves of the things lent, t, in those left, u: all but the mission's counters and what it remembers is as it was
 pub record Unchanged (t u : Things) : Type 0 where
@@ -114,6 +121,7 @@ abbrev pub OwnRemembers : Customer → List Step → MissionCall → Result → 
 OwnRemembers who steps (sets s) x k left = left ≡ k
 OwnRemembers who steps (hears rs at slot second octets output) x k left =
     HeardLeaves (relayFor who steps rs) rs at second octets (length output) x k left
+OwnRemembers who steps (echoes rs at slot octets output) x k left = left ≡ k
 OwnRemembers who steps (takes p) x k left = left ≡ k
 OwnRemembers who steps (sweeps second) x k left = left ≡ k
 OwnRemembers who steps (looks l) x k left = left ≡ k
@@ -147,10 +155,12 @@ abbrev pub OperatorLacks : List ℕ → OperatorCall → Type 0
 OperatorLacks b (orders (setRouter x)) = NoBoard b
 OperatorLacks b (orders (setPort p address mask mtu mission)) = NoBoard b
 OperatorLacks b (orders (setLifetime x)) = NoBoard b
+OperatorLacks b (orders (setDrop x)) = NoBoard b
 OperatorLacks b (orders (setRoute rs i prefix mask p availability capabilities mission)) = NoBoard b
 OperatorLacks b (orders (clearRoute rs i)) = ⊥
 OperatorLacks b (views routerFlag) = NoBoard b
 OperatorLacks b (views lifetimeWord) = NoBoard b
+OperatorLacks b (views dropFlag) = NoBoard b
 OperatorLacks b (views (portWord p word)) = NoBoard b
 OperatorLacks b (views (recordWord rs i word)) = ⊥
 
@@ -160,6 +170,7 @@ MissionLacks b m (sets (setPath i path send here)) = NoBoard b ⊎ NoMission m
 MissionLacks b m (sets (clearGroup i)) = NoMission m
 MissionLacks b m (sets (clearPath i)) = NoMission m
 MissionLacks b m (hears rs p slot second octets output) = NoBoard b ⊎ NoMission m
+MissionLacks b m (echoes rs p slot octets output) = NoBoard b ⊎ NoMission m
 MissionLacks b m (takes p) = NoBoard b ⊎ NoMission m
 MissionLacks b m (sweeps second) = NoBoard b ⊎ NoMission m
 MissionLacks b m (looks (groupWord i word)) = NoMission m
@@ -174,6 +185,9 @@ MissionLacks b m (looks (build fields size output)) = ⊥
 MissionLacks b m (looks (class a)) = ⊥
 MissionLacks b m (looks (form p)) = ⊥
 MissionLacks b m (looks (checksum octets)) = ⊥
+MissionLacks b m (looks (readEcho octets)) = ⊥
+MissionLacks b m (looks (buildRequest i n echoed output)) = ⊥
+MissionLacks b m (looks (buildReply i n seen echoed output)) = ⊥
 MissionLacks b m (looks boardSize) = ⊥
 MissionLacks b m (looks missionSize) = ⊥
 
@@ -181,10 +195,11 @@ abbrev pub Lacks : Words → Step → Type 0
 Lacks w (operates c) = OperatorLacks (w .board) c
 Lacks w (flies who c) = MissionLacks (w .board) (missionOf who w) c
 
--- what it answers then: 16 of a take and of a datagram, but 21 of a datagram with too long a list; 21 of all else
+-- what it answers then: 16 of a take, of a datagram and of an echo request, but 21 of these two with too long a list; 21 of all else
 abbrev pub lackNumber : MissionCall → ℕ
 lackNumber (sets s) = 21
 lackNumber (hears rs p slot second octets output) = pick (tooLong rs) 21 16
+lackNumber (echoes rs p slot octets output) = pick (tooLong rs) 21 16
 lackNumber (takes p) = 16
 lackNumber (sweeps second) = 21
 lackNumber (looks l) = 21
@@ -192,6 +207,7 @@ lackNumber (looks l) = 21
 abbrev pub refusedOwn : MissionCall → ℕ → outcome.Answer
 refusedOwn (sets s) n = outcome.number n
 refusedOwn (hears rs p slot second octets output) n = outcome.ended n 0 0 0
+refusedOwn (echoes rs p slot octets output) n = outcome.replied n 0 0
 refusedOwn (takes p) n = outcome.number n
 refusedOwn (sweeps second) n = outcome.number n
 refusedOwn (looks l) n = outcome.number n
@@ -205,10 +221,12 @@ abbrev pub HasLong : Call → Type 0
 HasLong (operator (orders o)) = tooLong (listLent o) ≡ true
 HasLong (operator (views routerFlag)) = ⊥
 HasLong (operator (views lifetimeWord)) = ⊥
+HasLong (operator (views dropFlag)) = ⊥
 HasLong (operator (views (portWord p word))) = ⊥
 HasLong (operator (views (recordWord rs i word))) = tooLong rs ≡ true
 HasLong (own (sets s)) = ⊥
 HasLong (own (hears rs p slot second octets output)) = tooLong rs ≡ true
+HasLong (own (echoes rs p slot octets output)) = tooLong rs ≡ true
 HasLong (own (takes p)) = ⊥
 HasLong (own (sweeps second)) = ⊥
 HasLong (own (looks (groupWord i word))) = ⊥
@@ -223,6 +241,9 @@ HasLong (own (looks (build fields size output))) = ⊥
 HasLong (own (looks (class a))) = ⊥
 HasLong (own (looks (form p))) = ⊥
 HasLong (own (looks (checksum octets))) = ⊥
+HasLong (own (looks (readEcho octets))) = ⊥
+HasLong (own (looks (buildRequest i n echoed output))) = ⊥
+HasLong (own (looks (buildReply i n seen echoed output))) = ⊥
 HasLong (own (looks boardSize)) = ⊥
 HasLong (own (looks missionSize)) = ⊥
 
@@ -231,7 +252,7 @@ refusedAs (operator c) n = outcome.number n
 refusedAs (own c) n = refusedOwn c n
 
 pub record Demand1 : Type 2 where
-  -- "Every call ends with a stated answer, whatever octets, port or setting it gets.": of each of the 32 calls, whatever is lent to it, there is a
+  -- "Every call ends with a stated answer, whatever octets, port or setting it gets.": of each of the 38 calls, whatever is lent to it, there is a
   -- result that its contract allows (a slot has 16 bits), wherever what is lent lies, and one only;
   pub ends : (c : Exported) → Passable c → (x : Result) × (((y : Lying) → Contract y c x) × ((y : Result) → Says c y → y ≡ x))
   -- hj_fresh_board answers 0 wherever the words are as many as a board has, whatever they are, and leaves a fresh board; hj_fresh_mission likewise for
@@ -254,15 +275,16 @@ pub record Demand1 : Type 2 where
   -- "A list over 512 records is 21 before all else" (docs/DECISIONS.md), whatever the words are, and all is left as it is, counters included;
   pub long-lists : (w : Words) (who : Customer) (c : Call) (x : Result) → HasLong c → Says (made w (stepOf who c)) x
       → (readOut c (x .answer) ≡ refusedAs c 21) × (x .left ≡ lentTo (made w (stepOf who c)))
-  -- and where the words of a header's numbers are not as many as those have, it is 21, and nothing is written.
-  pub other-numbers : (octets n : List ℕ) (size : ℕ) (o : List ℕ) (x y : Result)
-      → Says (hj-read-words octets n) x → Says (hj-build-words n size o) y
+  -- and where the words of a header's or a message's numbers are not as many as those have, it is 21, and nothing is written.
+  pub other-numbers : (octets n : List ℕ) (size : ℕ) (o : List ℕ) (x y z : Result)
+      → Says (hj-read-words octets n) x → Says (hj-build-words n size o) y → Says (hj-read-echo-words octets n) z
       → ((length n ≡ readingCount → ⊥) → (x .answer ≡ 21) × (x .left .numbers ≡ n))
-      × ((length n ≡ fieldWords → ⊥) → (y .answer ≡ refusalNumber 21) × (y .left .output ≡ o))
+      × (((length n ≡ fieldWords → ⊥) → (y .answer ≡ refusalNumber 21) × (y .left .output ≡ o))
+      × ((length n ≡ messageCount → ⊥) → (z .answer ≡ 21) × (z .left .numbers ≡ n)))
   -- "Nobody has to check first.": the code of each function, proved to do what its contract says, asks nothing of its caller.
   pub nobody-checks-first : (c : Exported) → Unchecked (functionOf c)
-  -- "A refusal carries its number and leaves queues, settings and lent octets unchanged;": 9 to 15 and 30 of the onward half too. The board, the list and the
-  -- output are left whole, and of the mission all but its counters and what it remembers
+  -- "A refusal carries its number and leaves queues, settings and lent octets unchanged;": 9 to 15 and 30 of the onward half too, and 11, 14 and 15 of a
+  -- reply. The board, the list and the output are left whole, and of the mission all but its counters and what it remembers
   pub refusal-leaves : (who : Customer) (steps : List Step) (c : Call) (x : Result) (g : Gives steps (stepOf who c) x)
       → outcome.isRefusal (readOut c (x .answer)) ≡ true → Unchanged (lentTo (made (g .before) (stepOf who c))) (x .left)
   -- W-207: "demand 1 lets the kept pair and the accepted second stand after a refusal", and of what is remembered nothing else moves
@@ -277,10 +299,11 @@ pub record Demand1 : Type 2 where
       (x : Result) (g : Gives steps (flies who (hears rs p slot second octets output)) x) → tookIn x ≡ 0
       → HeardLeaves (relayFor who steps rs) rs p second octets (length output) x (memoryIn (missionOf who (g .before))) (memoryIn (x .left .mission))
   -- "only the counters of the received datagram move.": each counter by what page 01's table gives this call, and none where no datagram is heard
+  -- and no request answered; W-203 "lets these counters move" of a reply that is refused (record Echoes says which)
   pub counters-move : (who : Customer) (steps : List Step) (c : MissionCall) (x : Result) (g : Gives steps (flies who c) x) (i : ℕ) → i < counterCount
       → counterAt (missionOf who (wordsAfter (g .before) (flies who c) x)) i
       ≡ (counterAt (missionOf who (g .before)) i + givenBy i (outcome.ownOutcome (seatOf who steps) c)) % 2 ^ 32
-  pub counters-stay : (who : Customer) (steps : List Step) (c : MissionCall) (x : Result) (g : Gives steps (flies who c) x) → hearsNothing c ≡ true
+  pub counters-stay : (who : Customer) (steps : List Step) (c : MissionCall) (x : Result) (g : Gives steps (flies who c) x) → countsNothing c ≡ true
       → decode (missionOf who (wordsAfter (g .before) (flies who c) x)) .counters ≡ decode (missionOf who (g .before)) .counters
   -- "An unknown transport number refuses local delivery alone.": of two datagrams that differ in that number
   pub transport-alone : (who : Customer) (steps : List Step) (rs : List Record) (p : ℕ) (slot : Slot) (second : ℕ) (s t output : List ℕ) (h k : Header) (x y : Result)

@@ -127,7 +127,8 @@ pub record OnTheWire (r : Relay) (at p : ℕ) (octets : List ℕ) (code : ℕ) (
   pub long : goes .length ≡ goes .size + dataOf came
   pub fits : goes .length ≤ portIn r p .mtu
 
--- what goes out where hj_take hands out e: the copy that is asked for, and the octets that C sends for it, which read as a header
+-- what goes out where hj_take hands out e: the copy that is asked for, and the octets that C sends for it, which read as a header; of a reply (W-203) the
+-- octets that came are those that it was made as, at the port of its request
 pub record GoesOut (r : Relay) (p : ℕ) (line : List Copy) (e : Entry) : Type 0 where
   pub copy : Copy
   pub others : List Copy

@@ -25,7 +25,7 @@ use Rattle.state.specs.Relay.{portSetUp, portIn, queueAt}
 use Rattle.lent_state.specs.View.{tooLong}
 use Rattle.answers.specs.Answers.{takingNumber}
 use Rattle.contracts.specs.Promised.{Result}
-use Rattle.history.specs.Calls.{counter, waiting, hears, takes, sweeps, looks, OperatorCall, Setting, Look, sets, Call, operator, own}
+use Rattle.history.specs.Calls.{counter, waiting, hears, echoes, takes, sweeps, looks, OperatorCall, Setting, Look, sets, Call, operator, own}
 use Rattle.history.specs.Outcome.{seatAfter, sumOver, isRefusal, outcome, ownOutcome}
 use Rattle.history.specs.Sums.{givenBy}
 use Rattle.history.specs.Ledger.{granted, dropped, handedOut}
@@ -55,7 +55,7 @@ pub record Demand3 : Type 0 where
   pub ledger : (who : Customer) (steps : List Step) (p : ℕ) (x : Result) → p < portCount → Gives steps (flies who (looks (waiting p))) x
       → sumOver (granted p) (numberOf who) (historyOf who steps)
       ≡ sumOver (handedOut p) (numberOf who) (historyOf who steps) + (x .answer + sumOver (dropped p) (numberOf who) (historyOf who steps))
-  -- where the copies of a datagram, granted, taken and dropped, are those of page 01's verdict, and those that C is told
+  -- where the copies of a datagram, granted, taken and dropped, are those of page 01's verdict, and those that C is told (record Echoes has it of a reply)
   pub copies-told : (who : Customer) (steps : List Step) (rs : List Record) (p at : ℕ) (slot : Slot) (second : ℕ) (octets output : List ℕ) (x : Result) → p < portCount
       → Gives steps (flies who (hears rs at slot second octets output)) x → tooLong rs ≡ false
       → (inSet p (ownOutcome (seatOf who steps) (hears rs at slot second octets output) .granted)
@@ -98,15 +98,17 @@ pub record Demand3 : Type 0 where
   -- "Refused calls and other ports' traffic count nothing": a call that is idle on the port counts nothing, and idle is what is refused,
   pub foretold-idle : (m : ℕ) (cs ds : List Call) (c : Call) (p : ℕ) (x : Copy) → Idle p m cs c → CountsNothing p m x cs c ds
   pub foretold-refused : (m : ℕ) (cs : List Call) (c : Call) (p : ℕ) → isRefusal (outcome (seatAfter m cs) c .answer) ≡ true → Idle p m cs c
-  -- a take of another port, a datagram of which this port took no entry, a setting, a sweep, a look and whatever the operator calls; the other customer's
+  -- a take of another port, a datagram or a reply of which this port took no entry, a setting, a sweep, a look and whatever the operator calls; the other customer's
   -- calls are in no history of this one's;
   pub foretold-others : (m : ℕ) (cs : List Call) (p : ℕ)
       → ((q : ℕ) → q ≢ p → Idle p m cs (own (takes q)))
       × (((rs : List Record) (at : ℕ) (slot : Slot) (second : ℕ) (octets output : List ℕ)
       → inSet p (ownOutcome (seatAfter m cs) (hears rs at slot second octets output) .took) ≡ false → Idle p m cs (own (hears rs at slot second octets output)))
+      × (((rs : List Record) (at : ℕ) (slot : Slot) (octets output : List ℕ)
+      → inSet p (ownOutcome (seatAfter m cs) (echoes rs at slot octets output) .took) ≡ false → Idle p m cs (own (echoes rs at slot octets output)))
       × (((s : Setting) → Idle p m cs (own (sets s)))
       × (((second : ℕ) → Idle p m cs (own (sweeps second)))
-      × (((l : Look) → Idle p m cs (own (looks l))) × ((c : OperatorCall) → Idle p m cs (operator c))))))
+      × (((l : Look) → Idle p m cs (own (looks l))) × ((c : OperatorCall) → Idle p m cs (operator c)))))))
   -- and what is handed out is what C reads out of the answers of the customer's hj_take, in that order, whatever else is called between them.
   pub handed-is-told : (who : Customer) (steps later : List Step) (p : ℕ) (w v u : Words) → Begun w steps v → (t : Trace v later u)
       → AllPass later → entriesIn who p later v u t ≡ map entryOf (handedSince p (numberOf who) (historyOf who steps) (historyOf who later))

@@ -24,7 +24,7 @@ use Rattle.state.specs.Seen.{seated}
 use Rattle.state.specs.Layout.{decodeBoard, decode, pairWords}
 use Rattle.floods.specs.Memory.{isHeld}
 use Rattle.contracts.specs.Promised.{Result}
-use Rattle.history.specs.Calls.{pairWord, lastSecond, MissionCall, sets, hears, takes, sweeps, looks}
+use Rattle.history.specs.Calls.{pairWord, lastSecond, MissionCall, sets, hears, echoes, takes, sweeps, looks}
 use Rattle.history.specs.Answers.{listed}
 use Rattle.history.specs.Ranges.{Octets}
 use Rattle.history.specs.Floods.{Among, HeldIn, heldAfter, acceptedOwn, greatest}
@@ -53,6 +53,7 @@ module _ (who : Customer) (q : Pair) where
       one
       (isFlooded (headerOf octets .fields)
       && (samePair (pairOn who w at octets) q && listed (1 ∷ 10 ∷ 11 ∷ 13 ∷ 14 ∷ 15 ∷ []) (onwardIn x)))
+  goesOn w (echoes rs at slot octets output) x = 0
   goesOn w (takes p) x = 0
   goesOn w (sweeps second) x = 0
   goesOn w (looks l) x = 0
@@ -64,6 +65,7 @@ module _ (who : Customer) (q : Pair) where
   abbrev pub frees : Words → MissionCall → Result → Bool
   frees w (sets s) x = false
   frees w (hears rs at slot second octets output) x = false
+  frees w (echoes rs at slot octets output) x = false
   frees w (takes p) x = false
   frees w (sweeps second) x = holdsIn who w q && not (isHeld (memoryIn (x .left .mission)) q)
   frees w (looks l) x = false

@@ -16,6 +16,9 @@ use Rattle.contracts.specs.Promised.{
   hj-class,
   hj-path,
   hj-checksum,
+  hj-read-echo-words,
+  hj-build-request,
+  hj-build-reply,
   hj-board-words,
   hj-mission-words,
   hj-fresh-board,
@@ -23,6 +26,7 @@ use Rattle.contracts.specs.Promised.{
   hj-set-router,
   hj-set-port,
   hj-set-lifetime,
+  hj-set-echo-drop,
   hj-set-route,
   hj-clear-route,
   hj-set-group,
@@ -31,6 +35,7 @@ use Rattle.contracts.specs.Promised.{
   hj-clear-path,
   hj-get-router,
   hj-get-lifetime,
+  hj-get-echo-drop,
   hj-port-word,
   hj-route-word,
   hj-group-word,
@@ -39,6 +44,7 @@ use Rattle.contracts.specs.Promised.{
   hj-pair-word,
   hj-search,
   hj-receive-at,
+  hj-echo,
   hj-take,
   hj-counter,
   hj-waiting,
@@ -51,6 +57,7 @@ use Rattle.route_calls.specs.Calls.{recordWords}
 use Rattle.state.specs.Relay.{Relay}
 use Rattle.state.specs.Seen.{Board, freshBoard}
 use Rattle.harpjuniper.specs.Face.{readingCount}
+use Rattle.harpjuniper_messages.specs.Face.{messageCount}
 use Rattle.history.specs.Ranges.{OwnPassed}
 use Rattle.history.specs.Seat.{Seat, relayIn, relayWith}
 use Rattle.history.specs.Outcome.{boardFrom, seatAfter}
@@ -59,11 +66,13 @@ use Rattle.history.specs.Calls.{
   setRouter,
   setPort,
   setLifetime,
+  setDrop,
   setRoute,
   clearRoute,
   View,
   routerFlag,
   lifetimeWord,
+  dropFlag,
   portWord,
   recordWord,
   OperatorCall,
@@ -87,11 +96,15 @@ use Rattle.history.specs.Calls.{
   class,
   form,
   checksum,
+  readEcho,
+  buildRequest,
+  buildReply,
   boardSize,
   missionSize,
   MissionCall,
   sets,
   hears,
+  echoes,
   takes,
   sweeps,
   looks,
@@ -136,12 +149,14 @@ module _ (b : List ℕ) where
   orderBy (setRouter x) = hj-set-router b x
   orderBy (setPort p address mask mtu mission) = hj-set-port b p (address .0) (mask .0) mtu mission
   orderBy (setLifetime x) = hj-set-lifetime b x
+  orderBy (setDrop x) = hj-set-echo-drop b x
   orderBy (setRoute rs i prefix mask p availability capabilities mission) = hj-set-route b rs i prefix mask p availability capabilities mission
   orderBy (clearRoute rs i) = hj-clear-route rs i
 
   abbrev viewBy : View → Exported
   viewBy routerFlag = hj-get-router b
   viewBy lifetimeWord = hj-get-lifetime b
+  viewBy dropFlag = hj-get-echo-drop b
   viewBy (portWord p word) = hj-port-word b p word
   viewBy (recordWord rs i word) = hj-route-word rs i word
 
@@ -169,12 +184,16 @@ module _ (b : List ℕ) where
     lookBy (class a) = hj-class (a .0)
     lookBy (form p) = hj-path (p .0)
     lookBy (checksum octets) = hj-checksum octets
+    lookBy (readEcho octets) = hj-read-echo-words octets (replicate messageCount 0)
+    lookBy (buildRequest i n echoed output) = hj-build-request i n echoed output
+    lookBy (buildReply i n seen echoed output) = hj-build-reply i n (seen .hops) (seen .format) (seen .stamp) (seen .mtu) (seen .rate) echoed output
     lookBy boardSize = hj-board-words
     lookBy missionSize = hj-mission-words
 
     abbrev pub missionBy : MissionCall → Exported
     missionBy (sets s) = setBy s
     missionBy (hears rs p slot when octets output) = hj-receive-at b m rs p (slot .0) when octets output
+    missionBy (echoes rs p slot octets output) = hj-echo b m rs p (slot .0) octets output
     missionBy (takes p) = hj-take b m p
     missionBy (sweeps when) = hj-sweep b m when
     missionBy (looks l) = lookBy l
@@ -190,12 +209,14 @@ module _ (b : List ℕ) where
   orderLeaves (setRouter x) y = y .left .board
   orderLeaves (setPort p address mask mtu mission) y = y .left .board
   orderLeaves (setLifetime x) y = y .left .board
+  orderLeaves (setDrop x) y = y .left .board
   orderLeaves (setRoute rs i prefix mask p availability capabilities mission) y = y .left .board
   orderLeaves (clearRoute rs i) y = b
 
   abbrev viewLeaves : View → Result → List ℕ
   viewLeaves routerFlag y = y .left .board
   viewLeaves lifetimeWord y = y .left .board
+  viewLeaves dropFlag y = y .left .board
   viewLeaves (portWord p word) y = y .left .board
   viewLeaves (recordWord rs i word) y = b
 
@@ -217,12 +238,16 @@ module _ (m : List ℕ) where
   lookLeaves (class a) y = m
   lookLeaves (form p) y = m
   lookLeaves (checksum octets) y = m
+  lookLeaves (readEcho octets) y = m
+  lookLeaves (buildRequest i n echoed output) y = m
+  lookLeaves (buildReply i n seen echoed output) y = m
   lookLeaves boardSize y = m
   lookLeaves missionSize y = m
 
   abbrev pub missionLeaves : MissionCall → Result → List ℕ
   missionLeaves (sets s) y = y .left .mission
   missionLeaves (hears rs p slot when octets output) y = y .left .mission
+  missionLeaves (echoes rs p slot octets output) y = y .left .mission
   missionLeaves (takes p) y = y .left .mission
   missionLeaves (sweeps when) y = y .left .mission
   missionLeaves (looks l) y = lookLeaves l y
@@ -246,10 +271,12 @@ abbrev pub OperatorPasses : OperatorCall → Type 0
 OperatorPasses (orders (setRouter x)) = Unit
 OperatorPasses (orders (setPort p address mask mtu mission)) = Fit (address .0 ∷ mask .0 ∷ mtu ∷ mission ∷ [])
 OperatorPasses (orders (setLifetime x)) = x < 2 ^ 32
+OperatorPasses (orders (setDrop x)) = Unit
 OperatorPasses (orders (setRoute rs i prefix mask p availability capabilities mission)) = Unit
 OperatorPasses (orders (clearRoute rs i)) = Unit
 OperatorPasses (views routerFlag) = Unit
 OperatorPasses (views lifetimeWord) = Unit
+OperatorPasses (views dropFlag) = Unit
 OperatorPasses (views (portWord p word)) = Unit
 OperatorPasses (views (recordWord rs i word)) = Each (λ (x : Record). Fit (recordWords x)) rs
 
@@ -262,6 +289,7 @@ SettingPasses (clearPath i) = Unit
 abbrev pub MissionPasses : MissionCall → Type 0
 MissionPasses (sets s) = SettingPasses s
 MissionPasses (hears rs p slot when octets output) = OwnPassed (hears rs p slot when octets output)
+MissionPasses (echoes rs p slot octets output) = OwnPassed (echoes rs p slot octets output)
 MissionPasses (takes p) = Unit
 MissionPasses (sweeps when) = OwnPassed (sweeps when)
 MissionPasses (looks l) = OwnPassed (looks l)

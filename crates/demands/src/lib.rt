@@ -9,7 +9,8 @@
 // trace for any calls that C can make, so nothing is proved of nothing.
 //
 // Each demand is a record with fields for every sentence, Demand1, Demand2 and Demand3 in specs/, each said for either customer by itself;
-// Floods says that a flooded datagram goes on once, and what is remembered for that; Apart says that neither customer can tell what the
-// other does. proofs/ has that they are kept, and a few relays that they shut out.
+// Floods says that a flooded datagram goes on once, and what is remembered for that; Echoes says which echo requests are answered, what
+// the reply is on the wire, and what it counts; Apart says that neither customer can tell what the other does. proofs/ has that they are
+// kept, and a few relays that they shut out.
 //
 // The awkward case is the call that is lent no words, like reading a header: it stands in the history, and the words stay.

@@ -40,6 +40,17 @@ pub extern "C" fn hj_get_lifetime(board: &[u32]) -> u64
     state_board::lifetime_of(board) as u64
 }
 
+// Whether echo requests are dropped: 1 or 0.
+#[no_mangle]
+pub extern "C" fn hj_get_echo_drop(board: &[u32]) -> u64
+    ensures { λ r. ⌜ r ≡ toldBoard (λ (x : Board). x .drop) (refusalNumber 21) (now (board .entry)) ⌝ }
+{
+    if board.len() != state_board::BOARD_WORDS {
+        return checks::refusal_number(21);
+    }
+    state_board::drop_of(board) as u64
+}
+
 fn owned_word(x: OwnedPort, word: u32) -> u64
     ensures { λ r. ⌜ r ≡ wordAnswer (ownedWords x) word ⌝ }
 {

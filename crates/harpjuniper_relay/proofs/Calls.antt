@@ -42,13 +42,13 @@ sweep-called b w v second rightBoard right long is swept =
     (swept .0) (swept .1 ∙ ap (λ (t : ℕ). onMemory (sweptMemory t second) (decode w)) is)
 
 module _ (l : List ℕ) (i : ℕ) {n : ℕ} where
-  pub no-counter : 17 ≤ i → n ≡ refusalNumber 21 → n ≡ counterAnswer l i
+  pub no-counter : 18 ≤ i → n ≡ refusalNumber 21 → n ≡ counterAnswer l i
   unfolding counterAnswer
-  no-counter h e = simp (le-ltb i 17 h) e
+  no-counter h e = simp (le-ltb i 18 h) e
 
-  pub counter : i < 17 → n ≡ counterIn l i → n ≡ counterAnswer l i
+  pub counter : i < 18 → n ≡ counterIn l i → n ≡ counterAnswer l i
   unfolding counterAnswer
-  counter h e = simp (lt-ltb i 17 h) e
+  counter h e = simp (lt-ltb i 18 h) e
 
 module _ (m : Mission) (i : ℕ) {n : ℕ} where
   pub no-queue : 8 ≤ i → n ≡ refusalNumber 21 → n ≡ waitingAnswer m i

@@ -136,8 +136,8 @@ module _ (w : List ℕ) (words : FitWords w) (port : ℕ) where
   pub counter-read-back : (i : ℕ)
       → Two
       (told (λ (x : State). counterAnswer (x .counters) i) (refusalNumber 21) w)
-      (told (λ (x : State). pick (ltb i 17) 0 21) 21 w)
-      (told (λ (x : State). pick (ltb i 17) (counterIn (x .counters) i) 0) 0 w)
+      (told (λ (x : State). pick (ltb i 18) 0 21) 21 w)
+      (told (λ (x : State). pick (ltb i 18) (counterIn (x .counters) i) 0) 0 w)
   unfolding counterAnswer
   counter-read-back i =
-      value-read w (λ (x : State). counterIn (x .counters) i) (ltb i 17) (λ h. rw (← counter-read w i (ltb-true i 17 h)) (words (393 + i)))
+      value-read w (λ (x : State). counterIn (x .counters) i) (ltb i 18) (λ h. rw (← counter-read w i (ltb-true i 18 h)) (words (393 + i)))

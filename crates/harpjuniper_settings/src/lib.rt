@@ -1,4 +1,5 @@
-// What C calls to set a node up: a fresh board and a fresh mission, router or host, a port, the lifetime of pairs. Groups and paths stand in
+// What C calls to set a node up: a fresh board and a fresh mission, router or host, a port, the lifetime of pairs, whether echo
+// requests are dropped. Groups and paths stand in
 // `groups_and_paths`, routes in the crate `harpjuniper_routes`.
 //
 // Each function tests the number of words lent and then calls the setting. None requires anything: whatever words and numbers come, the
@@ -13,8 +14,8 @@ ghost use Rattle.checks.specs.Order.{firstOf};
 ghost use Rattle.state.specs.Layout.{boardWords, missionWords};
 ghost use Rattle.state.specs.Seen.{Board, State, freshBoard, putLifetime};
 ghost use Rattle.lent_state.specs.View.{lentBoard, toldBoard, changedBoard, lent, told, changed};
-ghost use Rattle.refusals.specs.Lists.{portChecks, routerChecks, missionChecks};
-ghost use Rattle.adjust.specs.Settled.{settledRouter, settledPort, settledFresh};
+ghost use Rattle.refusals.specs.Lists.{portChecks, flagChecks, missionChecks};
+ghost use Rattle.adjust.specs.Settled.{settledRouter, settledDrop, settledPort, settledFresh};
 
 // How many words a board has.
 #[no_mangle]
@@ -60,7 +61,7 @@ pub extern "C" fn hj_fresh_mission(mission: &mut [u32], number: u32) -> u32
 // Router or host: 1 or 0.
 #[no_mangle]
 pub extern "C" fn hj_set_router(board: &mut [u32], router: u32) -> u32
-    ensures { λ r. ⌜ r ≡ toldBoard (λ (x : Board). firstOf (routerChecks router)) 21 (now (board .entry)) ⌝ }
+    ensures { λ r. ⌜ r ≡ toldBoard (λ (x : Board). firstOf (flagChecks router)) 21 (now (board .entry)) ⌝ }
     ensures { λ _. ⌜ lentBoard (now (board .exit)) ≡ changedBoard (λ (x : Board). settledRouter x router) (now (board .entry)) ⌝ }
 {
     if board.len() != state_board::BOARD_WORDS {
@@ -104,4 +105,16 @@ pub extern "C" fn hj_set_lifetime(board: &mut [u32], lifetime: u32) -> u32
     }
     state_board::put_lifetime(board, lifetime);
     return 0;
+}
+
+// Whether all echo requests are dropped: 1 or 0.
+#[no_mangle]
+pub extern "C" fn hj_set_echo_drop(board: &mut [u32], drop: u32) -> u32
+    ensures { λ r. ⌜ r ≡ toldBoard (λ (x : Board). firstOf (flagChecks drop)) 21 (now (board .entry)) ⌝ }
+    ensures { λ _. ⌜ lentBoard (now (board .exit)) ≡ changedBoard (λ (x : Board). settledDrop x drop) (now (board .entry)) ⌝ }
+{
+    if board.len() != state_board::BOARD_WORDS {
+        return 21;
+    }
+    adjust::set_drop(board, drop)
 }

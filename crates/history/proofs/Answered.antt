@@ -20,6 +20,9 @@ use Rattle.checksum.specs.Sum.{onesSum, checksumOf}
 use Rattle.header.specs.Read.{readChecks, headerOf, readOf}
 use Rattle.header.specs.declared.Header.{Header}
 use Rattle.header.specs.declared.Read.the-variants as reader
+use Rattle.echo.specs.Message.{echoChecks}
+use Rattle.echo.specs.Built.{buildChecks}
+use Rattle.echo.specs.declared.Kind.the-variants.{Request, Reply}
 use Rattle.routes.specs.Search.{searchOf}
 use Rattle.routes.specs.declared.Found.{Found}
 use Rattle.routes.specs.declared.Found.the-variants as found
@@ -32,6 +35,7 @@ use Rattle.history.specs.Calls.{
   View,
   routerFlag,
   lifetimeWord,
+  dropFlag,
   portWord,
   recordWord,
   orders,
@@ -46,6 +50,9 @@ use Rattle.history.specs.Calls.{
   waiting,
   read,
   build,
+  readEcho,
+  buildRequest,
+  buildReply,
   class,
   form,
   checksum,
@@ -54,6 +61,7 @@ use Rattle.history.specs.Calls.{
   MissionCall,
   sets,
   hears,
+  echoes,
   takes,
   sweeps,
   looks,
@@ -61,10 +69,11 @@ use Rattle.history.specs.Calls.{
   operator,
   own,
 }
-use Rattle.history.specs.Looks.{viewNumber, lookNumber}
+use Rattle.history.specs.Looks.{viewNumber, messageFrom, lookNumber}
 use Rattle.history.specs.Outcome.{number, ownOutcome, outcome}
 use Rattle.history.specs.Answers.{numbers, below, viewNumbers, lookRow, ownRows, answersOf, stands}
 use Rattle.history.proofs.Listed.{number-row, order-listed, setting-listed, every-ending-is-listed, taking-listed}
+use Rattle.history.proofs.Replying.{every-reply-is-listed}
 
 -- 0 where there is such a place and such a word, or 21
 place-row : (t : Bool) → stands (numbers (0 ∷ 21 ∷ []) ∷ []) (number (pick t 0 21)) ≡ true
@@ -112,22 +121,28 @@ checksum-row octets = below-row (65535 - onesSum octets) 65536 (omega arith)
 view-listed : (v : View) → stands (numbers (viewNumbers v) ∷ []) (number (viewNumber v)) ≡ true
 view-listed routerFlag = refl
 view-listed lifetimeWord = refl
+view-listed dropFlag = refl
 view-listed (portWord p word) = place-row (ltb p 8 && ltb word 5)
 view-listed (recordWord rs i word) = record-row (tooLong rs) (ltb i (length rs) && ltb word 7)
 
 look-listed : (seat : Seat) (l : Look) → stands (lookRow l ∷ []) (number (lookNumber seat l)) ≡ true
-unfolding readOf readChecks numbersChecks searchAnswer
+unfolding readOf readChecks numbersChecks echoChecks buildChecks searchAnswer
 look-listed seat (groupWord i word) = place-row (ltb i 16 && ltb word 4)
 look-listed seat (pathWord i word) = place-row (ltb i 16 && ltb word 4)
 look-listed seat (pairWord i word) = place-row (ltb i 64 && ltb word 5)
 look-listed seat lastSecond = refl
 look-listed seat (search rs a) = search-row (tooLong rs) (searchOf a (relayWith seat rs .routes))
-look-listed seat (counter i) = place-row (ltb i 17)
+look-listed seat (counter i) = place-row (ltb i 18)
 look-listed seat (waiting p) = place-row (ltb p 8)
 look-listed seat (read octets) =
     let n = firstOf (readChecks octets) in
     read-row (eqb n 0) n (headerOf octets) (number-row (0 ∷ 1 ∷ 2 ∷ 4 ∷ 3 ∷ 5 ∷ []) (readChecks octets) refl refl)
 look-listed seat (build fields size output) = number-row (0 ∷ 17 ∷ 19 ∷ 20 ∷ []) (numbersChecks fields size (length output)) refl refl
+look-listed seat (readEcho octets) = number-row (0 ∷ 1 ∷ 4 ∷ 5 ∷ []) (echoChecks octets) refl refl
+look-listed seat (buildRequest identifier sequence echoed output) =
+    number-row (0 ∷ 17 ∷ 20 ∷ []) (buildChecks (messageFrom Request identifier sequence) (length echoed) (length output)) refl refl
+look-listed seat (buildReply identifier sequence seen echoed output) =
+    number-row (0 ∷ 17 ∷ 20 ∷ []) (buildChecks (messageFrom (Reply seen) identifier sequence) (length echoed) (length output)) refl refl
 look-listed seat (class a) = class-row (classOf (a .0))
 look-listed seat (form p) = form-row (pathForm (p .0))
 look-listed seat (checksum octets) = checksum-row octets
@@ -137,6 +152,7 @@ look-listed seat missionSize = refl
 own-listed : (seat : Seat) (c : MissionCall) → stands (ownRows c) (ownOutcome seat c .answer) ≡ true
 own-listed seat (sets s) = setting-listed (relayIn seat) s
 own-listed seat (hears rs port slot second octets output) = every-ending-is-listed seat rs port second octets (length output)
+own-listed seat (echoes rs port slot octets output) = every-reply-is-listed seat rs port octets (length output)
 own-listed seat (takes port) = taking-listed seat port
 own-listed seat (sweeps second) = number-row (0 ∷ 29 ∷ []) (sweepChecks (seat .memory) second) refl refl
 own-listed seat (looks l) = look-listed seat l

@@ -30,19 +30,19 @@ then-more : (a b c d : ℕ) → b ≡ (a + c) % 2 ^ 32 → (b + d) % 2 ^ 32 ≡ 
 then-more a b c d e =
     ap (λ (x : ℕ). (x + d) % 2 ^ 32) e ∙ mod-add-mod (a + c) (2 ^ 32) d ∙ ap (λ (x : ℕ). x % 2 ^ 32) (add-assoc a c d)
 
--- ---- one counter among seventeen
-module _ (i : ℕ) (inside : i < 17) where
+-- ---- one counter among eighteen
+module _ (i : ℕ) (inside : i < 18) where
   pub record Fit (l : List ℕ) : Type 0 where
-    pub seventeen : length l ≡ 17
+    pub eighteen : length l ≡ 18
     pub small : counterIn l i < 2 ^ 32
 
   -- a counter that is equal to a number modulo 2^32 is below it
-  fit : (l : List ℕ) (n : ℕ) → length l ≡ 17 → counterIn l i ≡ n % 2 ^ 32 → Fit l
-  fit l n long e = record { seventeen = long; small = rw e (mod-lt n (pow-pos 32)) }
+  fit : (l : List ℕ) (n : ℕ) → length l ≡ 18 → counterIn l i ≡ n % 2 ^ 32 → Fit l
+  fit l n long e = record { eighteen = long; small = rw e (mod-lt n (pow-pos 32)) }
 
   -- one move counted
   move-case : (l : List ℕ) (place n : ℕ) → Fit l → (t : Bool) → eqb place i ≡ t → counterIn (added l place n) i ≡ (counterIn l i + pick t n 0) % 2 ^ 32
-  move-case l place n f true h = rw (eqb-true place i h) (getD-set-same l i _ 0 (rw (f .seventeen) inside))
+  move-case l place n f true h = rw (eqb-true place i h) (getD-set-same l i _ 0 (rw (f .eighteen) inside))
   move-case l place n f false h =
       getD-set-other l place i _ 0 (λ z. eqb-false place i h (sym z)) ∙ none-more (counterIn l i) (f .small)
 
@@ -51,13 +51,13 @@ module _ (i : ℕ) (inside : i < 17) where
   move-one l (counter.At place) n f = move-case l place n f (eqb place i) refl
   move-one l counter.Nothing n f = none-more (counterIn l i) (f .small)
 
-  move-seventeen : (l : List ℕ) (c : Counter) (n : ℕ) → length l ≡ 17 → length (countedAt l c n) ≡ 17
+  move-eighteen : (l : List ℕ) (c : Counter) (n : ℕ) → length l ≡ 18 → length (countedAt l c n) ≡ 18
   unfolding countedAt
-  move-seventeen l (counter.At place) n long = length-set l place _ ∙ long
-  move-seventeen l counter.Nothing n long = long
+  move-eighteen l (counter.At place) n long = length-set l place _ ∙ long
+  move-eighteen l counter.Nothing n long = long
 
   move-fit : (l : List ℕ) (c : Counter) (n : ℕ) → Fit l → Fit (countedAt l c n)
-  move-fit l c n f = fit (countedAt l c n) _ (move-seventeen l c n (f .seventeen)) (move-one l c n f)
+  move-fit l c n f = fit (countedAt l c n) _ (move-eighteen l c n (f .eighteen)) (move-one l c n f)
 
   -- all moves of a call counted
   moves-fit : (moves : List Move) (l : List ℕ) → Fit l → Fit (countedAll l moves)
@@ -90,14 +90,14 @@ module _ (i : ℕ) (inside : i < 17) where
   module _ (m : ℕ) where
     fresh-zero : counterIn (freshState m .counters) i ≡ 0
     unfolding freshState
-    fresh-zero = getD-replicate {A = ℕ} 17 i 0 0 inside
+    fresh-zero = getD-replicate {A = ℕ} 18 i 0 0 inside
 
-    fresh-seventeen : length (freshState m .counters) ≡ 17
+    fresh-eighteen : length (freshState m .counters) ≡ 18
     unfolding freshState
-    fresh-seventeen = refl
+    fresh-eighteen = refl
 
     fresh-fit : Fit (freshState m .counters)
-    fresh-fit = record { seventeen = fresh-seventeen; small = omega (arith, fresh-zero) }
+    fresh-fit = record { eighteen = fresh-eighteen; small = omega (arith, fresh-zero) }
 
     pub counters-fit : (cs : List Call) → Fit (stateAfter m cs .counters)
     counters-fit cs = all-fit cs (freshState m .counters) (freshSeat m) fresh-fit

@@ -79,7 +79,7 @@ use Rattle.page.proofs.Exactly.{refusal-number, passed, local-exactly, onward-n
 use Rattle.page.proofs.Floods.{flood-sought, flood-held, flood-full, flood-new, new-kept, free-place, kept-held}
 use Rattle.relay.specs.Received.{heardMemory}
 use Rattle.history.specs.Seat.{Seat, freshSeat, relayWith, heardBy, memoryBy}
-use Rattle.history.specs.Calls.{sets, hears, takes, sweeps, looks, Call, operator, own}
+use Rattle.history.specs.Calls.{sets, hears, echoes, takes, sweeps, looks, Call, operator, own}
 use Rattle.history.specs.Outcome.{outcome, next, runFrom, seatAfter}
 use Rattle.history.specs.Answers.{listed}
 use Rattle.history.specs.Ledger.{one}
@@ -194,6 +194,7 @@ module _ (seat : Seat) where
       remembering-so (λ (k : Memory). Moves last (second ∷ []) (k .last)) (seat .memory) second (refl, (ltb-false second last now, refl)) _ _
       (λ place new. (refl, (ltb-false second last now, refl))))
       (length output)
+  one-moves (own (echoes rs port slot octets output)) = refl
   one-moves (own (takes port)) = refl
   one-moves (own (sweeps second)) = by (isPast (seat .memory) second) refl
     where
@@ -434,6 +435,7 @@ module _ (q : Pair) where
           → (one t ≡ 0) ⊎ ((one t ≡ 1) × Floods seat (memoryBy seat rs port second octets (length output)))
       by true floods = inr (refl, floods refl)
       by false floods = inl refl
+  one-floods seat k (own (echoes rs port slot octets output)) = inl refl
   one-floods seat k (own (takes port)) = inl refl
   one-floods seat k (own (sweeps second)) = inl refl
   one-floods seat k (own (looks l)) = inl refl
@@ -460,6 +462,7 @@ module _ (q : Pair) where
         (λ place new.
         kept-held-still (seat .memory) second place _ (flood-keeping (seat .memory) _ (h .fields) (good .1 .1 .1 .1 .0) place _ _ new .free) held))
         (length output)
+    stays-held seat (own (echoes rs port slot octets output)) held unfreed = held
     stays-held seat (own (takes port)) held unfreed = held
     stays-held seat (own (sweeps second)) held unfreed = by (eqb (firstOf (sweepChecks (seat .memory) second)) 0) unfreed
       where

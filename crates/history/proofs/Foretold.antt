@@ -1,7 +1,6 @@
 -- How long a copy waits, over histories (page 02, W-213). The theorem is `foretold-over-histories`: take number k after the placing hands the copy
 -- out exactly where k is r + h + 1 and that many takes are made. It is the law of lines (crate queue), since calls do to a port's line what deeds do.
--- Beside it: what is handed out is what the takes of the port answer (`handed-is-answered`, `answers-are-handed`, `takes-are-answers`,
--- `foretold-answer`); r is what stands before the copy in the queue (`stands-behind`); refused calls and other ports' traffic count nothing
+-- Beside it: what is handed out is what the takes of the port answer (`answers-are-handed`, `foretold-answer`); r is what stands before the copy in the queue (`stands-behind`); refused calls and other ports' traffic count nothing
 -- (`idle-counts-nothing`, `other-take-idle`, `refused-idle`); a call places at most one copy on a port (`taken-once`); and laws near to it are false
 -- (`all-mistaken`). Assumes nothing.
 use native.Mathlib.Omega.{arith}
@@ -29,7 +28,6 @@ use Rattle.queue.specs.Order.{Each, insertBy, Placed}
 use Rattle.queue.specs.Queue.{waiting, precedenceOf, fresh as freshQueue, putOf, takeOf}
 use Rattle.queue.specs.Waits.{Chosen, nobody, one, chosen, ordered, rankBy}
 use Rattle.queue.specs.Foretold.{Deed, enters, handsOut, entered, takesIn, howMany, out, left, AtTake, handed, standingBefore, Other, isOut, whileWaits as whileLine}
-use Rattle.queue.specs.declared.Entry.{Entry}
 use Rattle.queue.proofs.Each.{each-so, each-append}
 use Rattle.queue.proofs.Order.{insert-placed, insert-map}
 use Rattle.queue.proofs.Waits.{chosen-asked, ordered-enters}
@@ -64,6 +62,7 @@ use Rattle.history.specs.Calls.{
   Look,
   sets,
   hears,
+  echoes,
   takes,
   sweeps,
   looks,
@@ -71,12 +70,13 @@ use Rattle.history.specs.Calls.{
   operator,
   own,
 }
-use Rattle.history.specs.Outcome.{isRefusal, Answer, number, ended, entry, Out, nothing, from, ofTaking, outcome, next, runFrom, seatAfter, sumFrom}
+use Rattle.history.specs.Outcome.{isRefusal, number, entry, Out, nothing, from, ofTaking, outcome, next, runFrom, seatAfter, sumFrom}
 use Rattle.history.specs.Ledger.{one as oneIf, outBy, handedOut}
 use Rattle.history.specs.Line.{Copy, entryOf, takenBy, handedBy, leftBy, lineBy, lineFrom, takenFrom, handedFrom, lineAt, takenAt, takingOf, times, InTurn}
 use Rattle.history.specs.Foretold.{andThen, handedSince, takesSince, answeredBy, answeredFrom, answeredSince, before, Idle, isHanded, waitsFrom, higherEnter, CountsNothing, takenSince, whileWaits}
 use Rattle.history.proofs.Line.{queue-waits, taken-turn, taken-later, taken-in-turn, line-turns}
 use Rattle.survey.proofs.Bits.{in-none}
+use Rattle.history.proofs.Replying.{reply-took-none}
 use Rattle.history.proofs.Untaken.{took-none}
 use Rattle.history.proofs.Takes.{take-is}
 
@@ -228,6 +228,7 @@ module _ (p : ℕ) where
   placing-hands-nothing n seat (operator c) x is = absurd (omega (arith, ap length is))
   placing-hands-nothing n seat (own (sets s)) x is = refl
   placing-hands-nothing n seat (own (hears rs port slot second octets output)) x is = refl
+  placing-hands-nothing n seat (own (echoes rs port slot octets output)) x is = refl
   placing-hands-nothing n seat (own (takes port)) x is = absurd (omega (arith, ap length is))
   placing-hands-nothing n seat (own (sweeps second)) x is = refl
   placing-hands-nothing n seat (own (looks l)) x is = refl
@@ -301,30 +302,11 @@ module _ (p m : ℕ) where
   handed-answered cs (operator (views v)) = refl
   handed-answered cs (own (sets s)) = refl
   handed-answered cs (own (hears rs port slot second octets output)) = refl
+  handed-answered cs (own (echoes rs port slot octets output)) = refl
   handed-answered cs (own (takes q)) =
       rw (take-is m cs q) (handed-by-line cs q (portSetUp (relayIn (seatAfter m cs)) q) (eqb q p) refl (chosen rank (lineAt q m cs)) refl)
   handed-answered cs (own (sweeps second)) = refl
   handed-answered cs (own (looks l)) = refl
-
-  answer-of-take : (c : Call) (a : Answer) (e : Entry) → answeredBy p c a ≡ e ∷ [] → (c ≡ own (takes p)) × (a ≡ entry e)
-  answer-of-take (operator c) a e is = absurd (omega (arith, ap length is))
-  answer-of-take (own (sets s)) a e is = absurd (omega (arith, ap length is))
-  answer-of-take (own (hears rs port slot second octets output)) a e is = absurd (omega (arith, ap length is))
-  answer-of-take (own (takes q)) (number n) e is = absurd (omega (arith, ap length is))
-  answer-of-take (own (takes q)) (ended refusal local onward took) e is = absurd (omega (arith, ap length is))
-  answer-of-take (own (takes q)) (entry f) e is = by (eqb q p) refl is
-    where
-      by : (t : Bool) → eqb q p ≡ t → pick t (f ∷ []) [] ≡ e ∷ [] → (own (takes q) ≡ own (takes p)) × (entry f ≡ entry e)
-      by true same h = (ap (λ (k : ℕ). own (takes k)) (eqb-true q p same), let one : f ≡ e = cc in ap entry one)
-      by false same h = absurd (omega (arith, ap length h))
-  answer-of-take (own (sweeps second)) a e is = absurd (omega (arith, ap length is))
-  answer-of-take (own (looks l)) a e is = absurd (omega (arith, ap length is))
-
-  -- After any history, the call that hands a copy out by port p is a take of p, and answers the copy's entry.
-  pub handed-is-answered : (cs : List Call) (c : Call) (y : Copy)
-      → handedBy p (outcome (seatAfter m cs) c .out) (chosen rank (lineAt p m cs)) ≡ y ∷ []
-      → (c ≡ own (takes p)) × (outcome (seatAfter m cs) c .answer ≡ entry (y .entry))
-  handed-is-answered cs c y is = answer-of-take c _ (y .entry) (sym (handed-answered cs c) ∙ ap (map entryOf) is)
 
   -- The copies that are handed out after any history are, entry by entry, what the takes of the port answer.
   pub answers-are-handed : (ds cs : List Call) → map entryOf (handedSince p m cs ds) ≡ answeredSince p m cs ds
@@ -335,32 +317,6 @@ module _ (p m : ℕ) where
       rw (length-then cs d, seat-then cs (freshSeat m) d, line-at-then p m cs d) at (answers-are-handed ds (andThen cs d)) in
       map-append entryOf (handedBy p (outcome (seatAfter m cs) d .out) (chosen rank (lineAt p m cs))) _
       ∙ cc (handed-answered cs d, further)
-
-  -- Each take that hands out answers one entry.
-  answers-by-takes : (ds : List Call) (seat : Seat) → length (answeredFrom p seat ds) ≡ sumFrom (handedOut p) seat ds
-  answers-by-takes [] seat = refl
-  answers-by-takes (d ∷ ds) seat =
-      omega (arith, length-append (answeredBy p d (outcome seat d .answer)) (answeredFrom p (next seat d) ds), one-answer d, answers-by-takes ds (next seat d))
-    where
-      taking : (q : ℕ) (t : Taking) → length (answeredBy p (own (takes q)) (ofTaking q t .answer)) ≡ outBy p (ofTaking q t .out)
-      taking q (Handed e) = by (eqb q p)
-        where
-          by : (t : Bool) → length (pick t (e ∷ []) []) ≡ pick t 1 0
-          by true = refl
-          by false = refl
-      taking q (Refused n) = refl
-
-      one-answer : (c : Call) → length (answeredBy p c (outcome seat c .answer)) ≡ outBy p (outcome seat c .out)
-      one-answer (operator (orders o)) = refl
-      one-answer (operator (views v)) = refl
-      one-answer (own (sets s)) = refl
-      one-answer (own (hears rs port slot second octets output)) = refl
-      one-answer (own (takes q)) = taking q (takeOutcome (relayIn seat) q)
-      one-answer (own (sweeps second)) = refl
-      one-answer (own (looks l)) = refl
-
-  pub takes-are-answers : (cs ds : List Call) → length (answeredSince p m cs ds) ≡ takesSince p m cs ds
-  takes-are-answers cs ds = answers-by-takes ds (seatAfter m cs)
 
 -- ---- W-213
 
@@ -444,6 +400,11 @@ module _ (p m : ℕ) where
       → inSet p (outcome (seatAfter m cs) (own (hears rs port slot second octets output)) .took) ≡ false → Idle p m cs (own (hears rs port slot second octets output))
   not-taken-idle cs rs port slot second octets output not-in = (rw not-in refl, refl)
 
+  -- a reply that the port did not take,
+  pub not-replied-idle : (cs : List Call) (rs : List Record) (port : ℕ) (slot : Slot) (octets output : List ℕ)
+      → inSet p (outcome (seatAfter m cs) (own (echoes rs port slot octets output)) .took) ≡ false → Idle p m cs (own (echoes rs port slot octets output))
+  not-replied-idle cs rs port slot octets output not-in = (rw not-in refl, refl)
+
   -- a take of another port,
   pub other-take-idle : (cs : List Call) (q : ℕ) → (q ≡ p → ⊥) → Idle p m cs (own (takes q))
   other-take-idle cs q other = (refl, by (takeOutcome (relayIn (seatAfter m cs)) q))
@@ -458,6 +419,8 @@ module _ (p m : ℕ) where
   refused-idle cs (own (sets s)) refused = setting-idle cs s
   refused-idle cs (own (hears rs port slot second octets output)) refused =
       not-taken-idle cs rs port slot second octets output (ap (inSet p) (took-none (seatAfter m cs) rs port second octets (length output) refused) ∙ in-none p)
+  refused-idle cs (own (echoes rs port slot octets output)) refused =
+      not-replied-idle cs rs port slot octets output (ap (inSet p) (reply-took-none (seatAfter m cs) rs port octets (length output) refused) ∙ in-none p)
   refused-idle cs (own (takes q)) refused = (refl, by (takeOutcome (relayIn (seatAfter m cs)) q) refused)
     where
       by : (t : Taking) → isRefusal (ofTaking q t .answer) ≡ true → outBy p (ofTaking q t .out) ≡ 0

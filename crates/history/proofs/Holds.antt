@@ -11,14 +11,16 @@ use Rattle.records.specs.declared.Group.{Group}
 use Rattle.records.specs.declared.PathPlace.{PathPlace}
 use Rattle.records.specs.Fresh.{freshOwned, freshGroup, freshPath}
 use Rattle.state.specs.Relay.{Mission, Memory, Relay, putGroup, putPath}
-use Rattle.state.specs.Seen.{Board, putRouter, putOwned, putLifetime}
+use Rattle.state.specs.Seen.{Board, putRouter, putOwned, putLifetime, putDrop}
 use Rattle.adjust.specs.Settled.{newPort, newGroup, newPath}
-use Rattle.history.specs.Seat.{Seat, relayIn, heardBy}
+use Rattle.answering.specs.Echoed.{asEnding}
+use Rattle.history.specs.Seat.{Seat, relayIn, heardBy, repliedBy}
 use Rattle.history.specs.Calls.{
   Order,
   setRouter,
   setPort,
   setLifetime,
+  setDrop,
   setRoute,
   clearRoute,
   orders,
@@ -31,6 +33,7 @@ use Rattle.history.specs.Calls.{
   MissionCall,
   sets,
   hears,
+  echoes,
   takes,
   sweeps,
   looks,
@@ -46,6 +49,7 @@ use Rattle.history.specs.Parts.{
   theRouter,
   thePort,
   theLifetime,
+  theDrop,
   theGroup,
   thePath,
   Orders,
@@ -74,6 +78,7 @@ module _ (seat : Seat) where
   router-left x theRouter other = absurd (other refl)
   router-left x (thePort j) other = refl
   router-left x theLifetime other = refl
+  router-left x theDrop other = refl
   router-left x (theGroup j) other = refl
   router-left x (thePath j) other = refl
 
@@ -81,6 +86,7 @@ module _ (seat : Seat) where
   port-left i x theRouter other = refl
   port-left i x (thePort j) other = ap port (getD-set-other (seat .board .ports) i j x freshOwned (λ e. other (ap thePort (sym e))))
   port-left i x theLifetime other = refl
+  port-left i x theDrop other = refl
   port-left i x (theGroup j) other = refl
   port-left i x (thePath j) other = refl
 
@@ -88,13 +94,23 @@ module _ (seat : Seat) where
   lifetime-left x theRouter other = refl
   lifetime-left x (thePort j) other = refl
   lifetime-left x theLifetime other = absurd (other refl)
+  lifetime-left x theDrop other = refl
   lifetime-left x (theGroup j) other = refl
   lifetime-left x (thePath j) other = refl
+
+  drop-left : (x : ℕ) (part : Part) → (theDrop ≡ part → ⊥) → onBoard (putDrop (seat .board) x) part ≡ settingIn seat part
+  drop-left x theRouter other = refl
+  drop-left x (thePort j) other = refl
+  drop-left x theLifetime other = refl
+  drop-left x theDrop other = absurd (other refl)
+  drop-left x (theGroup j) other = refl
+  drop-left x (thePath j) other = refl
 
   group-left : (i : ℕ) (x : Group) (part : Part) → (theGroup i ≡ part → ⊥) → onOwn (putGroup (seat .mission) i x) part ≡ settingIn seat part
   group-left i x theRouter other = refl
   group-left i x (thePort j) other = refl
   group-left i x theLifetime other = refl
+  group-left i x theDrop other = refl
   group-left i x (theGroup j) other = ap group (getD-set-other (seat .mission .groups) i j x freshGroup (λ e. other (ap theGroup (sym e))))
   group-left i x (thePath j) other = refl
 
@@ -102,6 +118,7 @@ module _ (seat : Seat) where
   path-left i x theRouter other = refl
   path-left i x (thePort j) other = refl
   path-left i x theLifetime other = refl
+  path-left i x theDrop other = refl
   path-left i x (theGroup j) other = refl
   path-left i x (thePath j) other = ap path (getD-set-other (seat .mission .paths) i j x freshPath (λ e. other (ap thePath (sym e))))
 
@@ -110,6 +127,7 @@ module _ (seat : Seat) where
   settings-left m e theRouter = refl
   settings-left m e (thePort j) = refl
   settings-left m e theLifetime = refl
+  settings-left m e theDrop = refl
   settings-left m e (theGroup j) = ap (λ x. group (getD (x .0) j freshGroup)) e
   settings-left m e (thePath j) = ap (λ x. path (getD (x .1) j freshPath)) e
 
@@ -119,6 +137,7 @@ module _ (seat : Seat) where
   memory-apart m k theRouter = refl
   memory-apart m k (thePort j) = refl
   memory-apart m k theLifetime = refl
+  memory-apart m k theDrop = refl
   memory-apart m k (theGroup j) = refl
   memory-apart m k (thePath j) = refl
 
@@ -127,6 +146,7 @@ module _ (seat : Seat) where
   order-left (setRouter x) part other = router-left x part other
   order-left (setPort i address mask mtu mission) part other = port-left i (newPort address mask mtu mission) part other
   order-left (setLifetime x) part other = lifetime-left x part other
+  order-left (setDrop x) part other = drop-left x part other
   order-left (setRoute rs i prefix mask at availability capabilities mission) part other = refl
   order-left (clearRoute rs i) part other = refl
 
@@ -141,6 +161,8 @@ module _ (seat : Seat) where
       settle-keeps (λ (x : Relay). onOwn (x .mission) part ≡ settingIn seat part) (relayIn seat) s refl (λ z. written-left s part other)
   own-holds (hears rs at slot second octets output) part other =
       settings-left _ (received-settings (relayIn seat) slot (heardBy seat rs at second octets (length output))) part
+  own-holds (echoes rs at slot octets output) part other =
+      settings-left _ (received-settings (relayIn seat) slot (asEnding (repliedBy seat rs at octets (length output)))) part
   own-holds (takes at) part other = settings-left _ (taken-settings (relayIn seat) at) part
   own-holds (sweeps second) part other = refl
   own-holds (looks l) part other = refl

@@ -24,7 +24,8 @@ use Rattle.refusals.specs.Elsewhere.{otherGroup, otherPath, groupElsewhere, pat
 use Rattle.refusals.specs.Lists.{groupChecks, pathChecks}
 use Rattle.refusals.proofs.Chains.{decided}
 use Rattle.adjust.specs.Settled.{newGroup, newPath}
-use Rattle.history.specs.Seat.{Seat, freshSeat, relayIn, heardBy}
+use Rattle.answering.specs.Echoed.{asEnding}
+use Rattle.history.specs.Seat.{Seat, freshSeat, relayIn, heardBy, repliedBy}
 use Rattle.history.specs.Calls.{
   Setting,
   setGroup,
@@ -34,6 +35,7 @@ use Rattle.history.specs.Calls.{
   MissionCall,
   sets,
   hears,
+  echoes,
   takes,
   sweeps,
   looks,
@@ -157,6 +159,8 @@ module _ (seat : Seat) (k : Kept seat) (u : OwnUnique (seat .mission)) where
   own-unique (sets s) = settle-keeps (λ (x : Relay). OwnUnique (x .mission)) r s u (taken-unique s)
   own-unique (hears rs port slot second octets output) =
       by-settings _ _ u (received-settings r slot (heardBy seat rs port second octets (length output)))
+  own-unique (echoes rs port slot octets output) =
+      by-settings _ _ u (received-settings r slot (asEnding (repliedBy seat rs port octets (length output))))
   own-unique (takes port) = by-settings _ _ u (taken-settings r port)
   own-unique (sweeps second) = u
   own-unique (looks l) = u

@@ -25,12 +25,14 @@ use Rattle.taking.specs.declared.Taking.{Taking}
 use Rattle.taking.specs.declared.Taking.the-variants.{Handed, Refused}
 use Rattle.judge.specs.declared.Ending.{Ending}
 use Rattle.relay.specs.Received.{newEntry, receivedRelay}
-use Rattle.history.specs.Seat.{Seat, freshSeat, relayIn, heardBy}
-use Rattle.history.specs.Calls.{orders, views, sets, hears, takes, sweeps, looks, Call, operator, own, settle}
+use Rattle.answering.specs.Echoed.{asEnding}
+use Rattle.history.specs.Seat.{Seat, freshSeat, relayIn, heardBy, repliedBy}
+use Rattle.history.specs.Calls.{orders, views, sets, hears, echoes, takes, sweeps, looks, Call, operator, own, settle}
 use Rattle.history.specs.Outcome.{ofTaking, outcome, next, runFrom, seatAfter, sumFrom, sumOver}
 use Rattle.history.specs.Ledger.{one, granted, dropped, handedOut}
 use Rattle.survey.proofs.Bits.{in-none}
 use Rattle.history.proofs.Fair.{Fair, fair}
+use Rattle.history.proofs.Replying.{reply-fair}
 use Rattle.history.proofs.Queues.{Eight, eight-entered, entered-queue, put-count, take-count}
 use Rattle.history.proofs.Settled.{queues-of, settle-queues}
 
@@ -52,6 +54,7 @@ pub next-eight : (seat : Seat) (c : Call) → Eight (relayIn seat) → Eight (re
 next-eight seat (operator c) l = l
 next-eight seat (own (sets s)) l = ap length (settle-queues (relayIn seat) s) ∙ l
 next-eight seat (own (hears rs port slot second octets output)) l = received-eight (relayIn seat) slot (heardBy seat rs port second octets (length output)) l
+next-eight seat (own (echoes rs port slot octets output)) l = received-eight (relayIn seat) slot (asEnding (repliedBy seat rs port octets (length output))) l
 next-eight seat (own (takes port)) l = taken-eight (relayIn seat) port l
 next-eight seat (own (sweeps second)) l = l
 next-eight seat (own (looks x)) l = l
@@ -127,6 +130,8 @@ module _ (p : ℕ) (inside : p < 8) where
       (ap (λ (x : List Queue). getD x p freshQueue .count) (settle-queues (relayIn seat) s))
   one-call seat (own (hears rs port slot second octets output)) l =
       received-closes seat slot (heardBy seat rs port second octets (length output)) l (fair seat p inside rs port second octets (length output))
+  one-call seat (own (echoes rs port slot octets output)) l =
+      received-closes seat slot (asEnding (repliedBy seat rs port octets (length output))) l (reply-fair seat p inside rs port octets (length output))
   one-call seat (own (takes port)) l =
       let none = grants-none port (takeOutcome (relayIn seat) port) in
       omega (arith, taken-closes (relayIn seat) port l, none .0, none .1)

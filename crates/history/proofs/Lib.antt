@@ -2,7 +2,7 @@
 -- Ledger, Line, Takes and Foretold (the copies of a port: their ledger, which wait, which is handed out, and at which take), Domain and Meaning (what a copy
 -- names where it goes out), Ports (the board is the operator's, and a port is written once), Reach, Keys, Ranges and Holds (the settings), Search and
 -- SearchBack (the route that an address takes, and as C reads it), Answered and Listed (each answer is one that the page lists), Refusals, Untaken and Transport
--- (what a refusal leaves; the TP-ID alone), Floods (the pairs, the seconds, and that a pair is flooded on once), Marked, WrongRelays and Wrong (the marked
+-- (what a refusal leaves; the TP-ID alone), Replies (echo requests answered), Floods (the pairs, the seconds, and that a pair is flooded on once), Marked, WrongRelays and Wrong (the marked
 -- cases, and what is shut out). The others serve these.
 pub mod Settled
 pub mod Heard
@@ -17,6 +17,7 @@ pub mod Keys
 pub mod Holds
 pub mod Refusals
 pub mod Listed
+pub mod Replying
 pub mod Answered
 pub mod Small
 pub mod ReadBack
@@ -28,6 +29,7 @@ pub mod Foretold
 pub mod Ranges
 pub mod Meaning
 pub mod Domain
+pub mod Replies
 pub mod Search
 pub mod SearchBack
 pub mod Onward

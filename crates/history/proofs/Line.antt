@@ -31,11 +31,12 @@ use Rattle.state.specs.Seen.{freshMission}
 use Rattle.taking.specs.Taking.{handsOut, without, takeOutcome, takenRelay}
 use Rattle.taking.specs.declared.Taking.the-variants.{Refused}
 use Rattle.relay.specs.Received.{receivedRelay}
-use Rattle.history.specs.Seat.{Seat, freshSeat, relayIn, heardBy}
-use Rattle.history.specs.Calls.{orders, views, sets, hears, takes, sweeps, looks, Call, operator, own, settle}
+use Rattle.history.specs.Seat.{Seat, freshSeat, relayIn, heardBy, answeringBy, repliedBy}
+use Rattle.history.specs.Calls.{orders, views, sets, hears, echoes, takes, sweeps, looks, Call, operator, own, settle}
 use Rattle.history.specs.Outcome.{Out, nothing, from, ofTaking, outcome, next, runFrom, seatAfter}
-use Rattle.history.specs.Line.{Copy, entryOf, copyOf, takenBy, handedBy, leftBy, lineBy, lineFrom, takenFrom, handedFrom, lineAt, takenAt, handedAt, times, InTurn}
+use Rattle.history.specs.Line.{Copy, entryOf, copyOf, replyCopy, takenBy, handedBy, leftBy, lineBy, lineFrom, takenFrom, handedFrom, lineAt, takenAt, handedAt, times, InTurn}
 use Rattle.history.proofs.Fair.{fair}
+use Rattle.history.proofs.Replying.{reply-fair}
 use Rattle.history.proofs.Queues.{Eight, entered-queue}
 use Rattle.history.proofs.Settled.{queues-of, settle-queues}
 use Rattle.history.proofs.Ledger.{next-eight, fresh-eight}
@@ -60,7 +61,7 @@ module _ (p : ℕ) (inside : p < 8) where
   stays : (r s : Relay) (line : List Copy) → queueIn s p ≡ queueIn r p → Held r line → Held s (line ++ [])
   stays r s line same w = rw (same, append-nil line) w
 
-  -- ---- a datagram
+  -- ---- a datagram, and a reply
   put-case : (t : Bool) (r : Relay) (line : List Copy) (c : Copy) → Held r line → (t ≡ true → ltb (queueIn r p .count) 32 ≡ true)
       → Waits entryOf (pick t (putOf (queueIn r p) (entryOf c) .queue) (queueIn r p)) (line ++ pick t (c ∷ []) [])
   put-case true r line c w room =
@@ -77,6 +78,17 @@ module _ (p : ℕ) (inside : p < 8) where
       let c = copyOf p n seat port slot octets e in
       rw (entered-queue p inside (e .ruling .took) (entryOf c) 8 r l inside)
       (put-case (inSet p (e .ruling .took)) r line c w (fair seat p inside rs port second octets (length output) .room))
+
+  echoed-waits : (seat : Seat) (n : ℕ) (rs : List Record) (port : ℕ) (slot : Slot) (octets output : List ℕ) (line : List Copy)
+      → Eight (relayIn seat) → Held (relayIn seat) line
+      → Held (relayIn (next seat (own (echoes rs port slot octets output)))) (lineBy p n seat (own (echoes rs port slot octets output)) line)
+  unfolding receivedRelay
+  echoed-waits seat n rs port slot octets output line l w =
+      let r = relayIn seat in
+      let e = repliedBy seat rs port octets (length output) in
+      let c = replyCopy n seat port slot octets (answeringBy seat rs port octets (length output)) e in
+      rw (entered-queue p inside (e .ruling .took) (entryOf c) 8 r l inside)
+      (put-case (inSet p (e .ruling .took)) r line c w (reply-fair seat p inside rs port octets (length output) .room))
 
   -- ---- a take
   take-case : (r : Relay) (n port : ℕ) (line : List Copy) → Eight r → Held r line
@@ -115,6 +127,7 @@ module _ (p : ℕ) (inside : p < 8) where
   next-waits seat n (own (sets s)) line l w =
       stays (relayIn seat) (settle (relayIn seat) s) line (ap (λ (x : List Queue). getD x p freshQueue) (settle-queues (relayIn seat) s)) w
   next-waits seat n (own (hears rs port slot second octets output)) line l w = heard-waits seat n rs port slot second octets output line l w
+  next-waits seat n (own (echoes rs port slot octets output)) line l w = echoed-waits seat n rs port slot octets output line l w
   next-waits seat n (own (takes port)) line l w =
       rw (append-nil (leftBy p (ofTaking port (takeOutcome (relayIn seat) port) .out) line (chosen (rankBy entryOf) line)))
       (taken-waits (relayIn seat) n port line l w)
@@ -202,6 +215,8 @@ module _ (p : ℕ) where
   taken-turn n seat (own (sets s)) = tt
   taken-turn n seat (own (hears rs port slot second octets output)) =
       either (Each (λ (y : Copy). y .turn ≡ n)) (inSet p (heardBy seat rs port second octets (length output) .ruling .took)) (refl, tt) tt
+  taken-turn n seat (own (echoes rs port slot octets output)) =
+      either (Each (λ (y : Copy). y .turn ≡ n)) (inSet p (repliedBy seat rs port octets (length output) .ruling .took)) (refl, tt) tt
   taken-turn n seat (own (takes port)) = tt
   taken-turn n seat (own (sweeps second)) = tt
   taken-turn n seat (own (looks l)) = tt
@@ -211,6 +226,8 @@ module _ (p : ℕ) where
   by-in-turn n seat (own (sets s)) = tt
   by-in-turn n seat (own (hears rs port slot second octets output)) =
       either InTurn (inSet p (heardBy seat rs port second octets (length output) .ruling .took)) (tt, tt) tt
+  by-in-turn n seat (own (echoes rs port slot octets output)) =
+      either InTurn (inSet p (repliedBy seat rs port octets (length output) .ruling .took)) (tt, tt) tt
   by-in-turn n seat (own (takes port)) = tt
   by-in-turn n seat (own (sweeps second)) = tt
   by-in-turn n seat (own (looks l)) = tt
@@ -223,13 +240,6 @@ module _ (p : ℕ) where
       (each-so (takenBy p n seat c) (λ y same. omega arith) (taken-turn n seat c))
       (each-so (takenFrom p (suc n) (next seat c) cs) (λ y h. omega arith) (taken-later cs (suc n) (next seat c)))
 
-  taken-earlier : (cs : List Call) (n : ℕ) (seat : Seat) → Each (λ (y : Copy). y .turn < n + length cs) (takenFrom p n seat cs)
-  taken-earlier [] n seat = tt
-  taken-earlier (c ∷ cs) n seat =
-      each-append _ (takenBy p n seat c) _
-      (each-so (takenBy p n seat c) (λ y same. omega arith) (taken-turn n seat c))
-      (each-so (takenFrom p (suc n) (next seat c) cs) (λ y h. omega arith) (taken-earlier cs (suc n) (next seat c)))
-
   taken-from-in-turn : (cs : List Call) (n : ℕ) (seat : Seat) → InTurn (takenFrom p n seat cs)
   taken-from-in-turn [] n seat = tt
   taken-from-in-turn (c ∷ cs) n seat =
@@ -237,12 +247,9 @@ module _ (p : ℕ) where
       (by-in-turn n seat c) (each-so (takenBy p n seat c) (λ y same. omega arith) (taken-turn n seat c))
       (taken-from-in-turn cs (suc n) (next seat c)) (taken-later cs (suc n) (next seat c))
 
-  -- The copies taken stand in the order in which the calls placed them, and each has the number of a call of the history.
+  -- The copies taken stand in the order in which the calls placed them.
   pub taken-in-turn : (m : ℕ) (cs : List Call) → InTurn (takenAt p m cs)
   taken-in-turn m cs = taken-from-in-turn cs 0 (freshSeat m)
-
-  pub taken-turns : (m : ℕ) (cs : List Call) → Each (λ (c : Copy). c .turn < length cs) (takenAt p m cs)
-  taken-turns m cs = each-so (takenAt p m cs) (λ y h. omega arith) (taken-earlier cs 0 (freshSeat m))
 
   -- ---- those that wait: they have an earlier turn than the next call
   by-earlier : (n : ℕ) (seat : Seat) (c : Call) (line : List Copy) → Each (λ (y : Copy). y .turn < n) line

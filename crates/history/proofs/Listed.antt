@@ -57,7 +57,7 @@ use Rattle.judge.specs.declared.Ending.{Ending}
 use Rattle.taking.specs.declared.Taking.the-variants as taking
 use Rattle.routes.specs.declared.Record.{Record}
 use Rattle.state.specs.Seen.{Board}
-use Rattle.refusals.specs.Lists.{portChecks, routeChecks, clearRouteChecks, groupChecks, pathChecks, routerChecks, clearChecks}
+use Rattle.refusals.specs.Lists.{portChecks, routeChecks, clearRouteChecks, groupChecks, pathChecks, flagChecks, clearChecks}
 use Rattle.adjust.specs.Settled.{newRecord}
 use Rattle.history.specs.Seat.{Seat, relayIn, relayWith, heardBy}
 use Rattle.history.specs.Calls.{
@@ -65,6 +65,7 @@ use Rattle.history.specs.Calls.{
   setRouter,
   setPort,
   setLifetime,
+  setDrop,
   setRoute,
   clearRoute,
   Setting,
@@ -94,7 +95,7 @@ abbrev allListed : List ℕ → Checks → Bool
 allListed xs [] = true
 allListed xs (c ∷ cs) = listed xs (c .1) && allListed xs cs
 
-first-listed : (xs : List ℕ) (cs : Checks) → listed xs 0 ≡ true → allListed xs cs ≡ true → listed xs (firstOf cs) ≡ true
+pub first-listed : (xs : List ℕ) (cs : Checks) → listed xs 0 ≡ true → allListed xs cs ≡ true → listed xs (firstOf cs) ≡ true
 unfolding firstOf
 first-listed xs [] z h = z
 first-listed xs (c ∷ cs) z h =
@@ -400,10 +401,11 @@ pub number-row : (ns : List ℕ) (cs : Checks) → listed ns 0 ≡ true → allL
 number-row ns cs z h = rw (first-listed ns cs z h) refl
 
 pub order-listed : (b : Board) (o : Order) → stands (numbers (orderNumbers o) ∷ []) (number (firstOf (orderChecks b o))) ≡ true
-order-listed b (setRouter x) = number-row (0 ∷ 24 ∷ []) (routerChecks x) refl refl
+order-listed b (setRouter x) = number-row (0 ∷ 24 ∷ []) (flagChecks x) refl refl
 order-listed b (setPort p address mask mtu mission) =
     number-row (0 ∷ 21 ∷ 25 ∷ 22 ∷ 24 ∷ 35 ∷ []) (portChecks b p address mask mtu mission) refl refl
 order-listed b (setLifetime x) = number-row (0 ∷ []) [] refl refl
+order-listed b (setDrop x) = number-row (0 ∷ 24 ∷ []) (flagChecks x) refl refl
 order-listed b (setRoute rs i prefix mask port availability capabilities mission) =
     number-row (0 ∷ 21 ∷ 22 ∷ 24 ∷ 23 ∷ []) (routeChecks b rs i (newRecord prefix mask port availability capabilities mission)) refl refl
 order-listed b (clearRoute rs i) = number-row (0 ∷ 21 ∷ []) (clearRouteChecks rs i) refl refl

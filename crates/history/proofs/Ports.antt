@@ -21,6 +21,7 @@ use Rattle.history.specs.Calls.{
   setRouter,
   setPort,
   setLifetime,
+  setDrop,
   setRoute,
   clearRoute,
   orders,
@@ -49,6 +50,7 @@ module _ (b : Board) (q : ℕ) (up : isSetUp (ownedAt b q .port) ≡ true) where
   order-stays (setRouter x) = order-keeps Stays b (setRouter x) refl (λ taken. refl)
   order-stays (setPort p a m u n) = once b p a m u n q up
   order-stays (setLifetime x) = order-keeps Stays b (setLifetime x) refl (λ taken. refl)
+  order-stays (setDrop x) = order-keeps Stays b (setDrop x) refl (λ taken. refl)
   order-stays (setRoute rs i prefix mask port availability capabilities n) =
       order-keeps Stays b (setRoute rs i prefix mask port availability capabilities n) refl (λ taken. refl)
   order-stays (clearRoute rs i) = order-keeps Stays b (clearRoute rs i) refl (λ taken. refl)

@@ -7,7 +7,7 @@ use mathlib.Core.Path.{_≡_, refl, sym, ap, _∙_}
 use mathlib.Core.Bool.{Bool, true, false}
 use mathlib.Core.List.{List, [], _∷_}
 use lib.Dec.{eqb}
-use lib.ListN.{length, getD, set, replicate}
+use lib.ListN.{length, getD, set, drop, replicate}
 use native.Mathlib.Nat.{div-eq-of-lt, lt-of-lt-of-le, lt-of-not-le}
 use native.Mathlib.Decide.{decLe}
 use mathlib.Core.Logic.{by-cases}
@@ -17,14 +17,17 @@ use Rattle.checks.specs.Order.{pick, firstOf}
 use Rattle.checks.proofs.Bools.{true-false, refuted, and-true, not-false}
 use Rattle.checks.proofs.Laws.{either}
 use Rattle.sets.specs.Sets.{inSet}
+use Rattle.header.specs.Build.{headerOctets}
 use Rattle.header.specs.Range.{qosFits}
-use Rattle.header.specs.Read.{readOf}
+use Rattle.header.specs.Read.{headerOf, readOf}
 use Rattle.header.specs.declared.Header.{Header}
 use Rattle.header.specs.declared.Qos.{Qos}
 use Rattle.header.specs.declared.Qos.the-variants as qos
 use Rattle.header.specs.declared.Read.{Read}
 use Rattle.header.specs.declared.Read.the-variants as read
 use Rattle.header.proofs.Answers.{read-in-range}
+use Rattle.header.proofs.BuiltLaws.{append-small, header-small}
+use Rattle.echo.specs.Message.{messageOctets}
 use Rattle.meaning.specs.Arrival.{arrivalChecks}
 use Rattle.meaning.specs.Asked.{precedenceAsked}
 use Rattle.settings.proofs.Values.{flag-taken}
@@ -51,12 +54,17 @@ use Rattle.floods.specs.Sweep.{isOld, isPast, swept, sweepChecks, sweptMemory}
 use Rattle.floods.proofs.Swept.{place-swept}
 use Rattle.judge.specs.Ending.{refusedBy, callChecks, ruledEnding, headerEnding, octetsEnding, arrivalAt, endingOf}
 use Rattle.judge.specs.declared.Ending.{Ending}
-use Rattle.history.specs.Seat.{Seat, freshSeat, relayIn, relayWith, heardBy}
+use Rattle.replies.specs.Replied.{echoedOf, messageSize, ownReply}
+use Rattle.replies.specs.declared.Answering.{Answering}
+use Rattle.replies.proofs.ReadBack.{message-small, take-small, drop-small}
+use Rattle.answering.specs.Echoed.{asEnding}
+use Rattle.history.specs.Seat.{Seat, freshSeat, relayIn, relayWith, heardBy, answeringBy, repliedBy}
 use Rattle.history.specs.Calls.{
   Order,
   setRouter,
   setPort,
   setLifetime,
+  setDrop,
   setRoute,
   clearRoute,
   orders,
@@ -69,6 +77,7 @@ use Rattle.history.specs.Calls.{
   MissionCall,
   sets,
   hears,
+  echoes,
   takes,
   sweeps,
   looks,
@@ -81,7 +90,7 @@ use Rattle.history.specs.Calls.{
   written,
 }
 use Rattle.history.specs.Outcome.{Out, nothing, from, nextMission, outcome, next, runFrom, seatAfter}
-use Rattle.history.specs.Line.{Copy, entryOf, copyOf, takenBy, leftBy, lineBy, lineFrom, lineAt, takingOf}
+use Rattle.history.specs.Line.{Copy, entryOf, copyOf, replyCopy, takenBy, leftBy, lineBy, lineFrom, lineAt, takingOf}
 use Rattle.history.specs.Ranges.{Flag, InRange, Octets, OrderPassed, Passed, EntryFits, CopyFits}
 use Rattle.history.proofs.Settled.{order-keeps, settle-keeps}
 use Rattle.history.proofs.Heard.{heard-so, hearing-so}
@@ -89,10 +98,12 @@ use Rattle.history.proofs.Remembered.{remembering-so, memory-so}
 use Rattle.history.proofs.Ports.{set-up-stays}
 use Rattle.history.proofs.Reach.{settingsOf, received-settings, taken-settings}
 use Rattle.history.proofs.Small.{sets-small}
+use Rattle.history.proofs.Replying.{reply-precedence-so, reply-small, reply-set-up}
 use Rattle.history.proofs.Line.{line-each, queue-waits}
 use Rattle.history.proofs.Takes.{take-is}
 use Rattle.page.specs.Table.{hasRoom}
 use Rattle.survey.proofs.Bits.{in-none}
+use Rattle.page.proofs.Answered.{made-tells}
 use Rattle.page.proofs.Exactly.{took-exactly}
 use Rattle.page.proofs.Sought.{granted-set-up}
 
@@ -113,19 +124,24 @@ module _ {A : Type 0} (d : A) where
 -- ---- the flags of the board
 pub record BoardFlags (b : Board) : Type 0 where
   pub router : Flag (b .router)
+  pub drop : Flag (b .drop)
   pub ports : (p : ℕ) → Flag (ownedAt b p .port .ready) × Flag (ownedAt b p .mission)
 
 order-flags : (b : Board) → BoardFlags b → (o : Order) → firstOf (orderChecks b o) ≡ 0 → BoardFlags (boardWritten b o)
-order-flags b f (setRouter x) taken = record { router = flag-taken x .0 (decided (orderChecks b (setRouter x)) refl .0 .0 taken .0); ports = f .ports }
+order-flags b f (setRouter x) taken =
+    record { router = flag-taken x .0 (decided (orderChecks b (setRouter x)) refl .0 .0 taken .0); drop = f .drop; ports = f .ports }
 order-flags b f (setPort p address mask mtu mission) taken =
     let mine = not-false (isMission mission) (decided (portChecks b p address mask mtu mission) refl .0 .0 taken .1 .1 .1 .1 .0) in
     record {
       router = f .router;
+      drop = f .drop;
       ports =
           every-place freshOwned (λ (j : ℕ) (x : OwnedPort). Flag (x .port .ready) × Flag (x .mission)) (b .ports) p (newPort address mask mtu mission)
           (omega arith, ltb-true mission 2 mine) (f .ports);
     }
-order-flags b f (setLifetime x) taken = record { router = f .router; ports = f .ports }
+order-flags b f (setLifetime x) taken = record { router = f .router; drop = f .drop; ports = f .ports }
+order-flags b f (setDrop x) taken =
+    record { router = f .router; drop = flag-taken x .0 (decided (orderChecks b (setDrop x)) refl .0 .0 taken .0); ports = f .ports }
 order-flags b f (setRoute rs i prefix mask port availability capabilities mission) taken = f
 order-flags b f (clearRoute rs i) taken = f
 
@@ -170,6 +186,8 @@ own-flags : (seat : Seat) (c : MissionCall) → OwnFlags (seat .mission) → Own
 own-flags seat (sets s) f = settle-keeps (λ (x : Relay). OwnFlags (x .mission)) (relayIn seat) s f (written-flags (relayIn seat) f s)
 own-flags seat (hears rs port slot second octets output) f =
     same-flags (seat .mission) f _ (received-settings (relayIn seat) slot (heardBy seat rs port second octets (length output)))
+own-flags seat (echoes rs port slot octets output) f =
+    same-flags (seat .mission) f _ (received-settings (relayIn seat) slot (asEnding (repliedBy seat rs port octets (length output))))
 own-flags seat (takes port) f = same-flags (seat .mission) f _ (taken-settings (relayIn seat) port)
 own-flags seat (sweeps second) f = f
 own-flags seat (looks l) f = f
@@ -192,6 +210,7 @@ unfolding freshBoard
 fresh-board =
     record {
       router = omega arith;
+      drop = omega arith;
       ports = all-fresh freshOwned (λ (x : OwnedPort). Flag (x .port .ready) × Flag (x .mission)) (omega arith, omega arith) 8;
     }
 
@@ -291,6 +310,17 @@ module _ (seat : Seat) (rs : List Record) (p port second : ℕ) (octets : List �
       heard-so seat rs port second octets room (λ (e : Ending). inSet p (e .ruling .took) ≡ true → portSetUp (relayIn seat) p ≡ true)
       (λ z. true-false (sym z ∙ in-none p)) (page-up (lt-of-not-le h)) took)
 
+module _ (seat : Seat) (rs : List Record) (p port : ℕ) (octets : List ℕ) (room : ℕ) where
+  no-reply-beyond : 8 ≤ p → inSet p (repliedBy seat rs port octets room .ruling .took) ≡ false
+  no-reply-beyond h =
+      ap (λ (n : ℕ). eqb (n % 2) 1) (div-eq-of-lt (lt-of-lt-of-le (reply-small seat rs port octets room .took) (pow-mono {i = 8} {j = p} h)))
+
+  reply-up : inSet p (repliedBy seat rs port octets room .ruling .took) ≡ true → portSetUp (relayIn seat) p ≡ true
+  reply-up took =
+      by-cases (decLe 8 p)
+      (λ h. true-false (sym took ∙ no-reply-beyond h))
+      (λ h. reply-set-up seat rs port octets room p (lt-of-not-le h) took)
+
 -- ---- nothing waits on a port that is not set up, or not the mission's
 module _ (p : ℕ) where
   abbrev pub NoneWaits : Seat → List Copy → Type 0
@@ -303,6 +333,10 @@ module _ (p : ℕ) where
       let e = heardBy seat rs port second octets (length output) in
       ap (λ (t : Bool). pick t (copyOf p n seat port slot octets e ∷ []) [])
       (refuted (inSet p (e .ruling .took)) (λ t. true-false (sym (ending-up seat rs p port second octets (length output) t) ∙ h)))
+  enters-none seat n (own (echoes rs port slot octets output)) h =
+      let e = repliedBy seat rs port octets (length output) in
+      ap (λ (t : Bool). pick t (replyCopy n seat port slot octets (answeringBy seat rs port octets (length output)) e ∷ []) [])
+      (refuted (inSet p (e .ruling .took)) (λ t. true-false (sym (reply-up seat rs p port octets (length output) t) ∙ h)))
   enters-none seat n (own (takes port)) h = refl
   enters-none seat n (own (sweeps second)) h = refl
   enters-none seat n (own (looks l)) h = refl
@@ -338,7 +372,7 @@ in-range m cs =
     let o = all-own cs (freshSeat m) fresh-own in
     let k = all-memory cs (freshSeat m) fresh-memory in
     record {
-      flags = record { router = b .router; ports = b .ports; groups = o .groups; paths = o .paths };
+      flags = record { router = b .router; drop = b .drop; ports = b .ports; groups = o .groups; paths = o .paths };
       queues = λ p inside. queue-waits p inside m cs .sound .bounded .fits;
       idle = λ p inside h. waits-count entryOf (queue-waits p inside m cs) ∙ ap length (idle-line p m cs h);
       formats = k .formats;
@@ -356,6 +390,20 @@ ending-fits seat rs port second octets room small =
     (ending-so (λ (e : Ending). e .precedence < 16) (λ n. omega arith) (relayWith seat rs) port second octets
     (λ h is. asked-fits (h .fields .qos) (read-in-range octets h small is .qos)) room)
 
+-- a reply has the request's precedence
+reply-precedence : (seat : Seat) (rs : List Record) (port : ℕ) (octets : List ℕ) (room : ℕ) → Octets octets → repliedBy seat rs port octets room .precedence < 16
+reply-precedence seat rs port octets room small =
+    reply-precedence-so seat rs port octets room (λ (n : ℕ). n < 16) (omega arith)
+    (λ made.
+    let told = made-tells (relayWith seat rs) (seat .number) (seat .board .drop) port octets room made in
+    rw (told .1 .precedence) (asked-fits (headerOf octets .fields .qos) (read-in-range octets (headerOf octets) small (told .0 .reads) .qos)))
+
+-- what it is made as are octets
+own-octets : (a : Answering) (octets : List ℕ) → Octets octets → Octets (ownReply a octets)
+own-octets a octets small =
+    append-small (headerOctets (a .fields) (messageSize a)) (messageOctets (a .message) (echoedOf a octets)) (header-small (a .fields) (messageSize a))
+    (message-small (a .message) (echoedOf a octets) (take-small (a .count) (drop (a .from) octets) (drop-small (a .from) octets small)))
+
 module _ (p : ℕ) where
   enters-fits : (seat : Seat) (n : ℕ) (c : Call) → Passed c → Each CopyFits (takenBy p n seat c)
   enters-fits seat n (operator c) passed = tt
@@ -363,6 +411,11 @@ module _ (p : ℕ) where
   enters-fits seat n (own (hears rs port slot second octets output)) passed =
       let e = heardBy seat rs port second octets (length output) in
       either (Each CopyFits) (inSet p (e .ruling .took)) (((ending-fits seat rs port second octets (length output) (passed .1 .0), passed .0), passed .1 .0), tt) tt
+  enters-fits seat n (own (echoes rs port slot octets output)) passed =
+      let e = repliedBy seat rs port octets (length output) in
+      let a = answeringBy seat rs port octets (length output) in
+      either (Each CopyFits) (inSet p (e .ruling .took))
+      (((reply-precedence seat rs port octets (length output) (passed .1), passed .0), own-octets a octets (passed .1)), tt) tt
   enters-fits seat n (own (takes port)) passed = tt
   enters-fits seat n (own (sweeps second)) passed = tt
   enters-fits seat n (own (looks l)) passed = tt
@@ -398,6 +451,7 @@ module _ (seat : Seat) where
   next-last (own (hears rs port slot second octets output)) passed h =
       hearing-so seat rs port second octets (λ e k. k .last < 2 ^ 32) (λ n un. h) (λ now n some heard. passed .1 .1)
       (λ now g is good. remembering-so (λ (k : Memory). k .last < 2 ^ 32) (seat .memory) second (passed .1 .1) _ _ (λ place new. passed .1 .1)) (length output)
+  next-last (own (echoes rs port slot octets output)) passed h = h
   next-last (own (takes port)) passed h = h
   next-last (own (sweeps second)) passed h = either (λ (k : Memory). k .last < 2 ^ 32) (eqb (firstOf (sweepChecks (seat .memory) second)) 0) passed h
   next-last (own (looks l)) passed h = h
@@ -409,6 +463,7 @@ module _ (seat : Seat) where
       by (setRouter x) p = h
       by (setPort q address mask mtu mission) p = h
       by (setLifetime x) p = p
+      by (setDrop x) p = h
       by (setRoute rs i prefix mask port availability capabilities mission) p = h
       by (clearRoute rs i) p = h
   next-lifetime (operator (views v)) passed h = h

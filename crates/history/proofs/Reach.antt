@@ -41,14 +41,16 @@ use Rattle.taking.specs.Taking.{without, takenRelay}
 use Rattle.judge.specs.declared.Ending.{Ending}
 use Rattle.relay.specs.Outgoing.{enteredIf, enteredAll}
 use Rattle.relay.specs.Received.{newEntry, receivedRelay}
+use Rattle.answering.specs.Echoed.{asEnding}
 use Rattle.routes.specs.Routes.{isFilled}
 use Rattle.routes.specs.declared.Record.{Record}
-use Rattle.history.specs.Seat.{Seat, freshSeat, relayIn, relayWith, heardBy}
+use Rattle.history.specs.Seat.{Seat, freshSeat, relayIn, relayWith, heardBy, repliedBy}
 use Rattle.history.specs.Calls.{
   Order,
   setRouter,
   setPort,
   setLifetime,
+  setDrop,
   setRoute,
   clearRoute,
   orders,
@@ -61,6 +63,7 @@ use Rattle.history.specs.Calls.{
   MissionCall,
   sets,
   hears,
+  echoes,
   takes,
   sweeps,
   looks,
@@ -151,6 +154,7 @@ written-board : (b : Board) → BoardKept b → (o : Order) → firstOf (orderCh
 written-board b k (setRouter x) z = record { eight = k .eight; good = k .good }
 written-board b k (setPort p a m u n) z = port-kept b k p a m u n z
 written-board b k (setLifetime x) z = record { eight = k .eight; good = k .good }
+written-board b k (setDrop x) z = record { eight = k .eight; good = k .good }
 written-board b k (setRoute rs i prefix mask port availability capabilities n) z = k
 written-board b k (clearRoute rs i) z = k
 
@@ -253,6 +257,8 @@ next-own seat (sets s) k =
     settle-keeps (λ (x : Relay). OwnKept (readySet (relayIn seat)) (x .mission)) (relayIn seat) s k (written-own (relayIn seat) k s)
 next-own seat (hears rs port slot second octets output) k =
     by-settings _ _ _ k (received-settings (relayIn seat) slot (heardBy seat rs port second octets (length output)))
+next-own seat (echoes rs port slot octets output) k =
+    by-settings _ _ _ k (received-settings (relayIn seat) slot (asEnding (repliedBy seat rs port octets (length output))))
 next-own seat (takes port) k = by-settings _ _ _ k (taken-settings (relayIn seat) port)
 next-own seat (sweeps second) k = k
 next-own seat (looks l) k = k

@@ -32,7 +32,7 @@ use Rattle.answers.specs.Answers.{rulingParts, headerParts, partAt, receiveNumb
 use Rattle.answers.proofs.Digits.{eight}
 use Rattle.page.proofs.Small.{aim-small}
 use Rattle.history.specs.Seat.{Seat, relayWith, heardBy}
-use Rattle.history.specs.Answers.{Row, numbers, below, endings, entries, endingRows, listed, suits, stands}
+use Rattle.history.specs.Answers.{Row, numbers, below, endings, replies, entries, endingRows, listed, suits, stands}
 use Rattle.history.specs.Outcome.{ended}
 use Rattle.history.proofs.Heard.{heard-so}
 use Rattle.history.proofs.Refusals.{heard-has-nothing}
@@ -72,6 +72,7 @@ abbrev lowRow : Row → Bool
 lowRow (numbers ns) = true
 lowRow (below k) = true
 lowRow (endings refusals locals onwards sent) = allLow refusals && (allLow locals && allLow onwards)
+lowRow (replies refusals onwards sent) = true
 lowRow entries = true
 
 abbrev lowRows : List Row → Bool
@@ -92,6 +93,7 @@ module _ (refusal local onward took : ℕ) where
       let at = and-true (listed locals local) _ (is .1) in
       let on = and-true (listed onwards onward) _ (at .1) in
       (listed-low refusals refusal (low .0) (is .0), (listed-low locals local (lows .0) (at .0), listed-low onwards onward (lows .1) (on .0)))
+  row-low (replies refusals onwards sent) h k = true-false cc
   row-low entries h k = true-false cc
 
   rows-low : (rows : List Row) → lowRows rows ≡ true → stands rows (ended refusal local onward took) ≡ true → Low

@@ -25,7 +25,7 @@ use Rattle.floods.specs.Memory.{isHeld, soughtPair, unlessHere, floodOf, rememb
 use Rattle.floods.specs.Sweep.{isPast, swept, sweptMemory}
 use Rattle.floods.proofs.Sought.{sought-new}
 use Rattle.history.specs.Seat.{Seat}
-use Rattle.history.specs.Calls.{sets, hears, takes, sweeps, looks, Call, operator, own}
+use Rattle.history.specs.Calls.{sets, hears, echoes, takes, sweeps, looks, Call, operator, own}
 use Rattle.history.specs.Outcome.{next}
 use Rattle.history.proofs.Heard.{hearing-so}
 
@@ -113,6 +113,7 @@ module _ (P : Memory → Type 0) (seat : Seat) (same : P (seat .memory))
       (λ now h is good.
       remembering-so P (seat .memory) second (accepted second now) _ _ (λ place new. kept second place _ now (flood-keeping (seat .memory) _ (h .fields) (good .1 .1 .1 .1 .0) place _ _ new)))
       (length output)
+  memory-so (own (echoes rs port slot octets output)) = same
   memory-so (own (takes port)) = same
   memory-so (own (sweeps second)) = sweep-so second
   memory-so (own (looks l)) = same

@@ -1,19 +1,18 @@
 -- What C reads of the answer of hj_search: page 02, W-202 ("the place number and its count of mask ones as well, and for no match a plain no"). The theorem
 -- is `search-names-the-longest`: whatever board and list are lent, a list over 512 records aside, the answer is 0 exactly where no route that the mission sees
--- and that is up matches, and else names the one with most ones; of no other number is that so (`one-answer-only`). Beside it: of any relay, found is 0
+-- and that is up matches, and else names the one with most ones. Beside it: of any relay, found is 0
 -- exactly where the search says no; of what a mission sees nothing is cut, since the parts are the place, the ones and the port of the entry taken. Assumes
 -- nothing.
 use native.Mathlib.Omega.{arith}
-use native.Mathlib.Nat.{div-eq-of-lt, mod-eq-of-lt, le-antisymm, div-div-eq-div-mul}
-use Prim.Native.Nat.{ℕ, _+_, _*_, _/_, _%_, _^_, _≤_, _<_}
+use native.Mathlib.Nat.{div-eq-of-lt, mod-eq-of-lt}
+use Prim.Native.Nat.{ℕ, _+_, _*_, _%_, _^_, _≤_, _<_}
 use mathlib.Core.Path.{_≡_, refl, sym, ap, subst, _∙_}
 use mathlib.Core.Logic.{_↔_}
-use mathlib.Core.Bool.{Bool, true, false}
+use mathlib.Core.Bool.{true, false}
 use mathlib.Core.List.{List}
 use lib.Bits.{bitAnd, and-zero-r}
-use lib.Dec.{eqb}
 use lib.ListN.{length}
-use borrow.Author.Tests.{eqb-true, eqb-false, ltb-true, ltb-false}
+use borrow.Author.Tests.{ltb-true, ltb-false}
 use Rattle.checks.proofs.Bools.{true-false, and-true}
 use Rattle.address.specs.Mask.{onesOf}
 use Rattle.address.proofs.Ones.{ones-at-most}
@@ -182,33 +181,3 @@ module _ (seat : Seat) (rs : List Record) (short : tooLong rs ≡ false) (a : Ad
 
       told : (searchAnswer sees a ≡ 0 → ⊥) → Told (searchAnswer sees a)
       told = by-answer (searchOf a routes) refl
-
--- ---- one number alone says that of a relay and an address
--- a number that names an entry by its own parts is those parts put together
-told-whole : (n : ℕ) → Told n → n ≡ 2 ^ 8 + foundPlace n * 2 ^ 16 + foundOnes n * 2 ^ 32 + foundPort n * 2 ^ 40
-told-whole n t =
-    let after-refusal : n ≡ n / 2 ^ 8 * 2 ^ 8 = omega (arith, t .refusal) in
-    let after-found : n / 2 ^ 8 ≡ n / 2 ^ 16 * 2 ^ 8 + 1 = omega (arith, t .found, div-div-eq-div-mul n (2 ^ 8) (2 ^ 8)) in
-    let after-place : n / 2 ^ 16 ≡ n / 2 ^ 32 * 2 ^ 16 + foundPlace n = omega (arith, div-div-eq-div-mul n (2 ^ 16) (2 ^ 16)) in
-    let after-ones : n / 2 ^ 32 ≡ n / 2 ^ 40 * 2 ^ 8 + foundOnes n = omega (arith, div-div-eq-div-mul n (2 ^ 32) (2 ^ 8)) in
-    let after-port : n / 2 ^ 40 ≡ foundPort n = omega (arith, t .above, div-div-eq-div-mul n (2 ^ 40) (2 ^ 8)) in
-    omega (arith, after-refusal, after-found, after-place, after-ones, after-port)
-
-module _ (r : Relay) (a : Address) (m n : ℕ) (x : LongestOrNo r a m) (y : LongestOrNo r a n) where
-  both-named : (m ≡ 0 → ⊥) → (n ≡ 0 → ⊥) → m ≡ n
-  both-named some other =
-      let mine = x .longest some in
-      let its = y .longest other in
-      let ones : foundOnes m ≡ foundOnes n =
-      le-antisymm (rw (mine .ones) (its .most (foundPlace m) (mine .matches))) (rw (its .ones) (mine .most (foundPlace n) (its .matches))) in
-      let place : foundPlace m ≡ foundPlace n = its .only (foundPlace m) (mine .matches) (sym (mine .ones) ∙ ones) in
-      let port : foundPort m ≡ foundPort n = mine .port ∙ ap (λ (q : ℕ). routeIn r q .port) place ∙ sym (its .port) in
-      omega (arith, told-whole m (x .named some), told-whole n (y .named other), place, ones, port)
-
-  -- So the theorem leaves no choice of an answer.
-  pub one-answer-only : m ≡ n
-  one-answer-only = by (eqb m 0) refl
-    where
-      by : (t : Bool) → eqb m 0 ≡ t → m ≡ n
-      by true e = let none = eqb-true m 0 e in none ∙ sym (y .no .1 (x .no .0 none))
-      by false e = let some = eqb-false m 0 e in both-named some (λ none. some (x .no .1 (y .no .0 none)))

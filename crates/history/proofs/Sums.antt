@@ -24,10 +24,10 @@ use Rattle.taking.specs.Taking.{takeOutcome}
 use Rattle.taking.specs.declared.Taking.{Taking}
 use Rattle.taking.specs.declared.Taking.the-variants.{Handed, Refused}
 use Rattle.tally.specs.declared.Counter.the-variants.{At, Nothing}
-use Rattle.tally.specs.Tally.{Move, receiptCounter, counterFor, localCounter, onwardCounter, discardCounter, movesOf}
-use Rattle.history.specs.Seat.{Seat, freshSeat, relayIn, heardBy}
-use Rattle.history.specs.Calls.{orders, views, sets, hears, takes, sweeps, looks, Call, operator, own}
-use Rattle.history.specs.Outcome.{ended, Outcome, ofEnding, ofTaking, outcome, next, sumFrom, sumOver}
+use Rattle.tally.specs.Tally.{Move, receiptCounter, counterFor, localCounter, onwardCounter, discardCounter, movesOf, madeCounter, unsentCounter, replyMoves}
+use Rattle.history.specs.Seat.{Seat, freshSeat, relayIn, heardBy, repliedBy}
+use Rattle.history.specs.Calls.{orders, views, sets, hears, echoes, takes, sweeps, looks, Call, operator, own}
+use Rattle.history.specs.Outcome.{ended, replied, Outcome, ofEnding, ofReply, ofTaking, outcome, next, sumFrom, sumOver}
 use Rattle.history.specs.Answers.{endingRows, listed, stands}
 use Rattle.history.specs.Tally.{sumAt, stateAfter}
 use Rattle.history.specs.Ledger.{one}
@@ -35,8 +35,9 @@ use Rattle.history.specs.Sums.{portsIn, counted, givenBy}
 use Rattle.history.proofs.Counters.{counters}
 use Rattle.history.proofs.Listed.{endNumbers, end-listed, each-obstacle, every-ending-is-listed}
 use Rattle.history.proofs.Small.{sets-small}
+use Rattle.history.proofs.Replying.{reply-small, reply-onward}
 
--- ---- seventeen numbers, one for each counter
+-- ---- eighteen numbers, one for each counter
 abbrev tabled : ℕ → (ℕ → ℕ) → List ℕ
 tabled zero f = []
 tabled (suc n) f = f 0 ∷ tabled n (λ i. f (suc i))
@@ -46,9 +47,9 @@ tabled-at zero f i h = absurd (omega arith)
 tabled-at (suc n) f zero h = refl
 tabled-at (suc n) f (suc i) h = tabled-at n (λ j. f (suc j)) i (omega arith)
 
--- what moves give the seventeen
+-- what moves give the eighteen
 abbrev given : List Move → List ℕ
-given moves = tabled 17 (sumAt moves)
+given moves = tabled 18 (sumAt moves)
 
 -- ---- what is written of each part of an ending: of a half and of the copies with 16, which counts nothing
 abbrev ofRefusal : ℕ → List ℕ
@@ -68,7 +69,7 @@ together n local onward took copies i =
     getD (ofRefusal n) i 0 + (getD (ofLocal local) i 0 + (getD (ofOnward onward took) i 0 + getD (ofDropped copies) i 0))
 
 -- the parts give to different counters
-parts : (n local onward took copies : ℕ) → tabled 17 (together n local onward took copies) ≡ counted (ended n local onward took) copies
+parts : (n local onward took copies : ℕ) → tabled 18 (together n local onward took copies) ≡ counted (ended n local onward took) copies
 parts n local onward took copies = simp (add-zero, zero-add)
 
 -- ---- the refusal is one of the page's numbers
@@ -164,15 +165,37 @@ discard-part : (set : ℕ) → set < 256 → given ((discardCounter set, onesOf 
 discard-part set small =
     rw (ones-eight set small) (discard-case (eqb set 0) (portsIn 8 set) (λ z. ap (portsIn 8) (eqb-true set 0 z)))
 
+-- ---- a reply
+abbrev ofMade : ℕ → List ℕ
+ofMade onward = counted (replied 0 onward 0) 0
+
+reply-parts : (n onward took copies : ℕ) → tabled 18 (λ (k : ℕ). getD (ofMade onward) k 0 + getD (ofDropped copies) k 0) ≡ counted (replied n onward took) copies
+reply-parts n onward took copies = simp (add-zero, zero-add)
+
+reply-part : (x : Onward) → listed (0 ∷ 1 ∷ 11 ∷ 14 ∷ 15 ∷ []) (onwardNumber x) ≡ true
+    → given ((madeCounter x, 1) ∷ (unsentCounter x, 1) ∷ []) ≡ ofMade (onwardNumber x)
+unfolding counterFor
+reply-part onward.NotAsked h = refl
+reply-part onward.SentOn h = refl
+reply-part (onward.Refused o) h =
+    each-obstacle (λ (n : ℕ). listed (0 ∷ 1 ∷ 11 ∷ 14 ∷ 15 ∷ []) n ≡ true → given ((At 17, 1) ∷ (counterFor n, 1) ∷ []) ≡ ofMade n)
+    ((λ k. true-false (sym k)), ((λ k. true-false (sym k)), ((λ k. refl), ((λ k. true-false (sym k)), ((λ k. refl), ((λ k. refl), (λ k. true-false (sym k)))))))) o h
+
 -- ---- one call
-module _ (i : ℕ) (inside : i < 17) where
+module _ (i : ℕ) (inside : i < 18) where
   part-at : (moves : List Move) (l : List ℕ) → given moves ≡ l → sumAt moves i ≡ getD l i 0
-  part-at moves l e = sym (tabled-at 17 (sumAt moves) i inside) ∙ ap (λ (x : List ℕ). getD x i 0) e
+  part-at moves l e = sym (tabled-at 18 (sumAt moves) i inside) ∙ ap (λ (x : List ℕ). getD x i 0) e
 
   parts-at : (n local onward took copies : ℕ) → together n local onward took copies i ≡ getD (counted (ended n local onward took) copies) i 0
   parts-at n local onward took copies =
-      sym (tabled-at 17 (together n local onward took copies) i inside)
+      sym (tabled-at 18 (together n local onward took copies) i inside)
       ∙ ap (λ (x : List ℕ). getD x i 0) (parts n local onward took copies)
+
+  reply-parts-at : (n onward took copies : ℕ)
+      → getD (ofMade onward) i 0 + getD (ofDropped copies) i 0 ≡ getD (counted (replied n onward took) copies) i 0
+  reply-parts-at n onward took copies =
+      sym (tabled-at 18 (λ (k : ℕ). getD (ofMade onward) k 0 + getD (ofDropped copies) k 0) i inside)
+      ∙ ap (λ (x : List ℕ). getD x i 0) (reply-parts n onward took copies)
 
   ending-gives : (seat : Seat) (rs : List Record) (port second : ℕ) (octets : List ℕ) (room : ℕ)
       → sumAt (movesOf (heardBy seat rs port second octets room)) i ≡ givenBy i (ofEnding (heardBy seat rs port second octets room))
@@ -190,6 +213,20 @@ module _ (i : ℕ) (inside : i < 17) where
         parts-at (e .refusal) n m (x .took) (portsIn 8 (x .dropped)),
       )
 
+  reply-gives : (seat : Seat) (rs : List Record) (port : ℕ) (octets : List ℕ) (room : ℕ)
+      → sumAt (replyMoves (repliedBy seat rs port octets room .ruling)) i ≡ givenBy i (ofReply (repliedBy seat rs port octets room))
+  reply-gives seat rs port octets room =
+      let e = repliedBy seat rs port octets room in
+      let x = e .ruling in
+      let m = onwardNumber (x .onward) in
+      let small = reply-small seat rs port octets room .dropped in
+      omega (
+        arith,
+        part-at ((madeCounter (x .onward), 1) ∷ (unsentCounter (x .onward), 1) ∷ []) _ (reply-part (x .onward) (reply-onward seat rs port octets room)),
+        part-at ((discardCounter (x .dropped), onesOf (x .dropped)) ∷ []) _ (discard-part (x .dropped) small),
+        reply-parts-at (e .refusal) m (x .took) (portsIn 8 (x .dropped)),
+      )
+
   taking-gives : (p : ℕ) (x : Taking) → sumAt (ofTaking p x .moves) i ≡ givenBy i (ofTaking p x)
   taking-gives p (Handed e) = refl
   taking-gives p (Refused n) = refl
@@ -199,6 +236,7 @@ module _ (i : ℕ) (inside : i < 17) where
   one-call seat (operator (views v)) = refl
   one-call seat (own (sets s)) = refl
   one-call seat (own (hears rs port slot second octets output)) = ending-gives seat rs port second octets (length output)
+  one-call seat (own (echoes rs port slot octets output)) = reply-gives seat rs port octets (length output)
   one-call seat (own (takes port)) = taking-gives port (takeOutcome (relayIn seat) port)
   one-call seat (own (sweeps second)) = refl
   one-call seat (own (looks l)) = refl
@@ -208,9 +246,9 @@ module _ (i : ℕ) (inside : i < 17) where
   all-calls (c ∷ cs) seat = rw (one-call seat c, all-calls cs (next seat c))
 
 -- What a call moves counter i by is what the page's table says of its outcome.
-pub moves-as-written : (seat : Seat) (c : Call) (i : ℕ) → i < 17 → sumAt (outcome seat c .moves) i ≡ givenBy i (outcome seat c)
+pub moves-as-written : (seat : Seat) (c : Call) (i : ℕ) → i < 18 → sumAt (outcome seat c .moves) i ≡ givenBy i (outcome seat c)
 moves-as-written seat c i inside = one-call i inside seat c
 
 -- After any history of mission m counter i is the sum of what the page's table says of each outcome, modulo 2^32.
-pub counted-as-written : (i : ℕ) → i < 17 → (m : ℕ) (cs : List Call) → counterIn (stateAfter m cs .counters) i ≡ sumOver (givenBy i) m cs % 2 ^ 32
+pub counted-as-written : (i : ℕ) → i < 18 → (m : ℕ) (cs : List Call) → counterIn (stateAfter m cs .counters) i ≡ sumOver (givenBy i) m cs % 2 ^ 32
 counted-as-written i inside m cs = counters i inside m cs ∙ ap (λ (n : ℕ). n % 2 ^ 32) (all-calls i inside cs (freshSeat m))

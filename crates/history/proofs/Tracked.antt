@@ -39,7 +39,7 @@ use Rattle.page.proofs.Exactly.{refusal-number, passed}
 use Rattle.page.proofs.Floods.{flood-sought, new-kept, others-unkept, free-place, kept-held}
 use Rattle.relay.specs.Received.{heardMemory}
 use Rattle.history.specs.Seat.{Seat, freshSeat, relayWith, memoryBy}
-use Rattle.history.specs.Calls.{sets, hears, takes, sweeps, looks, Call, operator, own}
+use Rattle.history.specs.Calls.{sets, hears, echoes, takes, sweeps, looks, Call, operator, own}
 use Rattle.history.specs.Outcome.{next, runFrom, seatAfter}
 use Rattle.history.specs.Ledger.{one}
 use Rattle.history.specs.Floods.{pairIn, hasPair, keepsPair, younger, heldBy, heldFrom, heldAfter}
@@ -313,6 +313,7 @@ unfolding sweptMemory
 one-tracks seat (operator c) held t = t
 one-tracks seat (own (sets s)) held t = t
 one-tracks seat (own (hears rs port slot second octets output)) held t = heard-tracks seat rs port second octets (length output) held t
+one-tracks seat (own (echoes rs port slot octets output)) held t = t
 one-tracks seat (own (takes port)) held t = t
 one-tracks seat (own (sweeps second)) held t = sweep-tracks (eqb (firstOf (sweepChecks (seat .memory) second)) 0)
   where

@@ -19,13 +19,15 @@ use Rattle.floods.specs.Sweep.{sweepChecks, sweptMemory}
 use Rattle.taking.specs.Taking.{takeOutcome, takenRelay}
 use Rattle.taking.specs.declared.Taking.{Taking}
 use Rattle.taking.specs.declared.Taking.the-variants.{Handed, Refused}
-use Rattle.history.specs.Seat.{Seat, relayIn, heardBy}
-use Rattle.history.specs.Calls.{orders, views, sets, hears, takes, sweeps, looks, Call, operator, own, orderChecks, checksOf}
+use Rattle.answering.specs.Echoed.{asEnding}
+use Rattle.history.specs.Seat.{Seat, relayIn, heardBy, repliedBy}
+use Rattle.history.specs.Calls.{orders, views, sets, hears, echoes, takes, sweeps, looks, Call, operator, own, orderChecks, checksOf}
 use Rattle.history.specs.Outcome.{isRefusal, ofEnding, ofTaking, outcome}
 use Rattle.history.specs.Refused.{Stands}
 use Rattle.history.proofs.Settled.{order-keeps, settle-keeps}
 use Rattle.history.proofs.Refusals.{heard-grants-nothing, nobody-took, heard-stands, refused-take-leaves}
 use Rattle.history.proofs.Sums.{sent-where-taken}
+use Rattle.history.proofs.Replying.{reply-took-none}
 
 pub took-none : (seat : Seat) (rs : List Record) (at second : ℕ) (octets : List ℕ) (room : ℕ) → isRefusal (ofEnding (heardBy seat rs at second octets room) .answer) ≡ true
     → heardBy seat rs at second octets room .ruling .took ≡ 0
@@ -77,6 +79,14 @@ refused-stands seat (own (hears rs port slot second octets output)) h =
           ap (λ (r : Relay). r .mission)
           (nobody-took (relayIn seat) slot (heardBy seat rs port second octets (length output)) (took-none seat rs port second octets (length output) h));
       memory = heard-stands seat rs port second octets (length output);
+    }
+refused-stands seat (own (echoes rs port slot octets output)) h =
+    record {
+      board = refl;
+      mission =
+          ap (λ (r : Relay). r .mission)
+          (nobody-took (relayIn seat) slot (asEnding (repliedBy seat rs port octets (length output))) (reply-took-none seat rs port octets (length output) h));
+      memory = refl;
     }
 refused-stands seat (own (takes p)) h =
     record { board = refl; mission = take-left (relayIn seat) p (takeOutcome (relayIn seat) p) refl h; memory = refl }

@@ -4,17 +4,22 @@
 use native.Mathlib.Omega.{arith}
 use Prim.Native.Nat.{ℕ, _+_, _*_, _%_, _^_, _<_}
 use mathlib.Core.Path.{_≡_, refl, sym, ap, _∙_}
-use mathlib.Core.Bool.{true, false}
+use mathlib.Core.Bool.{Bool, true, false, not, _||_}
 use mathlib.Core.List.{List, [], _∷_, _++_, map}
 use lib.ListN.{length, replicate}
 use borrow.Author.Tests.{lt-ltb}
 use Rattle.checks.proofs.Bools.{true-false}
 use Rattle.sets.specs.Sets.{inSet}
+use Rattle.octets.specs.Octets.{octets as octetsOf}
+use Rattle.checksum.specs.Sum.{words, sumFrom, onesSum}
 use Rattle.address.specs.Mask.{maskOf}
 use Rattle.address.specs.Octets.{dotted}
 use Rattle.address.specs.Path.{pathForm}
 use Rattle.address.specs.declared.Slot.{Slot}
 use Rattle.header.specs.Form.{bitWeight}
+use Rattle.header.specs.Build.{addressesOctets, qosOctets, octetOctets, stampOctets, thirdOctet, secondOctet, restOctets, sizeOf}
+use Rattle.header.specs.Onward.{foundOf}
+use Rattle.echo.specs.Message.{messageOf, echoChecks, readingOf}
 use Rattle.routes.specs.Routes.{isUp}
 use Rattle.routes.specs.Search.{searchOf}
 use Rattle.routes.specs.declared.Found.the-variants.{At}
@@ -30,26 +35,37 @@ use Rattle.verdict.specs.Rule.{pathLine}
 use Rattle.records.specs.Held.{holdsPair}
 use Rattle.meaning.specs.Flood.{pairOf}
 use Rattle.meaning.specs.Names.{floodRouting}
+use Rattle.survey.specs.Survey.{surveyWithin}
 use Rattle.floods.specs.Memory.{isHeld, freePlace, soughtPair}
 use Rattle.floods.specs.Sweep.{isOld, swept, sweptMemory}
 use Rattle.state.specs.Relay.{routeIn, queueAt, counterIn}
 use Rattle.state.specs.Seen.{State, freshState}
 use Rattle.adjust.specs.Settled.{newRecord}
 use Rattle.verdict.specs.declared.Ruling.{Ruling}
+use Rattle.judge.specs.Asked.{nodeAsked, aimAsked, carriedAsked}
 use Rattle.judge.specs.Ending.{noRuling, outputRoom}
 use Rattle.judge.specs.declared.Ending.{Ending}
 use Rattle.taking.specs.Taking.{takeOutcome}
 use Rattle.taking.specs.declared.Taking.{Taking}
 use Rattle.taking.specs.declared.Taking.the-variants.{Handed, Refused}
 use Rattle.tally.specs.Tally.{receiptCounter, rulingMoves, movesOf, counterFor, countedAt}
+use Rattle.replies.specs.Request.{asksInHeader, askingOf}
+use Rattle.replies.specs.Reply.{replyFields, echoedCount, isAsked, answerTo}
+use Rattle.replies.specs.Replied.{callChecks, answeringOf, wireFields, wireLength, repliedAmong, repliedTo}
+use Rattle.answering.specs.Echoed.{echoAnswering, echoReply}
+use Rattle.page.specs.Table.{aimAt, equalsPort}
+use Rattle.page.specs.Replies.{goesToMany}
 use Rattle.history.specs.Seat.{Seat, relayIn, relayWith, heardBy}
-use Rattle.history.specs.Calls.{Order, setRouter, setPort, orders, views, setPath, sets, hears, takes, sweeps, looks, Call, operator, own}
-use Rattle.history.specs.Outcome.{Answer, number, ended, entry, Outcome, ofTaking, outcome, seatAfter}
+use Rattle.history.specs.Calls.{Order, setRouter, setPort, setDrop, orders, views, setPath, sets, hears, echoes, takes, sweeps, looks, Call, operator, own}
+use Rattle.history.specs.Outcome.{Answer, number, ended, replied, entry, Outcome, ofTaking, outcome, seatAfter}
 use Rattle.history.specs.Tally.{sumAt, tally, stateAfter}
+use Rattle.history.specs.Replies.{isMade}
 use Rattle.history.specs.Marked.{ordered, port, routerWithPorts, A, B, C, D, allRoutes, withoutA, datagram, heard, sentBy, notSent}
 use Rattle.history.proofs.Counters.{counters}
 use Rattle.survey.proofs.Bits.{in-none}
 use Rattle.history.proofs.Fair.{fair}
+use Rattle.history.proofs.Replying.{reply-fair}
+use Rattle.history.proofs.Replies.{answered-exactly, reply-counts-no-receipt}
 use Rattle.history.proofs.Refusals.{heard-grants-nothing, counts-nothing}
 use Rattle.history.proofs.Marked.{opened, marked-cases}
 
@@ -102,6 +118,23 @@ flooded at second =
     ∷ 0 ∷ 0 ∷ 9
     ∷ [])
     (replicate outputRoom 0))
+
+-- an echo request to 172.16.4.1, port 4's own address, from 192.0.2.1, with hop count 9, and three octets of data (003, 3.3.2 and 3.3.4.7)
+abbrev pub ping : List ℕ
+ping =
+    32 ∷ 24
+    ∷ (16 + bitWeight 20 + bitWeight 22)
+    ∷ (bitWeight 25 + bitWeight 26 + bitWeight 31)
+    ∷ 172 ∷ 16 ∷ 4 ∷ 1
+    ∷ 192 ∷ 0 ∷ 2 ∷ 1
+    ∷ 9
+    -- type 8, code 0, checksum, identifier, sequence number, data
+    ∷ 8 ∷ 0 ∷ 243 ∷ 245 ∷ 0 ∷ 7 ∷ 0 ∷ 1
+    ∷ 1 ∷ 2 ∷ 3
+    ∷ []
+
+abbrev pub pinged : Call
+pinged = own (echoes (allRoutes 0) 4 (record { 0 = 1 }) ping (replicate 1500 0))
 
 -- a route as if it were up, whatever its availability
 abbrev pub asIfUp : Route → Route
@@ -156,9 +189,17 @@ pub record Cases : Type 0 where
   pub again : outcome (seatAfter 0 (begun ++ flooded 4 0 ∷ [])) (flooded 3 0) .answer ≡ notSent 0
   pub freed : outcome (seatAfter 0 (begun ++ flooded 4 0 ∷ own (sweeps 1) ∷ [])) (flooded 4 1) .answer ≡ ended 0 0 1 15
   pub past : outcome (seatAfter 0 (begun ++ own (sweeps 1) ∷ [])) (flooded 4 0) .answer ≡ ended 29 0 0 0
+  -- an echo request is answered by A's port, and not where the operator drops them
+  pub echoed : outcome (seatAfter 0 begun) pinged .answer ≡ replied 0 1 1
+  pub unechoed : outcome (seatAfter 0 (begun ++ operator (orders (setDrop 1)) ∷ [])) pinged .answer ≡ replied 0 0 0
+
+-- and the rules of replies
+unfoldable openedReplies : Unit {0}
+unfolding words sumFrom onesSum messageOf echoChecks readingOf askingOf asksInHeader isAsked answerTo replyFields echoedCount callChecks answeringOf wireFields wireLength repliedAmong repliedTo surveyWithin foundOf carriedAsked aimAsked nodeAsked sizeOf secondOctet thirdOctet restOctets addressesOctets qosOctets octetOctets stampOctets octetsOf echoAnswering echoReply
+openedReplies = tt
 
 pub cases : Cases
-unfolding opened freshState countedAt counterFor pathForm pathClassRefused setRefused namesOther pathElsewhere pathPlace pathLine pairOf holdsPair isHeld freePlace soughtPair isOld swept sweptMemory
+unfolding opened freshState countedAt counterFor pathForm pathClassRefused setRefused namesOther pathElsewhere pathPlace pathLine pairOf holdsPair isHeld freePlace soughtPair isOld swept sweptMemory openedReplies
 cases =
     record {
       octets = refl;
@@ -178,12 +219,15 @@ cases =
       again = refl;
       freed = refl;
       past = refl;
+      echoed = refl;
+      unechoed = refl;
     }
 
 -- the ports that took an entry
 abbrev portsOf : Answer → ℕ
 portsOf (number n) = 0
 portsOf (ended refusal local onward took) = took
+portsOf (replied refusal onward took) = took
 portsOf (entry e) = 0
 
 pub ended-by : {refusal local onward took refusal' local' onward' took' : ℕ} → ended refusal local onward took ≡ ended refusal' local' onward' took' → refusal ≡ refusal'
@@ -210,6 +254,7 @@ module _ (n : ℕ) (refuses : n ≡ 0 → ⊥) (i : ℕ) (none : sumAt ((receipt
       let is = ended-by e in
       let bare = heard-grants-nothing seat rs p second octets (length output) (λ z. refuses (sym is ∙ z)) in
       unmoved-by n (heardBy seat rs p second octets (length output)) i is bare none
+  unmoved-at seat (own (echoes rs p slot octets output)) local onward took e = true-false cc
   unmoved-at seat (own (takes p)) local onward took e = unmoved-taking p (takeOutcome (relayIn seat) p) i
   unmoved-at seat (own (sweeps second)) local onward took e = refl
   unmoved-at seat (own (looks l)) local onward took e = refl
@@ -229,6 +274,8 @@ module _ (seat : Seat) (p : ℕ) (inside : p < 8) (room : queueAt (seat .mission
   not-dropped (own (sets s)) drops = none-dropped drops
   not-dropped (own (hears rs q slot second octets output)) drops =
       true-false (sym (lt-ltb (queueAt (seat .mission) p .count) 32 room) ∙ fair seat p inside rs q second octets (length output) .full drops)
+  not-dropped (own (echoes rs q slot octets output)) drops =
+      true-false (sym (lt-ltb (queueAt (seat .mission) p .count) 32 room) ∙ reply-fair seat p inside rs q octets (length output) .full drops)
   not-dropped (own (takes q)) drops = no-taking-drops q (takeOutcome (relayIn seat) q) drops
   not-dropped (own (sweeps second)) drops = none-dropped drops
   not-dropped (own (looks l)) drops = none-dropped drops
@@ -375,6 +422,48 @@ module _ (does : List Call → Call → Outcome) (kept : (cs : List Call) (c : C
       (ap (λ o. sumAt (o .moves) i) (kept cs c)
       ∙ unmoved-at 29 (λ z. omega arith) i (counts-nothing i .1 .1 .1) (seatAfter 0 cs) c local onward took (sym (answers cs c) ∙ e))
 
+  -- No reply of it counts in npForwDatagrams (W-203: "in npOutRequests, never npForwDatagrams"),
+  pub forwarding-a-reply : (cs : List Call) (rs : List Record) (port : ℕ) (slot : Slot) (octets output : List ℕ)
+      → (sumAt (does cs (own (echoes rs port slot octets output)) .moves) 10 ≡ 0 → ⊥) → ⊥
+  forwarding-a-reply cs rs port slot octets output wrong =
+      wrong
+      (ap (λ o. sumAt (o .moves) 10) (kept cs (own (echoes rs port slot octets output)))
+      ∙ reply-counts-no-receipt (seatAfter 0 cs) rs port slot octets output 10 (omega arith))
+
+  -- and it answers no request to an address of many that no port has ("goes to a broadcast or multicast address gets none"),
+  pub answering-many : (cs : List Call) (rs : List Record) (port : ℕ) (slot : Slot) (octets output : List ℕ)
+      → equalsPort (relayWith (seatAfter 0 cs) rs) (aimAt (relayWith (seatAfter 0 cs) rs) port octets) ≡ false
+      → goesToMany (relayWith (seatAfter 0 cs) rs) (aimAt (relayWith (seatAfter 0 cs) rs) port octets) ≡ true
+      → isMade (does cs (own (echoes rs port slot octets output)) .answer) ≡ true → ⊥
+  answering-many cs rs port slot octets output apart many wrong =
+      let c = own (echoes rs port slot octets output) in
+      let r = relayWith (seatAfter 0 cs) rs in
+      let y = answered-exactly (seatAfter 0 cs) rs port octets (length output) .0 (ap isMade (sym (answers cs c)) ∙ wrong) .request in
+      let none : (equalsPort r (aimAt r port octets) || not (goesToMany r (aimAt r port octets))) ≡ false =
+      ap (λ (t : Bool). t || not (goesToMany r (aimAt r port octets))) apart ∙ ap not many in
+      true-false (sym (y .to-one) ∙ none)
+
+  -- nor any while they are dropped ("A setting that drops all requests").
+  pub answering-dropped : (cs : List Call) (rs : List Record) (port : ℕ) (slot : Slot) (octets output : List ℕ)
+      → (seatAfter 0 cs .board .drop ≡ 0 → ⊥) → isMade (does cs (own (echoes rs port slot octets output)) .answer) ≡ true → ⊥
+  answering-dropped cs rs port slot octets output dropping wrong =
+      let c = own (echoes rs port slot octets output) in
+      dropping (answered-exactly (seatAfter 0 cs) rs port octets (length output) .0 (ap isMade (sym (answers cs c)) ∙ wrong) .request .taken)
+
+  -- But it does answer,
+  pub answering-nobody : ((cs : List Call) (c : Call) → isMade (does cs c .answer) ≡ false) → ⊥
+  answering-nobody wrong = true-false (sym (ap isMade (answers begun pinged ∙ cases .echoed)) ∙ wrong begun pinged)
+
+  -- and once dropping is on, that request no more.
+  pub answering-always : ((cs : List Call) (rs : List Record) (port : ℕ) (slot : Slot) (octets output : List ℕ)
+      → does (cs ++ operator (orders (setDrop 1)) ∷ []) (own (echoes rs port slot octets output)) .answer ≡ does cs (own (echoes rs port slot octets output)) .answer)
+      → ⊥
+  answering-always wrong =
+      let same = wrong begun (allRoutes 0) 4 (record { 0 = 1 }) ping (replicate 1500 0) in
+      let ports : _≡_ {A = ℕ} 0 1 =
+      ap portsOf (sym (answers (begun ++ operator (orders (setDrop 1)) ∷ []) pinged ∙ cases .unechoed) ∙ same ∙ answers begun pinged ∙ cases .echoed) in
+      omega arith
+
 -- ---- what histories leave
 module _ (leaves : List Call → State) (kept : (cs : List Call) → leaves cs ≡ stateAfter 0 cs) where
   -- It does not leave every queue as it was, whatever is heard first.
@@ -408,5 +497,5 @@ module _ (leaves : List Call → State) (kept : (cs : List Call) → leaves cs �
       (λ settings rs port slot second octets output i. ap (λ s. counterIn (s .counters) i) (wrong (ordered settings) (own (hears rs port slot second octets output))))
 
   -- Nor does it have counts other than those that the rules give over the history.
-  pub inventing-counts : (cs : List Call) (i : ℕ) → i < 17 → (counterIn (leaves cs .counters) i ≡ tally 0 cs i % 2 ^ 32 → ⊥) → ⊥
+  pub inventing-counts : (cs : List Call) (i : ℕ) → i < 18 → (counterIn (leaves cs .counters) i ≡ tally 0 cs i % 2 ^ 32 → ⊥) → ⊥
   inventing-counts cs i inside wrong = wrong (ap (λ s. counterIn (s .counters) i) (kept cs) ∙ counters i inside 0 cs)

@@ -10,22 +10,25 @@ use Rattle.address.specs.declared.Mask.{Mask}
 use Rattle.address.specs.declared.PathAddress.{PathAddress}
 use Rattle.address.specs.declared.Slot.{Slot}
 use Rattle.numbers.specs.declared.Numbers.{Numbers}
+use Rattle.echo.specs.declared.Seen.{Seen}
 use Rattle.sets.specs.Limits.{groupPlaces, pathPlaces}
 use Rattle.records.specs.Fresh.{freshGroup, freshPath}
 use Rattle.routes.specs.Records.{emptyRecord}
 use Rattle.routes.specs.declared.Record.{Record}
 use Rattle.state.specs.Relay.{Relay, withGroup, withPath}
-use Rattle.state.specs.Seen.{Board, putRouter, putOwned, putLifetime}
-use Rattle.refusals.specs.Lists.{portChecks, routeChecks, clearRouteChecks, groupChecks, pathChecks, routerChecks, clearChecks}
+use Rattle.state.specs.Seen.{Board, putRouter, putOwned, putLifetime, putDrop}
+use Rattle.refusals.specs.Lists.{portChecks, routeChecks, clearRouteChecks, groupChecks, pathChecks, flagChecks, clearChecks}
 use Rattle.adjust.specs.Settled.{newPort, newRecord, newGroup, newPath, settled}
 
--- ---- the operator's: "Only the operator writes ports, routes, lifetime, .. and router settings"
+-- ---- the operator's: "Only the operator writes ports, routes, lifetime, echo drop and router settings"
 pub data Order : Type 0 where
   setRouter : ℕ → Order
   -- the port, its address, mask and MTU, and the mission that it is given to
   setPort : ℕ → Address → Mask → ℕ → ℕ → Order
   -- how old a pair may grow before a sweep frees it
   setLifetime : ℕ → Order
+  -- whether all echo requests are dropped (W-203)
+  setDrop : ℕ → Order
   -- the list as it is lent, the place, and the record: prefix, mask, port, availability, capabilities, mission
   setRoute : List Record → ℕ → ℕ → ℕ → ℕ → ℕ → ℕ → ℕ → Order
   clearRoute : List Record → ℕ → Order
@@ -34,6 +37,7 @@ pub data Order : Type 0 where
 pub data View : Type 0 where
   routerFlag : View
   lifetimeWord : View
+  dropFlag : View
   portWord : ℕ → ℕ → View
   recordWord : List Record → ℕ → ℕ → View
 
@@ -64,6 +68,10 @@ pub data Look : Type 0 where
   -- a header read; one built, with so many octets of data, into the output as it is lent
   read : List ℕ → Look
   build : Numbers → ℕ → List ℕ → Look
+  -- an echo message read; a request built of its identifier, sequence number and data, and a reply of what it says besides, into the output as it is lent
+  readEcho : List ℕ → Look
+  buildRequest : ℕ → ℕ → List ℕ → List ℕ → Look
+  buildReply : ℕ → ℕ → Seen → List ℕ → List ℕ → Look
   -- the class of an address, the form of a path, a checksum, and how many words a board and a mission have
   class : Address → Look
   form : PathAddress → Look
@@ -75,6 +83,8 @@ pub data MissionCall : Type 0 where
   sets : Setting → MissionCall
   -- the list of routes, the port, the slot, the second, the octets, and the output as it is lent
   hears : List Record → ℕ → Slot → ℕ → List ℕ → List ℕ → MissionCall
+  -- the same but for the second: an echo request that came in by the port is answered (W-203)
+  echoes : List Record → ℕ → Slot → List ℕ → List ℕ → MissionCall
   takes : ℕ → MissionCall
   -- the second
   sweeps : ℕ → MissionCall
@@ -86,9 +96,10 @@ pub data Call : Type 0 where
 
 -- ---- what an order does: what may refuse it, in the page's order; any lifetime is taken (docs/DECISIONS.md)
 abbrev pub orderChecks : Board → Order → Checks
-orderChecks b (setRouter x) = routerChecks x
+orderChecks b (setRouter x) = flagChecks x
 orderChecks b (setPort p address mask mtu mission) = portChecks b p address mask mtu mission
 orderChecks b (setLifetime x) = []
+orderChecks b (setDrop x) = flagChecks x
 orderChecks b (setRoute rs i prefix mask port availability capabilities mission) =
     routeChecks b rs i (newRecord prefix mask port availability capabilities mission)
 orderChecks b (clearRoute rs i) = clearRouteChecks rs i
@@ -98,6 +109,7 @@ abbrev pub boardWritten : Board → Order → Board
 boardWritten b (setRouter x) = putRouter b x
 boardWritten b (setPort p address mask mtu mission) = putOwned b p (newPort address mask mtu mission)
 boardWritten b (setLifetime x) = putLifetime b x
+boardWritten b (setDrop x) = putDrop b x
 boardWritten b (setRoute rs i prefix mask port availability capabilities mission) = b
 boardWritten b (clearRoute rs i) = b
 
@@ -105,6 +117,7 @@ abbrev pub listLent : Order → List Record
 listLent (setRouter x) = []
 listLent (setPort p address mask mtu mission) = []
 listLent (setLifetime x) = []
+listLent (setDrop x) = []
 listLent (setRoute rs i prefix mask port availability capabilities mission) = rs
 listLent (clearRoute rs i) = rs
 
@@ -112,6 +125,7 @@ abbrev pub listWritten : Order → List Record
 listWritten (setRouter x) = []
 listWritten (setPort p address mask mtu mission) = []
 listWritten (setLifetime x) = []
+listWritten (setDrop x) = []
 listWritten (setRoute rs i prefix mask port availability capabilities mission) =
     set rs i (newRecord prefix mask port availability capabilities mission)
 listWritten (clearRoute rs i) = set rs i emptyRecord

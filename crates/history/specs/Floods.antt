@@ -24,8 +24,8 @@ use Rattle.judge.specs.Remembered.{isUnheard}
 use Rattle.page.specs.Table.{aimAt}
 use Rattle.page.specs.Memory.{floodsOn}
 use Rattle.history.specs.Seat.{Seat, freshSeat, relayIn, relayWith, heardBy}
-use Rattle.history.specs.Calls.{MissionCall, sets, hears, takes, sweeps, looks, Call, operator, own}
-use Rattle.history.specs.Outcome.{Answer, number, ended, entry, outcome, next}
+use Rattle.history.specs.Calls.{MissionCall, sets, hears, echoes, takes, sweeps, looks, Call, operator, own}
+use Rattle.history.specs.Outcome.{Answer, number, ended, replied, entry, outcome, next}
 use Rattle.history.specs.Answers.{listed}
 use Rattle.history.specs.Ledger.{one}
 
@@ -66,6 +66,7 @@ abbrev pub heldOwn : Seat → MissionCall → List PairPlace → List PairPlace
 heldOwn x (sets s) held = held
 heldOwn x (hears rs port slot second octets output) held =
     pick (keepsPair x rs port second octets (length output) held) (held ++ (record { pair = pairIn x port octets; second = second } ∷ [])) held
+heldOwn x (echoes rs port slot octets output) held = held
 heldOwn x (takes port) held = held
 heldOwn x (sweeps second) held = pick (eqb (firstOf (sweepChecks (x .memory) second)) 0) (younger (x .board .lifetime) second held) held
 heldOwn x (looks l) held = held
@@ -86,16 +87,19 @@ heldAfter m cs = heldFrom (freshSeat m) [] cs
 abbrev pub heardSecond : ℕ → Answer → List ℕ
 heardSecond second (number n) = []
 heardSecond second (ended refusal local onward took) = pick (isUnheard refusal) [] (second ∷ [])
+heardSecond second (replied refusal onward took) = []
 heardSecond second (entry e) = []
 
 abbrev pub sweptSecond : ℕ → Answer → List ℕ
 sweptSecond second (number n) = pick (eqb n 0) (second ∷ []) []
 sweptSecond second (ended refusal local onward took) = []
+sweptSecond second (replied refusal onward took) = []
 sweptSecond second (entry e) = []
 
 abbrev pub acceptedOwn : MissionCall → Answer → List ℕ
 acceptedOwn (sets s) a = []
 acceptedOwn (hears rs port slot second octets output) a = heardSecond second a
+acceptedOwn (echoes rs port slot octets output) a = []
 acceptedOwn (takes port) a = []
 acceptedOwn (sweeps second) a = sweptSecond second a
 acceptedOwn (looks l) a = []
@@ -128,6 +132,7 @@ module _ (q : Pair) where
   abbrev pub floodsOwn : Seat → MissionCall → ℕ
   floodsOwn x (sets s) = 0
   floodsOwn x (hears rs port slot second octets output) = one (isFloodedOn x rs port second octets (length output))
+  floodsOwn x (echoes rs port slot octets output) = 0
   floodsOwn x (takes port) = 0
   floodsOwn x (sweeps second) = 0
   floodsOwn x (looks l) = 0
@@ -145,6 +150,7 @@ module _ (q : Pair) where
   abbrev pub freesOwn : Seat → MissionCall → Bool
   freesOwn x (sets s) = false
   freesOwn x (hears rs port slot second octets output) = false
+  freesOwn x (echoes rs port slot octets output) = false
   freesOwn x (takes port) = false
   freesOwn x (sweeps second) =
       eqb (firstOf (sweepChecks (x .memory) second)) 0

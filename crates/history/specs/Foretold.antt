@@ -13,8 +13,8 @@ use Rattle.queue.specs.Waits.{chosen, rankBy}
 use Rattle.queue.specs.Foretold.{howMany, standingBefore}
 use Rattle.queue.specs.declared.Entry.{Entry}
 use Rattle.history.specs.Seat.{Seat}
-use Rattle.history.specs.Calls.{MissionCall, sets, hears, takes, sweeps, looks, Call, operator, own}
-use Rattle.history.specs.Outcome.{Answer, number, ended, entry, outcome, next, seatAfter, sumFrom}
+use Rattle.history.specs.Calls.{MissionCall, sets, hears, echoes, takes, sweeps, looks, Call, operator, own}
+use Rattle.history.specs.Outcome.{Answer, number, ended, replied, entry, outcome, next, seatAfter, sumFrom}
 use Rattle.history.specs.Ledger.{handedOut}
 use Rattle.history.specs.Line.{Copy, entryOf, takenBy, handedBy, lineBy, takenFrom, handedFrom, lineAt}
 
@@ -27,8 +27,10 @@ module _ (p : ℕ) where
   abbrev pub answeredOwn : MissionCall → Answer → List Entry
   answeredOwn (sets s) a = []
   answeredOwn (hears rs port slot second octets output) a = []
+  answeredOwn (echoes rs port slot octets output) a = []
   answeredOwn (takes q) (number n) = []
   answeredOwn (takes q) (ended refusal local onward took) = []
+  answeredOwn (takes q) (replied refusal onward took) = []
   answeredOwn (takes q) (entry e) = pick (eqb q p) (e ∷ []) []
   answeredOwn (sweeps second) a = []
   answeredOwn (looks l) a = []
@@ -70,7 +72,7 @@ module _ (p : ℕ) where
     answeredSince cs ds = answeredFrom (seatAfter m cs) ds
 
     -- the call that follows cs places no copy on the port and is no take of it that hands out: the operator's call, a setting, a sweep or a look, a refused call, a
-    -- datagram of which this port took no entry, a take of another port
+    -- datagram or a reply of which this port took no entry, a take of another port
     abbrev pub Idle : List Call → Call → Type 0
     Idle cs c = (takenBy p (length cs) (seatAfter m cs) c ≡ []) × (handedOut p (outcome (seatAfter m cs) c) ≡ 0)
 

@@ -11,6 +11,7 @@ pub mod Ledger
 pub mod Line
 pub mod Foretold
 pub mod Floods
+pub mod Replies
 pub mod Parts
 pub mod Reach
 pub mod Ranges

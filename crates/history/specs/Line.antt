@@ -1,7 +1,7 @@
 -- The copies that wait on a port, in the order in which they entered, from the calls alone: page 01, demand 3 ("Of the copies waiting on a port, the
 -- highest precedence is handed out first, the oldest within one"). Each copy bears the number of the call that placed it, since slots may repeat, and
 -- what it was: the address of the port that it came in by, the octets, how many of them were the header, and the header that receiving wrote for the port
--- (page 02, W-214). Assumes nothing.
+-- (page 02, W-214). A reply is a copy too (W-203): it came in by no port, but answers what came in by one. Assumes nothing.
 use Prim.Native.Nat.{ℕ, suc, _<_}
 use mathlib.Core.Bool.{Bool, true, false}
 use mathlib.Core.List.{List, [], _∷_, _++_}
@@ -11,6 +11,7 @@ use Rattle.checks.specs.Order.{pick}
 use Rattle.sets.specs.Sets.{inSet}
 use Rattle.address.specs.declared.Address.{Address}
 use Rattle.address.specs.declared.Slot.{Slot}
+use Rattle.header.specs.Build.{sizeOf}
 use Rattle.next_leg.specs.Leg.{headerFor}
 use Rattle.queue.specs.Order.{InOrder}
 use Rattle.queue.specs.Waits.{Chosen, nobody, one, chosen, rankBy}
@@ -21,8 +22,12 @@ use Rattle.judge.specs.declared.Ending.{Ending}
 use Rattle.taking.specs.declared.Taking.{Taking}
 use Rattle.taking.specs.declared.Taking.the-variants.{Handed, Refused}
 use Rattle.relay.specs.Received.{newEntry}
-use Rattle.history.specs.Seat.{Seat, freshSeat, relayIn, heardBy}
-use Rattle.history.specs.Calls.{MissionCall, sets, hears, takes, sweeps, looks, Call, operator, own}
+use Rattle.replies.specs.Replied.{ownReply, wireHeader}
+use Rattle.replies.specs.declared.Answering.{Answering}
+use Rattle.replies.specs.declared.sending.Replied.{Replied}
+use Rattle.answering.specs.Echoed.{asEnding}
+use Rattle.history.specs.Seat.{Seat, freshSeat, relayIn, heardBy, answeringBy, repliedBy}
+use Rattle.history.specs.Calls.{MissionCall, sets, hears, echoes, takes, sweeps, looks, Call, operator, own}
 use Rattle.history.specs.Outcome.{Out, nothing, from, outcome, next}
 
 pub record Copy : Type 0 where
@@ -49,6 +54,18 @@ copyOf p n x port slot octets e =
       entry = newEntry slot e;
     }
 
+-- the copy of a reply, made in turn n to octets that came in by the port: the octets as it is made, and the header as it goes
+abbrev pub replyCopy : ℕ → Seat → ℕ → Slot → List ℕ → Answering → Replied → Copy
+replyCopy n x port slot octets a e =
+    record {
+      turn = n;
+      arrival = portIn (relayIn x) port .address;
+      octets = ownReply a octets;
+      size = sizeOf (a .fields);
+      header = wireHeader a e;
+      entry = newEntry slot (asEnding e);
+    }
+
 -- the octets that go out by the port: the header that receiving wrote, and the data behind it as they came
 abbrev pub sentOf : Copy → List ℕ
 sentOf c = c .header ++ drop (c .size) (c .octets)
@@ -61,6 +78,9 @@ module _ (p : ℕ) where
   takenOwn n x (hears rs port slot second octets output) =
       pick (inSet p (heardBy x rs port second octets (length output) .ruling .took))
       (copyOf p n x port slot octets (heardBy x rs port second octets (length output)) ∷ []) []
+  takenOwn n x (echoes rs port slot octets output) =
+      pick (inSet p (repliedBy x rs port octets (length output) .ruling .took))
+      (replyCopy n x port slot octets (answeringBy x rs port octets (length output)) (repliedBy x rs port octets (length output)) ∷ []) []
   takenOwn n x (takes port) = []
   takenOwn n x (sweeps second) = []
   takenOwn n x (looks l) = []

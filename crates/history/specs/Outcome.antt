@@ -14,10 +14,12 @@ use Rattle.judge.specs.declared.Ending.{Ending}
 use Rattle.taking.specs.Taking.{takeOutcome, takenRelay}
 use Rattle.taking.specs.declared.Taking.{Taking}
 use Rattle.taking.specs.declared.Taking.the-variants.{Handed, Refused}
-use Rattle.tally.specs.Tally.{Move, movesOf}
+use Rattle.tally.specs.Tally.{Move, movesOf, replyMoves}
 use Rattle.floods.specs.Sweep.{sweepChecks, sweptMemory}
 use Rattle.relay.specs.Received.{receivedRelay}
-use Rattle.history.specs.Seat.{Seat, freshSeat, relayIn, heardBy, memoryBy}
+use Rattle.replies.specs.declared.sending.Replied.{Replied}
+use Rattle.answering.specs.Echoed.{asEnding}
+use Rattle.history.specs.Seat.{Seat, freshSeat, relayIn, heardBy, memoryBy, repliedBy}
 use Rattle.history.specs.Calls.{
   OperatorCall,
   orders,
@@ -25,6 +27,7 @@ use Rattle.history.specs.Calls.{
   MissionCall,
   sets,
   hears,
+  echoes,
   takes,
   sweeps,
   looks,
@@ -44,13 +47,16 @@ pub data Answer : Type 0 where
   number : ℕ → Answer
   -- of a datagram: the refusal, 0 where it was judged; the local half; the onward half; the ports that took an entry
   ended : ℕ → ℕ → ℕ → ℕ → Answer
+  -- of an echo request that is answered: the refusal, 0 where there is none; the onward half of the reply, 0 where none is made; the ports that took an entry
+  replied : ℕ → ℕ → ℕ → Answer
   -- of a take: what is handed out
   entry : Entry → Answer
 
--- a refusal: a number, of a datagram as a whole or of its onward half (of a look any number but 0, since a look changes nothing)
+-- a refusal: a number, of a datagram as a whole or of its onward half, and likewise of a reply (of a look any number but 0, since a look changes nothing)
 abbrev pub isRefusal : Answer → Bool
 isRefusal (number n) = not (eqb n 0)
 isRefusal (ended refusal local onward took) = not (eqb refusal 0) || ltb 1 onward
+isRefusal (replied refusal onward took) = not (eqb refusal 0) || ltb 1 onward
 isRefusal (entry e) = false
 
 -- what is handed out, and by which port
@@ -83,6 +89,17 @@ ofEnding e =
       out = nothing;
     }
 
+abbrev pub ofReply : Replied → Outcome
+ofReply e =
+    record {
+      answer = replied (e .refusal) (onwardNumber (e .ruling .onward)) (e .ruling .took);
+      moves = replyMoves (e .ruling);
+      granted = e .ruling .granted;
+      took = e .ruling .took;
+      dropped = e .ruling .dropped;
+      out = nothing;
+    }
+
 abbrev pub ofTaking : ℕ → Taking → Outcome
 ofTaking p (Handed e) = record { answer = entry e; moves = []; granted = 0; took = 0; dropped = 0; out = from p e }
 ofTaking p (Refused n) = quiet (number n)
@@ -96,6 +113,7 @@ operatorOutcome b (views v) = quiet (number (viewNumber v))
 abbrev pub ownOutcome : Seat → MissionCall → Outcome
 ownOutcome x (sets s) = quiet (number (firstOf (checksOf (relayIn x) s)))
 ownOutcome x (hears rs p slot second octets output) = ofEnding (heardBy x rs p second octets (length output))
+ownOutcome x (echoes rs p slot octets output) = ofReply (repliedBy x rs p octets (length output))
 ownOutcome x (takes p) = ofTaking p (takeOutcome (relayIn x) p)
 ownOutcome x (sweeps second) = quiet (number (firstOf (sweepChecks (x .memory) second)))
 ownOutcome x (looks l) = quiet (number (lookNumber x l))
@@ -112,6 +130,7 @@ nextBoard b (views v) = b
 abbrev pub nextMission : Seat → MissionCall → Mission
 nextMission x (sets s) = settle (relayIn x) s .mission
 nextMission x (hears rs p slot second octets output) = receivedRelay (relayIn x) slot (heardBy x rs p second octets (length output)) .mission
+nextMission x (echoes rs p slot octets output) = receivedRelay (relayIn x) slot (asEnding (repliedBy x rs p octets (length output))) .mission
 nextMission x (takes p) = takenRelay (relayIn x) p .mission
 nextMission x (sweeps second) = x .mission
 nextMission x (looks l) = x .mission
@@ -119,6 +138,7 @@ nextMission x (looks l) = x .mission
 abbrev pub nextMemory : Seat → MissionCall → Memory
 nextMemory x (sets s) = x .memory
 nextMemory x (hears rs p slot second octets output) = memoryBy x rs p second octets (length output)
+nextMemory x (echoes rs p slot octets output) = x .memory
 nextMemory x (takes p) = x .memory
 nextMemory x (sweeps second) = sweptMemory (x .board .lifetime) second (x .memory)
 nextMemory x (looks l) = x .memory

@@ -1,5 +1,6 @@
 -- The settings one by one, and which of them a call is about: page 01, "Settings" ("A setting that no rule here refuses is taken and holds until it is
--- changed"); page 02, W-207 (the lifetime). A list of routes is no part of a board or a mission, and what is remembered is no setting. Assumes nothing.
+-- changed"); page 02, W-207 (the lifetime) and W-203 (echo drop). A list of routes is no part of a board or a mission, and what is remembered is no setting.
+-- Assumes nothing.
 use Prim.Native.Nat.{ℕ}
 use mathlib.Core.Path.{_≡_}
 use Rattle.records.specs.declared.OwnedPort.{OwnedPort}
@@ -13,6 +14,7 @@ use Rattle.history.specs.Calls.{
   setRouter,
   setPort,
   setLifetime,
+  setDrop,
   setRoute,
   clearRoute,
   OperatorCall,
@@ -26,6 +28,7 @@ use Rattle.history.specs.Calls.{
   MissionCall,
   sets,
   hears,
+  echoes,
   takes,
   sweeps,
   looks,
@@ -38,6 +41,7 @@ pub data Part : Type 0 where
   theRouter : Part
   thePort : ℕ → Part
   theLifetime : Part
+  theDrop : Part
   theGroup : ℕ → Part
   thePath : ℕ → Part
 
@@ -46,6 +50,7 @@ abbrev pub Orders : Order → Part → Type 0
 Orders (setRouter x) part = theRouter ≡ part
 Orders (setPort p address mask mtu mission) part = thePort p ≡ part
 Orders (setLifetime x) part = theLifetime ≡ part
+Orders (setDrop x) part = theDrop ≡ part
 Orders (setRoute rs i prefix mask port availability capabilities mission) part = ⊥
 Orders (clearRoute rs i) part = ⊥
 
@@ -63,6 +68,7 @@ ByOperator (views v) part = ⊥
 abbrev pub ByMission : MissionCall → Part → Type 0
 ByMission (sets s) part = partOf s ≡ part
 ByMission (hears rs port slot second octets output) part = ⊥
+ByMission (echoes rs port slot octets output) part = ⊥
 ByMission (takes port) part = ⊥
 ByMission (sweeps second) part = ⊥
 ByMission (looks l) part = ⊥
@@ -76,6 +82,7 @@ pub data Standing : Type 0 where
   router : ℕ → Standing
   port : OwnedPort → Standing
   lifetime : ℕ → Standing
+  drop : ℕ → Standing
   group : Group → Standing
   path : PathPlace → Standing
 
@@ -83,5 +90,6 @@ abbrev pub settingIn : Seat → Part → Standing
 settingIn x theRouter = router (x .board .router)
 settingIn x (thePort p) = port (ownedAt (x .board) p)
 settingIn x theLifetime = lifetime (x .board .lifetime)
+settingIn x theDrop = drop (x .board .drop)
 settingIn x (theGroup i) = group (groupAt (x .mission) i)
 settingIn x (thePath i) = path (pathAt (x .mission) i)

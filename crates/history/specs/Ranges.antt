@@ -1,5 +1,5 @@
 -- The ranges that include/harpjuniper.h promises, of a board and a mission and of what waits there: page 01, "Numbers that hold everywhere" and "Settings";
--- page 02, W-208 and W-207. Assumes nothing.
+-- page 02, W-208, W-207 and W-203. Assumes nothing.
 use Prim.Native.Nat.{ℕ, _^_, _<_, _≤_}
 use mathlib.Core.Path.{_≡_}
 use mathlib.Core.Bool.{false}
@@ -17,6 +17,7 @@ use Rattle.history.specs.Calls.{
   setRouter,
   setPort,
   setLifetime,
+  setDrop,
   setRoute,
   clearRoute,
   OperatorCall,
@@ -32,6 +33,9 @@ use Rattle.history.specs.Calls.{
   waiting,
   read,
   build,
+  readEcho,
+  buildRequest,
+  buildReply,
   class,
   form,
   checksum,
@@ -40,6 +44,7 @@ use Rattle.history.specs.Calls.{
   MissionCall,
   sets,
   hears,
+  echoes,
   takes,
   sweeps,
   looks,
@@ -55,6 +60,8 @@ Flag n = n < 2
 pub record Flags (x : Seat) : Type 0 where
   -- "The node is a router or a host"
   pub router : Flag (x .board .router)
+  -- echo requests are dropped or not
+  pub drop : Flag (x .board .drop)
   -- a port is set up or not, and one of two missions'; a place is filled or empty, a path "delivered here" or not
   pub ports : (p : ℕ) → Flag (ownedAt (x .board) p .port .ready) × Flag (ownedAt (x .board) p .mission)
   pub groups : (i : ℕ) → Flag (groupAt (x .mission) i .filled)
@@ -83,6 +90,9 @@ LookPassed (counter i) = Unit
 LookPassed (waiting p) = Unit
 LookPassed (read octets) = Unit
 LookPassed (build fields size output) = Words fields
+LookPassed (readEcho octets) = Unit
+LookPassed (buildRequest identifier sequence echoed output) = Unit
+LookPassed (buildReply identifier sequence seen echoed output) = Unit
 LookPassed (class a) = Unit
 LookPassed (form p) = Unit
 LookPassed (checksum octets) = Unit
@@ -92,6 +102,7 @@ LookPassed missionSize = Unit
 abbrev pub OwnPassed : MissionCall → Type 0
 OwnPassed (sets s) = Unit
 OwnPassed (hears rs port slot second octets output) = (slot .0 < 65536) × (Octets octets × (second < 2 ^ 32))
+OwnPassed (echoes rs port slot octets output) = (slot .0 < 65536) × Octets octets
 OwnPassed (takes port) = Unit
 OwnPassed (sweeps second) = second < 2 ^ 32
 OwnPassed (looks l) = LookPassed l
@@ -100,6 +111,7 @@ abbrev pub OrderPassed : Order → Type 0
 OrderPassed (setRouter x) = Unit
 OrderPassed (setPort p address mask mtu mission) = Unit
 OrderPassed (setLifetime x) = x < 2 ^ 32
+OrderPassed (setDrop x) = Unit
 OrderPassed (setRoute rs i prefix mask port availability capabilities mission) = Unit
 OrderPassed (clearRoute rs i) = Unit
 
@@ -115,6 +127,6 @@ Passed (own c) = OwnPassed c
 abbrev pub EntryFits : Entry → Type 0
 EntryFits e = (e .precedence < 16) × (e .slot .0 < 65536)
 
--- and what a copy came as are octets
+-- and what a copy came as, or was made as, are octets
 abbrev pub CopyFits : Copy → Type 0
 CopyFits c = EntryFits (c .entry) × Octets (c .octets)

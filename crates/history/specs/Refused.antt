@@ -11,8 +11,8 @@ use Rattle.records.specs.declared.Pair.{Pair}
 use Rattle.state.specs.Relay.{Memory, pairAt, putLast, putPair}
 use Rattle.judge.specs.Remembered.{isUnheard}
 use Rattle.history.specs.Seat.{Seat}
-use Rattle.history.specs.Calls.{MissionCall, sets, hears, takes, sweeps, looks, Call, operator, own}
-use Rattle.history.specs.Outcome.{Answer, number, ended, entry, outcome, next}
+use Rattle.history.specs.Calls.{MissionCall, sets, hears, echoes, takes, sweeps, looks, Call, operator, own}
+use Rattle.history.specs.Outcome.{Answer, number, ended, replied, entry, outcome, next}
 
 -- ---- what is left of a memory k where a second is accepted
 -- a pair is kept besides, in a place that was free
@@ -36,12 +36,14 @@ pub record HeardStands (refusal second : ℕ) (k left : Memory) : Type 0 where
 abbrev pub refusalOf : Answer → ℕ
 refusalOf (number n) = n
 refusalOf (ended refusal local onward took) = refusal
+refusalOf (replied refusal onward took) = refusal
 refusalOf (entry e) = 0
 
 -- a call that hears nothing leaves the memory
 abbrev pub OwnStands : MissionCall → Answer → Memory → Memory → Type 0
 OwnStands (sets s) a k left = left ≡ k
 OwnStands (hears rs port slot second octets output) a k left = HeardStands (refusalOf a) second k left
+OwnStands (echoes rs port slot octets output) a k left = left ≡ k
 OwnStands (takes port) a k left = left ≡ k
 OwnStands (sweeps second) a k left = left ≡ k
 OwnStands (looks l) a k left = left ≡ k

@@ -8,6 +8,9 @@ use Rattle.state.specs.Seen.{Board, State, freshBoard, freshMission, freshMemor
 use Rattle.listing.specs.Listed.{seen}
 use Rattle.relay.specs.Received.{heardEnding, heardMemory}
 use Rattle.judge.specs.declared.Ending.{Ending}
+use Rattle.replies.specs.declared.Answering.{Answering}
+use Rattle.replies.specs.declared.sending.Replied.{Replied}
+use Rattle.answering.specs.Echoed.{echoAnswering, echoReply}
 
 pub record Seat : Type 0 where
   pub board : Board
@@ -37,3 +40,10 @@ heardBy x rs port second octets room = heardEnding (x .board) (stateOf x []) rs 
 -- and what is remembered then
 abbrev pub memoryBy : Seat → List Record → ℕ → ℕ → List ℕ → ℕ → Memory
 memoryBy x rs port second octets room = heardMemory (x .board) (stateOf x []) rs port second octets room
+
+-- ---- answering an echo request (W-203): the reply to octets that came in by this port, if one is made, and whether it goes
+abbrev pub answeringBy : Seat → List Record → ℕ → List ℕ → ℕ → Answering
+answeringBy x rs port octets room = echoAnswering (x .board) (stateOf x []) rs port octets room
+
+abbrev pub repliedBy : Seat → List Record → ℕ → List ℕ → ℕ → Replied
+repliedBy x rs port octets room = echoReply (x .board) (stateOf x []) rs port octets room

@@ -1,6 +1,7 @@
--- The seventeen counters in the customer's words, one rule for all: page 01's table of refusal numbers read by counter, step 1 ("These two count nothing.
--- All later ends count one in npInReceives"), page 02, W-207 (29 "counts nothing"; "28 and 30 each get a counter"), and what stands below the table ("npOutDiscards counts dropped copies .. npInDelivers counts deliveries,
--- npForwDatagrams datagrams with at least one entry taken"). No counter and no list of moves is looked at here. Assumes nothing.
+-- The eighteen counters in the customer's words, one rule for all: page 01's table of refusal numbers read by counter, step 1 ("These two count nothing.
+-- All later ends count one in npInReceives"), page 02, W-207 (29 "counts nothing"; "28 and 30 each get a counter"), and what stands below the table
+-- ("npOutDiscards counts dropped copies .. npInDelivers counts deliveries, npForwDatagrams datagrams with at least one entry taken"); of replies page 02,
+-- W-203. No counter and no list of moves is looked at here. Assumes nothing.
 use Prim.Native.Nat.{ℕ, zero, suc, _+_}
 use mathlib.Core.Bool.{not}
 use mathlib.Core.List.{List, [], _∷_}
@@ -9,7 +10,7 @@ use lib.ListN.{getD}
 use Rattle.sets.specs.Sets.{inSet}
 use Rattle.sets.specs.Limits.{portCount}
 use Rattle.history.specs.Answers.{listed}
-use Rattle.history.specs.Outcome.{Answer, number, ended, entry, Outcome}
+use Rattle.history.specs.Outcome.{Answer, number, ended, replied, entry, Outcome}
 use Rattle.history.specs.Ledger.{one}
 
 -- how many of the first n ports are in a set
@@ -17,7 +18,7 @@ abbrev pub portsIn : ℕ → ℕ → ℕ
 portsIn zero set = 0
 portsIn (suc p) set = portsIn p set + one (inSet p set)
 
--- what an answer gives each counter, where so many copies were dropped; only a received datagram gives any
+-- what an answer gives each counter, where so many copies were dropped; only a received datagram gives any, and a reply
 abbrev pub counted : Answer → ℕ → List ℕ
 counted (number n) copies = []
 counted (ended refusal local onward took) copies =
@@ -55,6 +56,25 @@ counted (ended refusal local onward took) copies =
     ∷ one (eqb refusal 28)
     -- 30, all pairs held
     ∷ one (eqb onward 30)
+    -- npOutRequests: no datagram that was received
+    ∷ 0
+    ∷ []
+-- "Demand 3 counts replies, refused too .., in npOutRequests, never npForwDatagrams, 11 to 15 as page 01", "counting nothing for the request"
+counted (replied refusal onward took) copies =
+    -- the eleven of what is received, delivered and sent on
+    0 ∷ 0 ∷ 0 ∷ 0 ∷ 0 ∷ 0 ∷ 0 ∷ 0 ∷ 0 ∷ 0 ∷ 0
+    -- npOutNoRoutes: 11, no route
+    ∷ one (eqb onward 11)
+    -- npOutDiscards: dropped copies
+    ∷ copies
+    -- left domain
+    ∷ 0
+    -- too big: 14
+    ∷ one (eqb onward 14)
+    -- 28 and 30, of floods
+    ∷ 0 ∷ 0
+    -- npOutRequests: each reply that is made
+    ∷ one (not (eqb onward 0))
     ∷ []
 counted (entry e) copies = []
 

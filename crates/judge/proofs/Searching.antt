@@ -44,7 +44,7 @@ all-ready ports zero = refl
 all-ready ports (suc n) =
     ap₂ (λ (s : ℕ) (t : Bool). s + pick t (2 ^ n) 0) (all-ready ports n) (and-true (isSetUp (getD ports n freshPort)))
 
-named-ready : (ports : List Port) (a : Address) → namedOf ports a .ready ≡ readyOf ports
+pub named-ready : (ports : List Port) (a : Address) → namedOf ports a .ready ≡ readyOf ports
 unfolding namedBelow readyOf
 named-ready ports a = all-ready ports 8
 

@@ -64,7 +64,7 @@ pub record WasRead (s : List ℕ) (a : Asked) : Type 0 where
   pub inside : placesOf s .size ≤ length s
   pub renewal : a .renewal ≡ renewalOf s
 
-octets-read : (r : Relay) (number : ℕ) (at : Arrival) (s : List ℕ) (x : Found) → foundOf s ≡ x → octetsAsked r number at x .refusal ≡ 0
+pub octets-read : (r : Relay) (number : ℕ) (at : Arrival) (s : List ℕ) (x : Found) → foundOf s ≡ x → octetsAsked r number at x .refusal ≡ 0
     → WasRead s (octetsAsked r number at x)
 octets-read r number at s (found.Good h c) e k =
     let g = found-good s h c e in

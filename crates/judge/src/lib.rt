@@ -55,6 +55,7 @@ ghost use Rattle.judge.specs.Asked.{
   carriedAsked,
   octetsAsked,
   datagramAsked,
+  addressIn,
 };
 
 // The room that a call has to lend for the headers of all ports.
@@ -97,7 +98,7 @@ pub struct Looked {
 }
 
 // No header.
-fn no_header() -> Header
+pub fn no_header() -> Header
     ensures { λ r. ⌜ r ≡ noHeader ⌝ }
 {
     let fields = Fields {
@@ -246,6 +247,16 @@ fn destination_of(x: Aim) -> Destination
     }
 }
 
+// The address that a route is searched for.
+pub fn address_in(d: Destination) -> u32
+    ensures { λ r. ⌜ r ≡ addressIn d ⌝ }
+{
+    match d {
+        Destination::Node(a) => a.0,
+        Destination::Other => 0,
+    }
+}
+
 // What is known before the search, of a header that is good so far: the rest of 6, then 28, and what the pairs say.
 fn ask_good(board: &[u32], mission: &[u32], at: Arrival, h: Header, n: Renewal, x: Aim) -> Asked
     requires { ⌜ (length (now board) ≡ boardWords) × (length (now mission) ≡ missionWords) ⌝ }
@@ -309,7 +320,7 @@ fn ask_header(board: &[u32], mission: &[u32], at: Arrival, h: Header, n: Renewal
 }
 
 // Steps 2 and 3, and what follows.
-fn ask_octets(board: &[u32], mission: &[u32], at: Arrival, octets: &[u8]) -> Asked
+pub fn ask_octets(board: &[u32], mission: &[u32], at: Arrival, octets: &[u8]) -> Asked
     requires { ⌜ (length (now board) ≡ boardWords) × (length (now mission) ≡ missionWords) ⌝ }
     ensures { λ r. ⌜
         r

@@ -72,7 +72,7 @@ fn lower_of(stamp: Timestamp) -> u32
 }
 
 // The source's number, 0 where there is none.
-fn source_in(o: Origin) -> u32
+pub fn source_in(o: Origin) -> u32
     ensures { λ r. ⌜ r ≡ sourceIn o ⌝ }
 {
     match o {

@@ -40,7 +40,7 @@ use Rattle.next_leg.proofs.Made.{checksum-case}
 filled-fits : (arrival z : ℕ) → arrival < 2 ^ 32 → z < 256 → filledIn arrival z < 256 ^ 4
 filled-fits arrival z a h = omega arith
 
-widened-fits : (arrival : ℕ) (a : Addresses) → arrival < 2 ^ 32 → addressesFit a → addressesFit (widened arrival a)
+pub widened-fits : (arrival : ℕ) (a : Addresses) → arrival < 2 ^ 32 → addressesFit a → addressesFit (widened arrival a)
 widened-fits arrival (BasicPath z) h fits = fits
 widened-fits arrival (ExtendedPath p) h fits = fits
 widened-fits arrival (BasicEndSystem d s) h fits = (filled-fits arrival d h (fits .0), filled-fits arrival s h (fits .1))

@@ -50,8 +50,8 @@ ghost use Rattle.next_leg.specs.Leg.{
   legsOf,
 };
 
-// The hop count that is added.
-const FIRST_HOPS: u8 = 64;
+// The hop count that is added, and the one of a reply.
+pub const FIRST_HOPS: u8 = 64;
 
 // What the header of a copy is made of, but for its port: the address of the port that it came in by, the capabilities of the route taken (0 without
 // one), and the header that came.
@@ -97,7 +97,7 @@ fn asks_hops(code: u32) -> bool
     code == 4
 }
 
-fn is_absent(o: Octet) -> bool
+pub fn is_absent(o: Octet) -> bool
     ensures { λ r. ⌜ r ≡ isAbsent o ⌝ }
 {
     match o {
@@ -187,7 +187,8 @@ fn is_rewritten(far: bool, code: u32, f: Fields) -> bool
     adds_any(code, f)
 }
 
-fn addresses_next(far: bool, arrival: Address, a: Addresses) -> Addresses
+// The addresses for a port: widened where it lies in another domain.
+pub fn addresses_next(far: bool, arrival: Address, a: Addresses) -> Addresses
     ensures { λ r. ⌜ r ≡ addressesNext far (arrival .0) a ⌝ }
 {
     if far {
@@ -212,7 +213,8 @@ fn hops_next(code: u32, hops: Octet) -> Octet
     Octet::Present(count - 1)
 }
 
-fn checksum_next(code: u32, on: u8) -> u8
+// Whether the header has a checksum then: where it had one, or the route asks for it.
+pub fn checksum_next(code: u32, on: u8) -> u8
     ensures { λ r. ⌜ r ≡ checksumNext code on ⌝ }
 {
     if asks_checksum(code) {

@@ -4,7 +4,7 @@ use native.Mathlib.Decide.{decLe}
 use native.Mathlib.Nat.{lt-of-not-le}
 use Prim.Native.Nat.{ℕ, _<_, _≤_}
 use mathlib.Core.Path.{_≡_, refl, sym, ap, subst, _∙_}
-use mathlib.Core.Logic.{⊎-elim, by-cases, _≢_}
+use mathlib.Core.Logic.{_↔_, ⊎-elim, by-cases, _≢_}
 use mathlib.Core.Bool.{Bool, true, false, not, _&&_, _||_}
 use mathlib.Core.List.{List}
 use lib.Dec.{eqb, ltb}
@@ -22,15 +22,27 @@ use Rattle.routes.specs.Search.{searchOf}
 use Rattle.routes.specs.declared.Route.{Route}
 use Rattle.routes.specs.declared.Found.{Found}
 use Rattle.routes.specs.declared.Found.the-variants.{At, No}
+use Rattle.routes.proofs.Candidates.{candidate-within}
 use Rattle.routes.proofs.Longest.{CandidateAt, maskAt, search-found, search-no, search-greatest, search-first}
 use Rattle.meaning.specs.declared.Aim.the-variants.{Node}
 use Rattle.lookup.specs.ForTarget.{wayOf}
-use Rattle.state.specs.Relay.{Relay}
+use Rattle.state.specs.Relay.{Relay, routeIn}
 use Rattle.verdict.specs.Rule.{routeLine, codeOf}
 use Rattle.page.specs.Table.{matches, someMatches, outdoes, isBest, bestPort, bestCode, Line, refused, wanted}
 use Rattle.page.specs.Ends.{Chooses}
 use Rattle.page.proofs.Sets.{only-is}
 use Rattle.page.proofs.Copies.{Alone, Same}
+
+-- No route matches exactly where none at any place is a candidate.
+pub no-match : (r : Relay) (a : Address) → (someMatches r (Node a) ≡ false) ↔ ((q : ℕ) → candidate (routeIn r q) a ≡ false)
+unfolding someMatches
+no-match r a = (
+  λ e q. refuted (candidate (routeIn r q) a) (λ is.
+      true-false (sym (any-found (matches r (Node a)) q (length (r .routes)) (candidate-within a (r .routes) q is) is) ∙ e)),
+  λ none. refuted _ (λ some.
+      let where-is = any-is (matches r (Node a)) (length (r .routes)) .0 some in
+      true-false (sym (where-is .2) ∙ none (where-is .0))),
+)
 
 module _ (more : Route → Route → Bool) (r : Relay) (chooses : Chooses more r) (a : Address) where
   abbrev rs : List Route
@@ -151,12 +163,27 @@ module _ (more : Route → Route → Bool) (r : Relay) (chooses : Chooses more r
     unfolding someMatches
     some-match = any-found (matches r (Node a)) place (length rs) inside fits
 
+  pub some-best : (p : ℕ) → bestPort more r (Node a) p ≡ true → someMatches r (Node a) ≡ true
+  unfolding bestPort isBest someMatches
+  some-best p h =
+      let at = any-is (λ (q : ℕ). best q && eqb p (routeAt rs q .port)) (length rs) .0 h in
+      let both = and-true (best (at .0)) (eqb p (routeAt rs (at .0) .port)) (at .2) in
+      any-found (matches r (Node a)) (at .0) (length rs) (at .1) (and-true (candidate (routeAt rs (at .0)) a) _ (both .0) .0)
+
   none-match : searchOf a rs ≡ No → someMatches r (Node a) ≡ false
   unfolding someMatches
   none-match e =
       refuted _ λ h.
       let at = any-is (matches r (Node a)) (length rs) .0 h in
       true-false (sym (at .2) ∙ search-no a rs .0 e (at .0))
+
+  -- A route has one port, so that no two ports are wanted.
+  pub one-port : Alone (bestPort more r (Node a))
+  one-port = by (searchOf a rs) refl
+    where
+      by : (f : Found) → searchOf a rs ≡ f → Alone (bestPort more r (Node a))
+      by (At place ones x) e = port-alone place ones x e
+      by No e = λ p q l k hp hq. true-false (sym (some-best p hp) ∙ none-match e)
 
   abbrev bestLine : Line
   bestLine = wanted (bestPort more r (Node a)) (bestCode more r (Node a))

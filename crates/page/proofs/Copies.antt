@@ -101,7 +101,7 @@ bound-is (BasicEndSystem d s) = refl
 bound-is (ExtendedEndSystem d s) = refl
 bound-is (Ipv6 d s) = refl
 
-none-passes : (ports : Ports) → somePort ports ≡ false → (p : ℕ) → p < 8 → ports p ≡ false
+pub none-passes : (ports : Ports) → somePort ports ≡ false → (p : ℕ) → p < 8 → ports p ≡ false
 unfolding somePort
 none-passes ports e p l = refuted (ports p) (λ h. true-false (sym (any-found ports p 8 l h) ∙ e))
 

@@ -7,15 +7,14 @@ use mathlib.Core.Logic.{_↔_, _≢_, _⊎_, inl, inr, ⊎-elim}
 use mathlib.Core.Bool.{Bool, true, false, not, _&&_, _||_}
 use mathlib.Core.List.{List, [], _∷_}
 use lib.Dec.{eqb, ltb}
-use lib.ListN.{length, take, drop}
+use lib.ListN.{take, drop}
 use borrow.Author.Tests.{eqb-true, eqb-false, eq-eqb, ne-eqb, ltb-true, ltb-false, lt-ltb, le-ltb}
 use Rattle.checks.specs.Order.{pick, Checks, firstOf, noneHolds, firstHolds}
-use Rattle.checks.proofs.Bools.{true-false, not-false, and-true, or-true, refuted}
+use Rattle.checks.proofs.Bools.{true-false, not-false, and-true, or-true}
 use Rattle.checks.proofs.Laws.{either, number-first, first-number}
 use Rattle.refusals.proofs.Chains.{decided}
 use Rattle.sets.specs.Limits.{portCount}
 use Rattle.sets.specs.Sets.{inSet}
-use Rattle.sets.proofs.Anywhere.{any-is, any-found}
 use Rattle.address.specs.declared.Address.{Address}
 use Rattle.header.specs.Limits.{longestHeader}
 use Rattle.header.specs.Build.{sourceFlag, formatOf}
@@ -29,13 +28,13 @@ use Rattle.meaning.specs.declared.Aim.the-variants.{Node}
 use Rattle.routes.specs.Routes.{candidate}
 use Rattle.routes.specs.Search.{longerMask}
 use Rattle.routes.specs.declared.Route.{Route}
-use Rattle.routes.proofs.Candidates.{candidate-within}
 use Rattle.state.specs.Relay.{Relay, portIn, routeIn, portSetUp}
 use Rattle.verdict.specs.Numbers.{localNumber, onwardNumber}
 use Rattle.judge.specs.Ending.{endingOf}
 use Rattle.judge.specs.declared.Ending.{Ending}
-use Rattle.page.specs.Table.{Ports, firstRow, Decides, GivenBy, stepRows, destinationIs, equalsPort, isLimited, broadcastOfOurs, isMulticast, isOurs, localRows, localHalf, matches, someMatches, bestPort, bestCode, Line, notAsked, refused, wanted, isHost, onwardRows, onwardLine, hasRoom, copyRows, lineNumber, GivesNumber, lineGrants, lineCode, Verdict, judged, refusedWith, verdictBy}
+use Rattle.page.specs.Table.{Ports, firstRow, Decides, GivenBy, stepRows, destinationIs, equalsPort, isLimited, broadcastOfOurs, isMulticast, isOurs, localRows, localHalf, someMatches, bestPort, bestCode, Line, notAsked, refused, wanted, isHost, onwardRows, onwardLine, hasRoom, copyRows, lineNumber, GivesNumber, lineGrants, lineCode, Verdict, judged, refusedWith, verdictBy}
 use Rattle.page.specs.Ends.{Agrees, Chooses}
+use Rattle.page.proofs.Best.{no-match}
 use Rattle.page.proofs.Rows.{row-decides, every-row, every-check, only-row}
 use Rattle.page.proofs.Verdict.{ends, masks-choose, steps-numbers}
 
@@ -438,16 +437,6 @@ module _ (r : Relay) (at second : ℕ) (octets : List ℕ) (room : ℕ) where
     unfolding onwardLine
     route-line = simp (first, router, not-flooded, not-ours, no-group)
 
-    no-match : (someMatches r (Node a) ≡ false) ↔ ((q : ℕ) → candidate (routeIn r q) a ≡ false)
-    unfolding someMatches
-    no-match = (
-      λ e q. refuted (candidate (routeIn r q) a) (λ is.
-          true-false (sym (any-found (matches r (Node a)) q (length (r .routes)) (candidate-within a (r .routes) q is) is) ∙ e)),
-      λ none. refuted _ (λ some.
-          let where-is = any-is (matches r (Node a)) (length (r .routes)) .0 some in
-          true-false (sym (where-is .2) ∙ none (where-is .0))),
-    )
-
     eleven-case : (some : Bool) (ports : Ports) (code : ℕ) → (lineNumber r at h (pick (not some) (refused 11) (wanted ports code)) ≡ 11) ↔ (some ≡ false)
     eleven-case true ports code = (λ e. absurd (copies-not r at h ports code 11 refl e), λ d. true-false d)
     eleven-case false ports code = (λ e. refl, λ d. refl)
@@ -460,4 +449,4 @@ module _ (r : Relay) (at second : ℕ) (octets : List ℕ) (room : ℕ) where
         ∙ ap (λ (y : Aim). lineNumber r at h (onwardLine longerMask r at y (h .fields))) named
         ∙ ap (lineNumber r at h) route-line in
         let case = eleven-case (someMatches r (Node a)) (bestPort longerMask r (Node a)) (bestCode longerMask r (Node a)) in
-        by-number is (λ e. no-match .0 (case .0 e), λ d. case .1 (no-match .1 d))
+        by-number is (λ e. no-match r a .0 (case .0 e), λ d. case .1 (no-match r a .1 d))

@@ -177,6 +177,12 @@ module _ (more : Route → Route → Bool) (r : Relay) (chooses : Chooses more r
     node-ours false false false true = subscribed-none ∙ ap not (sym (or-false (isSubscribed r at a)))
     node-ours false false false false = refl
 
+    -- so what is looked up before the search makes it ours where its name does
+    pub asked-ours : eqb (oursBy (targetAsked r a) (hereBy (placeFor r (targetAsked r a) a arrival))) 0 ≡ not (oursByName r at (Node a))
+    asked-ours =
+        subst (λ (t : Target). eqb (oursBy t (hereBy (placeFor r t a arrival))) 0 ≡ not (oursByName r at (Node a))) (sym asked-is)
+        (node-ours (equalsPort r (Node a)) (broadcastOfOurs r (Node a)) (isLimited a) (isMulticast a))
+
     -- what the pairs say, by the table's tests
     abbrev flooded : Bool
     flooded = isFlooded (h .fields)

@@ -81,10 +81,10 @@ module _ (r : Relay) where
   unfolding amongPorts
   set-up-is p l = simp (lt-ltb p 8 l)
 
-  gathered : (test : Ports) (p : ℕ) → p < 8 → inSet p (portsBelow r test 8) ≡ (portSetUp r p && test p)
+  pub gathered : (test : Ports) (p : ℕ) → p < 8 → inSet p (portsBelow r test 8) ≡ (portSetUp r p && test p)
   gathered test p l = in-gathered (λ (i : ℕ). isSetUp (portIn r i) && test i) p 8 l ∙ ap (λ (t : Bool). t && test p) (set-up-is p l)
 
-  small : (test : Ports) → portsBelow r test 8 < 256
+  pub small : (test : Ports) → portsBelow r test 8 < 256
   small test = portSet-below (λ (i : ℕ). isSetUp (portIn r i) && test i) 8
 
   -- none is gathered exactly where no port that is set up passes

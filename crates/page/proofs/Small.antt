@@ -28,18 +28,18 @@ pub record Small (x : Ruling) : Type 0 where
   pub dropped : x .dropped < 256
 
 -- the set that a line wants, none where it wants none
-abbrev wantedBy : Wish → ℕ
+abbrev pub wantedBy : Wish → ℕ
 wantedBy NotAsked = 0
 wantedBy (Refused n) = 0
 wantedBy (Wanted set) = set
 
 -- the size leaves only ports that are set up
-size-small : (l : Wish) (fitting : ℕ) → wantedBy (afterSize l fitting) ≤ fitting
+pub size-small : (l : Wish) (fitting : ℕ) → wantedBy (afterSize l fitting) ≤ fitting
 size-small NotAsked fitting = omega arith
 size-small (Refused n) fitting = omega arith
 size-small (Wanted set) fitting = either (λ l. wantedBy l ≤ fitting) (eqb (bitAnd set fitting) 0) (omega arith) (and-le-r set fitting)
 
-ruling-small : (local : Local) (l : Wish) (full : ℕ) → wantedBy l < 256 → Small (rulingOf local l full)
+pub ruling-small : (local : Local) (l : Wish) (full : ℕ) → wantedBy l < 256 → Small (rulingOf local l full)
 unfolding rulingOf copiesOf
 ruling-small local NotAsked full h = record { granted = h; took = h; dropped = h }
 ruling-small local (Refused n) full h = record { granted = h; took = h; dropped = h }

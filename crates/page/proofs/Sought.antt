@@ -86,7 +86,7 @@ module _ (r : Relay) (a : Address) where
       ltb-false (onesOf (routeIn r q .mask .0)) (onesOf (routeIn r p .mask .0))
       (or-false rather lower (sym (ap (λ (t : Bool). t && (rather || lower)) match) ∙ none) .0)
 
-  best-taken : (p : ℕ) → bestPort moreOnes r (Node a) p ≡ true → RouteTaken r a p
+  pub best-taken : (p : ℕ) → bestPort moreOnes r (Node a) p ≡ true → RouteTaken r a p
   unfolding bestPort isBest
   best-taken p some =
       let at = any-is (λ (q : ℕ). isBest moreOnes r (Node a) q && eqb p (routeIn r q .port)) (length (r .routes)) .0 some in

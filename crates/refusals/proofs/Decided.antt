@@ -11,7 +11,7 @@ use Rattle.state.specs.Relay.{Relay}
 use Rattle.state.specs.Seen.{Board}
 use Rattle.listing.specs.Listed.{recordChecks}
 use Rattle.refusals.proofs.Chains.{Decided, decided}
-use Rattle.refusals.specs.Lists.{portChecks, routeChecks, clearRouteChecks, groupChecks, pathChecks, routerChecks, missionChecks, clearChecks}
+use Rattle.refusals.specs.Lists.{portChecks, routeChecks, clearRouteChecks, groupChecks, pathChecks, flagChecks, missionChecks, clearChecks}
 
 -- a route's record, by itself: 21, 22 and 24
 pub record-decided : (b : Board) (x : Record) → Decided (recordChecks b x)
@@ -31,8 +31,8 @@ module _ (r : Relay) (i : ℕ) where
   pub path-decided : (path : PathAddress) (send here : ℕ) → Decided (pathChecks r i path send here)
   path-decided path send here = decided (pathChecks r i path send here) refl
 
-pub router-decided : (router : ℕ) → Decided (routerChecks router)
-router-decided router = decided (routerChecks router) refl
+pub flag-decided : (x : ℕ) → Decided (flagChecks x)
+flag-decided x = decided (flagChecks x) refl
 
 pub mission-decided : (n : ℕ) → Decided (missionChecks n)
 mission-decided n = decided (missionChecks n) refl

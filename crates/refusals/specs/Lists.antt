@@ -59,9 +59,9 @@ pathChecks r i path send here =
     ∷ (pathElsewhere (r .mission) i path, 23)
     ∷ []
 
--- router or host
-abbrev pub routerChecks : ℕ → Checks
-routerChecks router = (flagRefused router, 24) ∷ []
+-- router or host; echo drop on or off (page 02, W-203)
+abbrev pub flagChecks : ℕ → Checks
+flagChecks x = (flagRefused x, 24) ∷ []
 
 -- a mission's number, where it is made fresh (docs/DECISIONS.md)
 abbrev pub missionChecks : ℕ → Checks

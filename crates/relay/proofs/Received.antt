@@ -70,7 +70,7 @@ refused-counted b w v slot second n counts eb ew ev is e d =
     ∙ ap (λ (t : Bool). receivedState (decodeBoard b) (decode w) slot (pick t k (putLast k second)) (refusedBy n)) (sym (heard n counts)))
 
 -- four refusals count nothing, and accept no second
-idle-words : (f : Board → State → State) → ((x : Board) (y : State) → f x y ≡ y) → (b w : List ℕ) → lent w ≡ changedBoth f b w
+pub idle-words : (f : Board → State → State) → ((x : Board) (y : State) → f x y ≡ y) → (b w : List ℕ) → lent w ≡ changedBoth f b w
 unfolding toldBoard changed
 idle-words f same b w = by-board (lentBoard b)
   where

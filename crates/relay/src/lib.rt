@@ -18,7 +18,6 @@ use judge::Ending;
 use listing::Query;
 use listing::Scan;
 use queue::Entry;
-use survey::Destination;
 use verdict::Flood;
 use verdict::Target;
 use verdict::Way;
@@ -37,7 +36,7 @@ ghost use Rattle.state.specs.Seen.{Board};
 ghost use Rattle.state.specs.Layout.{boardWords, missionWords, decode};
 ghost use Rattle.lent_state.specs.View.{lent};
 ghost use Rattle.answers.specs.Answers.{receiveNumber};
-ghost use Rattle.judge.specs.Asked.{routeSought, unlessFlood, addressIn};
+ghost use Rattle.judge.specs.Asked.{routeSought, unlessFlood};
 ghost use Rattle.judge.specs.Ending.{outputRoom, refusedBy};
 ghost use Rattle.relay.specs.Outgoing.{sentOutput};
 ghost use Rattle.relay.specs.Received.{receivedState};
@@ -116,16 +115,6 @@ fn searched_in(refusal: u32, target: Target, router: u32, flood: Flood) -> u32
     unless_flood(flood, route_sought(target, router))
 }
 
-// The address that it is searched for.
-fn address_in(d: Destination) -> u32
-    ensures { λ r. ⌜ r ≡ addressIn d ⌝ }
-{
-    match d {
-        Destination::Node(a) => a.0,
-        Destination::Other => 0,
-    }
-}
-
 // What is asked of the list of routes.
 pub fn query_of(a: Asked) -> Query
     ensures { λ r. ⌜ r ≡ queryOf a ⌝ }
@@ -137,7 +126,7 @@ pub fn query_of(a: Asked) -> Query
     Query {
         refusal: a.refusal,
         sought: searched_in(a.refusal, target, case.router, flood),
-        address: address_in(destination),
+        address: judge::address_in(destination),
         mask: 0,
         mission: a.number,
         own: a.ready,
@@ -145,7 +134,7 @@ pub fn query_of(a: Asked) -> Query
 }
 
 // The way by the route that was found.
-fn way_in(s: Scan) -> Way
+pub fn way_in(s: Scan) -> Way
     ensures { λ r. ⌜ r ≡ wayIn s ⌝ }
 {
     if s.found == 0 {

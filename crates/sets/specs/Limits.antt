@@ -1,5 +1,5 @@
 -- How many there are of each thing that a relay has: page 01, "Numbers that hold everywhere"; page 02, W-208 ("the 64
--- route places of page 01 become 512"; two missions); W-207 ("64 pairs"; "28 and 30 each get a counter"). Ports, places, counters and missions are
+-- route places of page 01 become 512"; two missions); W-207 ("64 pairs"; "28 and 30 each get a counter"); W-203 (npOutRequests). Ports, places, counters and missions are
 -- numbered from 0.
 -- How many entries a queue holds stands with the queue. Assumes nothing.
 use Prim.Native.Nat.{ℕ}
@@ -20,7 +20,7 @@ abbrev pub pairPlaces : ℕ
 pairPlaces = 64
 
 abbrev pub counterCount : ℕ
-counterCount = 17
+counterCount = 18
 
 abbrev pub missionCount : ℕ
 missionCount = 2

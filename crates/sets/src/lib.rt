@@ -20,7 +20,7 @@ pub const PATHS: u32 = 16;
 
 pub const PAIRS: u32 = 64;
 
-pub const COUNTERS: u32 = 17;
+pub const COUNTERS: u32 = 18;
 
 pub const MISSIONS: u32 = 2;
 

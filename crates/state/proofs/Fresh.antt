@@ -29,7 +29,7 @@ module _ (n : ℕ) where
 
   pub fresh-length : length (freshWords n) ≡ missionWords
   unfolding freshWords
-  fresh-length = ap suc (length-replicate {A = ℕ} 730 0)
+  fresh-length = ap suc (length-replicate {A = ℕ} 731 0)
 
   -- words that are all 0, and then the number
   pub fresh-numbered : set (freshWords 0) 0 n ≡ freshWords n
@@ -39,4 +39,4 @@ module _ (n : ℕ) where
 pub fresh-zero : (i : ℕ) → i < missionWords → getD (freshWords 0) i 0 ≡ 0
 unfolding freshWords
 fresh-zero zero h = refl
-fresh-zero (suc i) h = getD-replicate {A = ℕ} 730 i 0 0 (le-of-suc-le-suc h)
+fresh-zero (suc i) h = getD-replicate {A = ℕ} 731 i 0 0 (le-of-suc-le-suc h)

@@ -46,19 +46,19 @@ module _ (k : Memory) (s : length (k .pairs) ≡ 64) (i : ℕ) where
   pub pair-back : (x : PairPlace) → i < 64 → pairAt (putPair k i x) i ≡ x
   pair-back x h = getD-set-same (k .pairs) i x _ (rw s h)
 
-module _ (cs : List ℕ) (s : length cs ≡ 17) (i : ℕ) where
-  pub counter-back : (x : ℕ) → i < 17 → counterIn (withCounter cs i x) i ≡ x
+module _ (cs : List ℕ) (s : length cs ≡ 18) (i : ℕ) where
+  pub counter-back : (x : ℕ) → i < 18 → counterIn (withCounter cs i x) i ≡ x
   counter-back x h = getD-set-same cs i x 0 (rw s h)
 
   -- A counter counts modulo 2^32: n more is n more, and comes round to 0 after 2^32 - 1.
-  pub counted : (n : ℕ) → i < 17 → counterIn (added cs i n) i ≡ (counterIn cs i + n) % 2 ^ 32
+  pub counted : (n : ℕ) → i < 18 → counterIn (added cs i n) i ≡ (counterIn cs i + n) % 2 ^ 32
   counted n h = counter-back _ h
 
-  pub counted-below : (n : ℕ) → i < 17 → counterIn cs i + n < 2 ^ 32 → counterIn (added cs i n) i ≡ counterIn cs i + n
+  pub counted-below : (n : ℕ) → i < 18 → counterIn cs i + n < 2 ^ 32 → counterIn (added cs i n) i ≡ counterIn cs i + n
   counted-below n h b = counted n h ∙ mod-eq-of-lt b
 
   -- One count after the other is the sum of both.
-  pub counted-twice : (m n : ℕ) → i < 17 → added (added cs i m) i n ≡ added cs i (m + n)
+  pub counted-twice : (m n : ℕ) → i < 18 → added (added cs i m) i n ≡ added cs i (m + n)
   counted-twice m n h =
       set-set cs i _ _
       ∙ ap (set cs i)

@@ -32,6 +32,10 @@ module _ (w : List ℕ) where
   unfolding decodeBoard boardOf
   lifetime-read = word-read boardSections w 2 (omega arith) 0 (omega arith)
 
+  pub drop-read : getD w 42 0 ≡ decodeBoard w .drop
+  unfolding decodeBoard boardOf
+  drop-read = word-read boardSections w 3 (omega arith) 0 (omega arith)
+
   -- ---- a mission's state
   pub number-read : getD w 0 0 ≡ decode w .number
   unfolding decode stateOf
@@ -49,14 +53,14 @@ module _ (w : List ℕ) where
   unfolding decode stateOf
   queue-read p x h e = record-read sections w 3 (omega arith) queueOf 33 8 refl p _ x h e
 
-  pub counter-read : (i : ℕ) → i < 17 → getD w (393 + i) 0 ≡ counterIn (decode w .counters) i
+  pub counter-read : (i : ℕ) → i < 18 → getD w (393 + i) 0 ≡ counterIn (decode w .counters) i
   unfolding decode stateOf
   counter-read i h = word-read sections w 4 (omega arith) i h
 
-  pub last-read : getD w 410 0 ≡ decode w .memory .last
+  pub last-read : getD w 411 0 ≡ decode w .memory .last
   unfolding decode stateOf
   last-read = word-read sections w 5 (omega arith) 0 (omega arith)
 
-  pub pair-read : (i : ℕ) (x : PairPlace) → i < 64 → x ≡ pairPlaceOf (taken 411 5 i w) → x ≡ pairAt (decode w .memory) i
+  pub pair-read : (i : ℕ) (x : PairPlace) → i < 64 → x ≡ pairPlaceOf (taken 412 5 i w) → x ≡ pairAt (decode w .memory) i
   unfolding decode stateOf
   pair-read i x h e = record-read sections w 6 (omega arith) pairPlaceOf 5 64 refl i _ x h e

@@ -12,7 +12,7 @@ use Rattle.records.specs.declared.PathPlace.{PathPlace}
 use Rattle.words.specs.Cut.{cut}
 use Rattle.words.proofs.Pieces.{rows-length}
 use Rattle.state.specs.Relay.{Mission, putGroup, putPath, putQueue, withCounter}
-use Rattle.state.specs.Seen.{Board, putRouter, putOwned, putLifetime, portsSeen, allPorts}
+use Rattle.state.specs.Seen.{Board, putRouter, putOwned, putLifetime, putDrop, portsSeen, allPorts}
 use Rattle.state.specs.Layout.{boardSections, boardOf, decodeBoard, ownedOf}
 use Rattle.state.specs.Layout.{sections, missionWords, stateOf, decode, groupOf, pathOf, queueOf, pairPlaceOf}
 use Rattle.state.proofs.Words.{section-length}
@@ -41,7 +41,7 @@ module _ (w : List ℕ) where
   unfolding decodeBoard boardOf
   board-sized = rows-length ownedOf 5 8 (cut boardSections w 1)
 
-  pub counters-length : length w ≡ missionWords → length (decode w .counters) ≡ 17
+  pub counters-length : length w ≡ missionWords → length (decode w .counters) ≡ 18
   unfolding decode stateOf
   counters-length l = section-length w l 4 (omega arith) (omega arith)
 
@@ -65,6 +65,9 @@ module _ (b : Board) where
 
   pub lifetime-sizes : (x : ℕ) → length (putLifetime b x .ports) ≡ length (b .ports)
   lifetime-sizes x = refl
+
+  pub drop-sizes : (x : ℕ) → length (putDrop b x .ports) ≡ length (b .ports)
+  drop-sizes x = refl
 
   pub owned-sizes : (i : ℕ) (x : OwnedPort) → length (putOwned b i x .ports) ≡ length (b .ports)
   owned-sizes i x = rw length-set

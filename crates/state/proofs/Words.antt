@@ -1,4 +1,4 @@
--- Words are boards and states: what is read from any 42 words, or from any 731, and written again, is those words, and no two lists of words hold
+-- Words are boards and states: what is read from any 43 words, or from any 732, and written again, is those words, and no two lists of words hold
 -- the same board, or the same state. Assumes nothing.
 use native.Mathlib.Omega.{arith}
 use Prim.Native.Nat.{ℕ, _+_, _≤_, _<_}
@@ -16,21 +16,22 @@ use Rattle.state.proofs.Records.{owned-words, group-words, path-words, 
 
 -- ---- the board
 -- each section has its length
-pub board-section-length : (w : List ℕ) → length w ≡ boardWords → (c : ℕ) → c < 3 → start boardSections c + getD boardSections c 0 ≤ boardWords
+pub board-section-length : (w : List ℕ) → length w ≡ boardWords → (c : ℕ) → c < 4 → start boardSections c + getD boardSections c 0 ≤ boardWords
     → length (cut boardSections w c) ≡ getD boardSections c 0
 board-section-length w l c h m = cut-length boardSections w c h (rw l m)
 
-same-three : (a b c a′ b′ c′ : List ℕ) → a ≡ a′ → b ≡ b′ → c ≡ c′ → joined (a ∷ b ∷ c ∷ []) ≡ joined (a′ ∷ b′ ∷ c′ ∷ [])
-same-three a b c a′ b′ c′ p q r = rw (p, q, r)
+same-four : (a b c d a′ b′ c′ d′ : List ℕ) → a ≡ a′ → b ≡ b′ → c ≡ c′ → d ≡ d′ → joined (a ∷ b ∷ c ∷ d ∷ []) ≡ joined (a′ ∷ b′ ∷ c′ ∷ d′ ∷ [])
+same-four a b c d a′ b′ c′ d′ p q r s = rw (p, q, r, s)
 
 pub encode-board-decode : (w : List ℕ) → length w ≡ boardWords → encodeBoard (decodeBoard w) ≡ w
 unfolding encodeBoard decodeBoard boardOf total
 encode-board-decode w h =
     let long = board-section-length w h in
-    same-three _ _ _ _ _ _
+    same-four _ _ _ _ _ _ _ _
     (spelled-whole 1 (cut boardSections w 0) (long 0 (omega arith) (omega arith)))
     (flat-rows ownedOf ownedWords 5 owned-words 8 (cut boardSections w 1) (long 1 (omega arith) (omega arith)))
     (spelled-whole 1 (cut boardSections w 2) (long 2 (omega arith) (omega arith)))
+    (spelled-whole 1 (cut boardSections w 3) (long 3 (omega arith) (omega arith)))
     ∙ cuts-joined boardSections w h
 
 pub decode-board-injective : (v w : List ℕ) → length v ≡ boardWords → length w ≡ boardWords → decodeBoard v ≡ decodeBoard w → v ≡ w

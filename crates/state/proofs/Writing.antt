@@ -13,7 +13,7 @@ use Rattle.records.specs.declared.PairPlace.{PairPlace}
 use Rattle.words.specs.Cut.{cut}
 use Rattle.words.proofs.Sections.{record-written, word-written}
 use Rattle.state.specs.Relay.{counterIn, allGroups, allPaths, allQueues, putGroup, putPath, putQueue, putLast, putPair, withCounter, added}
-use Rattle.state.specs.Seen.{Board, putRouter, putOwned, putLifetime, onMission, onMemory, onCounters}
+use Rattle.state.specs.Seen.{Board, putRouter, putOwned, putLifetime, putDrop, onMission, onMemory, onCounters}
 use Rattle.state.specs.Layout.{boardSections, boardWords, boardOf, decodeBoard, ownedOf, ownedWords}
 use Rattle.state.specs.Layout.{sections, missionWords, stateOf, decode, groupOf, groupWords, pathOf, pathWords, pairPlaceOf, pairWords, queueOf, queueWords}
 use Rattle.state.proofs.Records.{Slots, owned-record, owned-length, group-record, group-length, path-record, path-length}
@@ -38,7 +38,7 @@ module _ (w : List ℕ) (l : length w ≡ boardWords) where
       → decodeBoard (left 1 5 p w vs) ≡ putOwned (decodeBoard w) p x
   unfolding decodeBoard boardOf
   owned-written p x vs h e =
-      let anew : List OwnedPort → Board = λ (ps : List OwnedPort). record { router = decodeBoard w .router; ports = ps; lifetime = decodeBoard w .lifetime } in
+      let anew : List OwnedPort → Board = λ (ps : List OwnedPort). record { router = decodeBoard w .router; ports = ps; lifetime = decodeBoard w .lifetime; drop = decodeBoard w .drop } in
       record-written boardSections w 1 (omega arith) ownedOf 5 8 refl boardOf anew (λ s. refl) (omega arith)
       p x vs h (ap length e ∙ owned-length x) (ap ownedOf e ∙ owned-record x)
 
@@ -48,6 +48,13 @@ module _ (w : List ℕ) (l : length w ≡ boardWords) where
       let one : 0 < length (cut boardSections w 2) = rw (board-section-length w l 2 (omega arith) (omega arith)) (omega arith) in
       ap boardOf (word-written boardSections w 2 (omega arith) (omega arith) 0 x (omega arith))
       ∙ ap (putLifetime (decodeBoard w)) (getD-set-same (cut boardSections w 2) 0 x 0 one)
+
+  pub drop-written : (x : ℕ) → decodeBoard (set w 42 x) ≡ putDrop (decodeBoard w) x
+  unfolding decodeBoard boardOf
+  drop-written x =
+      let one : 0 < length (cut boardSections w 3) = rw (board-section-length w l 3 (omega arith) (omega arith)) (omega arith) in
+      ap boardOf (word-written boardSections w 3 (omega arith) (omega arith) 0 x (omega arith))
+      ∙ ap (putDrop (decodeBoard w)) (getD-set-same (cut boardSections w 3) 0 x 0 one)
 
 -- ---- a mission's state
 module _ (w : List ℕ) (l : length w ≡ missionWords) where
@@ -72,15 +79,15 @@ module _ (w : List ℕ) (l : length w ≡ missionWords) where
       record-written sections w 3 (omega arith) queueOf 33 8 refl stateOf (λ qs. onMission (λ m. allQueues m qs) (decode w)) (λ s. refl) (omega arith)
       p x vs h (ap length e ∙ queue-length x wide) (ap queueOf e ∙ queue-record x wide held)
 
-  counter-written : (i x : ℕ) → i < 17 → decode (set w (393 + i) x) ≡ onCounters (λ l. withCounter l i x) (decode w)
+  counter-written : (i x : ℕ) → i < 18 → decode (set w (393 + i) x) ≡ onCounters (λ l. withCounter l i x) (decode w)
   unfolding decode stateOf
   counter-written i x h = ap stateOf (word-written sections w 4 (omega arith) (omega arith) i x h)
 
-  pub counter-added : (i n : ℕ) → i < 17
+  pub counter-added : (i n : ℕ) → i < 18
       → decode (set w (393 + i) ((getD w (393 + i) 0 + n) % 2 ^ 32)) ≡ onCounters (λ l. added l i n) (decode w)
   counter-added i n h = rw (counter-read w i h) (counter-written i ((counterIn (decode w .counters) i + n) % 2 ^ 32) h)
 
-  pub last-written : (x : ℕ) → decode (set w 410 x) ≡ onMemory (λ k. putLast k x) (decode w)
+  pub last-written : (x : ℕ) → decode (set w 411 x) ≡ onMemory (λ k. putLast k x) (decode w)
   unfolding decode stateOf
   last-written x =
       let one : 0 < length (cut sections w 5) = rw (section-length w l 5 (omega arith) (omega arith)) (omega arith) in
@@ -88,7 +95,7 @@ module _ (w : List ℕ) (l : length w ≡ missionWords) where
       ∙ ap (λ (t : ℕ). onMemory (λ k. putLast k t) (decode w)) (getD-set-same (cut sections w 5) 0 x 0 one)
 
   pub pair-written : (i : ℕ) (x : PairPlace) (vs : List ℕ) → i < 64 → vs ≡ pairWords x
-      → decode (left 411 5 i w vs) ≡ onMemory (λ k. putPair k i x) (decode w)
+      → decode (left 412 5 i w vs) ≡ onMemory (λ k. putPair k i x) (decode w)
   unfolding decode stateOf
   pair-written i x vs h e =
       record-written sections w 6 (omega arith) pairPlaceOf 5 64 refl stateOf

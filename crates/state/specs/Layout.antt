@@ -1,5 +1,5 @@
--- The words that C lends. The board's are 42: router 1; 8 ports of 5; lifetime 1. A mission's are 731: its number 1; 16 groups of 4; 16 paths of 4; 8
--- queues of 33; 17 counters; the last second 1; 64 pairs of 5. Assumes nothing.
+-- The words that C lends. The board's are 43: router 1; 8 ports of 5; lifetime 1; echo drop 1. A mission's are 732: its number 1; 16 groups of 4; 16 paths of 4; 8
+-- queues of 33; 18 counters; the last second 1; 64 pairs of 5. Assumes nothing.
 use Prim.Native.Nat.{ℕ, _+_, _*_, _/_, _%_}
 use mathlib.Core.List.{List, [], _∷_, _++_, map}
 use lib.ListN.{take, getD, replicate}
@@ -63,20 +63,26 @@ queueWords q = map entryWord (q .entries) ++ (q .count ∷ [])
 
 -- ---- the board
 abbrev pub boardSections : List ℕ
-boardSections = 1 ∷ portCount * 5 ∷ 1 ∷ []
+boardSections = 1 ∷ portCount * 5 ∷ 1 ∷ 1 ∷ []
 
 -- the sections together
 abbrev pub boardWords : ℕ
-boardWords = 42
+boardWords = 43
 
 unfoldable pub boardOf : List (List ℕ) → Board
-boardOf s = record { router = getD (getD s 0 []) 0 0; ports = rows ownedOf 5 portCount (getD s 1 []); lifetime = getD (getD s 2 []) 0 0 }
+boardOf s =
+    record {
+      router = getD (getD s 0 []) 0 0;
+      ports = rows ownedOf 5 portCount (getD s 1 []);
+      lifetime = getD (getD s 2 []) 0 0;
+      drop = getD (getD s 3 []) 0 0;
+    }
 
 unfoldable pub decodeBoard : List ℕ → Board
 decodeBoard w = boardOf (cuts boardSections w)
 
 unfoldable pub encodeBoard : Board → List ℕ
-encodeBoard b = joined ((b .router ∷ []) ∷ flat ownedWords (b .ports) ∷ (b .lifetime ∷ []) ∷ [])
+encodeBoard b = joined ((b .router ∷ []) ∷ flat ownedWords (b .ports) ∷ (b .lifetime ∷ []) ∷ (b .drop ∷ []) ∷ [])
 
 -- the words of a fresh board
 unfoldable pub freshBoardWords : List ℕ
@@ -88,7 +94,7 @@ sections = 1 ∷ groupPlaces * 4 ∷ pathPlaces * 4 ∷ portCount * 33 ∷ count
 
 -- the sections together
 abbrev pub missionWords : ℕ
-missionWords = 731
+missionWords = 732
 
 unfoldable pub stateOf : List (List ℕ) → State
 stateOf s =
@@ -121,4 +127,4 @@ encode s =
 
 -- the words of a fresh mission of this number
 unfoldable pub freshWords : ℕ → List ℕ
-freshWords n = n ∷ replicate 730 0
+freshWords n = n ∷ replicate 731 0

@@ -1,9 +1,9 @@
 -- Page 01's relay, "Numbers that hold everywhere" and "Settings": the settings, the queues and (page 02, W-207) the memory, which the rules read. It is what one mission sees of
 -- the board, of the list of routes and of its own state (specs/Seen.antt); the counters, which no rule reads, stand beside it. Each view reads one
 -- part, each update changes one.
--- The counters are seventeen, modulo 2^32, in this order: npInReceives, npInBadLength, npInBadVersion, npInBadAddress, npInBadChecksum,
+-- The counters are eighteen, modulo 2^32, in this order: npInReceives, npInBadLength, npInBadVersion, npInBadAddress, npInBadChecksum,
 -- unsupported, npInAddrErrors, npInUnknownProtos, npInDelivers, npForwHopDiscard, npForwDatagrams, npOutNoRoutes, npOutDiscards,
--- left domain, too big (page 01, "Refusal numbers"), and those of 28 and of 30 (W-207). Assumes nothing.
+-- left domain, too big (page 01, "Refusal numbers"), those of 28 and of 30 (W-207), and npOutRequests (W-203). Assumes nothing.
 use Prim.Native.Nat.{ℕ, _+_, _%_, _^_}
 use mathlib.Core.Bool.{Bool, _&&_}
 use mathlib.Core.List.{List}

@@ -12,27 +12,32 @@ use Rattle.records.specs.Fresh.{freshOwned, freshGroup, freshPath, freshPair}
 use Rattle.records.specs.Owned.{seenPort}
 use Rattle.state.specs.Relay.{Mission, Memory, Relay}
 
--- ---- the board: "Only the operator writes ports, routes, lifetime, .. and router settings"; `router` is 0 for a host
+-- ---- the board: "Only the operator writes ports, routes, lifetime, echo drop and router settings"; `router` is 0 for a host, and `drop` where echo requests are answered
 pub record Board : Type 0 where
   pub router : ℕ
   pub ports : List OwnedPort
   pub lifetime : ℕ
+  pub drop : ℕ
 
--- page 01, "Settings": no port, a host; page 02, W-207: "the lifetime set (0 at first)"
+-- page 01, "Settings": no port, a host; page 02, W-207: "the lifetime set (0 at first)"; W-203: "A setting that drops all requests
+-- defaults to off"
 unfoldable pub freshBoard : Board
-freshBoard = record { router = 0; ports = replicate portCount freshOwned; lifetime = 0 }
+freshBoard = record { router = 0; ports = replicate portCount freshOwned; lifetime = 0; drop = 0 }
 
 abbrev pub ownedAt : Board → ℕ → OwnedPort
 ownedAt b p = getD (b .ports) p freshOwned
 
 abbrev pub putRouter : Board → ℕ → Board
-putRouter b x = record { router = x; ports = b .ports; lifetime = b .lifetime }
+putRouter b x = record { router = x; ports = b .ports; lifetime = b .lifetime; drop = b .drop }
 
 abbrev pub putOwned : Board → ℕ → OwnedPort → Board
-putOwned b p x = record { router = b .router; ports = set (b .ports) p x; lifetime = b .lifetime }
+putOwned b p x = record { router = b .router; ports = set (b .ports) p x; lifetime = b .lifetime; drop = b .drop }
 
 abbrev pub putLifetime : Board → ℕ → Board
-putLifetime b x = record { router = b .router; ports = b .ports; lifetime = x }
+putLifetime b x = record { router = b .router; ports = b .ports; lifetime = x; drop = b .drop }
+
+abbrev pub putDrop : Board → ℕ → Board
+putDrop b x = record { router = b .router; ports = b .ports; lifetime = b .lifetime; drop = x }
 
 -- ---- a mission's own state: its number, what the rules read and write of it, what it remembers, and its counters
 pub record State : Type 0 where

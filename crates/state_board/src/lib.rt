@@ -1,9 +1,9 @@
-// The operator's board in lent words: router or host, the ports and whose they are, the lifetime of pairs, and a fresh board.
+// The operator's board in lent words: router or host, the ports and whose they are, the lifetime of pairs, whether echo requests are dropped, and a fresh board.
 //
-// The caller lends the whole board, 42 words, and each function works on the words of one part, so that nothing is copied that is
+// The caller lends the whole board, 43 words, and each function works on the words of one part, so that nothing is copied that is
 // not asked for. The crates `state_mission`, `state_places`, `state_queues` and `state_pairs` do the same for a mission's words. Each promise is over
 // `decodeBoard` alone: above this crate nobody sees a word, and the layout can change without a proof above it. What is required is the
-// length and a number in range, which the calls from C have tested. No board is bad: any 42 words hold some port in each place.
+// length and a number in range, which the calls from C have tested. No board is bad: any 43 words hold some port in each place.
 // A mission sees a port as it stands where it is its own, and else one that is not set up; a number over 1, which only words that no call
 // wrote can have, owns none. So the rules above, which ask a port whether it is set up, need not ask whose it is.
 pub mod ready;
@@ -18,7 +18,7 @@ ghost use Rattle.records.specs.Fresh.{freshPort};
 ghost use Rattle.records.specs.Owned.{seenPort};
 ghost use Rattle.state.specs.Layout.{boardWords, decodeBoard, ownedOf, ownedWords};
 ghost use Rattle.state.specs.Relay.{amongPorts};
-ghost use Rattle.state.specs.Seen.{ownedAt, putRouter, putOwned, putLifetime, freshBoard, portsSeen};
+ghost use Rattle.state.specs.Seen.{ownedAt, putRouter, putOwned, putLifetime, putDrop, freshBoard, portsSeen};
 use address::Address;
 use address::Mask;
 use checks::Check;
@@ -26,7 +26,7 @@ use records::OwnedPort;
 use records::Port;
 
 // How many words the board has.
-pub const BOARD_WORDS: usize = 42;
+pub const BOARD_WORDS: usize = 43;
 
 // Where the sections begin.
 const ROUTER_AT: usize = 0;
@@ -36,6 +36,8 @@ const PORTS_AT: usize = 1;
 const PORT_WORDS: usize = 5;
 
 const LIFETIME_AT: usize = 41;
+
+const DROP_AT: usize = 42;
 
 // 0 for a host.
 pub fn router_of(board: &[u32]) -> u32
@@ -66,6 +68,22 @@ pub fn put_lifetime(board: &mut [u32], x: u32)
     ensures { λ _. ⌜ decodeBoard (now (board .exit)) ≡ putLifetime (decodeBoard (now (board .entry))) x ⌝ }
 {
     let at = LIFETIME_AT;
+    board[at] = x;
+}
+
+// 0 where echo requests are answered.
+pub fn drop_of(board: &[u32]) -> u32
+    requires { ⌜ length (now board) ≡ boardWords ⌝ }
+    ensures { λ r. ⌜ r ≡ decodeBoard (now (board .entry)) .drop ⌝ }
+{
+    board[DROP_AT]
+}
+
+pub fn put_drop(board: &mut [u32], x: u32)
+    requires { ⌜ length (now board) ≡ boardWords ⌝ }
+    ensures { λ _. ⌜ decodeBoard (now (board .exit)) ≡ putDrop (decodeBoard (now (board .entry))) x ⌝ }
+{
+    let at = DROP_AT;
     board[at] = x;
 }
 

@@ -1,9 +1,9 @@
 // A mission's state in lent words: its number, its counters, and a fresh state.
 //
-// The caller lends the whole state, 731 words, and each function works on the words of one part, so that nothing is copied that is not
+// The caller lends the whole state, 732 words, and each function works on the words of one part, so that nothing is copied that is not
 // asked for. The crates `state_places`, `state_queues` and `state_pairs` do the same for groups and paths, for queues, and for what is
 // remembered of floods. Each promise is over `decode` alone: above these four nobody sees a word. What is required is the length and a number in range, which the calls from C have tested. No
-// state is bad: any 731 words hold some record in each place, and any number; one over 1 is no mission's, and such a mission owns no port.
+// state is bad: any 732 words hold some record in each place, and any number; one over 1 is no mission's, and such a mission owns no port.
 ghost use mathlib.Core.Path.{_≡_};
 ghost use Prim.Native.Nat.{_<_};
 ghost use lib.ListN.{length};
@@ -13,7 +13,7 @@ ghost use Rattle.state.specs.Relay.{counterIn, added};
 ghost use Rattle.state.specs.Seen.{freshState, onCounters};
 
 // How many words a mission's state has.
-pub const MISSION_WORDS: usize = 731;
+pub const MISSION_WORDS: usize = 732;
 
 // Where the sections begin.
 const NUMBER_AT: usize = 0;

@@ -15,9 +15,9 @@ use records::Pair;
 use records::PairPlace;
 
 // Where the sections begin.
-const LAST_AT: usize = 410;
+const LAST_AT: usize = 411;
 
-const PAIRS_AT: usize = 411;
+const PAIRS_AT: usize = 412;
 
 const PAIR_WORDS: usize = 5;
 

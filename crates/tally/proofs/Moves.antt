@@ -1,4 +1,4 @@
--- The counters that are moved: each is one of the seventeen, or none; and one move after the other. Assumes nothing.
+-- The counters that are moved: each is one of the eighteen, or none; and one move after the other. Assumes nothing.
 use native.Mathlib.Omega.{arith}
 use Prim.Native.Nat.{ℕ, _<_}
 use mathlib.Core.Path.{_≡_, refl}
@@ -22,9 +22,9 @@ use Rattle.judge.specs.Remembered.{isUnheard}
 use Rattle.judge.specs.declared.Ending.{Ending}
 use Rattle.tally.specs.declared.Counter.{Counter}
 use Rattle.tally.specs.declared.Counter.the-variants.{At, Nothing}
-use Rattle.tally.specs.Tally.{CounterRow, numbered, inTable, Inside, counterFor, receiptCounter, localCounter, onwardCounter, discardCounter, rulingMoves, movesOf, countedAt, countedAll}
+use Rattle.tally.specs.Tally.{CounterRow, numbered, inTable, Inside, counterFor, receiptCounter, localCounter, onwardCounter, discardCounter, rulingMoves, movesOf, madeCounter, unsentCounter, replyMoves, countedAt, countedAll}
 
--- ---- each counter is one of the seventeen, or none
+-- ---- each counter is one of the eighteen, or none
 abbrev allInside : List CounterRow → Bool
 allInside [] = true
 allInside (row ∷ rows) = ltb (row .1) counterCount && allInside rows
@@ -49,6 +49,16 @@ onward-inside NotAsked = tt
 onward-inside SentOn = omega arith
 onward-inside (Refused o) = number-inside (obstacleNumber o)
 
+made-inside : (onward : Onward) → Inside (madeCounter onward)
+made-inside NotAsked = tt
+made-inside SentOn = omega arith
+made-inside (Refused o) = omega arith
+
+unsent-inside : (onward : Onward) → Inside (unsentCounter onward)
+unsent-inside NotAsked = tt
+unsent-inside SentOn = tt
+unsent-inside (Refused o) = number-inside (obstacleNumber o)
+
 -- the same of a counter that was told
 module _ {c : Counter} where
   pub receipt-told : (refusal : ℕ) → c ≡ receiptCounter refusal → Inside c
@@ -65,6 +75,12 @@ module _ {c : Counter} where
 
   pub discard-told : (dropped : ℕ) → c ≡ discardCounter dropped → Inside c
   discard-told dropped e = rw e (either Inside (eqb dropped 0) tt (omega arith))
+
+  pub made-told : (onward : Onward) → c ≡ madeCounter onward → Inside c
+  made-told onward e = rw e (made-inside onward)
+
+  pub unsent-told : (onward : Onward) → c ≡ unsentCounter onward → Inside c
+  unsent-told onward e = rw e (unsent-inside onward)
 
 -- ---- one counter moved, or none
 pub none-moved : (s : State) (n : ℕ) {c : Counter} → c ≡ Nothing → s ≡ onCounters (λ l. countedAt l c n) s
@@ -101,3 +117,15 @@ pub ending-moved :
     → c ≡ onCounters (λ l. countedAll l (rulingMoves (e .ruling))) b
     → c ≡ onCounters (λ l. countedAll l (movesOf e)) s
 ending-moved s e e1 e2 e3 e4 e5 = cc
+
+pub reply-moved :
+    (s : State) (x : Ruling) {a b c : State} {made unsent discard : Counter} {dropped : ℕ}
+    → dropped ≡ onesOf (x .dropped)
+    → made ≡ madeCounter (x .onward)
+    → a ≡ onCounters (λ l. countedAt l made 1) s
+    → unsent ≡ unsentCounter (x .onward)
+    → b ≡ onCounters (λ l. countedAt l unsent 1) a
+    → discard ≡ discardCounter (x .dropped)
+    → c ≡ onCounters (λ l. countedAt l discard dropped) b
+    → c ≡ onCounters (λ l. countedAll l (replyMoves x)) s
+reply-moved s x e1 e2 e3 e4 e5 e6 e7 = cc

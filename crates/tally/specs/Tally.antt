@@ -89,7 +89,23 @@ rulingMoves x =
 abbrev pub movesOf : Ending → List Move
 movesOf e = (receiptCounter (e .refusal), 1) ∷ (counterFor (e .refusal), 1) ∷ rulingMoves (e .ruling)
 
--- one of the seventeen, or none
+-- ---- a reply (page 02, W-203): "Demand 3 counts replies, refused too .., in npOutRequests, never npForwDatagrams, 11 to 15 as page 01"
+-- one that is made
+abbrev pub madeCounter : Onward → Counter
+madeCounter NotAsked = Nothing
+madeCounter SentOn = At 17
+madeCounter (Refused o) = At 17
+
+-- one that does not go
+abbrev pub unsentCounter : Onward → Counter
+unsentCounter NotAsked = Nothing
+unsentCounter SentOn = Nothing
+unsentCounter (Refused o) = counterFor (obstacleNumber o)
+
+abbrev pub replyMoves : Ruling → List Move
+replyMoves x = (madeCounter (x .onward), 1) ∷ (unsentCounter (x .onward), 1) ∷ (discardCounter (x .dropped), onesOf (x .dropped)) ∷ []
+
+-- one of the eighteen, or none
 abbrev pub Inside : Counter → Type 0
 Inside (At place) = place < counterCount
 Inside Nothing = Unit

@@ -1,10 +1,12 @@
-// The counters that an ending moves.
+// The counters that an ending moves; those of a reply are in reply.rt.
 //
-// There are seventeen of each mission, and each end of a call but four counts in the first. A refusal's number has its counter by page 01's table; the local
+// There are eighteen of each mission, and each end of a call but four counts in the first. A refusal's number has its counter by page 01's table; the local
 // half counts a delivery or an unknown TP-ID; the onward half counts a datagram sent on, once however many ports took it, or its number;
 // and each copy that was dropped counts by itself. A counter is told by its place; what does not count has none, and moves nothing.
 //
 // The awkward case is 15, every queue full: the number itself has no counter, its copies have.
+pub mod reply;
+
 use judge::Ending;
 use verdict::Local;
 use verdict::Onward;
@@ -27,7 +29,7 @@ ghost use Rattle.tally.specs.Tally.{
   movesOf,
 };
 
-// A counter, by its place among the seventeen; or none.
+// A counter, by its place among the eighteen; or none.
 pub enum Counter {
     At(u32),
     Nothing,

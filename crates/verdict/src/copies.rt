@@ -38,7 +38,7 @@ fn same_domain(set: u32, bound: u32, domain: u32) -> Wish
 }
 
 // The ports that the datagram fits; none left is 14.
-fn large_enough(set: u32, fitting: u32) -> Wish
+pub fn large_enough(set: u32, fitting: u32) -> Wish
     ensures { λ r. ⌜ r ≡ largeEnough set fitting ⌝ }
 {
     let left = set & fitting;

@@ -1,0 +1,2 @@
+-- What the contract of answering cites.
+pub mod Face

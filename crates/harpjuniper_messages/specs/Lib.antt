@@ -1,0 +1,2 @@
+-- What the contracts of reading and building echo messages cite.
+pub mod Face
