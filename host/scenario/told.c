@@ -141,6 +141,17 @@ static void milliseconds(uint32_t octets, const struct wire *wire)
     printf("%" PRIu64 ".%" PRIu64 " ms", tenths / 10, tenths % 10);
 }
 
+/* The link, and the data of what is on it. */
+static void what_goes(uint32_t node, uint32_t port)
+{
+    const struct wire *wire = &nodes[node].wires[port];
+
+    at_now();
+    printf("%s port %" PRIu32 " to %s port %" PRIu32 ": ", nodes[node].name,
+           port, nodes[wire->peer].name, wire->peer_port);
+    told_data(&wire->flying);
+}
+
 void told_start(uint32_t node, uint32_t port, bool own, hj_answer entry)
 {
     const struct wire *wire = &nodes[node].wires[port];
@@ -148,10 +159,7 @@ void told_start(uint32_t node, uint32_t port, bool own, hj_answer entry)
 
     if (is_quiet)
         return;
-    at_now();
-    printf("%s port %" PRIu32 " to %s port %" PRIu32 ": ", nodes[node].name,
-           port, nodes[wire->peer].name, wire->peer_port);
-    told_data(&wire->flying);
+    what_goes(node, port);
     told_addresses(&reading.fields);
     printf("\n%14s%" PRIu32 " octets at %" PRIu32 " bit/s: ", "",
            wire->flying.length, wire->bits_per_second);
@@ -174,15 +182,10 @@ void told_wire(uint32_t node, uint32_t port, const char *what)
 
 void told_lost(uint32_t node, uint32_t port)
 {
-    const struct wire *wire = &nodes[node].wires[port];
-
     lost_unseen += is_quiet;
     if (is_quiet)
         return;
-    at_now();
-    printf("%s port %" PRIu32 " to %s port %" PRIu32 ": ", nodes[node].name,
-           port, nodes[wire->peer].name, wire->peer_port);
-    told_data(&wire->flying);
+    what_goes(node, port);
     puts(" is LOST, the link is cut");
 }
 
