@@ -1,7 +1,6 @@
 -- The ports that a datagram is wanted on are enough to ask: what the others say changes no ruling. Assumes nothing.
-use native.Mathlib.Omega.{arith}
-use Prim.Native.Nat.{ℕ, zero, suc, _+_, _^_, _<_}
-use mathlib.Core.Path.{_≡_, refl, sym, ap, ap₂, subst, _∙_}
+use Prim.Native.Nat.{ℕ, _<_}
+use mathlib.Core.Path.{_≡_, refl, sym, ap, subst, _∙_}
 use mathlib.Core.Bool.{Bool, true, false, not, _&&_}
 use lib.Bits.{bitAnd}
 use lib.Dec.{eqb}
@@ -14,7 +13,7 @@ use Rattle.state.specs.Relay.{Relay, portIn, queueIn}
 use Rattle.survey.specs.Survey.{inDomain, isFitting, isFull, surveyBelow, surveyOf, surveyWithin, wantedOf}
 use Rattle.survey.specs.declared.Sought.{Sought}
 use Rattle.survey.specs.declared.Destination.{Destination}
-use Rattle.survey.proofs.Within.{within}
+use Rattle.survey.proofs.Within.{same-sets, within}
 use Rattle.survey.proofs.Bits.{in-except, in-none}
 use Rattle.next_leg.specs.Leg.{nextLengths, noLegs, legsOf}
 use Rattle.next_leg.specs.declared.Leg.{Leg}
@@ -47,11 +46,6 @@ wanted-same x g e = cc
 -- ---- sets of the eight ports that a walk gathers
 abbrev gathered : (ℕ → Bool) → ℕ
 gathered test = portSet test 8
-
-same-sets : (f g : ℕ → Bool) (n : ℕ) → ((p : ℕ) → p < n → f p ≡ g p) → portSet f n ≡ portSet g n
-same-sets f g zero e = refl
-same-sets f g (suc n) e =
-    ap₂ (λ (s : ℕ) (t : Bool). s + pick t (2 ^ n) 0) (same-sets f g n (λ p h. e p (omega arith))) (e n (omega arith))
 
 swapped : (t u v : Bool) → (t && (u && v)) ≡ (u && (t && v))
 swapped true true v = refl

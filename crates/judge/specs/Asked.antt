@@ -2,7 +2,9 @@
 -- step"; the search stands between the two (page 02, W-208: the routes are lent apart). Assumes nothing.
 use Prim.Native.Nat.{ℕ}
 use mathlib.Core.List.{List}
+use mathlib.Core.Path.{_≡_}
 use lib.Dec.{eqb}
+use lib.ListN.{length}
 use Rattle.checks.specs.Order.{pick, firstOf}
 use Rattle.address.specs.declared.Address.{Address}
 use Rattle.address.specs.declared.PathAddress.{PathAddress}
@@ -21,6 +23,8 @@ use Rattle.meaning.specs.Asked.{precedenceAsked}
 use Rattle.meaning.specs.declared.Aim.{Aim}
 use Rattle.meaning.specs.declared.Aim.the-variants as aim
 use Rattle.state.specs.Relay.{Relay}
+use Rattle.state.specs.Seen.{portsSeen}
+use Rattle.state.specs.Layout.{boardWords, decodeBoard, missionWords, decode}
 use Rattle.verdict.specs.Rule.{localOf, lineOf, codeOf, sameDomain, afterSize, grantedOf, rulingOf}
 use Rattle.verdict.specs.declared.Target.{Target}
 use Rattle.verdict.specs.declared.Target.the-variants.{Here, Broadcast, Group, Path, Route}
@@ -36,7 +40,9 @@ use Rattle.verdict.specs.declared.Survey.{Survey}
 use Rattle.verdict.specs.declared.Ruling.{Ruling}
 use Rattle.next_leg.specs.Leg.{legsOf}
 use Rattle.next_leg.specs.declared.Leg.{Leg}
+use Rattle.survey.specs.Names.{NamesFor}
 use Rattle.survey.specs.Survey.{namedOf, wantedOf, surveyOf}
+use Rattle.survey.specs.declared.names.Names.{Names}
 use Rattle.survey.specs.declared.Destination.{Destination}
 use Rattle.survey.specs.declared.Destination.the-variants.{Node, Other}
 use Rattle.lookup.specs.Lookup.{pathPlace}
@@ -49,6 +55,14 @@ use Rattle.judge.specs.declared.Looked.{Looked}
 use Rattle.judge.specs.declared.Asked.{Asked}
 use Rattle.judge.specs.declared.finishing.Ruled.{Ruled}
 use Rattle.judge.specs.declared.Ending.{Ending}
+
+-- the names of the ports that the mission sees on the board, if they were gathered
+abbrev pub NamesSeen : List ℕ → List ℕ → Names → Type 0
+NamesSeen b w k = NamesFor (portsSeen (decode w .number) (decodeBoard b)) k
+
+-- the words of a board and of a mission, and these names
+abbrev pub NamedWords : List ℕ → List ℕ → Names → Type 0
+NamedWords b w k = (length b ≡ boardWords) × ((length w ≡ missionWords) × NamesSeen b w k)
 
 -- ---- before the search
 -- a refusal asks nothing

@@ -26,6 +26,7 @@ use header::Timestamp;
 use meaning::Aim;
 use next_leg::Legs;
 use survey::Destination;
+use survey::names::Names;
 use verdict::Case;
 use verdict::Flood;
 use verdict::Local;
@@ -40,10 +41,11 @@ ghost use Rattle.header.specs.Onward.{foundOf};
 ghost use Rattle.meaning.specs.Names.{badClass, badPath, badAim};
 ghost use Rattle.meaning.specs.Flood.{unmarked};
 ghost use Rattle.state.specs.Seen.{Board, seated};
-ghost use Rattle.state.specs.Layout.{boardWords, decodeBoard, missionWords, decode};
+ghost use Rattle.state.specs.Layout.{decodeBoard, missionWords, decode};
 ghost use Rattle.judge.specs.Ruling.{destinationAsked};
 ghost use Rattle.judge.specs.Ending.{refusedBy};
 ghost use Rattle.judge.specs.Asked.{
+  NamedWords,
   noHeader,
   refusedAsked,
   elseAsked,
@@ -185,8 +187,8 @@ fn not_looked(refusal: u32) -> Looked
 }
 
 // An end system's address or a group's: its class (6), and by this and the ports its target.
-fn ask_node(board: &[u32], mission: &[u32], arrival: u32, a: Address) -> Looked
-    requires { ⌜ (length (now board) ≡ boardWords) × (length (now mission) ≡ missionWords) ⌝ }
+fn ask_node(board: &[u32], mission: &[u32], arrival: u32, a: Address, names: Names) -> Looked
+    requires { ⌜ NamedWords (now board) (now mission) names ⌝ }
     ensures { λ r. ⌜
         r
         ≡ pick (badClass (a .0)) (refusedLooked 6)
@@ -198,7 +200,7 @@ fn ask_node(board: &[u32], mission: &[u32], arrival: u32, a: Address) -> Looked
         return not_looked(6);
     }
     let number = state_mission::number_of(mission);
-    let s = survey::named(board, number, a);
+    let s = survey::names::named_by(board, number, names, a);
     let target = verdict::local_half::target_of(class, s);
     Looked {
         refusal: 0,
@@ -225,12 +227,12 @@ fn ask_path(mission: &[u32], p: PathAddress) -> Looked
 }
 
 // What is looked up of what the header aims at.
-fn ask_aim(board: &[u32], mission: &[u32], arrival: u32, x: Aim) -> Looked
-    requires { ⌜ (length (now board) ≡ boardWords) × (length (now mission) ≡ missionWords) ⌝ }
+fn ask_aim(board: &[u32], mission: &[u32], arrival: u32, x: Aim, names: Names) -> Looked
+    requires { ⌜ NamedWords (now board) (now mission) names ⌝ }
     ensures { λ r. ⌜ r ≡ aimLooked (seated (decodeBoard (now (board .entry))) (decode (now (mission .entry)))) arrival x ⌝ }
 {
     match x {
-        Aim::Node(a) => ask_node(board, mission, arrival, a),
+        Aim::Node(a) => ask_node(board, mission, arrival, a, names),
         Aim::Path(p) => ask_path(mission, p),
         Aim::Uncarried => not_looked(6),
     }
@@ -258,15 +260,23 @@ pub fn address_in(d: Destination) -> u32
 }
 
 // What is known before the search, of a header that is good so far: the rest of 6, then 28, and what the pairs say.
-fn ask_good(board: &[u32], mission: &[u32], at: Arrival, h: Header, n: Renewal, x: Aim) -> Asked
-    requires { ⌜ (length (now board) ≡ boardWords) × (length (now mission) ≡ missionWords) ⌝ }
+fn ask_good(
+    board: &[u32],
+    mission: &[u32],
+    at: Arrival,
+    h: Header,
+    n: Renewal,
+    x: Aim,
+    names: Names,
+) -> Asked
+    requires { ⌜ NamedWords (now board) (now mission) names ⌝ }
     ensures { λ r. ⌜
         r
         ≡ elseAsked (pick (badAim x) 6 (pick (unmarked (h .fields)) 28 0))
         (aimAsked (seated (decodeBoard (now (board .entry))) (decode (now (mission .entry)))) (decode (now (mission .entry)) .number) at h n x)
         ⌝ }
 {
-    let l = ask_aim(board, mission, at.set, x);
+    let l = ask_aim(board, mission, at.set, x, names);
     if l.refusal != 0 {
         return refused(l.refusal);
     }
@@ -297,8 +307,15 @@ fn ask_good(board: &[u32], mission: &[u32], at: Arrival, h: Header, n: Renewal, 
 
 // What the relay carries (8), a domain for addresses of one octet (7), the source and the destination that the header names by its arrival
 // port (6, by two checks), and what is asked for these.
-fn ask_header(board: &[u32], mission: &[u32], at: Arrival, h: Header, n: Renewal) -> Asked
-    requires { ⌜ (length (now board) ≡ boardWords) × (length (now mission) ≡ missionWords) ⌝ }
+fn ask_header(
+    board: &[u32],
+    mission: &[u32],
+    at: Arrival,
+    h: Header,
+    n: Renewal,
+    names: Names,
+) -> Asked
+    requires { ⌜ NamedWords (now board) (now mission) names ⌝ }
     ensures { λ r. ⌜
         r
         ≡ carriedAsked (seated (decodeBoard (now (board .entry))) (decode (now (mission .entry)))) (decode (now (mission .entry)) .number) at h n
@@ -316,12 +333,20 @@ fn ask_header(board: &[u32], mission: &[u32], at: Arrival, h: Header, n: Renewal
     let Check::Passed = meaning::check_origin(meaning::origin_of(port, addresses)) else {
         return refused(6);
     };
-    ask_good(board, mission, at, h, n, meaning::aim_of(port, addresses))
+    ask_good(
+        board,
+        mission,
+        at,
+        h,
+        n,
+        meaning::aim_of(port, addresses),
+        names,
+    )
 }
 
 // Steps 2 and 3, and what follows.
-pub fn ask_octets(board: &[u32], mission: &[u32], at: Arrival, octets: &[u8]) -> Asked
-    requires { ⌜ (length (now board) ≡ boardWords) × (length (now mission) ≡ missionWords) ⌝ }
+pub fn ask_octets(board: &[u32], mission: &[u32], at: Arrival, octets: &[u8], names: Names) -> Asked
+    requires { ⌜ NamedWords (now board) (now mission) names ⌝ }
     ensures { λ r. ⌜
         r
         ≡ octetsAsked (seated (decodeBoard (now (board .entry))) (decode (now (mission .entry)))) (decode (now (mission .entry)) .number) at
@@ -329,12 +354,13 @@ pub fn ask_octets(board: &[u32], mission: &[u32], at: Arrival, octets: &[u8]) ->
         ⌝ }
 {
     match reader::find_header(octets) {
-        Found::Good(h, n) => ask_header(board, mission, at, h, n),
+        Found::Good(h, n) => ask_header(board, mission, at, h, n, names),
         Found::Refused(number) => refused(number as u32),
     }
 }
 
-// What is known before the search of the octets that came in by a port in a second, with so much room for output.
+// What is known before the search of the octets that came in by a port in a second, with so much room for output. The names of the ports are handed
+// down to the step that compares the destination with them.
 pub fn judge(
     board: &[u32],
     mission: &[u32],
@@ -342,8 +368,9 @@ pub fn judge(
     second: u32,
     octets: &[u8],
     room: usize,
+    names: Names,
 ) -> Asked
-    requires { ⌜ (length (now board) ≡ boardWords) × (length (now mission) ≡ missionWords) ⌝ }
+    requires { ⌜ NamedWords (now board) (now mission) names ⌝ }
     ensures { λ r. ⌜
         r
         ≡ datagramAsked (seated (decodeBoard (now (board .entry))) (decode (now (mission .entry)))) (decode (now (mission .entry)) .number) port
@@ -366,5 +393,5 @@ pub fn judge(
         set: sets::only_port(port),
         address,
     };
-    ask_octets(board, mission, at, octets)
+    ask_octets(board, mission, at, octets, names)
 }

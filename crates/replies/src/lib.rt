@@ -299,7 +299,7 @@ fn answer_octets(board: &[u32], mission: &[u32], at: Arrival, mtu: u32, octets: 
         (foundOf (now (octets .entry)))) mtu (now (octets .entry))
         ⌝ }
 {
-    let a = judge::ask_octets(board, mission, at, octets);
+    let a = judge::ask_octets(board, mission, at, octets, survey::names::no_names());
     let destination = a.destination;
     let s = survey::named(
         board,

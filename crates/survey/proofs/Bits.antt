@@ -98,7 +98,9 @@ only-that p q h k =
     lt-or-ge : (a b : ℕ) → (a < b) ⊎ (b ≤ a)
     lt-or-ge a b = by-cases (decLe b a) (λ g. inr g) (λ n. inl (lt-of-not-le n))
 
+-- a power of 2 has its own bit
+pub power-has : (p : ℕ) → inSet p (2 ^ p) ≡ true
+power-has p = ap (λ (b : ℕ). eqb b 1) (ap (λ (n : ℕ). bit p n) (let e : 2 ^ p ≡ 0 + 2 ^ p = omega arith in e) ∙ top-bit p 0 (pow-pos p))
+
 pub only-has : (p : ℕ) → p < 8 → inSet p (onlyPort p) ≡ true
-only-has p h =
-    ap (inSet p) (simp (lt-ltb p 8 h))
-    ∙ ap (λ (b : ℕ). eqb b 1) (ap (λ (n : ℕ). bit p n) (let e : 2 ^ p ≡ 0 + 2 ^ p = omega arith in e) ∙ top-bit p 0 (pow-pos p))
+only-has p h = ap (inSet p) (simp (lt-ltb p 8 h)) ∙ power-has p

@@ -117,7 +117,7 @@ module _ (s : Survey) (port : ℕ) (p : Port) (waiting : ℕ) (q : Sought) where
       let fits = et ∙ ap (fitsPort (p .mtu)) (es ∙ ap (λ (n : ℕ). sizeAt (eqb n (q .domain)) q) td) in
       simp (ne-eqb (p .ready) 0 h, ed, td, ee, fits, ef)
 
-and-false : (t : Bool) → (t && false) ≡ false
+pub and-false : (t : Bool) → (t && false) ≡ false
 and-false true = refl
 and-false false = refl
 
@@ -144,7 +144,7 @@ seen-numbered b i e is = is ∙ ap (λ (k : ℕ). getD (portsSeen k b) i freshPo
 below-128 : (n i : ℕ) → i < 8 → n < 2 ^ i → n < 128
 below-128 n i h b = omega (arith, pow-mono {i = i} {j = 7} (omega arith))
 
-small : (i : ℕ) (test : ℕ → Bool) → i < 8 → portSet test i < 128
+pub small : (i : ℕ) (test : ℕ → Bool) → i < 8 → portSet test i < 128
 small i test h = below-128 (portSet test i) i h (portSet-below test i)
 
 -- the set of port i

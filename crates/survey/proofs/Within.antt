@@ -1,4 +1,4 @@
--- A set of ports met with what a walk gathers is what the walk gathers of that set. Assumes nothing.
+-- A set of ports met with what a walk gathers is what the walk gathers of that set; and tests that agree gather the same. Assumes nothing.
 use native.Mathlib.Omega.{arith}
 use native.Mathlib.Nat.{add-zero, mod-eq-of-lt, mod-lt, div-add-mod, zero-lt-suc}
 use Prim.Native.Nat.{ℕ, zero, suc, _+_, _*_, _/_, _%_, _^_, _<_}
@@ -48,3 +48,9 @@ within w test zero = and-zero-r w
 within w test (suc p) =
     one-port (test p) w p (portSet test p) (portSet-below test p)
     ∙ ap (λ (s : ℕ). s + pick (inSet p w && test p) (2 ^ p) 0) (within w test p)
+
+-- ---- tests that agree
+pub same-sets : (f g : ℕ → Bool) (n : ℕ) → ((p : ℕ) → p < n → f p ≡ g p) → portSet f n ≡ portSet g n
+same-sets f g zero e = refl
+same-sets f g (suc n) e =
+    ap₂ (λ (s : ℕ) (t : Bool). s + pick t (2 ^ n) 0) (same-sets f g n (λ p h. e p (omega arith))) (e n (omega arith))

@@ -8,6 +8,8 @@
 //
 // The awkward cases are a port in net 10, of which two addresses are broadcasts: that of its own subnet, 10.x.y.255, and 10.255.255.255; and a datagram
 // that is not equally long on all ports, since its header is rewritten for some: two lengths are asked with, for ports of the domain and for others.
+pub mod names;
+
 use address::Address;
 use networks::Broadcast;
 use records::Port;

@@ -20,8 +20,8 @@ returns c = node-refused _ (c .before .before .before .class-of .ensures) (c .be
 number-of-requires : tie.Need-number-of-requires
 number-of-requires c κs = search needs
 
-named-requires : tie.Need-named-requires
-named-requires c κs = search needs
+named-by-requires : tie.Need-named-by-requires
+named-by-requires c κs = (c .before .before .before .before .before .before .pre .0, rw (c .number-of .ensures) (c .before .before .before .before .before .before .pre .1 .1))
 
 target-of-requires : tie.Need-target-of-requires
 target-of-requires c κs = search needs
@@ -30,7 +30,7 @@ place-for-requires : tie.Need-place-for-requires
 place-for-requires c κs = search needs
 
 returns-2 : tie.Need-returns-2
-returns-2 c = node-looked _ (c .before .before .before .before .before .before .class-of .ensures) (c .before .before .before .before .before .class-number .ensures) _ (decode (c .before .before .before .before .before .before .before .before .before .args .mission .now)) _ (c .before .before .before .before .if1 .left) (c .before .before .before .number-of .ensures) (c .before .before .named .ensures) (c .before .target-of .ensures) (c .place-for .ensures _)
+returns-2 c = node-looked _ (c .before .before .before .before .before .before .class-of .ensures) (c .before .before .before .before .before .class-number .ensures) _ (decode (c .before .before .before .before .before .before .before .before .before .args .mission .now)) _ (c .before .before .before .before .if1 .left) (c .before .before .before .number-of .ensures) (c .before .before .named-by .ensures) (c .before .target-of .ensures) (c .place-for .ensures _)
 
 pub ask-node-spec : {M : Type 1} → statement M
 ask-node-spec =
@@ -41,7 +41,7 @@ ask-node-spec =
     not-looked-requires
     returns
     number-of-requires
-    named-requires
+    named-by-requires
     target-of-requires
     place-for-requires
     returns-2)
