@@ -1,3 +1,2 @@
--- Joined: the verdict in two halves, with the scan between them, is page 01's. Told serves the proof of the call.
-pub mod Joined
+-- Told serves the proof of the call.
 pub mod Told

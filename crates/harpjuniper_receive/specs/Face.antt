@@ -4,28 +4,19 @@ use Prim.Native.Nat.{ℕ}
 use mathlib.Core.Path.{_≡_}
 use mathlib.Core.List.{List}
 use lib.ListN.{length}
-use Rattle.checks.specs.Order.{pick}
 use Rattle.routes.specs.declared.Record.{Record}
-use Rattle.state.specs.Seen.{Board, State}
-use Rattle.lent_state.specs.View.{Lent, lent, toldBoth, changedBoth, tooLong}
-use Rattle.relay.specs.Outgoing.{sentOutput}
-use Rattle.relay.specs.Received.{heardEnding, heardMemory, receivedState}
-use Rattle.answers.specs.Answers.{receiveNumber}
+use Rattle.state.specs.Seen.{State}
+use Rattle.lent_state.specs.View.{Lent, lent}
+use Rattle.relay.specs.Hearing.{answeredIn, heldIn, sentIn}
 
--- a list over 512 records is refused by 21 even before the words are counted; words of the wrong number hold no port, 16
 unfoldable pub receiveAnswer : List ℕ → List ℕ → List Record → ℕ → ℕ → List ℕ → ℕ → ℕ
-receiveAnswer b w rs port second octets room =
-    pick (tooLong rs) 21 (toldBoth (λ (x : Board) (s : State). receiveNumber (heardEnding x s rs port second octets room)) 16 b w)
+receiveAnswer b w rs port second octets room = answeredIn b (lent w) rs port second octets room
 
 unfoldable pub receiveWords : List ℕ → List ℕ → List Record → ℕ → ℕ → ℕ → List ℕ → ℕ → Lent State
-receiveWords b w rs port slot second octets room =
-    changedBoth
-    (λ (x : Board) (s : State).
-    receivedState x s (record { 0 = slot }) (heardMemory x s rs port second octets room) (heardEnding x s rs port second octets room)) b w
+receiveWords b w rs port slot second octets room = heldIn b (lent w) rs port slot second octets room
 
 unfoldable pub receiveOutput : List ℕ → List ℕ → List Record → ℕ → ℕ → List ℕ → List ℕ → List ℕ
-receiveOutput b w rs port second octets output =
-    toldBoth (λ (x : Board) (s : State). sentOutput (heardEnding x s rs port second octets (length output)) octets output) output b w
+receiveOutput b w rs port second octets output = sentIn b (lent w) rs port second octets output
 
 -- the contract: what is answered, and the words and the output that are left
 abbrev pub Receives : List ℕ → List ℕ → List Record → ℕ → ℕ → ℕ → List ℕ → List ℕ → ℕ → List ℕ → List ℕ → Type 0

@@ -4,25 +4,31 @@ use Prim.Native.Nat.{ℕ}
 use mathlib.Core.Path.{_≡_}
 use mathlib.Core.List.{List}
 use lib.Dec.{eqb, ltb}
+use lib.ListN.{length}
 use Rattle.checks.specs.Order.{pick}
 use Rattle.address.specs.declared.Slot.{Slot}
 use Rattle.sets.specs.Limits.{routePlaces}
 use Rattle.sets.specs.Sets.{onlyPort}
 use Rattle.state.specs.Seen.{Board, State, seated}
-use Rattle.state.specs.Layout.{decodeBoard, decode}
+use Rattle.state.specs.Layout.{boardWords, decodeBoard, missionWords, decode}
 use Rattle.lent_state.specs.View.{Lent, toldBoth, changedBoth}
 use Rattle.verdict.specs.declared.Way.{Way}
 use Rattle.verdict.specs.declared.Way.the-variants.{By, Lost}
+use Rattle.survey.specs.declared.names.Names.{Names}
 use Rattle.listing.specs.declared.Query.{Query}
 use Rattle.listing.specs.declared.Scan.{Scan}
 use Rattle.judge.specs.declared.Asked.{Asked}
 use Rattle.judge.specs.declared.Ending.{Ending}
 use Rattle.judge.specs.Ending.{refusedBy}
-use Rattle.judge.specs.Asked.{refusedAsked, datagramAsked, searchedIn, addressIn, finishedOf}
+use Rattle.judge.specs.Asked.{NamesSeen, refusedAsked, datagramAsked, searchedIn, addressIn, finishedOf}
 use Rattle.judge.specs.Remembered.{refusedMemory, rememberedBy}
 use Rattle.answers.specs.Answers.{receiveNumber}
 use Rattle.relay.specs.Outgoing.{sentOutput}
 use Rattle.relay.specs.Received.{receivedState}
+
+-- the names that the ports were given beforehand, if any were, are those of the ports that this mission sees on this board
+abbrev pub Naming : List ℕ → List ℕ → Names → Type 0
+Naming b w k = length b ≡ boardWords → length w ≡ missionWords → NamesSeen b w k
 
 -- ---- before: a list over 512 records is refused by 21 even before the words are counted; words of the wrong number hold no port, 16
 unfoldable pub askedOf : List ℕ → List ℕ → ℕ → ℕ → ℕ → List ℕ → ℕ → Asked

@@ -18,6 +18,7 @@ use judge::Ending;
 use listing::Query;
 use listing::Scan;
 use queue::Entry;
+use survey::names::Names;
 use verdict::Flood;
 use verdict::Target;
 use verdict::Way;
@@ -41,6 +42,7 @@ ghost use Rattle.judge.specs.Ending.{outputRoom, refusedBy};
 ghost use Rattle.relay.specs.Outgoing.{sentOutput};
 ghost use Rattle.relay.specs.Received.{receivedState};
 ghost use Rattle.relay.specs.Split.{
+  Naming,
   askedOf,
   queryOf,
   wayIn,
@@ -52,8 +54,8 @@ ghost use Rattle.relay.specs.Split.{
   Following,
 };
 
-// What is known before the search, where so many routes are lent.
-pub fn before(
+// What is known before the search, where so many routes are lent, and with these names of the ports.
+pub fn before_named(
     board: &[u32],
     mission: &[u32],
     count: usize,
@@ -61,7 +63,9 @@ pub fn before(
     second: u32,
     octets: &[u8],
     room: usize,
+    names: Names,
 ) -> Asked
+    requires { ⌜ Naming (now board) (now mission) names ⌝ }
     ensures { λ r. ⌜ r ≡ askedOf (now (board .entry)) (now (mission .entry)) count port second (now (octets .entry)) room ⌝ }
 {
     if (sets::ROUTES as usize) < count {
@@ -73,7 +77,31 @@ pub fn before(
     if mission.len() != state_mission::MISSION_WORDS {
         return judge::refused(16);
     }
-    judge::judge(board, mission, port, second, octets, room)
+    judge::judge(board, mission, port, second, octets, room, names)
+}
+
+// The same of a datagram by itself, for which no names were gathered.
+pub fn before(
+    board: &[u32],
+    mission: &[u32],
+    count: usize,
+    port: u32,
+    second: u32,
+    octets: &[u8],
+    room: usize,
+) -> Asked
+    ensures { λ r. ⌜ r ≡ askedOf (now (board .entry)) (now (mission .entry)) count port second (now (octets .entry)) room ⌝ }
+{
+    before_named(
+        board,
+        mission,
+        count,
+        port,
+        second,
+        octets,
+        room,
+        survey::names::no_names(),
+    )
 }
 
 // 1 where a route is to be searched: nothing refuses, and the route line decides, on a router.
@@ -144,7 +172,7 @@ pub fn way_in(s: Scan) -> Way
 }
 
 // A refusal: counted, and its second accepted, but for 16, 17, 21 and 29.
-fn refuse(mission: &mut [u32], refusal: u32, second: u32) -> u64
+pub fn refuse(mission: &mut [u32], refusal: u32, second: u32) -> u64
     requires { ⌜ (Counted refusal → length (now mission) ≡ missionWords) ⌝ }
     ensures { λ r. ⌜ r ≡ receiveNumber (refusedBy refusal) ⌝ }
     ensures { λ _. ⌜ ((b : List ℕ) (slot : Slot) → (Counted refusal → length b ≡ boardWords)

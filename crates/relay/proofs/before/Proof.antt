@@ -1,46 +1,17 @@
--- `relay::before` meets its contract. Assumes nothing.
-use Rattle.relay.proofs.Asking.{asked-long, asked-no-board, asked-no-mission, asked-right}
+-- `relay::before` meets its contract: no names are no wrong names. Assumes nothing.
+use Rattle.survey.proofs.Naming.{unlooked}
 use borrow.Author.Needs.{needs}
 use Rattle.relay.proofs.before.Statement.{statement}
 use Rattle.relay.proofs.before.Tie as tie
 
-cast-if1 : tie.Need-cast-if1
-cast-if1 c = search needs
+no-names-requires : tie.Need-no-names-requires
+no-names-requires c κs = search needs
 
-refused-requires : tie.Need-refused-requires
-refused-requires c κs = search needs
+before-named-requires : tie.Need-before-named-requires
+before-named-requires c κs = λ held here. unlooked _ _ (c .no-names .ensures)
 
 returns : tie.Need-returns
-returns c = asked-long _ _ _ _ _ _ _ (c .before .if1 .taken) (c .refused .ensures)
-
-refused-requires-2 : tie.Need-refused-requires-2
-refused-requires-2 c κs = search needs
-
-returns-2 : tie.Need-returns-2
-returns-2 c = asked-no-board _ _ _ _ _ _ _ (c .before .before .if1 .left) (c .before .if2 .taken) (c .refused2 .ensures)
-
-refused-requires-3 : tie.Need-refused-requires-3
-refused-requires-3 c κs = search needs
-
-returns-3 : tie.Need-returns-3
-returns-3 c = asked-no-mission _ _ _ _ _ _ _ (c .before .before .before .if1 .left) (c .before .if3 .taken) (c .refused3 .ensures)
-
-judge-requires : tie.Need-judge-requires
-judge-requires c κs = search needs
-
-returns-4 : tie.Need-returns-4
-returns-4 c = asked-right _ _ _ _ _ _ _ (c .before .before .before .if1 .left) (c .before .before .if2 .left) (c .before .if3 .left) (c .judge .ensures)
+returns c = search needs
 
 pub before-spec : {M : Type 1} → statement M
-before-spec =
-    tie.close
-    (tie.spec
-    cast-if1
-    refused-requires
-    returns
-    refused-requires-2
-    returns-2
-    refused-requires-3
-    returns-3
-    judge-requires
-    returns-4)
+before-spec = tie.close (tie.spec no-names-requires before-named-requires returns)
