@@ -1,0 +1,5 @@
+-- Steps: what the steps of a turn hand together. Turns: what the turns do to what is lent. Again, Relending: how a `&mut` slice is lent again in each turn.
+pub mod Again
+pub mod Relending
+pub mod Steps
+pub mod Turns

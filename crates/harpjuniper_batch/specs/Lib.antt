@@ -1,0 +1,2 @@
+-- What the contract of the batch cites.
+pub mod Face
