@@ -1,12 +1,14 @@
 -- The contract of each call from C can be kept: whatever the call is passed and lent, there is a result that its contract lets it give back. Assumes
 -- nothing.
-use Prim.Native.Nat.{ℕ, _<_}
-use mathlib.Core.Path.{_≡_, refl}
+use native.Mathlib.Omega.{arith}
+use Prim.Native.Nat.{ℕ, zero, suc, _<_}
+use mathlib.Core.Path.{_≡_, refl, ap, _∙_}
 use mathlib.Core.Bool.{Bool, true, false}
 use mathlib.Core.List.{List, []}
-use lib.ListN.{length}
+use lib.ListN.{length, getD}
 use lib.Dec.{eqb}
 use borrow.Author.Tests.{eqb-true, eqb-false}
+use Rattle.queue.specs.Order.{Each}
 use Rattle.routes.specs.declared.Record.{Record}
 use Rattle.state.specs.Relay.{Mission, Relay}
 use Rattle.state.specs.Seen.{Board, State, freshBoard, putLifetime, onMission, onMemory, onSeated}
@@ -15,7 +17,11 @@ use Rattle.state.proofs.Sizes.{SizedBoard, board-sized}
 use Rattle.adjust.specs.Settled.{settledFresh, settledRouter, settledDrop, settledPort, settledGroup, settledPath, clearedGroup, clearedPath}
 use Rattle.floods.specs.Sweep.{sweptMemory}
 use Rattle.taking.specs.Taking.{takenRelay}
+use Rattle.judge.specs.Ending.{outputRoom}
 use Rattle.relay.specs.Received.{heardEnding, heardMemory, receivedState}
+use Rattle.relay.specs.Hearing.{heldIn}
+use Rattle.batch.specs.Items.{Lists, octetsAt}
+use Rattle.batch.specs.Many.{itemsHeld, manyHeard}
 use Rattle.lent_state.specs.View.{Lent, Held, Other, byLent, lentBoard, lent, toldBoard, changedBoard, changed, changedBoth, changedRelay}
 use Rattle.lent_state.proofs.Calls.{board-held-changed, board-other-changed, held-changed, other-changed}
 use Rattle.harpjuniper_receive.specs.Face.{receiveWords}
@@ -57,18 +63,20 @@ use Rattle.contracts.specs.Promised.{
   hj-pair-word,
   hj-search,
   hj-receive-at,
+  hj-receive-many,
   hj-echo,
   hj-take,
   hj-counter,
   hj-waiting,
   hj-sweep,
+  Passable,
   promised,
 }
-use Rattle.contracts.specs.Contracts.{Spot, Lying, Contract, Says, Passable}
+use Rattle.contracts.specs.Contracts.{Spot, Lying, Contract, Says}
 use Rattle.contracts.proofs.Formed.{Formed, decode-formed, words-length, words-hold, board-length, board-holds}
 use Rattle.contracts.proofs.Kept.{KeptIn, set-router-kept, set-port-kept, set-lifetime-kept, set-drop-kept, fresh-board-kept}
 use Rattle.contracts.proofs.Kept.{set-group-kept, set-path-kept, clear-group-kept, clear-path-kept, taken-kept}
-use Rattle.contracts.proofs.Kept.{heard-kept, received-kept, replied-kept, swept-kept, mission-kept, memory-kept, seated-kept, fresh-kept}
+use Rattle.contracts.proofs.Kept.{getD-each, heard-kept, received-kept, replied-kept, swept-kept, mission-kept, memory-kept, seated-kept, fresh-kept}
 use Rattle.contracts.proofs.Rows.{row-contract}
 
 -- ---- the board: words that have this view
@@ -125,6 +133,7 @@ board-left (hj-last-second m) fits = ([], refl)
 board-left (hj-pair-word m i word) fits = ([], refl)
 board-left (hj-search b m rs a) fits = (b, refl)
 board-left (hj-receive-at b m rs p slot second octets o) fits = (b, refl)
+board-left (hj-receive-many b m rs lengths ports slots seconds octets n o) fits = (b, refl)
 board-left (hj-echo b m rs p slot octets o) fits = (b, refl)
 board-left (hj-take b m p) fits = (b, refl)
 board-left (hj-counter m i) fits = ([], refl)
@@ -160,27 +169,43 @@ both-left-by b w f keeps = by-view (lentBoard b)
 seated-left-by : (b w : List ℕ) (f : Relay → Relay) → ((r : Relay) → KeptIn r → KeptIn (f r)) → StateSome (changedRelay f b w)
 seated-left-by b w f keeps = both-left-by b w (λ (x : Board) (s : State). onSeated x f s) (λ x s h. seated-kept f keeps x s h)
 
-received-left : (b m : List ℕ) (rs : List Record) (p slot second : ℕ) (octets o : List ℕ) → slot < 65536
-    → StateSome (receiveWords b m rs p slot second octets (length o))
-unfolding receiveWords
-received-left b m rs p slot second octets o fits =
+received-left : (b m : List ℕ) (rs : List Record) (p slot second : ℕ) (octets : List ℕ) (room : ℕ) → slot < 65536
+    → StateSome (heldIn b (lent m) rs p slot second octets room)
+unfolding changed
+received-left b m rs p slot second octets room fits =
     both-left-by b m
     (λ (x : Board) (s : State).
-    receivedState x s (record { 0 = slot }) (heardMemory x s rs p second octets (length o)) (heardEnding x s rs p second octets (length o)))
+    receivedState x s (record { 0 = slot }) (heardMemory x s rs p second octets room) (heardEnding x s rs p second octets room))
     (λ x s h.
     received-kept x s h (record { 0 = slot }) fits
-    (heardMemory x s rs p second octets (length o)) (heard-kept x s rs p second octets (length o) (h .memory))
-    (heardEnding x s rs p second octets (length o)))
+    (heardMemory x s rs p second octets room) (heard-kept x s rs p second octets room (h .memory))
+    (heardEnding x s rs p second octets room))
 
-replied-left : (b m : List ℕ) (rs : List Record) (p slot : ℕ) (octets o : List ℕ) → slot < 65536
-    → StateSome (echoWords b m rs p slot octets (length o))
+-- each item of a batch changes the words that the one before left
+many-left : (b m : List ℕ) (rs : List Record) (x : Lists) → Each (λ (slot : ℕ). slot < 65536) (x .slots) → (n : ℕ)
+    → StateSome (itemsHeld b (lent m) rs x n)
+unfolding itemsHeld
+many-left b m rs x fits zero = (m, refl)
+many-left b m rs x fits (suc i) =
+    let before = many-left b m rs x fits i in
+    let p = getD (x .ports) i 0 in
+    let slot = getD (x .slots) i 0 in
+    let second = getD (x .seconds) i 0 in
+    let octets = octetsAt (x .lengths) (x .octets) i in
+    let fit = getD-each (λ (k : ℕ). k < 65536) (x .slots) i 0 (omega arith) fits in
+    let after = received-left b (before .0) rs p slot second octets outputRoom fit in
+    (after .0, after .1 ∙ ap (λ (l : Lent State). heldIn b l rs p slot second octets outputRoom) (before .1))
+
+replied-left : (b m : List ℕ) (rs : List Record) (p slot : ℕ) (octets : List ℕ) (room : ℕ) → slot < 65536
+    → StateSome (echoWords b m rs p slot octets room)
 unfolding echoWords
-replied-left b m rs p slot octets o fits =
+replied-left b m rs p slot octets room fits =
     both-left-by b m
-    (λ (x : Board) (s : State). repliedState x s (record { 0 = slot }) (echoReply x s rs p octets (length o)))
-    (λ x s h. replied-kept x s h (record { 0 = slot }) fits (echoReply x s rs p octets (length o)))
+    (λ (x : Board) (s : State). repliedState x s (record { 0 = slot }) (echoReply x s rs p octets room))
+    (λ x s h. replied-kept x s h (record { 0 = slot }) fits (echoReply x s rs p octets room))
 
 mission-left : (c : Exported) → Passable c → StateSome (promised c .mission)
+unfolding receiveWords
 mission-left (hj-read-words octets n) fits = ([], refl)
 mission-left (hj-build-words n size o) fits = ([], refl)
 mission-left (hj-class a) fits = ([], refl)
@@ -216,8 +241,11 @@ mission-left (hj-path-word m i word) fits = (m, refl)
 mission-left (hj-last-second m) fits = (m, refl)
 mission-left (hj-pair-word m i word) fits = (m, refl)
 mission-left (hj-search b m rs a) fits = (m, refl)
-mission-left (hj-receive-at b m rs p slot second octets o) fits = received-left b m rs p slot second octets o (fits .0 b m rs p slot second octets o refl)
-mission-left (hj-echo b m rs p slot octets o) fits = replied-left b m rs p slot octets o (fits .1 b m rs p slot octets o refl)
+mission-left (hj-receive-at b m rs p slot second octets o) fits = received-left b m rs p slot second octets (length o) fits
+mission-left (hj-receive-many b m rs lengths ports slots seconds octets n o) fits =
+    let x : Lists = record { lengths = lengths; ports = ports; slots = slots; seconds = seconds; octets = octets } in
+    many-left b m rs x fits (manyHeard rs x n o)
+mission-left (hj-echo b m rs p slot octets o) fits = replied-left b m rs p slot octets (length o) fits
 mission-left (hj-take b m p) fits = seated-left-by b m (λ (x : Relay). takenRelay x p) (λ x h. taken-kept x h p)
 mission-left (hj-counter m i) fits = (m, refl)
 mission-left (hj-waiting m p) fits = (m, refl)
@@ -242,13 +270,17 @@ anywhere : Lying
 anywhere =
     let spot : Spot = record { ptr = (0, 0); name = 0 } in
     record {
-      lifetimes = ([], ([], ([], ([], ([], tt)))));
+      lifetimes = ([], ([], ([], ([], ([], ([], ([], ([], ([], ([], tt))))))))));
       board = spot;
       mission = spot;
       routes = spot;
       octets = spot;
       output = spot;
       numbers = spot;
+      lengths = spot;
+      ports = spot;
+      slots = spot;
+      seconds = spot;
     }
 
 -- Each call has a result that its contract allows; by `one-result-by-contract` it has one alone.

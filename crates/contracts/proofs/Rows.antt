@@ -53,6 +53,7 @@ use Rattle.contracts.specs.Promised.{
   hj-pair-word,
   hj-search,
   hj-receive-at,
+  hj-receive-many,
   hj-echo,
   hj-take,
   hj-counter,
@@ -60,7 +61,7 @@ use Rattle.contracts.specs.Promised.{
   hj-sweep,
   promised,
 }
-use Rattle.contracts.specs.Contracts.{BoardAlone, MissionAlone, RoutesAlone, OutputAlone, NumbersAlone, HearsAlone, Lying, Contract, Says}
+use Rattle.contracts.specs.Contracts.{BoardAlone, MissionAlone, RoutesAlone, OutputAlone, NumbersAlone, HearsAlone, ManyAlone, Lying, Contract, Says}
 use Rattle.contracts.proofs.OneResult.{same-things, one-result-each}
 
 -- ---- each form of contract, and its form of row: t is what is lent
@@ -177,6 +178,23 @@ module _ (x : Result) (t : Things) (answer : ℕ) where
     λ h. ((board-as (h .board), (h .routes, h .numbers)), (h .answer, (h .mission, h .output))),
   )
 
+  hears-many : (left : Lent State) (output numbers : List ℕ)
+      → (ManyAlone t (x .left)
+      × ((x .answer ≡ answer) × ((lent (x .left .mission) ≡ left) × ((x .left .numbers ≡ numbers) × (x .left .output ≡ output)))))
+      ↔ Allows (numbersLeft (outputLeft (missionLeft (looking t answer) left) output) numbers) x
+  hears-many left output numbers = (
+    λ h.
+        record {
+          answer = h .1 .0;
+          board = ap lentBoard (h .0 .0);
+          mission = h .1 .1 .0;
+          routes = h .0 .1;
+          output = h .1 .1 .1 .1;
+          numbers = h .1 .1 .1 .0;
+        },
+    λ h. ((board-as (h .board), h .routes), (h .answer, (h .mission, (h .numbers, h .output)))),
+  )
+
 -- ---- the table
 module _ (y : Lying) (x : Result) where
   pub contract-is-row : (c : Exported) → Contract y c x ↔ Allows (promised c) x
@@ -215,6 +233,8 @@ module _ (y : Lying) (x : Result) where
   contract-is-row (hj-pair-word m i word) = looks x (lentTo (hj-pair-word m i word)) _
   contract-is-row (hj-search b m rs a) = looks x (lentTo (hj-search b m rs a)) _
   contract-is-row (hj-receive-at b m rs p slot second octets o) = hears x (lentTo (hj-receive-at b m rs p slot second octets o)) _ _ _
+  contract-is-row (hj-receive-many b m rs lengths ports slots seconds octets n o) =
+      hears-many x (lentTo (hj-receive-many b m rs lengths ports slots seconds octets n o)) _ _ _ _
   contract-is-row (hj-echo b m rs p slot octets o) = hears x (lentTo (hj-echo b m rs p slot octets o)) _ _ _
   contract-is-row (hj-take b m p) = on-mission x (lentTo (hj-take b m p)) _ _
   contract-is-row (hj-counter m i) = looks x (lentTo (hj-counter m i)) _

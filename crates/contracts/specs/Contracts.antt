@@ -1,7 +1,7 @@
 -- The contract of each call from C, as it stands in the source (crates harpjuniper*, src/): what it says of what is told and left, for whatever is
--- lent. No clause is written again here: `Learnt` of a function's `Reads` is what the clauses of its contract tell its caller, and of the six that are
+-- lent. No clause is written again here: `Learnt` of a function's `Reads` is what the clauses of its contract tell its caller, and of the seven that are
 -- lent a list specs/Walked.antt names it (page 01, "What a promise has to shut out": "No public function lacks such a promise"). Assumes nothing.
-use Prim.Native.Nat.{ℕ, _<_}
+use Prim.Native.Nat.{ℕ}
 use mathlib.Core.Path.{_≡_}
 use mathlib.Core.List.{List}
 use base.Fml.{GName}
@@ -78,13 +78,14 @@ use Rattle.contracts.specs.Promised.{
   hj-pair-word,
   hj-search,
   hj-receive-at,
+  hj-receive-many,
   hj-echo,
   hj-take,
   hj-counter,
   hj-waiting,
   hj-sweep,
 }
-use Rattle.contracts.specs.Walked.{searches, sets-route, clears-route, reads-word, receives, echoes}
+use Rattle.contracts.specs.Walked.{searches, sets-route, clears-route, reads-word, receives, receives-many, echoes}
 
 -- ---- where lent slices lie, and until when: whatever the caller chose
 pub record Spot : Type 0 where
@@ -92,13 +93,17 @@ pub record Spot : Type 0 where
   pub name : GName
 
 pub record Lying : Type 0 where
-  pub lifetimes : Lfts 5
+  pub lifetimes : Lfts 10
   pub board : Spot
   pub mission : Spot
   pub routes : Spot
   pub octets : Spot
   pub output : Spot
   pub numbers : Spot
+  pub lengths : Spot
+  pub ports : Spot
+  pub slots : Spot
+  pub seconds : Spot
 
 abbrev pub lies : {A : Type 0} → Spot → List A → RefT (List A)
 lies s l = record { ptr = s .ptr; name = s .name; now = l }
@@ -112,8 +117,12 @@ twice y = (y .lifetimes .0, (y .lifetimes .1 .0, tt))
 abbrev thrice : Lying → Lfts 3
 thrice y = (y .lifetimes .0, (y .lifetimes .1 .0, (y .lifetimes .1 .1 .0, tt)))
 
+abbrev fivefold : Lying → Lfts 5
+fivefold y =
+    (y .lifetimes .0, (y .lifetimes .1 .0, (y .lifetimes .1 .1 .0, (y .lifetimes .1 .1 .1 .0, (y .lifetimes .1 .1 .1 .1 .0, tt)))))
+
 -- ---- what is lent to be read alone is left as it was lent: of the things lent, t, and those left, u, all but the board, the mission, the list, the
--- output or the numbers; and, of a datagram, all but the mission and the output
+-- output or the numbers; of a datagram, all but the mission and the output; and of many, all but these and the answers
 abbrev pub BoardAlone : Things → Things → Type 0
 BoardAlone t u = (u .mission ≡ t .mission) × ((u .routes ≡ t .routes) × ((u .output ≡ t .output) × (u .numbers ≡ t .numbers)))
 
@@ -131,6 +140,9 @@ NumbersAlone t u = (u .board ≡ t .board) × ((u .mission ≡ t .mission) × ((
 
 abbrev pub HearsAlone : Things → Things → Type 0
 HearsAlone t u = (u .board ≡ t .board) × ((u .routes ≡ t .routes) × (u .numbers ≡ t .numbers))
+
+abbrev pub ManyAlone : Things → Things → Type 0
+ManyAlone t u = (u .board ≡ t .board) × (u .routes ≡ t .routes)
 
 -- ---- the contracts
 module _ (y : Lying) where
@@ -309,15 +321,23 @@ module _ (y : Lying) where
       let c = hj-receive-at b m rs p slot second octets o in
       HearsAlone (lentTo c) (x .left)
       × receives
-      (y .lifetimes)
+      (fivefold y)
       (at b, (of m, (listed rs, (p, (slot, (second, (from octets, (into o, tt))))))))
       (x .answer)
       (at b, (of (x .left .mission), (listed rs, (p, (slot, (second, (from octets, (into (x .left .output), tt))))))))
+  Contract (hj-receive-many b m rs lengths ports slots seconds octets n o) x =
+      let c = hj-receive-many b m rs lengths ports slots seconds octets n o in
+      ManyAlone (lentTo c) (x .left)
+      × receives-many
+      (y .lifetimes)
+      (at b, (of m, (listed rs, (lies (y .lengths) lengths, (lies (y .ports) ports, (lies (y .slots) slots, (lies (y .seconds) seconds, (from octets, (among n, (into o, tt))))))))))
+      (x .answer)
+      (at b, (of (x .left .mission), (listed rs, (lies (y .lengths) lengths, (lies (y .ports) ports, (lies (y .slots) slots, (lies (y .seconds) seconds, (from octets, (among (x .left .numbers), (into (x .left .output), tt))))))))))
   Contract (hj-echo b m rs p slot octets o) x =
       let c = hj-echo b m rs p slot octets o in
       HearsAlone (lentTo c) (x .left)
       × echoes
-      (y .lifetimes)
+      (fivefold y)
       (at b, (of m, (listed rs, (p, (slot, (from octets, (into o, tt)))))))
       (x .answer)
       (at b, (of (x .left .mission), (listed rs, (p, (slot, (from octets, (into (x .left .output), tt)))))))
@@ -341,9 +361,3 @@ module _ (y : Lying) where
 -- what a call's contract lets it give back, wherever what is lent lies
 abbrev pub Says : Exported → Result → Type 0
 Says c x = (y : Lying) × Contract y c x
-
--- What C can pass: numbers here have no end and C's have, which matters of one argument alone, the slot, a number of 16 bits.
-abbrev pub Passable : Exported → Type 0
-Passable c =
-    ((b m : List ℕ) (rs : List Record) (p slot second : ℕ) (l o : List ℕ) → c ≡ hj-receive-at b m rs p slot second l o → slot < 65536)
-    × ((b m : List ℕ) (rs : List Record) (p slot : ℕ) (l o : List ℕ) → c ≡ hj-echo b m rs p slot l o → slot < 65536)

@@ -50,6 +50,7 @@ use Rattle.harpjuniper_routes.proofs.hj_clear_route as clear-route
 use Rattle.harpjuniper_routes.proofs.hj_route_word as route-word
 use Rattle.harpjuniper_routes.proofs.hj_search as search-route
 use Rattle.harpjuniper_receive.proofs.hj_receive_at as receive-at
+use Rattle.harpjuniper_batch.proofs.hj_receive_many as many
 use Rattle.harpjuniper_echo.proofs.hj_echo as echo
 use Rattle.contracts.specs.Promised.{
   Exported,
@@ -86,15 +87,16 @@ use Rattle.contracts.specs.Promised.{
   hj-pair-word,
   hj-search,
   hj-receive-at,
+  hj-receive-many,
   hj-echo,
   hj-take,
   hj-counter,
   hj-waiting,
   hj-sweep,
 }
-use Rattle.contracts.specs.Walked.{Plainly, plainly, searches, sets-route, clears-route, reads-word, receives, echoes}
+use Rattle.contracts.specs.Walked.{Plainly, plainly, searches, sets-route, clears-route, reads-word, receives, receives-many, echoes}
 
--- Most functions are proved by the prover's own rules. The six that are lent a list are proved by a walk, and their contracts require nothing and ensure
+-- Most functions are proved by the prover's own rules. The seven that are lent a list are proved by a walk, and their contracts require nothing and ensure
 -- what specs/Walked.antt says.
 pub data Function : Type 3 where
   covered : (lifetimes : ℕ) (params : List (PK lifetimes)) (result : RK lifetimes) → Out lifetimes params result → Routine → Function
@@ -138,6 +140,7 @@ functionOf (hj-last-second m) = covered 1 last-second.Kinds.ps last-second.Kinds
 functionOf (hj-pair-word m i word) = covered 1 pair-word.Kinds.ps pair-word.Kinds.r pair-word.Reads.Learnt pair-word.Symbol.routine
 functionOf (hj-search b m rs a) = walked search-route.ended searches search-route.Symbol.routine
 functionOf (hj-receive-at b m rs p slot second octets o) = walked receive-at.ended receives receive-at.Symbol.routine
+functionOf (hj-receive-many b m rs lengths ports slots seconds octets n o) = walked many.ended receives-many many.Symbol.routine
 functionOf (hj-echo b m rs p slot octets o) = walked echo.ended echoes echo.Symbol.routine
 functionOf (hj-take b m p) = covered 2 take.Kinds.ps take.Kinds.r take.Reads.Learnt take.Symbol.routine
 functionOf (hj-counter m i) = covered 1 counter.Kinds.ps counter.Kinds.r counter.Reads.Learnt counter.Symbol.routine

@@ -2,7 +2,7 @@
 -- (page 01, "What a promise has to shut out": a promise "determines the answer, the state and each lent octet"). What is lent to be read alone is left as
 -- it is. That each row is what the function's own contract states (crates harpjuniper*, src/) is proved: `contract-is-row`, in proofs/Rows.antt. Assumes
 -- nothing.
-use Prim.Native.Nat.{ℕ}
+use Prim.Native.Nat.{ℕ, _<_}
 use mathlib.Core.Path.{_≡_}
 use mathlib.Core.List.{List, []}
 use lib.ListN.{length}
@@ -15,6 +15,7 @@ use Rattle.header.specs.Read.{readOf}
 use Rattle.echo.specs.Message.{readingOf as messageIn}
 use Rattle.echo.specs.Built.{builtOf, builtOutput}
 use Rattle.sets.specs.Limits.{groupPlaces, pathPlaces}
+use Rattle.queue.specs.Order.{Each}
 use Rattle.routes.specs.declared.Record.{Record}
 use Rattle.state.specs.Relay.{Relay, Mission}
 use Rattle.state.specs.Seen.{Board, State, freshBoard, putLifetime, onMission, onMemory}
@@ -25,6 +26,8 @@ use Rattle.adjust.specs.Settled.{newRecord, settledFresh, settledRouter, settle
 use Rattle.adjust.specs.Settled.{settledGroup, settledPath, clearedGroup, clearedPath}
 use Rattle.floods.specs.Sweep.{sweepChecks, sweptMemory}
 use Rattle.taking.specs.Taking.{takenRelay}
+use Rattle.batch.specs.Items.{Lists}
+use Rattle.batch.specs.Many.{itemsHeld, itemsAnswered, itemsSent, manyRefusal, manyHeard}
 use Rattle.harpjuniper.specs.Face.{readingOf, readAnswer, readLeft, buildWordsAnswer, buildWordsOutput}
 use Rattle.harpjuniper_messages.specs.Face.{readAnswer as readEchoAnswer, readLeft as readEchoLeft, requestOf, replyOf, builtAnswer}
 use Rattle.harpjuniper_reads.specs.Back.{portAnswer, groupAnswer, pathAnswer, pairAnswer}
@@ -34,7 +37,7 @@ use Rattle.harpjuniper_echo.specs.Face.{echoAnswer, echoWords, echoOutput}
 use Rattle.harpjuniper_relay.specs.Face.{takeAnswer, counterAnswer, waitingAnswer}
 
 -- ---- the calls, each with what it is lent and told: b is a board's words, m a mission's, rs a list of routes, o an output, n the words of a header's
--- or a message's numbers
+-- or a message's numbers, or the answers of a batch
 pub data Exported : Type 0 where
   hj-read-words : List ℕ → List ℕ → Exported
   hj-build-words : List ℕ → ℕ → List ℕ → Exported
@@ -69,6 +72,7 @@ pub data Exported : Type 0 where
   hj-pair-word : List ℕ → ℕ → ℕ → Exported
   hj-search : List ℕ → List ℕ → List Record → ℕ → Exported
   hj-receive-at : List ℕ → List ℕ → List Record → ℕ → ℕ → ℕ → List ℕ → List ℕ → Exported
+  hj-receive-many : List ℕ → List ℕ → List Record → List ℕ → List ℕ → List ℕ → List ℕ → List ℕ → List ℕ → List ℕ → Exported
   hj-echo : List ℕ → List ℕ → List Record → ℕ → ℕ → List ℕ → List ℕ → Exported
   hj-take : List ℕ → List ℕ → ℕ → Exported
   hj-counter : List ℕ → ℕ → Exported
@@ -159,11 +163,54 @@ lentTo (hj-last-second m) = aMission m
 lentTo (hj-pair-word m i word) = aMission m
 lentTo (hj-search b m rs a) = record { board = b; mission = m; routes = rs; output = []; numbers = [] }
 lentTo (hj-receive-at b m rs p slot second octets o) = record { board = b; mission = m; routes = rs; output = o; numbers = [] }
+lentTo (hj-receive-many b m rs lengths ports slots seconds octets n o) = record { board = b; mission = m; routes = rs; output = o; numbers = n }
 lentTo (hj-echo b m rs p slot octets o) = record { board = b; mission = m; routes = rs; output = o; numbers = [] }
 lentTo (hj-take b m p) = both b m
 lentTo (hj-counter m i) = aMission m
 lentTo (hj-waiting m p) = aMission m
 lentTo (hj-sweep b m second) = both b m
+
+-- ---- what C can pass: numbers here have no end and C's have, which matters of one argument alone, the slot, a number of 16 bits
+abbrev pub Passable : Exported → Type 0
+Passable (hj-read-words octets n) = Unit
+Passable (hj-build-words n size o) = Unit
+Passable (hj-class a) = Unit
+Passable (hj-path p) = Unit
+Passable (hj-checksum octets) = Unit
+Passable (hj-read-echo-words octets n) = Unit
+Passable (hj-build-request identifier sequence echoed o) = Unit
+Passable (hj-build-reply identifier sequence hops format stamp mtu rate echoed o) = Unit
+Passable hj-board-words = Unit
+Passable hj-mission-words = Unit
+Passable (hj-fresh-board b) = Unit
+Passable (hj-fresh-mission m number) = Unit
+Passable (hj-set-router b router) = Unit
+Passable (hj-set-port b p address mask mtu mission) = Unit
+Passable (hj-set-lifetime b lifetime) = Unit
+Passable (hj-set-echo-drop b drop) = Unit
+Passable (hj-set-route b rs i prefix mask p availability capabilities mission) = Unit
+Passable (hj-clear-route rs i) = Unit
+Passable (hj-set-group b m i address send subscribed) = Unit
+Passable (hj-set-path b m i to send here) = Unit
+Passable (hj-clear-group m i) = Unit
+Passable (hj-clear-path m i) = Unit
+Passable (hj-get-router b) = Unit
+Passable (hj-get-lifetime b) = Unit
+Passable (hj-get-echo-drop b) = Unit
+Passable (hj-port-word b p word) = Unit
+Passable (hj-route-word rs i word) = Unit
+Passable (hj-group-word m i word) = Unit
+Passable (hj-path-word m i word) = Unit
+Passable (hj-last-second m) = Unit
+Passable (hj-pair-word m i word) = Unit
+Passable (hj-search b m rs a) = Unit
+Passable (hj-receive-at b m rs p slot second octets o) = slot < 65536
+Passable (hj-receive-many b m rs lengths ports slots seconds octets n o) = Each (λ (slot : ℕ). slot < 65536) slots
+Passable (hj-echo b m rs p slot octets o) = slot < 65536
+Passable (hj-take b m p) = Unit
+Passable (hj-counter m i) = Unit
+Passable (hj-waiting m p) = Unit
+Passable (hj-sweep b m second) = Unit
 
 -- ---- the table
 -- all is left as it was lent
@@ -275,6 +322,15 @@ promised (hj-receive-at b m rs p slot second octets o) =
     outputLeft
     (missionLeft (looking (lentTo c) (receiveAnswer b m rs p second octets (length o))) (receiveWords b m rs p slot second octets (length o)))
     (receiveOutput b m rs p second octets o)
+promised (hj-receive-many b m rs lengths ports slots seconds octets n o) =
+    let c = hj-receive-many b m rs lengths ports slots seconds octets n o in
+    let x : Lists = record { lengths = lengths; ports = ports; slots = slots; seconds = seconds; octets = octets } in
+    let heard = manyHeard rs x n o in
+    numbersLeft
+    (outputLeft
+    (missionLeft (looking (lentTo c) (manyRefusal rs x n o)) (itemsHeld b (lent m) rs x heard))
+    (itemsSent b (lent m) rs x o heard))
+    (itemsAnswered b (lent m) rs x n heard)
 promised (hj-echo b m rs p slot octets o) =
     let c = hj-echo b m rs p slot octets o in
     outputLeft

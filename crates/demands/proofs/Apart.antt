@@ -46,7 +46,7 @@ use Rattle.history.specs.Calls.{
 use Rattle.demands.specs.Trace.{Customer, first, second, Step, flies, stepOf, Words, missionOf, wordsAfter, Begun, historyOf, ordersOf, Gives}
 use Rattle.demands.specs.Apart.{givenTo, leftTo, Apart}
 use Rattle.demands.proofs.Fresh.{fresh-board-holds, fresh-mission-holds}
-use Rattle.demands.proofs.Lane.{madeBy, Lane, Ran, ran, operator-lane, ran-once}
+use Rattle.demands.proofs.Lane.{madeBy, boardBy, ownBy, Lane, Ran, ran, operator-lane, ran-once}
 
 -- ---- the words with which the steps begin
 abbrev begin : {w v : Words} {cs : List Step} → Begun w cs v → Words
@@ -76,7 +76,7 @@ module _ {w w′ v v′ : Words} {cs ds : List Step} (b : Begun w cs v) (d : Beg
   same-lanes who same =
       let one = ran who cs (begin b) v (b .then) in
       let two = ran who ds (begin d) v′ (d .then) in
-      ran-once (historyOf who cs) same-board (same-mission who) one
+      ran-once madeBy boardBy ownBy (historyOf who cs) same-board (same-mission who) one
       (subst (λ (h : List Call). Ran (begin d .board) (missionOf who (begin d)) h (v′ .board) (missionOf who v′) (givenTo who ds (begin d) v′ (d .then)))
       (sym same) two)
 
@@ -85,7 +85,7 @@ module _ {w w′ v v′ : Words} {cs ds : List Step} (b : Begun w cs v) (d : Beg
   same-boards same =
       let one = operator-lane cs (begin b) v (b .then) in
       let two = operator-lane ds (begin d) v′ (d .then) in
-      ran-once (map operator (ordersOf cs)) same-board refl (one, refl)
+      ran-once madeBy boardBy ownBy (map operator (ordersOf cs)) same-board refl (one, refl)
       (subst (λ (h : List OperatorCall). Lane (begin d .board) [] (map operator h) (v′ .board) []) (sym same) two, refl) .1 .0
 
 -- ---- the next call

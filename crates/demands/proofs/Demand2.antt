@@ -70,7 +70,6 @@ use Rattle.page.proofs.Headers.{headers-are-the-page}
 use Rattle.page.proofs.Sought.{sought-taken, sought-no-route}
 use Rattle.page.proofs.Verdict.{ending-by-steps, verdict-is-the-page, ones-choose}
 use Rattle.contracts.specs.Promised.{Result, hj-read-words, hj-build-words}
-use Rattle.contracts.specs.Contracts.{Passable}
 use Rattle.contracts.proofs.Answers.{each-call-answers}
 use Rattle.contracts.proofs.Rows.{says-row}
 use Rattle.history.specs.Calls.{
@@ -139,13 +138,10 @@ use Rattle.demands.proofs.Output.{told, was, takes-some, header-found, 
 use Rattle.demands.proofs.Remembers.{before-memory, page-memory, sweep-memory, sweep-own}
 
 -- ---- reading
-no-slot : (s n : List ℕ) → Passable (hj-read-words s n)
-no-slot s n = (λ b m rs p slot now l o e. true-false cc, λ b m rs p slot l o e. true-false cc)
-
 reads : (s : List ℕ) → Reads s (readingOf (readOf s))
 reads s =
     let lent : List ℕ = replicate readingCount 0 in
-    let a = each-call-answers (hj-read-words s lent) (no-slot s lent) in
+    let a = each-call-answers (hj-read-words s lent) tt in
     let row = says-row (hj-read-words s lent) (a .0) (a .1) in
     (a .0, (a .1, (row .answer ∙ reading-answer (readingOf (readOf s)), row .numbers ∙ reading-left (readOf s))))
 
@@ -198,7 +194,7 @@ module _ (fields : Numbers) (size : ℕ) where
   builds : (lent : List ℕ) → Builds fields size lent (buildAnswer fields size (length lent)) (buildOutput fields size lent)
   builds lent =
       let c = hj-build-words (numbersWords fields) size lent in
-      let a = each-call-answers c (λ b m rs p slot now l o e. true-false cc, λ b m rs p slot l o e. true-false cc) in
+      let a = each-call-answers c tt in
       let row = says-row c (a .0) (a .1) in
       (a .0, (a .1, (row .answer ∙ build-answer fields size (length lent), row .output ∙ build-output fields size lent)))
 

@@ -222,20 +222,20 @@ module _ (b m : List ℕ) (x : Seat) (l : List ℕ) (board : lentBoard b ≡ Hel
     e = heardBy x rs p second octets (length output)
 
     heard-answer : receiveAnswer b m rs p second octets (length output) ≡ receiveNumber e
-    unfolding receiveAnswer
+    unfolding receiveAnswer told
     heard-answer =
         ap (pick (tooLong rs) 21) (both-told _ 16 ∙ ap receiveNumber (heard-any x l rs p second octets (length output)))
         ∙ answer-case x l rs p second octets (length output) (tooLong rs) refl
 
     heard-words : receiveWords b m rs p (slot .0) second octets (length output) ≡ Held (nextState x l (own (hears rs p slot second octets output)))
-    unfolding receiveWords
+    unfolding receiveWords changed
     heard-words =
         both-changed _
         ∙ ap₂ (λ (k : Memory) (z : Ending). Held (receivedState (x .board) s slot k z)) (remembered-any x l rs p second octets (length output))
         (heard-any x l rs p second octets (length output))
 
     heard-output : receiveOutput b m rs p second octets output ≡ sentOutput e octets output
-    unfolding receiveOutput
+    unfolding receiveOutput told
     heard-output = both-told _ output ∙ ap (λ (z : Ending). sentOutput z octets output) (heard-any x l rs p second octets (length output))
 
   -- a reply

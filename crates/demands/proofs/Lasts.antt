@@ -4,10 +4,8 @@ use Prim.Native.Nat.{ℕ}
 use mathlib.Core.Path.{_≡_, refl, _∙_}
 use mathlib.Core.List.{List, [], _∷_}
 use lib.ListN.{length}
-use Rattle.checks.proofs.Bools.{true-false}
 use Rattle.state.specs.Layout.{boardWords, missionWords}
-use Rattle.contracts.specs.Promised.{Result, hj-fresh-board, hj-fresh-mission}
-use Rattle.contracts.specs.Contracts.{Passable}
+use Rattle.contracts.specs.Promised.{Result, Passable, hj-fresh-board, hj-fresh-mission}
 use Rattle.contracts.proofs.Answers.{each-call-answers}
 use Rattle.history.specs.Calls.{
   setRouter,
@@ -57,48 +55,46 @@ use Rattle.demands.specs.Trace.{first, second, Step, operates, flies, Wo
 use Rattle.demands.specs.Trace.{MissionPasses, Passes, AllPass}
 use Rattle.demands.proofs.Fresh.{fresh-board-answers, fresh-mission-answers, number-taken}
 
--- only hj_receive_at and hj_echo are passed a slot
+-- only a datagram and an echo request are passed a slot
 operator-passable : (b : List ℕ) (c : OperatorCall) → Passable (operatorBy b c)
-operator-passable b (orders (setRouter x)) = (λ d m rs p slot now l o e. true-false cc, λ d m rs p slot l o e. true-false cc)
-operator-passable b (orders (setPort q address mask mtu mission)) = (λ d m rs p slot now l o e. true-false cc, λ d m rs p slot l o e. true-false cc)
-operator-passable b (orders (setLifetime x)) = (λ d m rs p slot now l o e. true-false cc, λ d m rs p slot l o e. true-false cc)
-operator-passable b (orders (setDrop x)) = (λ d m rs p slot now l o e. true-false cc, λ d m rs p slot l o e. true-false cc)
-operator-passable b (orders (setRoute ls i prefix mask q availability capabilities mission)) = (λ d m rs p slot now l o e. true-false cc, λ d m rs p slot l o e. true-false cc)
-operator-passable b (orders (clearRoute ls i)) = (λ d m rs p slot now l o e. true-false cc, λ d m rs p slot l o e. true-false cc)
-operator-passable b (views routerFlag) = (λ d m rs p slot now l o e. true-false cc, λ d m rs p slot l o e. true-false cc)
-operator-passable b (views lifetimeWord) = (λ d m rs p slot now l o e. true-false cc, λ d m rs p slot l o e. true-false cc)
-operator-passable b (views dropFlag) = (λ d m rs p slot now l o e. true-false cc, λ d m rs p slot l o e. true-false cc)
-operator-passable b (views (portWord q word)) = (λ d m rs p slot now l o e. true-false cc, λ d m rs p slot l o e. true-false cc)
-operator-passable b (views (recordWord ls i word)) = (λ d m rs p slot now l o e. true-false cc, λ d m rs p slot l o e. true-false cc)
+operator-passable b (orders (setRouter x)) = tt
+operator-passable b (orders (setPort q address mask mtu mission)) = tt
+operator-passable b (orders (setLifetime x)) = tt
+operator-passable b (orders (setDrop x)) = tt
+operator-passable b (orders (setRoute ls i prefix mask q availability capabilities mission)) = tt
+operator-passable b (orders (clearRoute ls i)) = tt
+operator-passable b (views routerFlag) = tt
+operator-passable b (views lifetimeWord) = tt
+operator-passable b (views dropFlag) = tt
+operator-passable b (views (portWord q word)) = tt
+operator-passable b (views (recordWord ls i word)) = tt
 
 mission-passable : (b n : List ℕ) (c : MissionCall) → MissionPasses c → Passable (missionBy b n c)
-mission-passable b n (sets (setGroup i address send subscribed)) fits = (λ d m rs p slot now l o e. true-false cc, λ d m rs p slot l o e. true-false cc)
-mission-passable b n (sets (setPath i to send here)) fits = (λ d m rs p slot now l o e. true-false cc, λ d m rs p slot l o e. true-false cc)
-mission-passable b n (sets (clearGroup i)) fits = (λ d m rs p slot now l o e. true-false cc, λ d m rs p slot l o e. true-false cc)
-mission-passable b n (sets (clearPath i)) fits = (λ d m rs p slot now l o e. true-false cc, λ d m rs p slot l o e. true-false cc)
-mission-passable b n (hears ls q s when octets output) fits =
-    (λ d m rs p slot now l o e. let same : s .0 ≡ slot = cc in rw (← same) (fits .0), λ d m rs p slot l o e. true-false cc)
-mission-passable b n (echoes ls q s octets output) fits =
-    (λ d m rs p slot now l o e. true-false cc, λ d m rs p slot l o e. let same : s .0 ≡ slot = cc in rw (← same) (fits .0))
-mission-passable b n (takes q) fits = (λ d m rs p slot now l o e. true-false cc, λ d m rs p slot l o e. true-false cc)
-mission-passable b n (sweeps when) fits = (λ d m rs p slot now l o e. true-false cc, λ d m rs p slot l o e. true-false cc)
-mission-passable b n (looks (groupWord i word)) fits = (λ d m rs p slot now l o e. true-false cc, λ d m rs p slot l o e. true-false cc)
-mission-passable b n (looks (pathWord i word)) fits = (λ d m rs p slot now l o e. true-false cc, λ d m rs p slot l o e. true-false cc)
-mission-passable b n (looks (pairWord i word)) fits = (λ d m rs p slot now l o e. true-false cc, λ d m rs p slot l o e. true-false cc)
-mission-passable b n (looks lastSecond) fits = (λ d m rs p slot now l o e. true-false cc, λ d m rs p slot l o e. true-false cc)
-mission-passable b n (looks (search ls a)) fits = (λ d m rs p slot now l o e. true-false cc, λ d m rs p slot l o e. true-false cc)
-mission-passable b n (looks (counter i)) fits = (λ d m rs p slot now l o e. true-false cc, λ d m rs p slot l o e. true-false cc)
-mission-passable b n (looks (waiting q)) fits = (λ d m rs p slot now l o e. true-false cc, λ d m rs p slot l o e. true-false cc)
-mission-passable b n (looks (read octets)) fits = (λ d m rs p slot now l o e. true-false cc, λ d m rs p slot l o e. true-false cc)
-mission-passable b n (looks (build fields size output)) fits = (λ d m rs p slot now l o e. true-false cc, λ d m rs p slot l o e. true-false cc)
-mission-passable b n (looks (class a)) fits = (λ d m rs p slot now l o e. true-false cc, λ d m rs p slot l o e. true-false cc)
-mission-passable b n (looks (form a)) fits = (λ d m rs p slot now l o e. true-false cc, λ d m rs p slot l o e. true-false cc)
-mission-passable b n (looks (checksum octets)) fits = (λ d m rs p slot now l o e. true-false cc, λ d m rs p slot l o e. true-false cc)
-mission-passable b n (looks (readEcho octets)) fits = (λ d m rs p slot now l o e. true-false cc, λ d m rs p slot l o e. true-false cc)
-mission-passable b n (looks (buildRequest i k echoed output)) fits = (λ d m rs p slot now l o e. true-false cc, λ d m rs p slot l o e. true-false cc)
-mission-passable b n (looks (buildReply i k seen echoed output)) fits = (λ d m rs p slot now l o e. true-false cc, λ d m rs p slot l o e. true-false cc)
-mission-passable b n (looks boardSize) fits = (λ d m rs p slot now l o e. true-false cc, λ d m rs p slot l o e. true-false cc)
-mission-passable b n (looks missionSize) fits = (λ d m rs p slot now l o e. true-false cc, λ d m rs p slot l o e. true-false cc)
+mission-passable b n (sets (setGroup i address send subscribed)) fits = tt
+mission-passable b n (sets (setPath i to send here)) fits = tt
+mission-passable b n (sets (clearGroup i)) fits = tt
+mission-passable b n (sets (clearPath i)) fits = tt
+mission-passable b n (hears ls q s when octets output) fits = fits .0
+mission-passable b n (echoes ls q s octets output) fits = fits .0
+mission-passable b n (takes q) fits = tt
+mission-passable b n (sweeps when) fits = tt
+mission-passable b n (looks (groupWord i word)) fits = tt
+mission-passable b n (looks (pathWord i word)) fits = tt
+mission-passable b n (looks (pairWord i word)) fits = tt
+mission-passable b n (looks lastSecond) fits = tt
+mission-passable b n (looks (search ls a)) fits = tt
+mission-passable b n (looks (counter i)) fits = tt
+mission-passable b n (looks (waiting q)) fits = tt
+mission-passable b n (looks (read octets)) fits = tt
+mission-passable b n (looks (build fields size output)) fits = tt
+mission-passable b n (looks (class a)) fits = tt
+mission-passable b n (looks (form a)) fits = tt
+mission-passable b n (looks (checksum octets)) fits = tt
+mission-passable b n (looks (readEcho octets)) fits = tt
+mission-passable b n (looks (buildRequest i k echoed output)) fits = tt
+mission-passable b n (looks (buildReply i k seen echoed output)) fits = tt
+mission-passable b n (looks boardSize) fits = tt
+mission-passable b n (looks missionSize) fits = tt
 
 pub passable : (w : Words) (c : Step) → Passes c → Passable (made w c)
 passable w (operates c) fits = operator-passable (w .board) c
@@ -116,9 +112,9 @@ module _ (w : Words) (board : length (w .board) ≡ boardWords) (zero : length (
   -- Any such words can be lent first, and any steps follow.
   pub begun-lasts : (cs : List Step) → AllPass cs → (v : Words) × Begun w cs v
   begun-lasts cs fit =
-      let a = each-call-answers (hj-fresh-board (w .board)) (λ d m rs p slot now l o e. true-false cc, λ d m rs p slot l o e. true-false cc) in
-      let b = each-call-answers (hj-fresh-mission (w .zero) 0) (λ d m rs p slot now l o e. true-false cc, λ d m rs p slot l o e. true-false cc) in
-      let c = each-call-answers (hj-fresh-mission (w .one) 1) (λ d m rs p slot now l o e. true-false cc, λ d m rs p slot l o e. true-false cc) in
+      let a = each-call-answers (hj-fresh-board (w .board)) tt in
+      let b = each-call-answers (hj-fresh-mission (w .zero) 0) tt in
+      let c = each-call-answers (hj-fresh-mission (w .one) 1) tt in
       let rest = trace-lasts cs fit (record { board = a .0 .left .board; zero = b .0 .left .mission; one = c .0 .left .mission }) in (
         rest .0,
         record {

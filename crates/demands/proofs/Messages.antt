@@ -10,7 +10,6 @@ use lib.Dec.{eqb}
 use borrow.Author.Tests.{eq-eqb, ne-eqb}
 use Rattle.checks.specs.Order.{pick, firstOf}
 use Rattle.checks.specs.Answer.{refusalNumber}
-use Rattle.checks.proofs.Bools.{true-false}
 use Rattle.refusals.proofs.Chains.{Decided, decided}
 use Rattle.header.specs.Limits.{mostData}
 use Rattle.header.specs.Build.{outputBy}
@@ -27,8 +26,8 @@ use Rattle.echo.specs.declared.Reading.the-variants.{Good, Refused}
 use Rattle.echo.proofs.Refusals.{reads-good, builds-exactly}
 use Rattle.echo.proofs.Trip.{SeenFits, kindFits, Fits, written-length, written-data, read-written, written-read}
 use Rattle.harpjuniper_messages.specs.Face.{messageCount, messageWords, refusalIn, readAnswer, leftBy, readLeft, builtAnswer}
-use Rattle.contracts.specs.Promised.{Result, hj-read-echo-words}
-use Rattle.contracts.specs.Contracts.{Says, Passable}
+use Rattle.contracts.specs.Promised.{Result, Passable, hj-read-echo-words}
+use Rattle.contracts.specs.Contracts.{Says}
 use Rattle.contracts.proofs.Answers.{each-call-answers}
 use Rattle.contracts.proofs.Rows.{says-row}
 use Rattle.page.specs.Table.{GivenBy}
@@ -39,13 +38,10 @@ use Rattle.demands.proofs.ReadOut.{message-refusal, built-as, message-s
 use Rattle.demands.proofs.Whole.{unbuilt}
 
 -- ---- reading
-no-slot : (s n : List ℕ) → Passable (hj-read-echo-words s n)
-no-slot s n = (λ b m rs p slot now l o e. true-false cc, λ b m rs p slot l o e. true-false cc)
-
 module _ (s lent : List ℕ) where
   pub reads : (answer : ℕ) × ((left : List ℕ) × ReadsEcho s lent answer left)
   reads =
-      let a = each-call-answers (hj-read-echo-words s lent) (no-slot s lent) in
+      let a = each-call-answers (hj-read-echo-words s lent) tt in
       (a .0 .answer, (a .0 .left .numbers, (a .0, (a .1, (refl, refl)))))
 
   -- into ten words
@@ -89,7 +85,7 @@ module _ (s lent : List ℕ) where
     reads-message : (m : Message) → readingOf s ≡ Good m → ReadsEcho s lent 0 (messageWords m)
     reads-message m is =
         let c = hj-read-echo-words s lent in
-        let a = each-call-answers c (no-slot s lent) in
+        let a = each-call-answers c tt in
         let row = says-row c (a .0) (a .1) in
         (a .0, (a .1, (row .answer ∙ ten-answer (readingOf s) ∙ ap refusalIn is, row .numbers ∙ ten-left (readingOf s) ∙ ap (λ (r : Reading). leftBy r lent) is)))
 
@@ -114,8 +110,8 @@ begin-told m = refl
 
 -- ---- building
 built-passes : (k : Kind) (i n : ℕ) (echoed lent : List ℕ) → Passable (builtBy k i n echoed lent)
-built-passes Request i n echoed lent = (λ b m rs p slot now l o e. true-false cc, λ b m rs p slot l o e. true-false cc)
-built-passes (Reply s) i n echoed lent = (λ b m rs p slot now l o e. true-false cc, λ b m rs p slot l o e. true-false cc)
+built-passes Request i n echoed lent = tt
+built-passes (Reply s) i n echoed lent = tt
 
 abbrev message : Kind → ℕ → ℕ → Message
 message k i n = record { identifier = i; sequence = n; kind = k }

@@ -11,19 +11,16 @@ use lib.Dec.{eqb, ltb}
 use borrow.Author.Tests.{eqb-true, eqb-false, ltb-true, ltb-false}
 use Rattle.checks.specs.Order.{pick}
 use Rattle.checks.proofs.Bools.{true-false}
-use Rattle.checks.proofs.Laws.{either}
 use Rattle.sets.specs.Limits.{portCount}
 use Rattle.sets.specs.Sets.{inSet}
 use Rattle.address.specs.declared.Slot.{Slot}
-use Rattle.header.specs.Limits.{longestHeader}
+use Rattle.header.specs.Form.{placesOf}
 use Rattle.header.specs.Read.{readOf, headerOf}
-use Rattle.header.specs.declared.Header.{Header}
 use Rattle.header.specs.declared.Read.the-variants.{Good}
-use Rattle.header.proofs.Answers.{read-in-range, read-bounds}
+use Rattle.header.proofs.Passed.{passed}
 use Rattle.header.proofs.Refusals.{read-good}
 use Rattle.networks.proofs.Bits.{high-bit}
-use Rattle.next_leg.specs.Leg.{asksChecksum, rewrites, nextFields, nextSize, nextHeader, headerFor}
-use Rattle.next_leg.proofs.Made.{checksum-case, small-size}
+use Rattle.next_leg.specs.Leg.{headerFor}
 use Rattle.next_leg.proofs.ReadBack.{next-header-length}
 use Rattle.routes.specs.declared.Record.{Record}
 use Rattle.survey.proofs.Bits.{in-none}
@@ -31,13 +28,14 @@ use Rattle.state.specs.Relay.{Relay}
 use Rattle.judge.specs.Ending.{outputRoom, endingOf}
 use Rattle.judge.specs.declared.Ending.{Ending}
 use Rattle.relay.specs.Outgoing.{stretchOf, sentOutput}
+use Rattle.batch.proofs.Sent.{below-length}
 use Rattle.page.specs.Table.{stepRows}
 use Rattle.page.proofs.Exactly.{refusal-exactly}
 use Rattle.page.proofs.Headers.{headers-of-any-relay}
 use Rattle.contracts.specs.Promised.{Result}
 use Rattle.history.specs.Calls.{hears, own}
 use Rattle.history.specs.Ranges.{Octets}
-use Rattle.history.specs.Seat.{Seat, heardBy}
+use Rattle.history.specs.Seat.{Seat, relayWith, heardBy}
 use Rattle.history.proofs.Domain.{WasRead, took-read}
 use Rattle.history.proofs.Heard.{heard-so}
 use Rattle.history.proofs.ReadBack.{ReadBack, read-back}
@@ -46,7 +44,7 @@ use Rattle.history.proofs.Small.{sets-small}
 use Rattle.demands.specs.Trace.{Customer, Step, flies, seatOf, relayFor, Gives}
 use Rattle.demands.specs.ReadOut.{tookIn, headerOctets, headerOut}
 use Rattle.demands.proofs.Told.{gives-row}
-use Rattle.demands.proofs.Stretches.{below-length, below-found, below-apart}
+use Rattle.demands.proofs.Stretches.{below-found, below-apart}
 
 -- a set of the ports 0 to 7 has no other
 port-inside : (p set : ℕ) → set < 256 → inSet p set ≡ true → p < portCount
@@ -55,16 +53,6 @@ port-inside p set few is = by (ltb p portCount) refl
     by : (t : Bool) → ltb p portCount ≡ t → p < portCount
     by true e = ltb-true p portCount e
     by false e = true-false (sym (sym (ap (λ (b : ℕ). eqb b 1) (high-bit 8 p set few (ltb-false p portCount e))) ∙ is))
-
--- a header that goes out has 50 octets at the most
-short-header : (far : Bool) (arrival code : ℕ) (s : List ℕ) (h : Header) → Octets s → readOf s ≡ Good h
-    → length (nextHeader far arrival code s) ≤ longestHeader
-unfolding nextSize nextFields
-short-header far arrival code s h small e =
-    rw (next-header-length far arrival code s h small e)
-    (either (λ (n : ℕ). n ≤ longestHeader) (rewrites far code (h .fields))
-    (small-size (nextFields far arrival code (h .fields)) (checksum-case (asksChecksum code) (h .fields .checksum) (read-in-range s h small e .checksum)))
-    (read-bounds s h small e .1 .0))
 
 -- ---- of any relay
 module _ (r : Relay) (at second : ℕ) (octets : List ℕ) (room : ℕ) where
@@ -81,6 +69,51 @@ module _ (r : Relay) (at second : ℕ) (octets : List ℕ) (room : ℕ) where
   counted small read p inside is =
       let headers = headers-of-any-relay r at second octets room in
       headers .size p inside is ∙ sym (next-header-length _ _ _ octets (headerOf octets) small read) ∙ sym (ap length (headers .header p inside is))
+
+-- ---- of any seat, where a port took an entry
+module _ (seat : Seat) (rs : List Record) (at second : ℕ) (octets output : List ℕ)
+    (some : heardBy seat rs at second octets (length output) .ruling .took ≢ 0) where
+  abbrev ending : Ending
+  ending = heardBy seat rs at second octets (length output)
+
+  -- the datagram was read
+  pub seat-was : WasRead octets ending
+  seat-was = took-read seat rs at second octets (length output) some
+
+  seat-read : readOf octets ≡ Good (headerOf octets)
+  seat-read = seat-was .read ∙ ap Good (read-good octets (seat-was .header) .0 (seat-was .read) .1)
+
+  seat-whole : placesOf octets .size ≤ length octets
+  seat-whole = let well = passed octets (seat-was .header) (seat-was .read) in omega (arith, well .fits, well .inside)
+
+  seat-wide : stretchOf portCount ≤ length output
+  seat-wide = by (eqb (ending .refusal) 0) refl
+    where
+      by : (t : Bool) → eqb (ending .refusal) 0 ≡ t → outputRoom ≤ length output
+      by true z =
+          heard-so seat rs at second octets (length output) (λ (y : Ending). y .refusal ≡ 0 → outputRoom ≤ length output)
+          (λ z. absurd (omega (arith, z))) (room-lent (relayWith seat rs) at second octets (length output)) (eqb-true (ending .refusal) 0 z)
+      by false z =
+          absurd (some (ap (λ y. y .took) (heard-grants-nothing seat rs at second octets (length output) (eqb-false (ending .refusal) 0 z))))
+
+-- what is sent on has as many octets as were lent
+pub sent-as-many : (seat : Seat) (rs : List Record) (at second : ℕ) (octets output : List ℕ)
+    → length (sentOutput (heardBy seat rs at second octets (length output)) octets output) ≡ length output
+unfolding sentOutput
+sent-as-many seat rs at second octets output = by (eqb took 0) refl
+  where
+    e : Ending
+    e = heardBy seat rs at second octets (length output)
+
+    took : ℕ
+    took = e .ruling .took
+
+    by : (t : Bool) → eqb took 0 ≡ t → length (sentOutput e octets output) ≡ length output
+    by true z = ap length (output-as-lent e octets output (eqb-true took 0 z))
+    by false z =
+        let some = eqb-false took 0 z in
+        below-length took (e .legs) octets (seat-whole seat rs at second octets output some) output portCount
+        (seat-wide seat rs at second octets output some)
 
 -- ---- after a trace
 module _ (who : Customer) (steps : List Step) (rs : List Record) (at : ℕ) (slot : Slot) (second : ℕ) (octets output : List ℕ) (x : Result)
@@ -102,25 +135,17 @@ module _ (who : Customer) (steps : List Step) (rs : List Record) (at : ℕ) (slo
 
   -- where a port took an entry
   module _ (some : took ≢ 0) where
-    -- the datagram was read
     pub was : WasRead octets e
-    was = took-read seat rs at second octets (length output) some
+    was = seat-was seat rs at second octets output some
 
     read : readOf octets ≡ Good (headerOf octets)
-    read = was .read ∙ ap Good (read-good octets (was .header) .0 (was .read) .1)
+    read = seat-read seat rs at second octets output some
 
-    short : (p : ℕ) → length (headerFor (e .legs) octets p) ≤ longestHeader
-    short p = short-header _ _ _ octets (headerOf octets) (g .passes .1 .0) read
+    whole : placesOf octets .size ≤ length octets
+    whole = seat-whole seat rs at second octets output some
 
     wide : stretchOf portCount ≤ length output
-    wide = by (eqb (e .refusal) 0) refl
-      where
-        by : (t : Bool) → eqb (e .refusal) 0 ≡ t → outputRoom ≤ length output
-        by true z =
-            heard-so seat rs at second octets (length output) (λ (y : Ending). y .refusal ≡ 0 → outputRoom ≤ length output)
-            (λ z. absurd (omega (arith, z))) (room-lent (relayFor who steps rs) at second octets (length output)) (eqb-true (e .refusal) 0 z)
-        by false z =
-            absurd (some (ap (λ y. y .took) (heard-grants-nothing seat rs at second octets (length output) (eqb-false (e .refusal) 0 z))))
+    wide = seat-wide seat rs at second octets output some
 
     size-is : (p : ℕ) → inSet p took ≡ true → headerOctets x p ≡ length (headerFor (e .legs) octets p)
     size-is p is =
@@ -135,18 +160,14 @@ module _ (who : Customer) (steps : List Step) (rs : List Record) (at : ℕ) (slo
         let inside = port-inside p took (sets-small seat rs at second octets (length output) .took) is in
         ap (λ (n : ℕ). take n (drop (stretchOf p) (x .left .output))) (size-is p is)
         ∙ ap (λ (l : List ℕ). take (length (headerFor (e .legs) octets p)) (drop (stretchOf p) l)) sent
-        ∙ below-found took (e .legs) octets short output portCount wide p inside is
-
-    some-length : length (x .left .output) ≡ length output
-    unfolding sentOutput
-    some-length = ap length sent ∙ below-length took (e .legs) octets short output portCount wide
+        ∙ below-found took (e .legs) octets whole output portCount wide p inside is
 
     some-others : (i : ℕ) → ((p : ℕ) → p < portCount → inSet p took ≡ true → (i < stretchOf p) ⊎ (stretchOf p + headerOctets x p ≤ i))
         → getD (x .left .output) i 0 ≡ getD output i 0
     unfolding sentOutput
     some-others i apart =
         ap (λ (l : List ℕ). getD l i 0) sent
-        ∙ below-apart took (e .legs) octets short output portCount wide i (λ p inside is. rw (← size-is p is) (apart p inside is))
+        ∙ below-apart took (e .legs) octets whole output portCount wide i (λ p inside is. rw (← size-is p is) (apart p inside is))
 
   pub takes-some : (p : ℕ) → inSet p took ≡ true → took ≢ 0
   takes-some p is z = true-false (sym (sym (ap (inSet p) z) ∙ is) ∙ in-none p)
@@ -160,11 +181,7 @@ module _ (who : Customer) (steps : List Step) (rs : List Record) (at : ℕ) (slo
 
   -- The output has as many octets as it had,
   pub as-many : length (x .left .output) ≡ length output
-  as-many = by (eqb took 0) refl
-    where
-      by : (t : Bool) → eqb took 0 ≡ t → length (x .left .output) ≡ length output
-      by true z = ap length (none-sent z)
-      by false z = some-length (eqb-false took 0 z)
+  as-many = ap length sent ∙ sent-as-many seat rs at second octets output
 
   -- and those outside the headers stay.
   pub others-stay : (i : ℕ) → ((p : ℕ) → p < portCount → inSet p (tookIn x) ≡ true → (i < stretchOf p) ⊎ (stretchOf p + headerOctets x p ≤ i))

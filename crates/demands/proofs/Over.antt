@@ -12,18 +12,17 @@ use Rattle.demands.specs.Trace.{Customer, first, second, numberOf, Step,
 use Rattle.demands.specs.ReadOut.{overOwn}
 use Rattle.demands.proofs.Traced.{history-more}
 
--- ---- one step more
-trace-more : (xs : List Step) (c : Step) (w v : Words) → Trace w xs v → (x : Result) → Says (made v c) x → Trace w (xs ++ (c ∷ [])) (wordsAfter v c x)
-trace-more [] c w v t x says = subst (λ (z : Words). Trace z (c ∷ []) (wordsAfter v c x)) t (x, (says, refl))
-trace-more (d ∷ xs) c w v t x says = (t .0, (t .1 .0, trace-more xs c (wordsAfter w d (t .0)) v (t .1 .1) x says))
+-- ---- more steps
+pub trace-on : (xs ys : List Step) (w v u : Words) → Trace w xs v → Trace v ys u → Trace w (xs ++ ys) u
+trace-on [] ys w v u t s = subst (λ (z : Words). Trace z ys u) t s
+trace-on (d ∷ xs) ys w v u t s = (t .0, (t .1 .0, trace-on xs ys (wordsAfter w d (t .0)) v u (t .1 .1) s))
 
-pub pass-more : (xs : List Step) (c : Step) → AllPass xs → Passes c → AllPass (xs ++ (c ∷ []))
-pass-more [] c all p = (p, tt)
-pass-more (d ∷ xs) c all p = (all .0, pass-more xs c (all .1) p)
+pub pass-on : (xs ys : List Step) → AllPass xs → AllPass ys → AllPass (xs ++ ys)
+pass-on [] ys all more = more
+pass-on (d ∷ xs) ys all more = (all .0, pass-on xs ys (all .1) more)
 
-begun-more : (w v : Words) (steps : List Step) (c : Step) (x : Result) → Begun w steps v → Says (made v c) x → Passes c
-    → Begun w (steps ++ (c ∷ [])) (wordsAfter v c x)
-begun-more w v steps c x b says p =
+pub begun-on : (w v u : Words) (steps more : List Step) → Begun w steps v → Trace v more u → AllPass more → Begun w (steps ++ more) u
+begun-on w v u steps more b t all =
     record {
       board = b .board;
       zero = b .zero;
@@ -31,9 +30,17 @@ begun-more w v steps c x b says p =
       fresh-board = b .fresh-board;
       fresh-zero = b .fresh-zero;
       fresh-one = b .fresh-one;
-      then = trace-more steps c _ v (b .then) x says;
-      passed = pass-more steps c (b .passed) p;
+      then = trace-on steps more _ v u (b .then) t;
+      passed = pass-on steps more (b .passed) all;
     }
+
+-- one step more
+pub pass-more : (xs : List Step) (c : Step) → AllPass xs → Passes c → AllPass (xs ++ (c ∷ []))
+pass-more xs c all p = pass-on xs (c ∷ []) all (p, tt)
+
+begun-more : (w v : Words) (steps : List Step) (c : Step) (x : Result) → Begun w steps v → Says (made v c) x → Passes c
+    → Begun w (steps ++ (c ∷ [])) (wordsAfter v c x)
+begun-more w v steps c x b says p = begun-on w v (wordsAfter v c x) steps (c ∷ []) b (x, (says, refl)) (p, tt)
 
 -- a step that is in the customer's history, and one that is not
 module _ (who : Customer) (steps : List Step) where

@@ -15,21 +15,19 @@ use Rattle.checks.proofs.Laws.{either}
 use Rattle.octets.specs.Octets.{pasted}
 use Rattle.sets.specs.Sets.{inSet}
 use Rattle.header.specs.Limits.{longestHeader}
+use Rattle.header.specs.Form.{placesOf}
 use Rattle.next_leg.specs.Leg.{headerFor}
 use Rattle.next_leg.specs.declared.Legs.{Legs}
 use Rattle.relay.specs.Outgoing.{stretchOf, sentIf, sentBelow}
+use Rattle.batch.proofs.Sent.{next-fits, below-length}
 
 -- ---- one piece over a list that has room for it
 module _ (l vs : List ℕ) (at : ℕ) (room : at + length vs ≤ length l) where
   front : length (take at l) ≡ at
   front = length-take-le at l (omega (arith, room))
 
-  pasted-length : length (pasted l at vs) ≡ length l
-  unfolding pasted
-  pasted-length = simp (length-append, length-drop, front) (omega (arith, room))
-
   -- the piece stands there
-  pasted-here : take (length vs) (drop at (pasted l at vs)) ≡ vs
+  pub pasted-here : take (length vs) (drop at (pasted l at vs)) ≡ vs
   unfolding pasted
   pasted-here =
       ap (take (length vs)) (drop-at (take at l) (vs ++ drop (at + length vs) l) at front) ∙ take-append-seam vs (drop (at + length vs) l)
@@ -61,7 +59,7 @@ part-before xs ys from n h =
     ap (take n) (drop-append-le from xs ys (omega (arith, h))) ∙ take-append-le n (drop from xs) ys (omega (arith, h, length-drop from xs))
 
 -- a piece before the one that is pasted stays
-pasted-after : (l vs : List ℕ) (at from n : ℕ) → at ≤ length l → from + n ≤ at → take n (drop from (pasted l at vs)) ≡ take n (drop from l)
+pub pasted-after : (l vs : List ℕ) (at from n : ℕ) → at ≤ length l → from + n ≤ at → take n (drop from (pasted l at vs)) ≡ take n (drop from l)
 unfolding pasted
 pasted-after l vs at from n inside h =
     let fits : from + n ≤ length (take at l) = omega (arith, h, length-take-le at l inside) in
@@ -70,9 +68,12 @@ pasted-after l vs at from n inside h =
     ∙ ap (λ (y : List ℕ). take n (drop from y)) (take-append-drop at l)
 
 -- ---- the ports
-module _ (took : ℕ) (l : Legs) (octets : List ℕ) (short : (p : ℕ) → length (headerFor l octets p) ≤ longestHeader) where
+module _ (took : ℕ) (l : Legs) (octets : List ℕ) (whole : placesOf octets .size ≤ length octets) where
   abbrev size : ℕ → ℕ
   size p = length (headerFor l octets p)
+
+  short : (p : ℕ) → size p ≤ longestHeader
+  short p = next-fits (inSet p (l .far)) (l .arrival .0) (l .code) octets whole
 
   -- the octets of the header at port p, as they stand in the output
   abbrev found : ℕ → List ℕ → List ℕ
@@ -85,11 +86,6 @@ module _ (took : ℕ) (l : Legs) (octets : List ℕ) (short : (p : ℕ) → leng
   module _ (p : ℕ) (lent : List ℕ) (room : stretchOf p + longestHeader ≤ length lent) where
     fits : stretchOf p + size p ≤ length lent
     fits = omega (arith, short p, room)
-
-    one-length : length (sentIf took l octets p lent) ≡ length lent
-    unfolding sentIf
-    one-length =
-        either (λ (y : List ℕ). length y ≡ length lent) (inSet p took) (pasted-length lent (headerFor l octets p) (stretchOf p) fits) refl
 
     one-here : inSet p took ≡ true → found p (sentIf took l octets p lent) ≡ headerFor l octets p
     unfolding sentIf
@@ -123,19 +119,12 @@ module _ (took : ℕ) (l : Legs) (octets : List ℕ) (short : (p : ℕ) → leng
     abbrev below : ℕ → List ℕ
     below n = sentBelow took l octets lent n
 
-    pub below-length : (n : ℕ) → stretchOf n ≤ length lent → length (below n) ≡ length lent
-    unfolding sentBelow
-    below-length zero room = refl
-    below-length (suc p) room =
-        let same = below-length p (omega (arith, room)) in
-        one-length p (below p) (omega (arith, room, same)) ∙ same
-
     pub below-found : (n : ℕ) → stretchOf n ≤ length lent → (p : ℕ) → p < n → inSet p took ≡ true → found p (below n) ≡ headerFor l octets p
     unfolding sentBelow
     below-found zero room p inside is = absurd (omega arith)
     below-found (suc n) room p inside is =
         let before : stretchOf n ≤ length lent = omega (arith, room) in
-        one-further n (below n) (omega (arith, room, below-length n before)) p inside is (λ h. below-found n before p h is)
+        one-further n (below n) (omega (arith, room, below-length took l octets whole lent n before)) p inside is (λ h. below-found n before p h is)
 
     pub below-apart : (n : ℕ) → stretchOf n ≤ length lent → (i : ℕ) → ((p : ℕ) → p < n → inSet p took ≡ true → Apart i p)
         → getD (below n) i 0 ≡ getD lent i 0
@@ -143,5 +132,5 @@ module _ (took : ℕ) (l : Legs) (octets : List ℕ) (short : (p : ℕ) → leng
     below-apart zero room i apart = refl
     below-apart (suc p) room i apart =
         let inside : stretchOf p ≤ length lent = omega (arith, room) in
-        one-apart p (below p) (omega (arith, room, below-length p inside)) i (apart p (omega arith))
+        one-apart p (below p) (omega (arith, room, below-length took l octets whole lent p inside)) i (apart p (omega arith))
         ∙ below-apart p inside i (λ q before. apart q (omega (arith, before)))

@@ -331,15 +331,15 @@ module _ (b m : List ℕ) where
 
     module _ (rs : List Record) (p slot second : ℕ) (octets output : List ℕ) where
       heard-answer : receiveAnswer b m rs p second octets (length output) ≡ pick (tooLong rs) 21 16
-      unfolding receiveAnswer
+      unfolding receiveAnswer told
       heard-answer = ap (pick (tooLong rs) 21) (both-told _ 16)
 
       heard-words : receiveWords b m rs p slot second octets (length output) ≡ lent m
-      unfolding receiveWords
+      unfolding receiveWords changed
       heard-words = both-changed _
 
       heard-output : receiveOutput b m rs p second octets output ≡ output
-      unfolding receiveOutput
+      unfolding receiveOutput told
       heard-output = both-told _ output
 
     module _ (rs : List Record) (p slot : ℕ) (octets output : List ℕ) where
@@ -497,11 +497,11 @@ module _ (b m : List ℕ) (rs : List Record) (long : tooLong rs ≡ true) where
     long-answer = rw long
 
     long-words : receiveWords b m rs p (slot .0) second octets (length output) ≡ lent m
-    unfolding receiveWords
+    unfolding receiveWords changed
     long-words = board-so _ (lent m) b (λ x. own-stays _ m (λ s. long-state rs long x s p second octets (length output) slot))
 
     long-output : receiveOutput b m rs p second octets output ≡ output
-    unfolding receiveOutput
+    unfolding receiveOutput told
     long-output =
         board-so _ output b (λ x.
         own-so _ output m (λ s.

@@ -66,7 +66,7 @@ use Rattle.demands.proofs.Over.{pass-more}
 use Rattle.demands.proofs.Apart.{apart}
 
 -- ---- steps that can be made
-abbrev blank : Words
+abbrev pub blank : Words
 blank = record { board = freshBoardWords; zero = freshWords 0; one = freshWords 0 }
 
 given : (steps : List Step) → AllPass steps → (c : Step) → Passes c → (x : Result) × Gives steps c x
@@ -85,7 +85,7 @@ theirs-pass : AllPass theirs
 theirs-pass = ((omega arith, (omega arith, (omega arith, (omega arith, tt)))), tt)
 
 -- five ports, which are the first customer's; and a datagram that it hears, of which port 3 takes an entry
-abbrev ours : List Step
+abbrev pub ours : List Step
 ours = orders-of (routerWithPorts 0)
 
 abbrev hearing : MissionCall
@@ -173,7 +173,7 @@ showing-the-others-calls who other differ steps c d x y g k wrong =
 port-passes : (p : ℕ) → p < 8 → Passes (operates (orders (port 0 p)))
 port-passes p h = (omega (arith, h), (omega arith, (omega arith, (omega arith, tt))))
 
-ports-pass : AllPass ours
+pub ports-pass : AllPass ours
 ports-pass =
     (tt, (port-passes 0 (omega arith), (port-passes 1 (omega arith), (port-passes 2 (omega arith), (port-passes 3 (omega arith), last-passes)))))
   where
@@ -181,7 +181,7 @@ ports-pass =
     last-passes = (port-passes 4 (omega arith), tt)
 
 -- numbers that a test finds to be octets
-abbrev allOctets : List ℕ → Bool
+abbrev pub allOctets : List ℕ → Bool
 allOctets [] = true
 allOctets (n ∷ l) = ltb n 256 && allOctets l
 
@@ -189,7 +189,7 @@ octets-so : (l : List ℕ) → allOctets l ≡ true → Each (λ (n : ℕ). n < 
 octets-so [] h = tt
 octets-so (n ∷ l) h = let both = and-true (ltb n 256) (allOctets l) h in (ltb-true n 256 (both .0), octets-so l (both .1))
 
-octets-pass : (l : List ℕ) → allOctets l ≡ true → Octets l
+pub octets-pass : (l : List ℕ) → allOctets l ≡ true → Octets l
 octets-pass l h i = getD-each (λ (n : ℕ). n < 256) l i 0 (omega arith) (octets-so l h)
 
 hearing-passes : Passes (flies first hearing)

@@ -28,8 +28,8 @@ use Rattle.judge.specs.Remembered.{isUnheard}
 use Rattle.page.specs.Memory.{keptPlace, pageMemory}
 use Rattle.harpjuniper.specs.Face.{readingCount}
 use Rattle.harpjuniper_messages.specs.Face.{messageCount}
-use Rattle.contracts.specs.Promised.{Things, Result, lentTo, Exported, hj-fresh-board, hj-fresh-mission, hj-read-words, hj-build-words, hj-read-echo-words}
-use Rattle.contracts.specs.Contracts.{Lying, Contract, Says, Passable}
+use Rattle.contracts.specs.Promised.{Things, Result, lentTo, Passable, Exported, hj-fresh-board, hj-fresh-mission, hj-read-words, hj-build-words, hj-read-echo-words}
+use Rattle.contracts.specs.Contracts.{Lying, Contract, Says}
 use Rattle.contracts.specs.Functions.{functionOf, Unchecked}
 use Rattle.history.specs.Calls.{
   setRouter,
@@ -252,7 +252,7 @@ refusedAs (operator c) n = outcome.number n
 refusedAs (own c) n = refusedOwn c n
 
 pub record Demand1 : Type 2 where
-  -- "Every call ends with a stated answer, whatever octets, port or setting it gets.": of each of the 38 calls, whatever is lent to it, there is a
+  -- "Every call ends with a stated answer, whatever octets, port or setting it gets.": of each of the 39 calls, whatever is lent to it, there is a
   -- result that its contract allows (a slot has 16 bits), wherever what is lent lies, and one only;
   pub ends : (c : Exported) → Passable c → (x : Result) × (((y : Lying) → Contract y c x) × ((y : Result) → Says c y → y ≡ x))
   -- hj_fresh_board answers 0 wherever the words are as many as a board has, whatever they are, and leaves a fresh board; hj_fresh_mission likewise for

@@ -10,7 +10,8 @@
 //
 // Each demand is a record with fields for every sentence, Demand1, Demand2 and Demand3 in specs/, each said for either customer by itself;
 // Floods says that a flooded datagram goes on once, and what is remembered for that; Echoes says which echo requests are answered, what
-// the reply is on the wire, and what it counts; Apart says that neither customer can tell what the other does. proofs/ has that they are
-// kept, and a few relays that they shut out.
+// the reply is on the wire, and what it counts; Apart says that neither customer can tell what the other does; Batches says that a batch
+// of datagrams is the single calls of its items, one after the other, so that a program with batches is a trace like any other. proofs/ has
+// that they are kept, and a few relays that they shut out.
 //
 // The awkward case is the call that is lent no words, like reading a header: it stands in the history, and the words stay.
