@@ -21,6 +21,7 @@ enum {
     PLAIN_LENGTH_MOST = 8191, /* 13 bits; the largest MTU too */
     PLAIN_HEADER_MOST = 50,
     PLAIN_OUTPUT_ROOM = 400, /* of a received datagram: 50 for each port */
+    PLAIN_BATCH_MOST = 64,   /* datagrams in one call */
     PLAIN_DATA_MOST = 8141,
     PLAIN_FIRST_HOP_COUNT = 64 /* of an added one, and of a reply */
 };
@@ -53,6 +54,7 @@ typedef enum {
     PLAIN_SET_CODE = 24,
     PLAIN_SET_CLASS = 25,
     PLAIN_UNKNOWN_TP_ID = 26,
+    PLAIN_BATCH_UNFIT = 27,    /* a batch's lists, sum, items or room */
     PLAIN_FLOOD_UNMARKED = 28, /* flooded, no source or no timestamp */
     PLAIN_SECOND_PAST = 29,    /* a second under the last accepted one */
     PLAIN_PAIRS_HELD = 30,     /* flooded, and no place for its pair */

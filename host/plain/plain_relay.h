@@ -200,6 +200,29 @@ plain_verdict plain_receive(const plain_view *view, uint32_t arrival,
                             const uint8_t *octets, size_t count,
                             uint8_t *output, size_t room);
 
+/* Datagrams received in one call: their octets laid end to end, and for each
+ * its length, arrival port, slot and second, list by list. */
+typedef struct {
+    const uint32_t *lengths;
+    size_t length_count;
+    const uint32_t *ports;
+    size_t port_count;
+    const plain_slot *slots;
+    size_t slot_count;
+    const uint32_t *seconds;
+    size_t second_count;
+    const uint8_t *octets;
+    size_t octet_count;
+} plain_batch;
+
+/* Receives each datagram of the batch in its turn as plain_receive does, into
+ * the verdict of its place and into its own 400 octets of the output; 21 or 27
+ * with nothing changed or written. */
+plain_refusal plain_receive_many(const plain_view *view,
+                                 const plain_batch *batch,
+                                 plain_verdict *verdicts, size_t verdict_count,
+                                 uint8_t *output, size_t room);
+
 /* What became of an echo request: the numbers here, or 11, 14 or 15. */
 enum {
     PLAIN_REPLY_NONE = 0,

@@ -9,8 +9,8 @@
 #include <stdio.h>
 
 enum {
-    PLAIN_TEXT_ROOM = 262144,
-    PLAIN_TEXT_LINE = 131072 /* over the longest call with its answer */
+    PLAIN_TEXT_ROOM = 524288,
+    PLAIN_TEXT_LINE = 262144 /* over the longest call with its answer */
 };
 
 typedef struct {

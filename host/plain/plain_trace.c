@@ -191,3 +191,25 @@ bool plain_word_octets(plain_word word, plain_octets *octets)
     }
     return true;
 }
+
+bool plain_word_numbers(plain_word word, uint32_t most, plain_numbers *list)
+{
+    const char *at = word.text;
+    const char *end = word.text + word.length;
+
+    list->count = 0;
+    if (plain_word_is(word, "-"))
+        return true;
+    for (;;) {
+        const char *comma = memchr(at, ',', (size_t)(end - at));
+        const char *stop = comma != NULL ? comma : end;
+        plain_word number = {at, (size_t)(stop - at)};
+
+        if (number.length == 0 ||
+            !plain_word_number(number, most, &list->numbers[list->count++]))
+            return false;
+        if (comma == NULL)
+            return true;
+        at = comma + 1;
+    }
+}

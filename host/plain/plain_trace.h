@@ -13,8 +13,9 @@
 #include "plain_header.h"
 
 enum {
-    PLAIN_LINE_MOST = 40000, /* characters, the line's end not counted */
+    PLAIN_LINE_MOST = 100000, /* characters, the line's end not counted */
     PLAIN_OCTETS_MOST = PLAIN_LINE_MOST / 2,
+    PLAIN_NUMBERS_MOST = PLAIN_LINE_MOST / 2, /* each with its comma */
     PLAIN_WORDS_MOST = 17 /* of the longest call, build */
 };
 
@@ -71,5 +72,13 @@ typedef struct {
 } plain_octets;
 
 bool plain_word_octets(plain_word word, plain_octets *octets);
+
+/* A list of numbers, none over the most. */
+typedef struct {
+    size_t count;
+    uint32_t numbers[PLAIN_NUMBERS_MOST];
+} plain_numbers;
+
+bool plain_word_numbers(plain_word word, uint32_t most, plain_numbers *list);
 
 #endif

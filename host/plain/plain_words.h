@@ -27,6 +27,12 @@ typedef struct {
     plain_record records[PLAIN_LIST_MOST];
     size_t record_count;
     plain_octets octets;
+    plain_numbers lengths; /* the lists of a batch */
+    plain_numbers ports;
+    plain_numbers slot_numbers;
+    plain_numbers seconds;
+    plain_slot slots[PLAIN_NUMBERS_MOST];
+    plain_verdict verdicts[PLAIN_NUMBERS_MOST]; /* one for each length */
     uint8_t output[PLAIN_ROOM_MOST + PLAIN_GUARD];
     plain_text text;
 } plain_session;
@@ -52,6 +58,12 @@ extern const plain_meaning plain_header_words[];
 void plain_stamp_answer(plain_text *text, uint32_t format, uint32_t p_field,
                         uint64_t time);
 
+/* Where the output ends, as far as it is watched. */
+static inline uint32_t plain_output_end(uint32_t room)
+{
+    return room + PLAIN_GUARD;
+}
+
 /* Sets the output to a5, as far as it is watched. */
 void plain_output_lend(plain_session *session, uint32_t room);
 
@@ -60,8 +72,8 @@ void plain_output_lend(plain_session *session, uint32_t room);
 void plain_output_stretch(plain_session *session, uint32_t from,
                           uint32_t count);
 
-/* Puts " !" where an octet of the output is not a5. */
-void plain_output_rest(plain_session *session, uint32_t room);
+/* Puts " !" where an octet of this part of the output is not a5. */
+void plain_output_rest(plain_session *session, uint32_t from, uint32_t end);
 
 /* Puts the octets that were to be written at the front, or "-" for none, and
  * " !" where any other octet changed. */

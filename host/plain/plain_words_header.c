@@ -19,7 +19,7 @@ enum { UNTOUCHED = 0xa5 };
 
 void plain_output_lend(plain_session *session, uint32_t room)
 {
-    memset(session->output, UNTOUCHED, (size_t)room + PLAIN_GUARD);
+    memset(session->output, UNTOUCHED, plain_output_end(room));
 }
 
 void plain_output_stretch(plain_session *session, uint32_t from,
@@ -34,10 +34,9 @@ void plain_output_stretch(plain_session *session, uint32_t from,
     memset(stretch, UNTOUCHED, end);
 }
 
-void plain_output_rest(plain_session *session, uint32_t room)
+void plain_output_rest(plain_session *session, uint32_t from, uint32_t end)
 {
-    size_t end = (size_t)room + PLAIN_GUARD;
-    size_t at = 0;
+    uint32_t at = from;
 
     while (at < end && session->output[at] == UNTOUCHED)
         at++;
@@ -53,7 +52,7 @@ void plain_output_answer(plain_session *session, uint32_t room,
     else
         plain_text_string(&session->text, "-");
     memset(session->output, UNTOUCHED, written);
-    plain_output_rest(session, room);
+    plain_output_rest(session, 0, plain_output_end(room));
 }
 
 static bool answer_class(plain_session *session, const plain_word *arguments)

@@ -1,8 +1,8 @@
 /*
  * The words of the relay: new, the settings, the list of routes, receive,
- * echo, sweep, pairs, take, counters, waiting and search. Numbers are as wide as the
- * library's, so that a place 700 or a port 9 reaches it and gets its refusal;
- * only a slot has 16 bits, and a mission is 0 or 1.
+ * batch, echo, sweep, pairs, take, counters, waiting and search. Numbers are as
+ * wide as the library's, so that a place 700 or a port 9 reaches it and gets
+ * its refusal; only a slot has 16 bits, and a mission is 0 or 1.
  *
  * The awkward cases: new, records and record have no answer, and so their
  * lines have no " = "; and pairs are answered in an order of their own, since
@@ -253,9 +253,9 @@ static bool answer_clear_path(plain_session *session,
     return put_refusal(session, plain_clear_path(view.mission, place));
 }
 
-/* The stretches of these ports, or "-" for none, and " !" where an octet
- * outside them changed. */
-static void put_outputs(plain_session *session, uint32_t room, plain_set ports)
+/* The stretches of these ports in the output that begins there, or "-" for
+ * none. */
+static void put_outputs(plain_session *session, uint32_t from, plain_set ports)
 {
     bool first = true;
 
@@ -267,10 +267,23 @@ static void put_outputs(plain_session *session, uint32_t room, plain_set ports)
         if (!first)
             plain_text_string(&session->text, ",");
         first = false;
-        plain_output_stretch(session, plain_header_at(port),
+        plain_output_stretch(session, from + plain_header_at(port),
                              PLAIN_HEADER_MOST);
     }
-    plain_output_rest(session, room);
+}
+
+/* What receive answers of one datagram, and " !" where an octet of its output,
+ * from there to the end, changed outside the stretches of its ports. */
+static void put_verdict(plain_session *session, const plain_verdict *verdict,
+                        uint32_t from, uint32_t end)
+{
+    put_number(session, verdict->refusal);
+    put_number(session, verdict->local);
+    put_number(session, verdict->onward);
+    put_number(session, verdict->took.bits);
+    plain_text_string(&session->text, " ");
+    put_outputs(session, from, verdict->took);
+    plain_output_rest(session, from, end);
 }
 
 /* What receive and echo are both lent; the octets are the session's. */
@@ -311,12 +324,64 @@ static bool answer_receive(plain_session *session,
     verdict = plain_receive(&view, lent.port, lent.slot, second,
                             octets->start, octets->count, session->output,
                             lent.room);
-    put_refusal(session, verdict.refusal);
-    put_number(session, verdict.local);
-    put_number(session, verdict.onward);
-    put_number(session, verdict.took.bits);
-    plain_text_string(&session->text, " ");
-    put_outputs(session, lent.room, verdict.took);
+    plain_text_string(&session->text, " =");
+    put_verdict(session, &verdict, 0, plain_output_end(lent.room));
+    return true;
+}
+
+/* The lists and the octets of a batch, which the session holds. */
+static bool take_batch(plain_session *session, const plain_word *words,
+                       plain_batch *batch)
+{
+    const plain_numbers *slots = &session->slot_numbers;
+    const plain_octets *octets = &session->octets;
+
+    if (!plain_word_numbers(words[0], UINT32_MAX, &session->lengths) ||
+        !plain_word_numbers(words[1], UINT32_MAX, &session->ports) ||
+        !plain_word_numbers(words[2], UINT16_MAX, &session->slot_numbers) ||
+        !plain_word_numbers(words[3], UINT32_MAX, &session->seconds) ||
+        !plain_word_octets(words[4], &session->octets))
+        return false;
+    for (size_t at = 0; at < slots->count; at++)
+        session->slots[at].number = (uint16_t)slots->numbers[at];
+    batch->lengths = session->lengths.numbers;
+    batch->length_count = session->lengths.count;
+    batch->ports = session->ports.numbers;
+    batch->port_count = session->ports.count;
+    batch->slots = session->slots;
+    batch->slot_count = slots->count;
+    batch->seconds = session->seconds.numbers;
+    batch->second_count = session->seconds.count;
+    batch->octets = octets->start;
+    batch->octet_count = octets->count;
+    return true;
+}
+
+static bool answer_batch(plain_session *session, const plain_word *arguments)
+{
+    uint32_t room;
+    uint32_t from = 0;
+    size_t answered;
+    plain_batch batch;
+    plain_view view;
+    plain_refusal refusal;
+
+    if (!plain_word_number(arguments[0], PLAIN_ROOM_MOST, &room) ||
+        !take_batch(session, arguments + 1, &batch) ||
+        !take_view(session, arguments[6], &view))
+        return false;
+    plain_output_lend(session, room);
+    refusal = plain_receive_many(&view, &batch, session->verdicts,
+                                 batch.length_count, session->output, room);
+    put_refusal(session, refusal);
+    answered = refusal == PLAIN_GOOD ? batch.length_count : 0;
+    for (size_t at = 0; at < answered; at++) {
+        plain_text_string(&session->text, " /");
+        put_verdict(session, &session->verdicts[at], from,
+                    from + PLAIN_OUTPUT_ROOM);
+        from += PLAIN_OUTPUT_ROOM;
+    }
+    plain_output_rest(session, from, plain_output_end(room));
     return true;
 }
 
@@ -473,6 +538,7 @@ static bool answer_search(plain_session *session, const plain_word *arguments)
 
 const plain_meaning plain_relay_words[] = {
     {"receive", 6, answer_receive},
+    {"batch", 7, answer_batch},
     {"echo", 5, answer_echo},
     {"take", 2, answer_take},
     {"sweep", 2, answer_sweep},
