@@ -4,7 +4,7 @@
  * reads back what stands, and asks which route serves an address, for each
  * mission.
  *
- * A refused setting changes nothing, so the batch goes on after it, and what is
+ * A refused setting changes nothing, so the table goes on after it, and what is
  * read back is what the others left. The table has settings that are refused on
  * purpose, one and more for each number that a setting can get.
  *
@@ -105,7 +105,7 @@ static const char *in_words(uint32_t refusal)
     }
 }
 
-/* How many of the batch were refused. */
+/* How many settings of the table were refused. */
 static unsigned apply_batch(void)
 {
     unsigned refused = 0;
