@@ -47,8 +47,8 @@ endif
 program = $(wildcard host/$(1)/*.c) $(patsubst %,host/shared/%.c,options $(2))
 REPLAY := $(call program,replay,calls library text trace)
 GENERATE := $(call program,generate,calls datagram echoes floods form message settings text world)
-COVERAGE := $(call program,coverage,answered arriving calls form settings trace)
-LEDGER := $(call program,ledger,answered arriving calls trace)
+COVERAGE := $(call program,coverage,answered arriving calls form items settings trace)
+LEDGER := $(call program,ledger,answered arriving calls items trace)
 BENCH := $(call program,bench,arriving calls library plainly trace)
 SCENARIO := $(wildcard host/scenario/*.c)
 REHEARSAL := $(call program,rehearsal) $(SCENARIO)
@@ -93,7 +93,8 @@ format: | prepare
 # The crates that export to C. `rt staticlib` makes an archive of one crate's exports,
 # an object that shows no other name; ours is made of their objects.
 EXPORTING := harpjuniper harpjuniper_address harpjuniper_messages harpjuniper_settings \
-	harpjuniper_reads harpjuniper_routes harpjuniper_receive harpjuniper_echo harpjuniper_relay
+	harpjuniper_reads harpjuniper_routes harpjuniper_receive harpjuniper_batch harpjuniper_echo \
+	harpjuniper_relay
 OBJECTS := $(EXPORTING:%=build/objects/%.o)
 
 ifeq ($(MACHINE),x86_64)
@@ -136,29 +137,32 @@ build/relay_calls: tests/relay_calls.c
 build/leg_calls: tests/leg_calls.c
 build/flood_calls: tests/flood_calls.c
 build/echo_calls: tests/echo_calls.c
+build/batch_calls: tests/batch_calls.c
 build/bench: $(BENCH) $(PLAIN)
 build/flight_loop: examples/flight_loop.c
+build/flight_batch: examples/flight_batch.c
 build/settings_batch: examples/settings_batch.c
 build/soak: $(SOAK) $(PLAIN)
 build/flood: $(FLOOD)
 build/readme: build/readme.c
 
 # The rehearsal, the flood and silent-leg on wrong relays, which they have to find out;
-# WRONG_RELAY says which. The soak with faults put between it and the library, which it has
-# to find.
+# WRONG_RELAY says which. The soak and replay with faults put between them and the library,
+# which they have to find.
 build/rehearsal_wrong: $(REHEARSAL) tests/wrong_relay.c
 build/flood_wrong: $(FLOOD) tests/wrong_relay.c
 build/silent-leg_wrong: $(SILENT_LEG) tests/wrong_relay.c
 build/soak_faulty: $(SOAK) $(PLAIN) tests/soak_faults.c
+build/replay_faulty: $(REPLAY) tests/soak_faults.c
 build/rehearsal_wrong build/flood_wrong build/silent-leg_wrong: wrapped := take receive_at \
 	sweep counter echo set_echo_drop
-build/soak_faulty: wrapped := class take counter waiting search set_port receive_at \
-	sweep set_lifetime get_lifetime last_second pair_word echo read_echo_words \
+build/soak_faulty build/replay_faulty: wrapped := class take counter waiting search set_port receive_at \
+	receive_many sweep set_lifetime get_lifetime last_second pair_word echo read_echo_words \
 	build_request build_reply set_echo_drop get_echo_drop
 
 LINKED := $(addprefix build/,replay rehearsal silent-leg rehearsal_wrong silent-leg_wrong \
-	calls relay_calls leg_calls flood_calls echo_calls bench flight_loop settings_batch soak \
-	soak_faulty flood flood_wrong readme)
+	calls relay_calls leg_calls flood_calls echo_calls batch_calls bench flight_loop flight_batch \
+	settings_batch soak soak_faulty replay_faulty flood flood_wrong readme)
 $(LINKED): $(LIBRARY) $(HEADERS) scripts/emulated build/from | tools
 	$(link) $(wrapped:%=-Wl,--wrap=hj_%) $(filter %.c,$^) $(LIBRARY)
 	$(emulate)
@@ -216,27 +220,33 @@ readme: build/readme
 
 host-tests: build/calls build/relay_calls build/leg_calls build/test_plain \
 	build/test_relay build/test_missions build/test_legs build/replay build/plain \
-	build/test_floods build/test_echo \
-	build/ledger build/generate build/coverage build/bench build/flight_loop \
+	build/test_floods build/test_echo build/test_batch \
+	build/ledger build/generate build/coverage build/bench build/flight_loop build/flight_batch \
 	build/settings_batch build/rehearsal build/rehearsal_wrong build/silent-leg \
-	build/silent-leg_wrong build/soak build/soak_faulty build/flood build/flood_wrong build/coverage-plain/plain \
-	build/flood_calls build/echo_calls
+	build/silent-leg_wrong build/soak build/soak_faulty build/replay_faulty build/flood \
+	build/flood_wrong build/coverage-plain/plain \
+	build/flood_calls build/echo_calls build/batch_calls
 	build/calls
 	build/relay_calls
 	build/leg_calls
 	build/flood_calls
 	build/echo_calls
+	build/batch_calls
 	build/test_plain
 	build/test_relay
 	build/test_missions
 	build/test_legs
 	build/test_floods
 	build/test_echo
+	build/test_batch
 	build/flight_loop > build/flight_loop.output
 	diff examples/flight_loop.expected build/flight_loop.output
+	build/flight_batch > build/flight_batch.output
+	diff examples/flight_batch.expected build/flight_batch.output
 	build/settings_batch > build/settings_batch.output
 	diff examples/settings_batch.expected build/settings_batch.output
 	scripts/check-traces build/replay build/plain
+	python3 tests/test_batches.py
 	python3 tests/test_ledger.py
 	python3 tests/test_rehearsal.py
 	python3 tests/test_silent_leg.py

@@ -7,87 +7,29 @@
  * The awkward case is a reply as long as can be, which is made here: of 8,141
  * octets of user data nothing else can be shown.
  */
-#include <stdlib.h>
-#include <string.h>
+#include "routed.h"
 
-#include "expect.h"
-#include "harpjuniper.h"
-
-#define UNTOUCHED 0xa5
 #define GUARD 64
 #define MOST_ROOM (HJ_MOST_LENGTH + 100)
 #define MTU 100 /* of port 0, by which requests come */
 #define SLOT 20
 
-static hj_board board;
-static hj_mission mission, before;
-static hj_record routes[16];
+static hj_mission before;
 static uint8_t space[GUARD + MOST_ROOM + GUARD];
 static uint8_t due[sizeof space];
 static uint8_t *const output = space + GUARD;
 
-#define BOARD &board, HJ_BOARD_WORDS
-#define MISSION &mission, HJ_MISSION_WORDS
-#define ROUTES routes, sizeof routes / sizeof *routes
-
-/* ---- The router ---------------------------------------------------------- */
-
-static void set_port(uint32_t port, uint32_t address, uint32_t mtu,
-                     uint32_t whose)
-{
-    expect(hj_set_port(BOARD, port, address, 0xffffff00, mtu, whose) ==
-               HJ_DONE,
-           "set_port");
-}
-
-static void set_route(uint32_t place, uint32_t prefix, uint32_t mask,
-                      uint32_t port, uint32_t capabilities)
-{
-    expect(hj_set_route(BOARD, ROUTES, place, prefix, mask, port, HJ_UP,
-                        capabilities, 0) == HJ_DONE,
-           "set_route");
-}
-
-/* Ports 0 and 5 are in one domain, port 3 is in another, port 4 is the other
- * mission's. Four ways lead back: without anything added, with a checksum, to
- * another domain, and both of these. */
+/* Four ways lead back: without anything added, with a checksum, to another
+ * domain, and both of these. */
 static void set_up(void)
 {
-    memset(routes, 0, sizeof routes);
-    expect(hj_fresh_board(BOARD) == HJ_DONE &&
-               hj_fresh_mission(MISSION, 0) == HJ_DONE &&
-               hj_set_router(BOARD, 1) == HJ_DONE,
-           "a router");
-    set_port(0, 0x0a0a0a02, MTU, 0);
-    set_port(3, 0x0a0a0b02, 8191, 0);
-    set_port(4, 0x0a0a0c02, 8191, 1);
-    set_port(5, 0x0a0a0a06, 8191, 0);
-    set_route(0, 0x0a04090e, 0xffffffff, 3, HJ_CAPABLE_BOTH);
-    set_route(1, 0x0a040900, 0xffffff00, 5, HJ_CAPABLE_NONE);
+    set_up_routed(MTU);
     set_route(2, 0x0a0a0a10, 0xffffffff, 5, HJ_CAPABLE_HOP_COUNT);
     set_route(3, 0x0a0a0a12, 0xffffffff, 3, HJ_CAPABLE_NONE);
     set_route(4, 0x0a0a0a14, 0xffffffff, 3, HJ_CAPABLE_CHECKSUM);
 }
 
-static uint32_t counter(uint32_t which)
-{
-    return hj_value(hj_counter(MISSION, which));
-}
-
 /* ---- One request --------------------------------------------------------- */
-
-/* The octets of hexadecimal digits; how many they are. */
-static size_t octets_of(const char *digits, uint8_t *octets)
-{
-    size_t count = strlen(digits) / 2;
-
-    for (size_t i = 0; i < count; i++) {
-        char pair[3] = {digits[2 * i], digits[2 * i + 1], '\0'};
-
-        octets[i] = (uint8_t)strtoul(pair, NULL, 16);
-    }
-    return count;
-}
 
 static hj_verdict echo_octets(uint32_t port, const uint8_t *octets,
                               size_t count, size_t room)
@@ -310,12 +252,12 @@ static void check_small_mtu(void)
 {
     set_up();
     expect(hj_fresh_board(BOARD) == HJ_DONE, "a fresh board");
-    set_port(0, 0x0a0a0a02, 38, 0);
-    set_port(5, 0x0a0a0a06, 8191, 0);
+    set_port_of(0, 0, 0x0a0a0a02, 38);
+    set_port_of(0, 5, 0x0a0a0a06, 8191);
     expect_refusal(echo_by(0, REQUEST, 100), 0, "an MTU of 38");
     expect(hj_fresh_board(BOARD) == HJ_DONE, "a fresh board");
-    set_port(0, 0x0a0a0a02, 39, 0);
-    set_port(5, 0x0a0a0a06, 8191, 0);
+    set_port_of(0, 0, 0x0a0a0a02, 39);
+    set_port_of(0, 5, 0x0a0a0a06, 8191);
     expect(hj_reply_octets(echo_by(0, REQUEST, 100)) == 39,
            "an MTU of 39: the fixed fields, and no data");
 }
@@ -502,8 +444,8 @@ static void check_cut(void)
     expect_octets(FAR, 62, MTU + 1, 0, "cut, and one octet short");
     expect_octets(FAR, 62, MTU + 2, 102, "cut, and lengthened");
     expect(hj_fresh_board(BOARD) == HJ_DONE, "a fresh board");
-    set_port(0, 0x0a0a0a02, 8191, 0);
-    set_port(5, 0x0a0a0a06, 8191, 0);
+    set_port_of(0, 0, 0x0a0a0a02, 8191);
+    set_port_of(0, 5, 0x0a0a0a06, 8191);
     expect_octets(NEAR, 8115, 8191, 8154, "8,141 octets of user data");
     expect_octets(NEAR, 8116, 8191, 8154, "one more, cut");
     expect_octets(NEAR, 8133, 8191, 8154, "the longest that is built, cut");
@@ -531,8 +473,8 @@ static void check_unsent(void)
            "a route that is down");
     expect(hj_onward(echo(REQUEST)) == HJ_SENT_ON, "hides no other");
     expect(hj_fresh_board(BOARD) == HJ_DONE, "a fresh board");
-    set_port(0, 0x0a0a0a02, MTU, 0);
-    set_port(5, 0x0a0a0a06, 40, 0);
+    set_port_of(0, 0, 0x0a0a0a02, MTU);
+    set_port_of(0, 5, 0x0a0a0a06, 40);
     expect_unsent(echo(REQUEST), (hj_verdict)HJ_TOO_BIG << 16,
                   HJ_TOO_BIG_COUNT, "14, one over the MTU of its port");
 }

@@ -64,6 +64,16 @@ int relay_calls(void)
                              const hj_record *, size_t, uint32_t, uint16_t,
                              uint32_t, const uint8_t *, size_t, uint8_t *,
                              size_t) = hj_receive_at;
+    uint32_t (*many)(const hj_board *, size_t, hj_mission *, size_t,
+                     const hj_record *, size_t, const uint32_t *, size_t,
+                     const uint32_t *, size_t, const uint16_t *, size_t,
+                     const uint32_t *, size_t, const uint8_t *, size_t,
+                     hj_verdict *, size_t, uint8_t *,
+                     size_t) = hj_receive_many;
+    uint32_t (*add)(hj_batch *, hj_arrival, uint32_t) = hj_batch_add;
+    uint32_t (*batch)(const hj_board *, size_t, hj_mission *, size_t,
+                      const hj_record *, size_t, hj_batch *, const uint8_t *,
+                      size_t) = hj_receive_batch;
     uint32_t (*sweep)(const hj_board *, size_t, hj_mission *, size_t,
                       uint32_t) = hj_sweep;
     hj_answer (*take)(const hj_board *, size_t, hj_mission *, size_t,
@@ -71,8 +81,8 @@ int relay_calls(void)
     hj_found (*search)(const hj_board *, size_t, const hj_mission *, size_t,
                        const hj_record *, size_t, uint32_t) = hj_search;
 
-    return words[0] && board && mission && receive && receive_at && sweep &&
-           take && search;
+    return words[0] && board && mission && receive && receive_at && many &&
+           add && batch && sweep && take && search;
 }
 
 int read_calls(void)
@@ -130,11 +140,12 @@ int accessors(void)
         hj_reply_octets};
     uint32_t (*octets)(hj_verdict, uint32_t) = hj_header_octets;
     const uint8_t *(*header)(const uint8_t *, uint32_t) = hj_header;
+    const uint8_t *(*item)(const uint8_t *, size_t) = hj_item_output;
     uint32_t (*const of_found[])(hj_found) = {hj_found_refusal, hj_is_found,
                                               hj_found_place, hj_found_ones,
                                               hj_found_port};
 
-    return of_answer[0] && slot && of_verdict[0] && octets && header &&
+    return of_answer[0] && slot && of_verdict[0] && octets && header && item &&
            of_found[0];
 }
 
@@ -154,7 +165,7 @@ int constants(void)
                           HJ_GROUP_NUMBERS, HJ_PATH_NUMBERS,
                           HJ_PAIR_NUMBERS,  HJ_PAIRS,
                           HJ_MESSAGE_WORDS, HJ_REQUEST_OCTETS,
-                          HJ_REPLY_OCTETS};
+                          HJ_REPLY_OCTETS,  HJ_MOST_ITEMS};
     const int classes[] = {HJ_INVALID,        HJ_UNICAST,
                            HJ_MULTICAST,      HJ_NET_BROADCAST,
                            HJ_DOMAIN_BROADCAST, HJ_SCPS_BROADCAST,
@@ -185,8 +196,8 @@ int numbers(void)
         HJ_NOTHING_WAITING, HJ_FIELD_RANGE, HJ_DATA_TOO_LONG,
         HJ_BAD_NUMBER,    HJ_BAD_MASK,      HJ_SAME_ENTRY,
         HJ_BAD_CODE,      HJ_WRONG_CLASS,   HJ_UNKNOWN_TP_ID,
-        HJ_FLOOD_UNMARKED, HJ_SECOND_PAST,  HJ_PAIRS_HELD,
-        HJ_PORT_SET_UP};
+        HJ_BAD_BATCH,     HJ_FLOOD_UNMARKED, HJ_SECOND_PAST,
+        HJ_PAIRS_HELD,    HJ_PORT_SET_UP};
     const int counters[HJ_COUNTERS] = {
         HJ_IN_RECEIVES,       HJ_IN_BAD_LENGTH,  HJ_IN_BAD_VERSION,
         HJ_IN_BAD_ADDRESS,    HJ_IN_BAD_CHECKSUM, HJ_UNSUPPORTED,

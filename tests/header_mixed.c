@@ -5,7 +5,7 @@
  */
 #include "harpjuniper.h"
 
-#define MIXED_LAST 13
+#define MIXED_LAST 16
 
 #ifndef MIXED
 #define MIXED 0
@@ -20,6 +20,10 @@ hj_mission mission;
 hj_record routes[HJ_ROUTES];
 uint8_t octets[HJ_OUTPUT_ROOM];
 hj_arrival arrival;
+hj_batch batch;
+uint32_t ports[1];
+uint16_t slots[1];
+hj_verdict answers[1];
 
 int mixed(void);
 
@@ -28,7 +32,11 @@ int mixed(void)
 #if MIXED == 0
     return hj_refusal(hj_take(BOARD, MISSION, 0)) +
            hj_ended_by(hj_receive(BOARD, MISSION, ROUTES, arrival, octets, 0,
-                                  octets, 0)) != 0;
+                                  octets, 0)) +
+           hj_receive_batch(BOARD, MISSION, ROUTES, &batch, octets, 0) +
+           hj_receive_many(BOARD, MISSION, ROUTES, ports, 1, ports, 1, slots,
+                           1, ports, 1, octets, 0, answers, 1, octets,
+                           0) != 0;
 #elif MIXED == 1 /* the two words swapped */
     return hj_refusal(hj_take(MISSION, BOARD, 0)) != 0;
 #elif MIXED == 2 /* a mission for a board */
@@ -59,5 +67,14 @@ int mixed(void)
 #elif MIXED == 13 /* the two words of an echo swapped */
     return hj_ended_by(hj_echo(MISSION, BOARD, ROUTES, 0, 0, octets, 0, octets,
                                0)) != 0;
+#elif MIXED == 14 /* and of a batch */
+    return hj_receive_batch(MISSION, BOARD, ROUTES, &batch, octets, 0) != 0;
+#elif MIXED == 15 /* its ports for its slots */
+    return hj_receive_many(BOARD, MISSION, ROUTES, ports, 1, slots, 1, ports,
+                           1, ports, 1, octets, 0, answers, 1, octets, 0) != 0;
+#elif MIXED == 16 /* and its output for its answers */
+    return hj_receive_many(BOARD, MISSION, ROUTES, ports, 1, ports, 1, slots,
+                           1, ports, 1, octets, 0, octets, 1, answers,
+                           0) != 0;
 #endif
 }

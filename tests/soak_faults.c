@@ -7,6 +7,7 @@
  * what was lent: the run is long enough for each of them to show.
  */
 #include <stdlib.h>
+#include <string.h>
 
 #include "harpjuniper.h"
 
@@ -28,6 +29,14 @@ static int fault(void)
 #define LENT_MISSION mission, mission_words
 #define LENT_ROUTES routes, route_count
 
+/* The lists of a batch, its octets, its answers and its output. */
+#define BATCH                                                                 \
+    const uint32_t *lengths, size_t length_count, const uint32_t *ports,      \
+        size_t port_count, const uint16_t *slots, size_t slot_count,          \
+        const uint32_t *seconds, size_t second_count, const uint8_t *octets,  \
+        size_t octet_count, hj_verdict *answers, size_t answer_count,         \
+        uint8_t *output, size_t room
+
 /* A call under its two names, for the linker. */
 #define WRAPPED(type, name, ...)                                              \
     type __real_##name(__VA_ARGS__);                                          \
@@ -44,6 +53,7 @@ WRAPPED(uint32_t, hj_set_port, hj_board *board, size_t board_words,
 WRAPPED(hj_verdict, hj_receive_at, BOARD, MISSION, ROUTES, uint32_t port,
         uint16_t slot, uint32_t second, const uint8_t *octets, size_t length,
         uint8_t *output, size_t room);
+WRAPPED(uint32_t, hj_receive_many, BOARD, MISSION, ROUTES, BATCH);
 WRAPPED(uint32_t, hj_sweep, BOARD, MISSION, uint32_t second);
 WRAPPED(uint32_t, hj_set_lifetime, hj_board *board, size_t board_words,
         uint32_t lifetime);
@@ -272,6 +282,166 @@ hj_verdict __wrap_hj_receive_at(BOARD, MISSION, ROUTES, uint32_t port,
         return HJ_NO_PORT; /* a list over 512 records: 16 for 21 */
     return mistold(verdict);
 }
+
+/* ---- Batches ------------------------------------------------------------- */
+
+/* The lengths, summed in 32 bits. */
+static uint32_t wrapped_sum(const uint32_t *lengths, size_t count)
+{
+    uint32_t sum = 0;
+
+    for (size_t i = 0; i < count; i++)
+        sum += lengths[i];
+    return sum;
+}
+
+/* What a wrong hj_receive_many may take for good. */
+static int passes(uint32_t refusal, const uint32_t *lengths,
+                  size_t length_count, size_t octet_count, size_t room)
+{
+    if (refusal != HJ_BAD_BATCH)
+        return 0;
+    return (fault() == 68 && length_count == HJ_MOST_ITEMS + 1) ||
+           (fault() == 69 && length_count > 1 &&
+            lengths[0] > octet_count &&
+            wrapped_sum(lengths, length_count) <= octet_count) ||
+           (fault() == 70 && room + 1 == HJ_OUTPUT_ROOM * length_count);
+}
+
+/* What it may do where it refuses. */
+static void touch_refused(MISSION, hj_verdict *answers, size_t answer_count,
+                          uint8_t *output, size_t room)
+{
+    int is_mission = mission_words == HJ_MISSION_WORDS;
+
+    if (fault() == 71 && is_mission)
+        mission->words[COUNTERS_AT]++;
+    if (fault() == 72 && is_mission)
+        mission->words[LAST_SECOND_AT]++; /* a second accepted */
+    if (fault() == 73 && answer_count > 0)
+        answers[0] ^= 1;
+    if (fault() == 74 && room > 0)
+        output[0] ^= 1;
+}
+
+/* What it may do to answers and output. */
+static void touch_items(size_t items, hj_verdict *answers, uint8_t *output,
+                        size_t room)
+{
+    if (items > 1 && fault() == 75) {
+        hj_verdict first = answers[0];
+
+        answers[0] = answers[1]; /* each the other's */
+        answers[1] = first;
+    }
+    if (items > 1 && fault() == 76)
+        output[HJ_OUTPUT_ROOM] ^= 1; /* in that of the next item */
+    if (fault() == 77 && room > HJ_OUTPUT_ROOM * items)
+        output[HJ_OUTPUT_ROOM * items] ^= 1; /* behind the last */
+    if (fault() == 78 && items > 0)
+        answers[items] ^= 1; /* likewise */
+}
+
+/* What it may do to lists that it is lent to read. */
+static void touch_lists(const uint32_t *lengths, size_t items,
+                        const uint16_t *slots, const uint8_t *octets,
+                        hj_verdict *answers)
+{
+    volatile uint32_t beyond = 0;
+
+    if (fault() == 79 && items > 0)
+        beyond = lengths[items];
+    if (fault() == 80 && items > 0)
+        ((uint16_t *)slots)[items - 1] ^= 1;
+    if (fault() == 81 && items > 0 && lengths[0] > 0)
+        ((uint8_t *)octets)[0] ^= 1;
+    for (size_t i = 0; i < items && fault() == 82; i++) {
+        if (lengths[i] == 0 && hj_ended_by(answers[i]) == HJ_SHORT)
+            answers[i] = HJ_DONE; /* one without octets passed over */
+    }
+    (void)beyond;
+}
+
+/* Each item with the slot, or the second, of the first. */
+static void mistake_lists(const uint16_t **slots, size_t slot_count,
+                          const uint32_t **seconds, size_t second_count)
+{
+    static uint16_t own_slots[HJ_MOST_ITEMS];
+    static uint32_t own_seconds[HJ_MOST_ITEMS];
+
+    if (slot_count == 0 || slot_count > HJ_MOST_ITEMS ||
+        second_count != slot_count)
+        return;
+    for (size_t i = 0; i < slot_count; i++) {
+        own_slots[i] = (*slots)[0];
+        own_seconds[i] = (*seconds)[0];
+    }
+    if (fault() == 83)
+        *slots = own_slots;
+    if (fault() == 84)
+        *seconds = own_seconds;
+}
+
+/* How many are heard where the first refused one ends the batch. */
+static size_t heard_up_to_refused(BOARD, const hj_mission *mission, ROUTES,
+                                  BATCH)
+{
+    static hj_verdict told[HJ_MOST_ITEMS];
+    static uint8_t sent[HJ_MOST_ITEMS * HJ_OUTPUT_ROOM];
+    hj_mission alone = *mission;
+    size_t items = 0;
+
+    (void)answers, (void)output;
+    if (__real_hj_receive_many(LENT_BOARD, &alone, HJ_MISSION_WORDS,
+                               LENT_ROUTES, lengths, length_count, ports,
+                               port_count, slots, slot_count, seconds,
+                               second_count, octets, octet_count, told,
+                               answer_count, sent,
+                               room < sizeof sent ? room : sizeof sent) !=
+        HJ_DONE)
+        return length_count;
+    while (items < length_count && hj_ended_by(told[items]) == HJ_DONE)
+        items++;
+    return items < length_count ? items + 1 : items;
+}
+
+uint32_t __wrap_hj_receive_many(BOARD, MISSION, ROUTES, BATCH)
+{
+    size_t items = length_count;
+    uint32_t refusal;
+
+    mistake_lists(&slots, slot_count, &seconds, second_count);
+    if (fault() == 85 && mission_words == HJ_MISSION_WORDS)
+        items = heard_up_to_refused(
+            LENT_BOARD, mission, LENT_ROUTES, lengths, length_count, ports,
+            port_count, slots, slot_count, seconds, second_count, octets,
+            octet_count, answers, answer_count, output, room);
+    if (items < length_count) {
+        memset(answers, 0, answer_count * sizeof *answers);
+        port_count = slot_count = second_count = answer_count = items;
+    }
+    refusal = __real_hj_receive_many(
+        LENT_BOARD, LENT_MISSION, LENT_ROUTES, lengths, items, ports,
+        port_count, slots, slot_count, seconds, second_count, octets,
+        octet_count, answers, answer_count, output, room);
+    if (passes(refusal, lengths, length_count, octet_count, room))
+        return HJ_DONE;
+    if (refusal == HJ_DONE) {
+        touch_items(items, answers, output, room);
+        touch_lists(lengths, items, slots, octets, answers);
+    } else {
+        touch_refused(LENT_MISSION, answers, answer_count, output, room);
+    }
+    if (fault() == 86 && refusal == HJ_BAD_NUMBER)
+        return HJ_BAD_BATCH; /* 27 for 21 */
+    if (fault() == 87 && mission_words != HJ_MISSION_WORDS)
+        return HJ_NO_PORT; /* for the whole call */
+    if (fault() == 88 && length_count == 0 && refusal == HJ_DONE)
+        return HJ_BAD_BATCH;
+    return refusal;
+}
+
+/* ---- Sweeps and what stands ---------------------------------------------- */
 
 /* Of a pair as old as the lifetime, freed too early; and others. */
 uint32_t __wrap_hj_sweep(BOARD, MISSION, uint32_t second)

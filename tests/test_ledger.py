@@ -186,6 +186,32 @@ class Ledger(unittest.TestCase):
         self.refused("relay-echo.trace", line, f"{self.ASKED} = 0 1 9 {self.REPLY}",
                      "one port exactly where a reply is sent")
 
+    BATCH = "batch 800 13,1 0,0 1,2 7,6 200d1a410a04090e0a0a0a040020 0"
+    HEARD = "0 / 0 0 1 8 20101b610a04090e0a0a0a04405d6e / 29 0 0 0 -"
+
+    def test_an_item_is_a_receipt(self):
+        for answer, says in (("0 / 0 0 11 0 - / 29 0 0 0 -", "an entry exactly where one waits"),
+                             ("0 / 0 0 1 8 20101b610a04091e0a0a0a04405d6e / 29 0 0 0 -", "names another system"),
+                             ("0 / 0 0 1 8 20101b610a04090e0a0a0a04405d6e / 1 0 0 0 -", "29 exactly where"),
+                             ("0 / 29 0 0 0 - / 29 0 0 0 -", "29 exactly where"),
+                             ("27", "27 exactly where a batch does not fit: due 0, found 27"),
+                             ("21", "an entry exactly where one waits")):
+            self.refused("relay-batch.trace", f"{self.BATCH} = {self.HEARD}", f"{self.BATCH} = {answer}", says)
+
+    def test_a_batch_that_does_not_fit(self):
+        for words in ("800 13 0,0 1,2 7,6", "800 13,1 0 1,2 7,6", "800 13,1 0,0 1,2,3 7,6", "800 13,1 0,0 1,2 7",
+                      "799 13,1 0,0 1,2 7,6"):
+            line = f"batch {words} 200d1a410a04090e0a0a0a040020 0 = {self.HEARD}"
+            self.assertIn("27 exactly where a batch does not fit: due 27, found 0", ledger([line])[1])
+        line = f"batch 800 13,2 0,0 1,2 7,6 200d1a410a04090e0a0a0a040020 0 = {self.HEARD}"
+        self.assertIn("27 exactly where a batch does not fit", ledger([line])[1])
+        self.assertIn(f"no good answer: {line}", ledger([line])[1])
+
+    def test_an_item_that_is_marked_or_missing(self):
+        for answer in (self.HEARD.replace(" / 29", " ! / 29"), "0 / 29 0 0 0 -", "0", self.HEARD + " / 29 0 0 0 -"):
+            line = f"{self.BATCH} = {answer}"
+            self.assertIn(f"no good answer: {line}\n", ledger([line])[1])
+
     def test_a_mark(self):
         self.refused("relay-queues.trace", "waiting 1 0 = 32", "waiting 1 0 = 32 !", "no good answer")
 
@@ -203,6 +229,7 @@ class Whole(unittest.TestCase):
              "counters 0 = 1 1 0 0 0 0 0 0 0 0 0 0 0 0 0 0 0 0", "set_lifetime 5 = 0", "sweep 5 0 = 0",
              "pairs 0 = -", "clear_route 0 = 0", "clear_group 0 0 = 0", "clear_path 0 0 = 0",
              "set_echo_drop 0 = 0", "echo 0 7 8191 - 0 = 0 0 0 -", "read_echo 08008f93000100026869 = 0 8 1 2 6869",
+             "batch 400 2 0 7 0 2000 0 = 0 / 1 0 0 0 -", "batch 0 - - - - - 0 = 0", "batch 0 1 0 7 0 20 0 = 27",
              "read_echo 0000922f000100020500000000000000000000000064000000006869 = 0 0 1 2 6869 5 0 "
              "0000000000000000 100 0", "read_echo 08 = 1", "build_echo 10 1 2 6869 = 0 08008f93000100026869"]
     COVERAGE = ("build/coverage", "headers=0", "builds=0", "addresses=0", "checksums=0", "messages=0", "histories=0")

@@ -105,7 +105,7 @@ class Calls(unittest.TestCase):
     def test_each_word_is_told(self):
         places = {"replay --help": run("build/replay", "--help")[1], "man/replay.1": text_of("man/replay.1"),
                   "docs/TRACE.md": text_of("docs/TRACE.md")}
-        self.assertEqual(len(self.WORDS), 28)
+        self.assertEqual(len(self.WORDS), 29)
         for place, text in places.items():
             for word in self.WORDS:
                 self.assertRegex(text, rf"\b{word}\b", place)

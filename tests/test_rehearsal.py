@@ -2,7 +2,7 @@
 """build/rehearsal: the customer's story goes as it should; a bad line, a failed
 expectation, relays that lose, swap or repeat entries, relays whose headers name another
 unit, relays that do not know a flooded order again and relays that answer echoes wrongly
-are each found out.
+are each found out. By batches the story is the same, octet for octet.
 """
 import os
 import re
@@ -87,6 +87,21 @@ link One 2 Three 1 9600
 link Two 2 Three 2 9600
 """
 ORDER = "send Left 0 to 10.255.255.255 from 10.1.1.4 %sflood stamp 7 data \"close\"\nrun\n"
+
+
+def star(*missions):
+    """A router and four hosts around it. What these send at once comes to it at one moment, that of Leaf1 first."""
+    return "node Hub router\n" + "".join(f"""\
+node Leaf{i} host
+port Leaf{i} 0 10.{i}.1.4 255.255.255.0 1500
+port Hub {i} 10.{i}.1.2 255.255.255.0 1500 mission {mission}
+link Leaf{i} 0 Hub {i} 9600
+route Hub {i} 10.{i}.1.0 255.255.255.0 {i} up mission {mission}
+""" for i, mission in enumerate(missions or (0, 0, 0, 0), 1))
+
+
+def leaf_sends(leaf, destination, fields="data \"dose\""):
+    return f"send Leaf{leaf} 0 to {destination} from 10.{leaf}.1.4 {fields}\n"
 
 
 def scenes(first, last):
@@ -363,6 +378,18 @@ class Story(unittest.TestCase):
                  "cut\n")
         self.has("33", "(Buoy port 1 has its link again)\n", "; 0 lost)\n")
         self.assertEqual(self.output.count("LOST"), 1)
+
+    def test_what_arrives_at_one_moment(self):
+        moment = re.search(r"([\d.]+) s  South receives", self.scenes["34"])[1]
+        self.has("34", f"{moment} s  South receives \"NorthUnit: the tank is empty\" by port 4\n", "taken by port 1\n",
+                 "port 1: header rewritten, 13 octets, 6 more than came",
+                 f"{moment} s  South receives \"SouthUnit: the tank is empty\" by port 0\n", "taken by port 1\n",
+                 "port 1: header kept, 7 octets\n",
+                 f"{moment} s  South receives \"East: biocide runs low\" by port 2\n", "REFUSED (28)",
+                 f"{moment} s  South receives \"West: STOP, pipe leaks\" by port 3\n", "taken by port 1\n",
+                 " (+4), npForwDatagrams ", " (+3), flood-unmarked 1 (+1)\n",
+                 f"{moment} s  South port 1 to Buoy port 1: \"West: STOP, pipe leaks\"", "precedence 9, 2 still wait\n",
+                 "from 10.1.1.14 to 10.1.1.20\n", "from 14 to 20\n")
 
     def test_counters_and_ledger(self):
         self.assertIn(
@@ -806,13 +833,92 @@ class Small(unittest.TestCase):
             self.assertIn(says, complaints)
 
     def test_arguments(self):
-        for words in ((), (STORY, STORY)):
+        for words in ((), (STORY, STORY), ("--batches",), ("--batches", STORY, STORY)):
             status, output, complaints = fly(*words)
             self.assertEqual((status, output), (2, ""))
             self.assertTrue(complaints.startswith("rehearsal: say one scenario"))
         status, _, complaints = fly(os.path.join(ROOT, "scenarios/none.txt"))
         self.assertEqual(status, 2)
         self.assertIn("none.txt: No such file", complaints)
+
+
+class Batches(unittest.TestCase):
+    """Each story is flown by single calls and by batches, and the two are compared octet by octet."""
+
+    def batches(self, *words):
+        """How many there were of each number of items."""
+        singly, batched = fly(*words), fly("--batches", *words)
+        self.assertEqual(singly, (batched[0], batched[1], ""))
+        self.assertEqual(singly[0], 0, singly[1])
+        counts = re.findall(r"^rehearsal: (\d+) batches of (\d)\n", batched[2], re.M)
+        self.assertEqual("".join(f"rehearsal: {times} batches of {items}\n" for times, items in counts), batched[2])
+        return {int(items): int(times) for times, items in counts}
+
+    def batches_of(self, text):
+        with tempfile.NamedTemporaryFile("w", suffix=".txt", encoding="ascii") as file:
+            file.write(text)
+            file.flush()
+            return self.batches(file.name)
+
+    def test_the_story(self):
+        """As many as docs/REHEARSAL.md says."""
+        self.assertEqual(self.batches(STORY), {1: 891, 2: 6, 3: 14, 4: 253})
+
+    def test_other_stories(self):
+        """Entries that wait, a flood and a ring."""
+        for text in WAITS, FLOOD + ORDER % "hops 4 ", RING % (" asks hops", ""):
+            self.assertGreater(self.batches_of(text)[1], 2)
+
+    def test_the_option_may_come_last(self):
+        self.assertEqual(fly(STORY, "--batches"), fly("--batches", STORY))
+
+    def test_each_sees_what_those_before_it_did(self):
+        """The leg has one place left: it is the first one's. A flood that the first one brought is known again."""
+        leg_4 = "10.4.1.4"
+        text = star() + "hold Hub 4\nquiet\n" + leaf_sends(1, leg_4, "times 31 data \"x\"") + "run\nloud\n"
+        text += leaf_sends(1, leg_4) + leaf_sends(2, leg_4) + "run\nexpect Hub waiting 4 32\nexpect Hub refused 15\n"
+        for leaf in 1, 2:
+            text += f"send Leaf{leaf} 0 to 10.255.255.255 from 10.9.1.4 flood stamp 7 data \"stop\"\n"
+        text += "scene x\nrun\nexpect Hub arrivals 2\nexpect Hub sent 1\nexpect Hub took -\n"
+        self.assertEqual(self.batches_of(text)[2], 2)
+
+    def test_those_behind_a_refused_one_are_heard(self):
+        """11 for the onward half, then 28 for the whole; the third is sent on."""
+        fields = "precedence 1 data \"dose\""
+        text = star() + leaf_sends(1, "10.7.7.4", fields) + leaf_sends(2, "10.4.1.4", "flood " + fields)
+        text += leaf_sends(3, "10.4.1.4", fields) + "run\nexpect Hub took 4\nexpect Hub counter npOutNoRoutes 1\n"
+        text += "expect Hub counter flood-unmarked 1\nexpect Leaf4 delivered \"dose\"\n"
+        self.assertEqual(self.batches_of(text), {1: 1, 3: 1})
+
+    def test_a_second_that_is_past(self):
+        text = star() + "sweep Hub at 9\n" + "".join(leaf_sends(i, "10.4.1.4") for i in (1, 2, 3))
+        text += "run\nexpect Hub refused 29\nexpect Hub arrivals 3\nexpect Hub counter npInReceives 0\n"
+        self.assertEqual(self.batches_of(text), {3: 1})
+
+    def test_an_echo_request_is_the_last_of_its_batch(self):
+        """It is answered before the next one is heard: the reply stands between the two orders on the leg."""
+        text = star() + "hold Hub 2\n" + leaf_sends(1, "10.2.1.4", "hops 8 data \"order 12\"")
+        text += leaf_sends(2, "10.2.1.2", "hops 8 echo 1 1") + leaf_sends(3, "10.2.1.4", "hops 8 data \"order 34\"")
+        text += "run\nforetell Hub 2 \"order 34\"\nrelease Hub 2\nrun\nexpect Leaf2 reply 1 1 hops 8\n"
+        self.assertEqual(self.batches_of(text), {1: 4, 2: 1})
+        self.assertIn("\"order 34\" goes out at take 2 + 0 + 1 = 3 of port 2;", fly_text(text)[1])
+
+    def test_two_missions_share_no_batch(self):
+        orders = "".join(leaf_sends(leaf, f"10.{to}.1.4") for leaf, to in ((1, 3), (2, 4), (3, 1), (4, 2))) + "run\n"
+        orders += "".join(f"expect Leaf{i} arrivals 1\n" for i in range(1, 5))
+        self.assertEqual(self.batches_of(star() + orders), {1: 4, 4: 1})
+        self.assertEqual(self.batches_of(star(0, 1, 0, 1) + orders), {1: 4, 2: 2})
+
+    def test_a_batch_ends_where_a_step_does(self):
+        text = star() + "".join(leaf_sends(i, "10.4.1.4") for i in (1, 2, 3))
+        for steps, counts in (1, {1: 4, 2: 1}), (2, {1: 4, 2: 1}), (3, {1: 3, 3: 1}):
+            self.assertEqual(self.batches_of(text + f"step {steps}\nexpect Hub arrivals {steps}\nrun\n"
+                                             "expect Leaf4 arrivals 3\n"), counts)
+
+    def test_what_is_lost_is_in_no_batch(self):
+        text = star() + "".join(leaf_sends(i, "10.4.1.4") for i in (1, 2, 3))
+        for leaf in 1, 2, 3:
+            self.assertEqual(self.batches_of(text + f"cut Leaf{leaf} 0\nrun\nexpect Hub arrivals 2\n"), {1: 2, 2: 1})
 
 
 if __name__ == "__main__":

@@ -655,6 +655,18 @@ esac
         self.assertIn("sweep, all freed 1 8 3 2.67 1.00 1.00".split(), [line.split() for line in output.splitlines()])
         self.assertNotIn("receive, sent by route", output)
 
+    def test_a_batch_is_told_by_the_item(self):
+        """One of two items: 3 and 5 instructions by plain, 2 and 4 by ours, 4 together in one call."""
+        kind = "batch of 64, refused"
+        sides = ("plain", "ours", "plain", "ours", "batch")
+        count = r"nothing\tnothing\n" + "".join(rf"{kind}\t{side}\n" for side in sides)
+        status, output = self.bench("b1eb1234eb123eb123456eb12345eb12345e", count)
+        self.assertEqual(status, 0, output)
+        rows = [line.split() for line in output.splitlines()]
+        self.assertIn(f"{kind} 2 2 3 4 0.67 0.50".split(), rows)
+        self.assertIn("batch of 64, mixed 0".split(), rows)
+        self.assertNotIn("receive, sent by route", output)
+
     def test_a_measure_is_missing(self):
         status, output = self.bench("b1eb1234e")
         self.assertEqual(status, 1, output)

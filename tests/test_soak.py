@@ -6,6 +6,8 @@ import subprocess
 PROGRAM = "build/soak_faulty"
 BOARD = "the words of the board"
 MISSION = "the words of a mission's state"
+SINGLE = "single calls answer otherwise"
+LIST = "a list of a batch"
 FAULTS = [
     "plain answers otherwise",             # a class
     "not the refusal that is due",         # wrong words, 21 for 16
@@ -21,9 +23,9 @@ FAULTS = [
     "the octets lent to be read",          # the datagram changed
     MISSION,                               # a counter too low
     MISSION,                               # 17 counted
-    "odd onward half",                     # 12 for 11
+    f"odd onward half|{SINGLE}",           # 12 for 11
     # the ports that dropped theirs not told
-    f"copies dropped, and not|not the ports that are due of a flood|{MISSION}|plain answers otherwise",
+    f"copies dropped, and not|not the ports that are due of a flood|{MISSION}|plain answers otherwise|{SINGLE}",
     "not what the list says",              # a search, 0 ones for none
     MISSION,                               # a search that writes
     "not what the list says",              # a route not up hides another
@@ -32,21 +34,21 @@ FAULTS = [
     "the records of the list",             # a search that writes the list
     "not the refusal that is due",         # 16 for 21
     "the output's octets",                 # a header for a port that took none
-    "the data begin elsewhere",            # one too far
-    "a header longer than is due",         # a rewritten header's octets, one too many
+    f"the data begin elsewhere|{SINGLE}",  # one too far
+    f"a header longer than is due|{SINGLE}",  # a rewritten header's octets, one too many
     "the output's octets",                 # 63 for the first hop count
     # rewritten, and not told as such
-    "plain answers otherwise|a one-octet address that left its domain|the output's octets",
+    f"plain answers otherwise|a one-octet address that left its domain|the output's octets|{SINGLE}",
     # kept, and told as rewritten; its control field may be longer than it need be
-    "a header rewritten for nothing|a header longer than is due",
+    f"a header rewritten for nothing|a header longer than is due|{SINGLE}",
     MISSION,                               # 29 counted
     MISSION,                               # 17, its second accepted
     MISSION,                               # 28 in the counter of 30
     MISSION,                               # a pair made younger
     MISSION,                               # 10, and a pair not kept
     MISSION,                               # 30, and a pair written over
-    "not the refusal that is due",         # 16 for 29
-    "not the onward half that is due of a flood",  # not asked for 30
+    f"not the refusal that is due|{SINGLE}",  # 16 for 29
+    f"not the onward half that is due of a flood|{SINGLE}",  # not asked for 30
     MISSION,                               # a pair freed a second early
     MISSION,                               # 29, its second accepted
     "not the refusal that is due",         # a sweep of wrong words, 16 for 21
@@ -77,6 +79,29 @@ FAULTS = [
     "plain answers otherwise",             # 17 for 20
     "not the refusal that is due",         # echo drop 2 taken
     "not what the words say",              # echo drop, told turned over
+    "not the refusal that is due",         # 65 items heard
+    "not the refusal that is due",         # a sum that wraps
+    "not the refusal that is due",         # room that is one octet short
+    MISSION,                               # 27 counted
+    MISSION,                               # 27, a second accepted
+    LIST,                                  # 27, an answer written
+    "the output's octets",                 # 27, an output written
+    # two answers exchanged
+    f"odd|not the refusal that is due|{SINGLE}",
+    "the output's octets",                 # an octet of the next item's output
+    "the output's octets|beyond what was lent",  # an octet behind the last one's
+    f"{LIST}|beyond what was lent",        # an answer behind the last
+    "beyond what was lent",                # a read beyond the lengths
+    LIST,                                  # the slots changed
+    "the octets lent to be read",          # the octets changed
+    "not the refusal that is due",         # an item of no octets passed over
+    MISSION,                               # every item with the first one's slot
+    # and with its second
+    f"{MISSION}|not the refusal that is due|odd|not the onward half that is due of a flood",
+    "not the refusal that is due|odd|28 is due",  # a refused item ends the batch
+    "not the refusal that is due",         # 27 for 21
+    "a batch refused that fits",           # 16 for a batch of wrong words
+    "a batch refused that fits",           # 27 for no item
 ]
 
 

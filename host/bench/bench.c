@@ -11,7 +11,9 @@
  * lines, as those between bench_begin and bench_end (scripts/bench). Its first
  * line is a measure of nothing, the cost of the marks. `stack` prints the lines
  * with the octets of stack that the call has written to. Measured are receive,
- * echo, sweep, take, read, read_echo and build_echo.
+ * echo, sweep, take, read, read_echo and build_echo. A batch is measured three
+ * times: its items one by one on each side, and all of them in one call of the
+ * library, which is a third side.
  *
  * The awkward case is a call that differs on the two sides: what is measured is
  * then not the same, and the program fails.
@@ -23,6 +25,7 @@
 #include <stdlib.h>
 #include <string.h>
 
+#include "batch.h"
 #include "call.h"
 #include "ours.h"
 #include "painted.h"
@@ -131,6 +134,63 @@ static bool measure(enum mode mode)
     return memcmp(&plain, &ours, sizeof plain) == 0;
 }
 
+/* ---- A batch ------------------------------------------------------------- */
+
+/* What was measured of an item, by itself. */
+struct measured {
+    const char *kind;
+    size_t plain_octets, our_octets;
+};
+
+static bool measure_item(enum mode mode, size_t item, struct measured *of)
+{
+    struct bench_answer plain;
+    bool alike;
+
+    batch_put_item(item);
+    of->plain_octets = run(mode, bench_plain[CALL_RECEIVE]);
+    plain = bench_call.answer;
+    of->our_octets = run(mode, bench_ours[CALL_RECEIVE]);
+    alike = memcmp(&plain, &bench_call.answer, sizeof plain) == 0;
+    of->kind = kind_of_receive(&bench_call.answer);
+    bench_ours_after_item(item);
+    return alike;
+}
+
+/* Of what its items are, if they are all alike. */
+static void name_batch(const struct measured *items, char *name, size_t room)
+{
+    const char *kind = strchr(items[0].kind, ' ') + 1;
+
+    for (size_t i = 1; i < bench_batch.items; i++) {
+        if (items[i].kind != items[0].kind)
+            kind = "mixed";
+    }
+    snprintf(name, room, "batch of %zu, %s", bench_batch.items, kind);
+}
+
+/* The lines are printed in the order of the marks. */
+static bool measure_batch(enum mode mode)
+{
+    static struct measured items[TRACE_MOST_ITEMS];
+    char name[80];
+    size_t octets;
+    bool alike = true;
+
+    bench_ours_before();
+    for (size_t i = 0; i < bench_batch.items; i++)
+        alike = measure_item(mode, i, &items[i]) && alike;
+    bench_ours_again();
+    octets = run(mode, bench_ours_many);
+    name_batch(items, name, sizeof name);
+    for (size_t i = 0; i < bench_batch.items; i++) {
+        say(mode, name, "plain", items[i].plain_octets);
+        say(mode, name, "ours", items[i].our_octets);
+    }
+    say(mode, name, "batch", octets);
+    return alike && bench_ours_alike();
+}
+
 /* ---- Lines --------------------------------------------------------------- */
 
 /* Octets, and the numbers behind them. */
@@ -195,6 +255,8 @@ static bool make_call(enum mode mode)
 static bool make_line(enum mode mode, const struct trace_call *call)
 {
     bench_call.which = trace_call_of(call->words[0]);
+    if (bench_call.which == CALL_RECEIVE_MANY && call->count == 8)
+        return batch_take(call->words + 1) && measure_batch(mode);
     return bench_call.which != CALLS &&
            take_arguments(call_facts[bench_call.which].arguments, call) &&
            make_call(mode);

@@ -6,6 +6,7 @@
 
 #include <string.h>
 
+#include "batch.h"
 #include "harpjuniper.h"
 #include "shared/library.h"
 
@@ -143,6 +144,65 @@ static void read_header(void)
     answer->length = reading.length;
     answer->header = reading.header;
 }
+
+/* ---- Batches ------------------------------------------------------------- */
+
+static hj_mission before, left;
+static uint64_t verdicts[HJ_MOST_ITEMS];
+static uint8_t headers[HJ_MOST_ITEMS * HJ_OUTPUT_ROOM];
+
+void bench_ours_many(void)
+{
+    hj_mission *mission = &missions[bench_call.mission];
+    struct bench_batch *b = &bench_batch;
+
+    memset(b->output, 0, sizeof b->output);
+    bench_begin();
+    b->refusal = hj_receive_many(
+        &board, HJ_BOARD_WORDS, mission, HJ_MISSION_WORDS, routes,
+        bench_call.records, b->lengths, b->items, b->ports, b->items,
+        b->slots, b->items, b->seconds, b->items, b->octets, b->count,
+        b->answers, b->items, b->output, HJ_OUTPUT_ROOM * b->items);
+    bench_end();
+}
+
+void bench_ours_before(void)
+{
+    before = missions[bench_call.mission];
+}
+
+/* The verdict is told by its parts, all of which are there. */
+void bench_ours_after_item(size_t item)
+{
+    const struct bench_answer *told = &bench_call.answer;
+
+    verdicts[item] = (uint64_t)told->refusal | (uint64_t)told->local << 8 |
+                     (uint64_t)told->onward << 16 |
+                     (uint64_t)told->took << 24 |
+                     (uint64_t)told->dropped << 32 |
+                     (uint64_t)told->header << 40 |
+                     (uint64_t)told->rewritten_octets << 48 |
+                     (uint64_t)told->rewritten << 56;
+    memcpy(headers + HJ_OUTPUT_ROOM * item, told->output, HJ_OUTPUT_ROOM);
+}
+
+void bench_ours_again(void)
+{
+    left = missions[bench_call.mission];
+    missions[bench_call.mission] = before;
+}
+
+bool bench_ours_alike(void)
+{
+    const struct bench_batch *b = &bench_batch;
+
+    return b->refusal == HJ_DONE &&
+           memcmp(&left, &missions[bench_call.mission], sizeof left) == 0 &&
+           memcmp(verdicts, b->answers, b->items * sizeof *verdicts) == 0 &&
+           memcmp(headers, b->output, HJ_OUTPUT_ROOM * b->items) == 0;
+}
+
+/* ---- All calls ----------------------------------------------------------- */
 
 void (*const bench_ours[CALLS])(void) = {
     [CALL_RECEIVE] = receive,

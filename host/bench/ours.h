@@ -8,6 +8,17 @@
  * not measured. */
 extern void (*const bench_ours[CALLS])(void);
 
+/* Makes bench_batch in one call. */
+void bench_ours_many(void);
+
+/* Notes the mission's state before the items of a batch; makes it that again,
+ * once they were made one by one; and says whether the one call left the same
+ * words, answers and headers as they did. */
+void bench_ours_before(void);
+void bench_ours_after_item(size_t item);
+void bench_ours_again(void);
+bool bench_ours_alike(void);
+
 /* Makes a bench_call that sets. */
 void bench_ours_set(void);
 

@@ -1,7 +1,8 @@
 /*
  * relay.c: what was reached of the relay: each number at each call, each reason
  * of the local half, each line of the onward half, what searches found, each
- * counter's movement. The lists are in relay_lists.h.
+ * counter's movement. The lists are in relay_lists.h. An item of a batch is a
+ * receipt like any other.
  *
  * Which line of the rules decided is not in the answer. It is told from a view
  * of the relay, kept from the answers (view.h), and is used for nothing but
@@ -13,9 +14,11 @@
 #include <stdio.h>
 #include <string.h>
 
+#include "batches.h"
 #include "echoes.h"
 #include "floods.h"
 #include "relay_lists.h"
+#include "shared/items.h"
 #include "table.h"
 
 #define COUNTERS 18
@@ -229,7 +232,7 @@ static void look_at_pair(struct receipt *r)
 }
 
 static bool read_receipt(const struct trace_call *call,
-                         const struct trace_call *answer)
+                         const struct trace_call *answer, bool is_item)
 {
     static uint8_t octets[TRACE_MOST_OCTETS];
     struct receipt r = {0};
@@ -251,7 +254,27 @@ static bool read_receipt(const struct trace_call *call,
     look_at_elements(&r);
     look_at_ports(&r);
     count_receipt(&r);
+    if (is_item)
+        count_item(&view, &r);
     return r.refusal != 0 || r.arrival < VIEW_PORTS;
+}
+
+/* The view notes an item before the next is looked at. */
+static bool read_item(enum call of, const struct trace_call *call,
+                      const struct trace_call *answer)
+{
+    bool known = read_receipt(call, answer, true);
+
+    if (known)
+        view_note(&view, of, call, answer);
+    return known;
+}
+
+static bool read_batch(const struct trace_call *call,
+                       const struct trace_call *answer)
+{
+    return count_batch(&view, call, answer) &&
+           items_each(call, answer, read_item);
 }
 
 /* ---- Searches ------------------------------------------------------------ */
@@ -339,7 +362,9 @@ static bool count_number(enum call of, const struct trace_call *call,
         tally.precedence[number(answer->words[2]) % 16]++;
     if (of == CALL_ECHO)
         return count_echo(&view, call, answer);
-    return of != CALL_RECEIVE || read_receipt(call, answer);
+    if (of == CALL_RECEIVE_MANY)
+        return read_batch(call, answer);
+    return of != CALL_RECEIVE || read_receipt(call, answer, false);
 }
 
 static bool count_waiting(const struct trace_call *answer)
@@ -455,6 +480,7 @@ static void say_calls(void)
     }
     say_numbers(CALL_TAKE);
     say_numbers(CALL_RECEIVE);
+    say_numbers(CALL_RECEIVE_MANY);
     say_numbers(CALL_ECHO);
 }
 
@@ -537,6 +563,7 @@ void say_relay(void)
     say_list(REFUSED_NAMES, tally.of_refused, LENGTH(REFUSED_NAMES));
     say_halves();
     say_floods();
+    say_batches();
     say_echoes();
     say_settings();
     say_searches();

@@ -15,7 +15,6 @@
 #include "arrivals.h"
 
 #include "line.h"
-#include "shared/datagram.h"
 #include "shared/floods.h"
 
 /* ---- What a datagram is aimed at ----------------------------------------- */
@@ -266,23 +265,45 @@ static uint32_t choose_room(struct random *random)
     return random_one_in(random, 24) ? PICK(OTHER) : 400;
 }
 
-void history_receive(struct world *world, struct random *random)
+void arrival_begin(struct arrival *arrival, struct world *world,
+                   struct random *random)
 {
-    static struct datagram datagram;
-    uint32_t numbers[5]; /* arrival port, slot, room, second, mission */
     uint32_t slots;
 
-    numbers[0] = choose_arrival(world, random);
+    arrival->port = choose_arrival(world, random);
     slots = random_one_in(random, 2) ? 16 : 65536;
-    numbers[1] = random_below(random, slots);
-    numbers[2] = choose_room(random);
-    numbers[3] = floods_second(world, random);
-    numbers[4] = world->mission;
-    choose_form(world, &datagram.form, random);
+    arrival->slot = random_below(random, slots);
+    arrival->second = floods_second(world, random);
+}
+
+void arrival_form(struct arrival *arrival, const struct world *world,
+                  struct random *random)
+{
+    choose_form(world, &arrival->datagram.form, random);
+}
+
+void arrival_write(struct arrival *arrival, const struct world *world,
+                   struct random *random)
+{
+    struct datagram *datagram = &arrival->datagram;
+
     datagram_write(
-        &datagram, choose_data(world, &datagram.form, numbers[0], random),
+        datagram, choose_data(world, &datagram->form, arrival->port, random),
         random);
     if (random_one_in(random, 8))
-        spoil_somehow(&datagram, random);
-    line_octets(CALL_RECEIVE, numbers, datagram.octets, datagram.count);
+        spoil_somehow(datagram, random);
+}
+
+void history_receive(struct world *world, struct random *random)
+{
+    static struct arrival arrival;
+    uint32_t room = choose_room(random);
+
+    arrival_begin(&arrival, world, random);
+    arrival_form(&arrival, world, random);
+    arrival_write(&arrival, world, random);
+    line_octets(CALL_RECEIVE,
+                (const uint32_t[]){arrival.port, arrival.slot, room,
+                                   arrival.second, world->mission},
+                arrival.datagram.octets, arrival.datagram.count);
 }

@@ -7,10 +7,10 @@
  *
  * Each part of the trace has its file: headers.c, builds.c, addresses.c,
  * checksums.c, messages.c, and history.c, which has the whole relay's calls
- * made by ports.c, routes.c, entries.c, setting.c, arrivals.c and echoes.c,
- * with the floods and seconds of shared/floods.c and the echo requests of
- * shared/echoes.c. They draw from one stream of numbers, so a count that is
- * changed changes all that comes behind it.
+ * made by ports.c, routes.c, entries.c, setting.c, arrivals.c, batches.c and
+ * echoes.c, with the floods and seconds of shared/floods.c and the echo
+ * requests of shared/echoes.c. They draw from one stream of numbers, so a count
+ * that is changed changes all that comes behind it.
  */
 #include "addresses.h"
 #include "builds.h"

@@ -1,8 +1,9 @@
 /*
  * history.c: histories of the whole relay. A history is `new`, the settings of
- * a node of some shape, and then datagrams, echo requests, takes, sweeps and
- * changes of settings, with the counters, the queues and the pairs looked at,
- * and routes searched for, now and then and at its end.
+ * a node of some shape, and then datagrams, by themselves and in batches, echo
+ * requests, takes, sweeps and changes of settings, with the counters, the
+ * queues and the pairs looked at, and routes searched for, now and then and at
+ * its end.
  *
  * Two missions share the node, and their calls come in any order. The shapes
  * say how many of the ports are the second one's; where it has none, its calls
@@ -17,6 +18,7 @@
 #include "history.h"
 
 #include "arrivals.h"
+#include "batches.h"
 #include "echoes.h"
 #include "entries.h"
 #include "line.h"
@@ -219,6 +221,8 @@ static void write_call(const struct shape *shape, struct world *world,
         sweep(world, random);
     else if (random_below(random, 100) < shape->echoes)
         history_echo(world, random);
+    else if (random_one_in(random, 24))
+        history_batch(world, random);
     else
         history_receive(world, random);
 }
@@ -234,6 +238,7 @@ static void write_long_list(const struct shape *shape, struct world *world,
         draw_mission(shape, world, random);
         history_record(world, random);
         history_receive(world, random);
+        history_batch(world, random);
         history_echo(world, random);
         line_asked(CALL_SEARCH, searched_address(world, random),
                    world->mission);

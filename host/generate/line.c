@@ -56,6 +56,33 @@ void line_asked(enum call call, uint32_t number, uint32_t mission)
     line_numbers(call, numbers);
 }
 
+/* `-` for no number. */
+static void put_list(const struct line_list *list)
+{
+    text_string(&line, list->count == 0 ? " -" : " ");
+    for (size_t i = 0; i < list->count; i++) {
+        if (i > 0)
+            text_string(&line, ",");
+        text_number(&line, list->numbers[i]);
+    }
+}
+
+void line_lists(enum call call, uint32_t first, const struct line_list *lists,
+                const uint8_t *octets, size_t count, uint32_t last)
+{
+    const char *form = call_facts[call].arguments + 1;
+
+    text_clear(&line);
+    text_string(&line, call_facts[call].word);
+    text_next_number(&line, first);
+    for (; *form == 'l'; form++, lists++)
+        put_list(lists);
+    text_string(&line, " ");
+    text_octets(&line, octets, count);
+    text_next_number(&line, last);
+    end();
+}
+
 void line_octets(enum call call, const uint32_t *numbers,
                  const uint8_t *octets, size_t count)
 {

@@ -8,11 +8,12 @@
  * per port and receipt and each with a header, and the replies to echo
  * requests, is what was handed out by takes and what waits (`waiting` lines).
  * Each entry handed out is the oldest of the highest precedence that waits, by
- * a plain list. Each header says what the octets that came said (headers.c), and each
- * reply what answers its request (replies.c). Between two frees of a pair at
- * most one of its floods goes on, and what is kept is what a `pairs` line says
- * (floods.c). Each counter of a `counters` line is what the answers since `new`
- * add up to.
+ * a plain list. Each header says what the octets that came said (headers.c),
+ * and each reply what answers its request (replies.c). Between two frees of a
+ * pair at most one of its floods goes on, and what is kept is what a `pairs`
+ * line says (floods.c). Each item of a batch is a receipt, and a batch is
+ * refused by 27 exactly where its lists, octets or room do not fit. Each
+ * counter of a `counters` line is what the answers since `new` add up to.
  *
  * The awkward counter is npOutDiscards: an answer gives the ports that took an
  * entry, not those that dropped theirs. Only a port with 32 waiting drops one,
@@ -29,6 +30,7 @@
 #include "replies.h"
 #include "shared/answered.h"
 #include "shared/arriving.h"
+#include "shared/items.h"
 #include "shared/options.h"
 
 #define PORTS 8
@@ -54,7 +56,7 @@ static struct book *book = books; /* of the mission whose call it is */
 
 static struct {
     uint64_t receipts, takes, counters, waiting, copies, exact, sweeps, pairs;
-    uint64_t echoes, replies;
+    uint64_t echoes, replies, batches;
 } seen;
 
 static bool balanced = true;
@@ -226,6 +228,30 @@ static bool book_receive(const struct trace_call *call,
             enter(port, newcomer);
     }
     return true;
+}
+
+/* An item is a receipt, and no line of the trace. */
+static bool book_item(enum call of, const struct trace_call *call,
+                      const struct trace_call *answer)
+{
+    (void)of;
+    return book_receive(call, answer);
+}
+
+/* 21 is of the list of routes, which has no book. */
+static bool book_batch(const struct trace_call *call,
+                       const struct trace_call *answer)
+{
+    uint32_t refusal = number(answer->words[0]);
+    struct items_lent lent;
+
+    seen.batches++;
+    if (!items_lend(call, &lent))
+        return false;
+    expect(refusal == 21 || (refusal == 27) == !items_fit(&lent),
+           "27 exactly where a batch does not fit", items_fit(&lent) ? 0 : 27,
+           refusal);
+    return items_each(call, answer, book_item);
 }
 
 /* ---- Echo requests ------------------------------------------------------- */
@@ -433,6 +459,8 @@ static bool book_line(enum call of, const struct trace_call *call,
     switch (of) {
     case CALL_RECEIVE:
         return book_receive(call, answer);
+    case CALL_RECEIVE_MANY:
+        return book_batch(call, answer);
     case CALL_ECHO:
         return book_echo(call, answer);
     case CALL_TAKE:
@@ -463,9 +491,10 @@ static const char HELP[] =
     "usage: ledger [--help | --version] < ANSWERED\n"
     "\n"
     "Recounts an answered trace (docs/TRACE.md) from its calls and answers\n"
-    "alone: for each mission and port the copies taken, handed out and\n"
-    "waiting, the order of what is handed out, what each header sent on\n"
-    "and each reply says, the seconds and pairs of floods, and each counter.\n"
+    "alone, each item of a batch as a receipt: for each mission and port the\n"
+    "copies taken, handed out and waiting, the order of what is handed out,\n"
+    "what each header sent on and each reply says, the seconds and pairs of\n"
+    "floods, and each counter.\n"
     "\n"
     "Status: 0 the books balance; 1 they do not, or a line has no good\n"
     "answer; 2 bad usage, or the output failed.\n";
@@ -479,13 +508,15 @@ int main(int count, char **arguments)
     if (status != OPTIONS_GO_ON)
         return status;
     good = answered_lines(book_line);
-    printf("ledger: %" PRIu64 " receipts, %" PRIu64 " echo lines, %" PRIu64
-           " replies, %" PRIu64 " copies with these, %" PRIu64
+    printf("ledger: %" PRIu64 " receipts, with those of %" PRIu64
+           " batches, %" PRIu64 " echo lines, %" PRIu64 " replies, %" PRIu64
+           " copies with these, %" PRIu64
            " takes, %" PRIu64 " waiting lines, %" PRIu64 " sweeps, %" PRIu64
            " pairs lines, %" PRIu64
            " counters lines (npOutDiscards exact in %" PRIu64 ")\n",
-           seen.receipts, seen.echoes, seen.replies, seen.copies, seen.takes,
-           seen.waiting, seen.sweeps, seen.pairs, seen.counters, seen.exact);
+           seen.receipts, seen.batches, seen.echoes, seen.replies, seen.copies,
+           seen.takes, seen.waiting, seen.sweeps, seen.pairs, seen.counters,
+           seen.exact);
     if (!good || !balanced)
         puts("ledger: FAILED: the books do not balance");
     return options_end(&PROGRAM, good && balanced ? 0 : 1);

@@ -6,6 +6,7 @@
 #ifndef LENT_H
 #define LENT_H
 
+#include <stdbool.h>
 #include <stddef.h>
 #include <stdint.h>
 
@@ -13,6 +14,8 @@
 
 /* The largest output of a trace; the library itself has no such limit. */
 #define LENT_MOST_ROOM 65535
+/* What every octet of it is before the call. */
+#define LENT_UNTOUCHED 0xa5
 
 uint8_t *lent_output(size_t room);
 
@@ -23,12 +26,17 @@ uint8_t *lent_output(size_t room);
 void lent_answer(struct text *answer, size_t room, size_t written);
 
 /*
- * Adds the stretch of each port of the set, from what was lent to hj_receive,
- * the octets at its end that did not change cut off; `-` for no port. Then ` !`
- * where the call changed an octet that is in no port's header, each of them as
- * long as it is said to be.
+ * Of the output that a datagram has, which is so much room from there on, adds
+ * the stretch of each port of the set, the octets at its end that did not
+ * change cut off; `-` for no port. Then ` !` where the call changed an octet of
+ * that room that is in no port's header, each of them as long as it is said to
+ * be.
  */
-void lent_headers(struct text *answer, size_t room, uint32_t ports,
-                  const uint32_t *header_octets);
+void lent_headers(struct text *answer, size_t from, size_t room,
+                  uint32_t ports, const uint32_t *header_octets);
+
+/* Whether the octets of the output behind a place, and those around it all, did
+ * not change. */
+bool lent_rest_is_kept(size_t from, size_t room);
 
 #endif

@@ -31,6 +31,9 @@ answer_word answer_read_echo;
 answer_word answer_build_echo;
 answer_word answer_echo;
 
+/* words_batch.c: many datagrams in one call. */
+answer_word answer_batch;
+
 /* words_pairs.c: the pairs that a mission holds. */
 answer_word answer_pairs;
 

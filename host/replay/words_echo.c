@@ -15,12 +15,6 @@
 #include "lent.h"
 #include "lent_relay.h"
 
-static void add_number(struct text *answer, uint32_t number)
-{
-    text_string(answer, " ");
-    text_number(answer, number);
-}
-
 static bool take_16(struct trace_word word, uint16_t *number)
 {
     uint64_t wide;
@@ -36,12 +30,12 @@ static bool take_16(struct trace_word word, uint16_t *number)
 /* What a reply has and a request has not. */
 static void add_reply(struct text *answer, const hj_message *message)
 {
-    add_number(answer, message->hop_count);
-    add_number(answer, message->format);
+    text_next_number(answer, message->hop_count);
+    text_next_number(answer, message->format);
     text_string(answer, " ");
     text_digits(answer, message->stamp, 16);
-    add_number(answer, message->mtu);
-    add_number(answer, message->rate);
+    text_next_number(answer, message->mtu);
+    text_next_number(answer, message->rate);
 }
 
 /* Whether what the answer does not show is 0. */
@@ -69,9 +63,9 @@ static void add_message(struct text *answer, const hj_message *message,
 {
     uint32_t from = fixed_octets(message->type);
 
-    add_number(answer, message->type);
-    add_number(answer, message->identifier);
-    add_number(answer, message->sequence);
+    text_next_number(answer, message->type);
+    text_next_number(answer, message->identifier);
+    text_next_number(answer, message->sequence);
     text_string(answer, " ");
     text_octets(answer, octets + from, count - from);
     if (message->type == HJ_ECHO_REPLY)
@@ -181,8 +175,8 @@ static enum call_lent changed(hj_verdict verdict)
 static void add_verdict(struct text *answer, hj_verdict verdict, size_t room)
 {
     text_number(answer, hj_ended_by(verdict));
-    add_number(answer, hj_onward(verdict));
-    add_number(answer, hj_took(verdict));
+    text_next_number(answer, hj_onward(verdict));
+    text_next_number(answer, hj_took(verdict));
     text_string(answer, " ");
     lent_answer(answer, room, hj_reply_octets(verdict));
 }

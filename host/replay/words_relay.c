@@ -25,12 +25,7 @@
 #include "lent.h"
 #include "lent_relay.h"
 #include "shared/library.h"
-
-static void add_number(struct text *answer, uint32_t number)
-{
-    text_string(answer, " ");
-    text_number(answer, number);
-}
+#include "verdict.h"
 
 /* ---- What is lent, and the settings -------------------------------------- */
 
@@ -149,70 +144,6 @@ static bool take_arrival(const struct trace_word *words,
            trace_mission(words[5], &arrival->mission);
 }
 
-/* Whether the parts that a trace does not show go with those that it does. */
-static bool parts_agree(hj_verdict verdict)
-{
-    uint32_t took = hj_took(verdict);
-    uint32_t dropped = hj_dropped(verdict);
-    uint32_t onward = hj_onward(verdict);
-    uint32_t rewritten = hj_rewritten(verdict);
-
-    if (hj_ended_by(verdict) != HJ_DONE)
-        return verdict >> 8 == 0;
-    return (took & dropped) == 0 && (took != 0) == (onward == HJ_SENT_ON) &&
-           (rewritten & ~took) == 0 &&
-           (rewritten != 0) == (hj_rewritten_octets(verdict) != 0) &&
-           (dropped == 0 || took != 0 || onward == HJ_QUEUES_FULL) &&
-           (dropped != 0 || onward != HJ_QUEUES_FULL);
-}
-
-static uint32_t length_field(const uint8_t *header)
-{
-    return (uint32_t)(header[0] & 31) << 8 | header[1];
-}
-
-/* Whether the data begin behind the header that came, and each header sent on
- * says a length of its own octets and the data. */
-static bool lengths_agree(hj_verdict verdict, const uint8_t *octets,
-                          size_t count, const uint8_t *output)
-{
-    hj_reading came;
-    bool agree;
-
-    if (hj_ended_by(verdict) != HJ_DONE)
-        return true;
-    came = hj_read(octets, count);
-    agree = hj_data_from(verdict) == came.header;
-    for (uint32_t port = 0; port < HJ_PORTS; port++) {
-        uint32_t header = hj_header_octets(verdict, port);
-
-        agree = agree && (header == 0 ||
-                          length_field(hj_header(output, port)) ==
-                              header + came.length - came.header);
-    }
-    return agree;
-}
-
-static bool counts(uint32_t refusal)
-{
-    return refusal != HJ_BAD_NUMBER && refusal != HJ_NO_PORT &&
-           refusal != HJ_SHORT_OUTPUT && refusal != HJ_SECOND_PAST;
-}
-
-static void add_verdict(struct text *answer, hj_verdict verdict, size_t room)
-{
-    uint32_t octets[HJ_PORTS];
-
-    text_number(answer, hj_ended_by(verdict));
-    add_number(answer, hj_local(verdict));
-    add_number(answer, hj_onward(verdict));
-    add_number(answer, hj_took(verdict));
-    text_string(answer, " ");
-    for (uint32_t port = 0; port < HJ_PORTS; port++)
-        octets[port] = hj_header_octets(verdict, port);
-    lent_headers(answer, room, hj_took(verdict), octets);
-}
-
 bool answer_receive(const struct trace_word *arguments, struct text *answer)
 {
     static struct arrival arrival;
@@ -230,11 +161,10 @@ bool answer_receive(const struct trace_word *arguments, struct text *answer)
                          lent->mission_words, lent->routes, lent->route_count,
                          arrival.how, octets, arrival.count, output,
                          arrival.room);
-    add_verdict(answer, verdict, arrival.room);
-    lent_relay_answer(answer, counts(hj_ended_by(verdict)) ? LENT_M
-                                                           : LENT_NONE);
-    if (!parts_agree(verdict) ||
-        !lengths_agree(verdict, octets, arrival.count, output) ||
+    verdict_add(answer, verdict, 0, arrival.room);
+    lent_relay_answer(answer, verdict_counts(verdict) ? LENT_M : LENT_NONE);
+    if (!verdict_agrees(verdict, octets, arrival.count, output) ||
+        !lent_rest_is_kept(arrival.room, arrival.room) ||
         memcmp(octets, arrival.octets, arrival.count) != 0)
         text_string(answer, " !");
     return true;
@@ -250,8 +180,8 @@ bool answer_take(const struct trace_word *arguments, struct text *answer)
         return false;
     taken = library_call(CALL_TAKE, lent_relay(mission), &port);
     text_number(answer, hj_refusal(taken));
-    add_number(answer, hj_slot(taken));
-    add_number(answer, hj_precedence(taken));
+    text_next_number(answer, hj_slot(taken));
+    text_next_number(answer, hj_precedence(taken));
     lent_relay_answer(answer,
                       hj_refusal(taken) == HJ_DONE ? LENT_M : LENT_NONE);
     return true;
@@ -314,8 +244,8 @@ static void add_found(struct text *answer, hj_found found)
         text_number(answer, hj_found_refusal(found));
     } else if (hj_is_found(found)) {
         text_number(answer, hj_found_place(found));
-        add_number(answer, hj_found_ones(found));
-        add_number(answer, hj_found_port(found));
+        text_next_number(answer, hj_found_ones(found));
+        text_next_number(answer, hj_found_port(found));
     } else {
         text_string(answer, "-");
     }

@@ -17,8 +17,9 @@ struct library_lent {
     size_t route_count;
 };
 
-/* Makes a call that is lent something and takes nothing but numbers, which is
- * each but hj_receive_at and hj_echo; gives what it returned. */
+/* Makes a call that is lent something of a relay and takes nothing but numbers,
+ * which is each but hj_receive_at, hj_receive_many and hj_echo; gives what it
+ * returned. */
 uint64_t library_call(enum call call, const struct library_lent *lent,
                       const uint32_t *numbers);
 

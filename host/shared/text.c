@@ -57,6 +57,12 @@ void text_number(struct text *text, uint64_t number)
     text_add(text, digits + first, sizeof digits - first);
 }
 
+void text_next_number(struct text *text, uint64_t number)
+{
+    text_string(text, " ");
+    text_number(text, number);
+}
+
 void text_digits(struct text *text, uint64_t number, unsigned digits)
 {
     char *at = more(text, digits);

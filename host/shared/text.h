@@ -18,6 +18,8 @@ void text_clear(struct text *text);
 void text_add(struct text *text, const char *characters, size_t count);
 void text_string(struct text *text, const char *string);
 void text_number(struct text *text, uint64_t number);
+/* A blank and the number. */
+void text_next_number(struct text *text, uint64_t number);
 /* The lowest digits of the number, in hexadecimal, as many as said. */
 void text_digits(struct text *text, uint64_t number, unsigned digits);
 /* `-` for none. */

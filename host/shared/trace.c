@@ -4,7 +4,9 @@
  * The form leaves open, and this decides: blanks are spaces, tabs and carriage
  * returns; hexadecimal digits are of either case; a decimal number may begin
  * with zeros. The awkward case is a number too large for 64 bits: it is caught
- * before the digit that would wrap it is added.
+ * before the digit that would wrap it is added. In a list it is a comma that no
+ * number follows: what is left is then a word without a character, and no
+ * number.
  */
 #include "trace.h"
 
@@ -162,4 +164,39 @@ bool trace_octets(struct trace_word word, uint8_t *octets, size_t *count)
         octets[(*count)++] = (uint8_t)(upper << 4 | lower);
     }
     return word.length % 2 == 0;
+}
+
+bool trace_next(struct trace_word *list, struct trace_word *number)
+{
+    const char *comma;
+
+    if (list->text == NULL)
+        return false;
+    *number = *list;
+    comma = memchr(list->text, ',', list->length);
+    if (comma == NULL) {
+        list->text = NULL;
+        return true;
+    }
+    number->length = (size_t)(comma - list->text);
+    list->text = comma + 1;
+    list->length -= number->length + 1;
+    return true;
+}
+
+bool trace_list(struct trace_word word, uint32_t most, uint32_t *numbers,
+                size_t *count)
+{
+    struct trace_word one;
+    uint64_t number;
+
+    *count = 0;
+    if (trace_is(word, "-"))
+        return true;
+    while (trace_next(&word, &one)) {
+        if (!trace_number(one, most, &number))
+            return false;
+        numbers[(*count)++] = (uint32_t)number;
+    }
+    return true;
 }

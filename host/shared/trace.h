@@ -14,11 +14,15 @@
 #include "calls.h"
 
 /* Characters of a line that is understood, its end not counted. */
-#define TRACE_MOST_LINE 40000
-/* Octets that a word of such a line can stand for. */
+#define TRACE_MOST_LINE 100000
+/* Octets that a word of such a line can stand for, and numbers of a list. */
 #define TRACE_MOST_OCTETS (TRACE_MOST_LINE / 2)
-/* The eighteen numbers that `counters` answers; `build` has one word less. */
-#define TRACE_MOST_WORDS 18
+#define TRACE_MOST_LISTED (TRACE_MOST_LINE / 2)
+/* Datagrams of a batch that is not refused. */
+#define TRACE_MOST_ITEMS 64
+/* Of the longest answer, which is a batch's: its number, and for each item `/`,
+ * five words and `!`. */
+#define TRACE_MOST_WORDS (1 + 7 * TRACE_MOST_ITEMS)
 /* Missions are numbered from 0. */
 #define TRACE_MISSIONS 2
 /* Records of a fresh list, and the most that a trace may give it. */
@@ -62,5 +66,11 @@ bool trace_numbers(const struct trace_word *words, const char *forms,
 bool trace_wide(struct trace_word word, uint64_t *high, uint64_t *low);
 /* Octets, `-` for none; never more than half as many as the word is long. */
 bool trace_octets(struct trace_word word, uint8_t *octets, size_t *count);
+/* Numbers with commas between them, none over the most, `-` for no number. */
+bool trace_list(struct trace_word word, uint32_t most, uint32_t *numbers,
+                size_t *count);
+/* Takes the first number's word off what is left of a list that has one, and
+ * the comma with it; false where nothing is left. */
+bool trace_next(struct trace_word *list, struct trace_word *number);
 
 #endif

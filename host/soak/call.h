@@ -18,9 +18,29 @@
 
 #define SOAK_PARTS 24
 #define SOAK_MOST_ROOM 500
-#define SOAK_MOST_REPLY 8400 /* room for a reply, or a message */
+#define SOAK_MOST_OUTPUT 29000 /* room for a batch, which is the most */
+#define SOAK_MOST_OCTETS 30000 /* of a batch, likewise */
 #define SOAK_MOST_WORDS 2000
 #define SOAK_MOST_RECORDS 1024
+#define SOAK_MOST_LISTED 72 /* of a list of a batch */
+
+/* The lists that a batch is lent; the answers are written. */
+enum soak_list {
+    LIST_LENGTHS,
+    LIST_PORTS,
+    LIST_SLOTS,
+    LIST_SECONDS,
+    LIST_ANSWERS,
+    SOAK_LISTS
+};
+
+struct soak_batch {
+    size_t counts[SOAK_LISTS];
+    uint32_t lengths[SOAK_MOST_LISTED];
+    uint32_t ports[SOAK_MOST_LISTED];
+    uint16_t slots[SOAK_MOST_LISTED];
+    uint32_t seconds[SOAK_MOST_LISTED];
+};
 
 struct soak_call {
     enum call which;
@@ -32,8 +52,9 @@ struct soak_call {
     size_t room;                         /* of the output */
     size_t data;                         /* of a header that is built */
     hj_fields fields;                    /* likewise */
+    struct soak_batch batch;             /* of hj_receive_many alone */
     size_t count;
-    uint8_t octets[DATAGRAM_MOST_LENT];
+    uint8_t octets[SOAK_MOST_OCTETS];
 };
 
 /* Whether the words lent are as many as they should be. */
@@ -53,6 +74,7 @@ static inline bool soak_list_too_long(const struct soak_call *call)
 
 struct soak_answer {
     uint64_t parts[SOAK_PARTS];
+    hj_verdict items[HJ_MOST_ITEMS]; /* of a batch that is not refused */
 };
 
 /* The parts of a verdict, behind the refusal. */

@@ -8,6 +8,7 @@
 
 #include <string.h>
 
+#include "batches.h"
 #include "messages.h"
 #include "numbers.h"
 #include "octets.h"
@@ -111,11 +112,7 @@ void soak_draw_setting(struct soak_call *call, enum call which,
 static void draw_receive(struct soak_call *call, struct world *world,
                          struct random *random)
 {
-    call->numbers[0] = random_one_in(random, 24)
-                           ? soak_odd_number(world, random)
-                           : world_port(world, random);
-    call->numbers[1] = random_below(random, 65536);
-    call->numbers[2] = floods_second(world, random);
+    soak_draw_arrival(call, world, random);
     call->room = HJ_OUTPUT_ROOM;
     if (random_one_in(random, 8))
         call->room +=
@@ -191,6 +188,8 @@ void soak_draw_call(struct soak_call *call, enum call which,
             spoil(call, world, random);
     } else if (which == CALL_RECEIVE) {
         draw_receive(call, world, random);
+    } else if (which == CALL_RECEIVE_MANY) {
+        soak_draw_batch(call, world, random);
     } else if (which == CALL_ECHO) {
         draw_echo(call, world, random);
     } else {

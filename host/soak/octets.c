@@ -16,6 +16,16 @@
 
 #define MOST_OCTETS 300
 
+void soak_draw_arrival(struct soak_call *call, struct world *world,
+                       struct random *random)
+{
+    call->numbers[0] = random_one_in(random, 24)
+                           ? soak_odd_number(world, random)
+                           : world_port(world, random);
+    call->numbers[1] = random_below(random, 65536);
+    call->numbers[2] = floods_second(world, random);
+}
+
 static uint32_t at_place(const struct world *world, struct random *random)
 {
     uint32_t place = random_below(random, WORLD_ROUTES);

@@ -119,17 +119,8 @@ static void stateless(const struct soak_call *call, const uint8_t *octets,
     }
 }
 
-static void receive(const struct soak_call *call,
-                    const struct library_lent *lent, const uint8_t *octets,
-                    uint8_t *output, struct soak_answer *answer)
+void soak_tell(hj_verdict verdict, struct soak_answer *answer)
 {
-    hj_arrival arrival = {call->numbers[0], (uint16_t)call->numbers[1],
-                          call->numbers[2]};
-    hj_verdict verdict =
-        hj_receive(lent->board, lent->board_words, lent->mission,
-                   lent->mission_words, lent->routes, lent->route_count,
-                   arrival, octets, call->count, output, call->room);
-
     answer->parts[0] = hj_ended_by(verdict);
     answer->parts[TOLD_LOCAL] = hj_local(verdict);
     answer->parts[TOLD_ONWARD] = hj_onward(verdict);
@@ -138,6 +129,44 @@ static void receive(const struct soak_call *call,
     answer->parts[TOLD_DATA_FROM] = hj_data_from(verdict);
     answer->parts[TOLD_REWRITTEN_OCTETS] = hj_rewritten_octets(verdict);
     answer->parts[TOLD_REWRITTEN] = hj_rewritten(verdict);
+}
+
+static void receive(const struct soak_call *call,
+                    const struct library_lent *lent, const uint8_t *octets,
+                    uint8_t *output, struct soak_answer *answer)
+{
+    hj_arrival arrival = {call->numbers[0], (uint16_t)call->numbers[1],
+                          call->numbers[2]};
+
+    soak_tell(hj_receive(lent->board, lent->board_words, lent->mission,
+                         lent->mission_words, lent->routes, lent->route_count,
+                         arrival, octets, call->count, output, call->room),
+              answer);
+}
+
+/* Where the call did what it was to refuse, there may be more answers than a
+ * batch can have. */
+static void receive_many(const struct soak_call *call,
+                         const struct soak_pieces *lent,
+                         struct soak_answer *answer)
+{
+    const struct library_lent *relay = &lent->lent;
+    const size_t *counts = call->batch.counts;
+    size_t items = counts[LIST_ANSWERS];
+
+    answer->parts[0] = hj_receive_many(
+        relay->board, relay->board_words, relay->mission,
+        relay->mission_words, relay->routes, relay->route_count,
+        lent->lists[LIST_LENGTHS], counts[LIST_LENGTHS],
+        lent->lists[LIST_PORTS], counts[LIST_PORTS], lent->lists[LIST_SLOTS],
+        counts[LIST_SLOTS], lent->lists[LIST_SECONDS], counts[LIST_SECONDS],
+        lent->octets, call->count, lent->lists[LIST_ANSWERS], items,
+        lent->output, call->room);
+    if (items > HJ_MOST_ITEMS)
+        items = HJ_MOST_ITEMS;
+    if (answer->parts[0] == HJ_DONE && items > 0)
+        memcpy(answer->items, lent->lists[LIST_ANSWERS],
+               items * sizeof *answer->items);
 }
 
 static void echo(const struct soak_call *call, const struct library_lent *lent,
@@ -192,17 +221,18 @@ static void by_numbers(const struct soak_call *call,
         put_answer(parts, got);
 }
 
-void soak_ours(const struct soak_call *call, const struct library_lent *lent,
-               const uint8_t *octets, uint8_t *output,
+void soak_ours(const struct soak_call *call, const struct soak_pieces *lent,
                struct soak_answer *answer)
 {
     memset(answer, 0, sizeof *answer);
     if (!call_has_state(call->which))
-        stateless(call, octets, output, answer->parts);
+        stateless(call, lent->octets, lent->output, answer->parts);
     else if (call->which == CALL_RECEIVE)
-        receive(call, lent, octets, output, answer);
+        receive(call, &lent->lent, lent->octets, lent->output, answer);
+    else if (call->which == CALL_RECEIVE_MANY)
+        receive_many(call, lent, answer);
     else if (call->which == CALL_ECHO)
-        echo(call, lent, octets, output, answer);
+        echo(call, &lent->lent, lent->octets, lent->output, answer);
     else
-        by_numbers(call, lent, answer->parts);
+        by_numbers(call, &lent->lent, answer->parts);
 }

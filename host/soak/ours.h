@@ -3,11 +3,13 @@
 #define OURS_H
 
 #include "call.h"
-#include "shared/library.h"
+#include "pieces.h"
 
 /* Makes the call on what is lent. */
-void soak_ours(const struct soak_call *call, const struct library_lent *lent,
-               const uint8_t *octets, uint8_t *output,
+void soak_ours(const struct soak_call *call, const struct soak_pieces *lent,
                struct soak_answer *answer);
+
+/* The parts of a verdict on a datagram. */
+void soak_tell(hj_verdict verdict, struct soak_answer *answer);
 
 #endif

@@ -17,26 +17,37 @@
 
 static struct soak_lent board, missions[HJ_MISSIONS], routes, octets, output;
 static struct soak_lent other_board, other_mission, other_routes;
+static struct soak_lent lists[SOAK_LISTS];
 
 /* Those that the call at hand is lent. */
 static struct {
     struct soak_lent *board, *mission, *routes;
 } lent;
 
+static bool make_lists(void)
+{
+    bool made = true;
+
+    for (int i = 0; i < SOAK_LISTS; i++)
+        made = made && soak_lent_make(&lists[i], SOAK_MOST_LISTED *
+                                                     sizeof(hj_verdict));
+    return made;
+}
+
 bool pieces_make(void)
 {
     const size_t words = SOAK_MOST_WORDS * sizeof(uint32_t);
     const size_t records = SOAK_MOST_RECORDS * sizeof(hj_record);
 
-    return soak_lent_make(&board, sizeof(hj_board)) &&
+    return make_lists() && soak_lent_make(&board, sizeof(hj_board)) &&
            soak_lent_make(&missions[0], sizeof(hj_mission)) &&
            soak_lent_make(&missions[1], sizeof(hj_mission)) &&
            soak_lent_make(&routes, records) &&
            soak_lent_make(&other_board, words) &&
            soak_lent_make(&other_mission, words) &&
            soak_lent_make(&other_routes, records) &&
-           soak_lent_make(&octets, DATAGRAM_MOST_LENT) &&
-           soak_lent_make(&output, SOAK_MOST_REPLY);
+           soak_lent_make(&octets, SOAK_MOST_OCTETS) &&
+           soak_lent_make(&output, SOAK_MOST_OUTPUT);
 }
 
 /* Octets of any one value. */
@@ -152,13 +163,38 @@ void pieces_lend_wrong(struct soak_call *call, const struct world *world,
         pieces_lend_other_list(call, world, random);
 }
 
+/* A piece to be read. */
+static void lend_content(struct soak_lent *piece, const void *content,
+                         size_t count, struct random *random)
+{
+    soak_lent_begin(piece, count, random_one_in(random, 2), 0);
+    if (count > 0)
+        memcpy(piece->at, content, count);
+    soak_lent_keep(piece);
+}
+
+static void lend_lists(const struct soak_batch *batch, struct random *random)
+{
+    const size_t *counts = batch->counts;
+
+    lend_content(&lists[LIST_LENGTHS], batch->lengths,
+                 counts[LIST_LENGTHS] * sizeof *batch->lengths, random);
+    lend_content(&lists[LIST_PORTS], batch->ports,
+                 counts[LIST_PORTS] * sizeof *batch->ports, random);
+    lend_content(&lists[LIST_SLOTS], batch->slots,
+                 counts[LIST_SLOTS] * sizeof *batch->slots, random);
+    lend_content(&lists[LIST_SECONDS], batch->seconds,
+                 counts[LIST_SECONDS] * sizeof *batch->seconds, random);
+    lend_filled(&lists[LIST_ANSWERS],
+                counts[LIST_ANSWERS] * sizeof(hj_verdict), random);
+}
+
 void pieces_lend_octets(const struct soak_call *call, struct random *random)
 {
-    soak_lent_begin(&octets, call->count, random_one_in(random, 2), 0);
-    if (call->count > 0)
-        memcpy(octets.at, call->octets, call->count);
-    soak_lent_keep(&octets);
+    lend_content(&octets, call->octets, call->count, random);
     lend_filled(&output, call->room, random);
+    if (call->which == CALL_RECEIVE_MANY)
+        lend_lists(&call->batch, random);
 }
 
 static struct soak_pieces seen_by(void *piece(const struct soak_lent *),
@@ -171,8 +207,11 @@ static struct soak_pieces seen_by(void *piece(const struct soak_lent *),
                                   (hj_record *)piece(lent.routes),
                                   call->records},
                                  (uint8_t *)piece(&octets),
-                                 (uint8_t *)piece(&output)};
+                                 (uint8_t *)piece(&output),
+                                 {NULL}};
 
+    for (int i = 0; i < SOAK_LISTS && call->which == CALL_RECEIVE_MANY; i++)
+        pieces.lists[i] = piece(&lists[i]);
     return pieces;
 }
 
@@ -186,6 +225,15 @@ struct soak_pieces pieces_due(const struct soak_call *call)
     return seen_by(soak_lent_due, call);
 }
 
+static bool lists_are_due(void)
+{
+    bool due = true;
+
+    for (int i = 0; i < SOAK_LISTS; i++)
+        due = due && soak_lent_is_due(&lists[i]);
+    return due;
+}
+
 const char *pieces_changed(const struct soak_call *call)
 {
     if (!soak_lent_is_due(lent.board) || !soak_lent_is_due(&board))
@@ -196,6 +244,8 @@ const char *pieces_changed(const struct soak_call *call)
     if ((call_facts[call->which].lent & LENT_R) != 0 &&
         !soak_lent_is_due(lent.routes))
         return "the records of the list, or what is around it";
+    if (call->which == CALL_RECEIVE_MANY && !lists_are_due())
+        return "a list of a batch, or what is around it";
     if (!soak_lent_is_due(&output))
         return "the output's octets, or those around it";
     return soak_lent_is_due(&octets) ? NULL : "the octets lent to be read";

@@ -1,8 +1,8 @@
 /*
  * pieces.h: the memory that the calls of the soak are lent: a board, two
  * missions' states and a list, which last, others of another length, and the
- * octets and the output of the call at hand. Each has a copy that is made what
- * is due (lent.h).
+ * octets, the output and a batch's lists of the call at hand. Each has a copy
+ * that is made what is due (lent.h).
  */
 #ifndef PIECES_H
 #define PIECES_H
@@ -30,12 +30,13 @@ void pieces_lend_other_list(struct soak_call *call, const struct world *world,
  * turn, so that none is left out. */
 void pieces_lend_wrong(struct soak_call *call, const struct world *world,
                        struct random *random);
-/* The octets of the call and its output. */
+/* The octets of the call and its output, and of a batch the lists. */
 void pieces_lend_octets(const struct soak_call *call, struct random *random);
 
 struct soak_pieces {
     struct library_lent lent;
     uint8_t *octets, *output;
+    void *lists[SOAK_LISTS]; /* of a batch alone */
 };
 
 /* What the call may look at, and what is due of it. */

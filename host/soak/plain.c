@@ -176,6 +176,41 @@ static void receive(const struct soak_call *call, uint8_t *output,
     parts[TOLD_REWRITTEN] = verdict.rewritten.bits;
 }
 
+/* In the form of the library's. */
+static hj_verdict packed(const plain_verdict *verdict)
+{
+    return (hj_verdict)verdict->refusal | (hj_verdict)verdict->local << 8 |
+           (hj_verdict)verdict->onward << 16 |
+           (hj_verdict)verdict->took.bits << 24 |
+           (hj_verdict)verdict->dropped.bits << 32 |
+           (hj_verdict)verdict->arriving_octets << 40 |
+           (hj_verdict)verdict->rewritten_octets << 48 |
+           (hj_verdict)verdict->rewritten.bits << 56;
+}
+
+static void receive_many(const struct soak_call *call, uint8_t *output,
+                         struct soak_answer *answer)
+{
+    static plain_verdict verdicts[SOAK_MOST_LISTED];
+    static plain_slot slots[SOAK_MOST_LISTED];
+    plain_view view = plainly_view(&relay, call->mission, list_of(call));
+    const struct soak_batch *lent = &call->batch;
+    plain_batch batch = {
+        lent->lengths, lent->counts[LIST_LENGTHS], lent->ports,
+        lent->counts[LIST_PORTS], slots, lent->counts[LIST_SLOTS],
+        lent->seconds, lent->counts[LIST_SECONDS], call->octets, call->count};
+
+    for (size_t i = 0; i < SOAK_MOST_LISTED; i++)
+        slots[i].number = lent->slots[i];
+    answer->parts[0] =
+        plain_receive_many(&view, &batch, verdicts,
+                           lent->counts[LIST_ANSWERS], output, call->room);
+    for (size_t i = 0; answer->parts[0] == PLAIN_GOOD &&
+                       i < lent->counts[LIST_ANSWERS];
+         i++)
+        answer->items[i] = packed(&verdicts[i]);
+}
+
 static void echo(const struct soak_call *call, uint8_t *output,
                  uint64_t *parts)
 {
@@ -349,7 +384,10 @@ void soak_plain(const struct soak_call *call, hj_record *routes,
     }
     if (octets > 0)
         memcpy(records, routes, octets);
-    with_state(call, output, answer->parts);
+    if (call->which == CALL_RECEIVE_MANY)
+        receive_many(call, output, answer);
+    else
+        with_state(call, output, answer->parts);
     if (octets > 0)
         memcpy(routes, records, octets);
 }

@@ -3,7 +3,8 @@
  * garbage included. What is due is made from what stood before the call and
  * from what the answer says: a refused setting changes nothing, a taken one its
  * own record, a verdict the last second, the counters it names and the queues
- * of the ports that took. Every other word is then due as it was.
+ * of the ports that took. Every other word is then due as it was. An item of a
+ * batch is judged like a call of its own, on what those before it left.
  *
  * The reader's part comes from host/plain: a header that is refused there is
  * refused here by the same number. What the list gives is list.c's, what is due
@@ -24,14 +25,16 @@
 #include "floods.h"
 #include "headers.h"
 #include "list.h"
+#include "ours.h"
 #include "plain/plain_header.h"
+#include "singles.h"
 
 /* ---- Refusals ------------------------------------------------------------ */
 
 /* The refusal, and all other parts 0. */
 static bool is_only(const struct soak_answer *answer, uint64_t refusal)
 {
-    struct soak_answer due = {{0}};
+    struct soak_answer due = {{0}, {0}};
 
     due.parts[0] = refusal;
     return memcmp(&due, answer, sizeof due) == 0;
@@ -189,7 +192,7 @@ static const char *looked(const struct soak_call *call,
     enum call_object object = call_facts[call->which].object;
     bool of_word = call_facts[call->which].numbers == 2;
     uint32_t word = of_word ? call->numbers[1] : 0;
-    struct soak_answer told = {{0}};
+    struct soak_answer told = {{0}, {0}};
 
     if (object == ON_QUEUE)
         word = HJ_QUEUE;
@@ -215,7 +218,7 @@ static const char *searched(const struct soak_call *call,
                             const struct library_lent *due)
 {
     const hj_record *route;
-    struct soak_answer told = {{0}};
+    struct soak_answer told = {{0}, {0}};
 
     if (soak_list_too_long(call))
         return only(answer, HJ_BAD_NUMBER);
@@ -262,7 +265,7 @@ static const char *taken(const struct soak_call *call,
                          const struct soak_answer *answer,
                          const struct library_lent *due)
 {
-    struct soak_answer told = {{0}};
+    struct soak_answer told = {{0}, {0}};
     uint32_t *entries;
 
     if (!is_set_up(due, call->numbers[0]))
@@ -446,6 +449,42 @@ static const char *received(const struct soak_call *call,
     return carried(&sent, output);
 }
 
+/* Without the right words each item is 16. */
+static const char *heard(const struct soak_call *call,
+                         const struct soak_answer *answer, size_t which,
+                         const struct soak_pieces *due)
+{
+    static struct soak_call item;
+    struct soak_answer told = {{0}, {0}};
+
+    soak_tell(answer->items[which], &told);
+    if (!soak_words_right(call))
+        return only(&told, HJ_NO_PORT);
+    soak_batch_item(call, which, &item);
+    return received(&item, &told, &due->lent,
+                    due->output + HJ_OUTPUT_ROOM * which);
+}
+
+static const char *received_many(const struct soak_call *call,
+                                 const struct soak_answer *answer,
+                                 const struct soak_pieces *due)
+{
+    uint32_t refusal = soak_batch_refusal(call);
+    size_t items = soak_batch_items(call);
+    const char *wrong = NULL;
+
+    if (refusal != HJ_DONE)
+        return only(answer, refusal);
+    if (answer->parts[0] != HJ_DONE)
+        return "a batch refused that fits";
+    for (size_t i = 0; i < items && wrong == NULL; i++)
+        wrong = heard(call, answer, i, due);
+    if (items > 0)
+        memcpy(due->lists[LIST_ANSWERS], answer->items,
+               items * sizeof *answer->items);
+    return wrong;
+}
+
 /* ---- Replies ------------------------------------------------------------- */
 
 /* What a reply that is made counts and writes. */
@@ -470,7 +509,7 @@ static const char *echoed(const struct soak_call *call,
                           const struct library_lent *due, uint8_t *output)
 {
     static struct soak_reply reply;
-    struct soak_answer told = {{0}};
+    struct soak_answer told = {{0}, {0}};
 
     if (soak_list_too_long(call))
         return only(answer, HJ_BAD_NUMBER);
@@ -494,21 +533,23 @@ static const char *echoed(const struct soak_call *call,
 
 const char *soak_rules(const struct soak_call *call,
                        const struct soak_answer *answer,
-                       const struct library_lent *due, uint8_t *output)
+                       const struct soak_pieces *due)
 {
     if (!call_has_state(call->which))
         return NULL;
+    if (call->which == CALL_RECEIVE_MANY)
+        return received_many(call, answer, due);
     if (!soak_words_right(call))
         return wrong_length(call, answer);
     if (call_sets(call->which))
-        return set(call, answer, due);
+        return set(call, answer, &due->lent);
     if (call->which == CALL_RECEIVE)
-        return received(call, answer, due, output);
+        return received(call, answer, &due->lent, due->output);
     if (call->which == CALL_ECHO)
-        return echoed(call, answer, due, output);
+        return echoed(call, answer, &due->lent, due->output);
     if (call->which == CALL_TAKE)
-        return taken(call, answer, due);
+        return taken(call, answer, &due->lent);
     if (call->which == CALL_SEARCH)
-        return searched(call, answer, due);
-    return looked(call, answer, due);
+        return searched(call, answer, &due->lent);
+    return looked(call, answer, &due->lent);
 }

@@ -2,13 +2,12 @@
 #ifndef RULES_H
 #define RULES_H
 
-#include "call.h"
-#include "shared/library.h"
+#include "pieces.h"
 
-/* Makes of what was lent before the call, and of the output, what is due after
- * it; says what does not hold, or NULL. */
+/* Makes of what was lent before the call what is due after it; says what does
+ * not hold, or NULL. */
 const char *soak_rules(const struct soak_call *call,
                        const struct soak_answer *answer,
-                       const struct library_lent *due, uint8_t *output);
+                       const struct soak_pieces *due);
 
 #endif

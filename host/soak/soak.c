@@ -4,13 +4,14 @@
  *     soak [seed=N] [calls=N]
  *
  * The run goes round by threes. First a history: a fresh board and two fresh
- * missions, settings, and then datagrams, echo requests, takes, sweeps and
- * other calls of both, each made on host/plain too, which must answer the same;
- * at its end every number that can be asked is compared, and the ledger of each
- * mission's ports must close. Then what it left, with a few words changed, and
- * calls on it. Then garbage words and records, and calls on them. One call in
- * eight is lent words of a wrong number, one in six of those with a list
- * another list, of the next length in turn, and others are lent nothing.
+ * missions, settings, and then datagrams, batches of them, echo requests,
+ * takes, sweeps and other calls of both, each made on host/plain too, which
+ * must answer the same; at its end every number that can be asked is compared,
+ * and the ledger of each mission's ports must close. Then what it left, with a
+ * few words changed, and calls on it. Then garbage words and records, and calls
+ * on them. One call in eight is lent words of a wrong number, one in six of
+ * those with a list another list, of the next length in turn, and others are
+ * lent nothing. The items of a batch are made as single calls too, on a copy.
  *
  * After each call the board, both missions' states, the list, the octets and
  * the output, with the guards around them, must be what is due (rules.c). The
@@ -40,6 +41,7 @@
 #include "shared/floods.h"
 #include "shared/options.h"
 #include "shared/settings.h"
+#include "singles.h"
 #include "table.h"
 
 #define HISTORY_CALLS 400
@@ -87,6 +89,8 @@ static void count_call(void)
     tally.made[call.which]++;
     if (lent & LENT_R)
         tally.lists[call.records]++;
+    for (int i = 0; i < SOAK_LISTS && call.which == CALL_RECEIVE_MANY; i++)
+        tally.listed[i][call.batch.counts[i]]++;
     if (soak_words_right(&call))
         return;
     tally.wrong_made[call.which]++;
@@ -112,6 +116,24 @@ static void count_flood(void)
                          answer.parts[TOLD_LOCAL] == HJ_LOCAL_NO;
 }
 
+/* Each item, and whether one that was refused stands between others. */
+static void count_items(void)
+{
+    size_t items = soak_batch_items(&call);
+    bool refused = false;
+
+    for (size_t i = 0; i < items; i++) {
+        uint32_t ended = hj_ended_by(answer.items[i]);
+
+        if (ended < CALL_NUMBERS)
+            tally.item_ends[ended]++;
+        refused = refused || (ended != HJ_DONE && i > 0 && i + 1 < items);
+    }
+    tally.items += items;
+    tally.batches_heard += items > 0;
+    tally.refused_between += refused;
+}
+
 /* Odd numbers are a failure that was found before. */
 static void count_end(void)
 {
@@ -125,6 +147,8 @@ static void count_end(void)
     }
     if (call.which == CALL_ECHO && answer.parts[0] == HJ_DONE)
         tally.replies[answer.parts[TOLD_ONWARD]]++;
+    if (call.which == CALL_RECEIVE_MANY)
+        count_items();
     if (call.which == CALL_RECEIVE && answer.parts[TOLD_TOOK] != 0)
         tally.sent[soak_sent_as(&answer)]++;
 }
@@ -147,8 +171,12 @@ static bool make_on_pieces(bool compared)
     pieces_lend_octets(&call, random);
     lent = pieces_lent(&call);
     due = pieces_due(&call);
-    soak_ours(&call, &lent.lent, lent.octets, lent.output, &answer);
-    wrong = soak_rules(&call, &answer, &due.lent, due.output);
+    if (call.which == CALL_RECEIVE_MANY)
+        soak_make_singles(&call, &due);
+    soak_ours(&call, &lent, &answer);
+    wrong = soak_rules(&call, &answer, &due);
+    if (wrong == NULL && call.which == CALL_RECEIVE_MANY)
+        wrong = soak_unlike_singles(&call, &answer, &lent);
     if (wrong != NULL)
         return fail(wrong);
     count_end();
@@ -164,15 +192,20 @@ static bool make_wrong_length(void)
     return make_on_pieces(false);
 }
 
+static void note_copies(uint64_t took, uint64_t dropped)
+{
+    for (uint32_t port = 0; port < HJ_PORTS; port++) {
+        books[call.mission][port].took += took >> port & 1;
+        books[call.mission][port].dropped += dropped >> port & 1;
+    }
+}
+
 static void note_in_books(void)
 {
-    bool sends = call.which == CALL_RECEIVE || call.which == CALL_ECHO;
-
-    for (uint32_t port = 0; port < HJ_PORTS && sends; port++) {
-        books[call.mission][port].took += answer.parts[TOLD_TOOK] >> port & 1;
-        books[call.mission][port].dropped +=
-            answer.parts[TOLD_DROPPED] >> port & 1;
-    }
+    if (call.which == CALL_RECEIVE || call.which == CALL_ECHO)
+        note_copies(answer.parts[TOLD_TOOK], answer.parts[TOLD_DROPPED]);
+    for (size_t i = 0; i < HJ_MOST_ITEMS; i++) /* 0 where there is none */
+        note_copies(hj_took(answer.items[i]), hj_dropped(answer.items[i]));
     if (call.which == CALL_TAKE && answer.parts[0] == HJ_DONE)
         books[call.mission][call.numbers[0]].handed_out++;
     if (call.which == CALL_FRESH_MISSION && answer.parts[0] == HJ_DONE)
@@ -250,7 +283,17 @@ static enum call draw_which(void)
         return draw_of(KIND_LOOK, KIND_LOOK);
     if (draw < 50)
         return CALL_TAKE;
-    return draw < 62 ? CALL_ECHO : CALL_RECEIVE;
+    if (draw < 53)
+        return CALL_RECEIVE_MANY;
+    return draw < 64 ? CALL_ECHO : CALL_RECEIVE;
+}
+
+/* What comes to a relay whose queues are to fill. */
+static enum call draw_arriving(void)
+{
+    if (random_one_in(random, 8))
+        return CALL_ECHO;
+    return random_one_in(random, 16) ? CALL_RECEIVE_MANY : CALL_RECEIVE;
 }
 
 static bool make_any(enum soak_state sort)
@@ -440,10 +483,7 @@ static bool run_history(void)
     for (uint32_t i = 0; good && i < calls; i++) {
         if (!takes && i % 4 != 0) {
             world.mission = random_one_in(random, 3);
-            soak_draw_call(&call,
-                           random_one_in(random, 8) ? CALL_ECHO
-                                                    : CALL_RECEIVE,
-                           &world, random);
+            soak_draw_call(&call, draw_arriving(), &world, random);
             good = make(SOAK_HISTORY);
         } else {
             good = make_any(SOAK_HISTORY);

@@ -31,15 +31,35 @@ static void say_fields(const hj_fields *fields)
 /* Whether the call is lent an output, and octets to read. */
 static bool has_room(enum call which)
 {
-    return which == CALL_RECEIVE || which == CALL_ECHO ||
-           which == CALL_BUILD || which == CALL_BUILD_REQUEST ||
-           which == CALL_BUILD_REPLY;
+    return which == CALL_RECEIVE || which == CALL_RECEIVE_MANY ||
+           which == CALL_ECHO || which == CALL_BUILD ||
+           which == CALL_BUILD_REQUEST || which == CALL_BUILD_REPLY;
 }
 
 static bool has_octets(enum call which)
 {
     return (has_room(which) && which != CALL_BUILD) || which == CALL_READ ||
            which == CALL_READ_ECHO || which == CALL_CHECKSUM;
+}
+
+/* The lists that are read; of the answers only how many there are. */
+static void say_lists(const struct soak_batch *batch)
+{
+    const size_t *counts = batch->counts;
+
+    printf(", lengths");
+    for (size_t i = 0; i < counts[LIST_LENGTHS]; i++)
+        printf(" %08" PRIx32, batch->lengths[i]);
+    printf(", ports");
+    for (size_t i = 0; i < counts[LIST_PORTS]; i++)
+        printf(" %08" PRIx32, batch->ports[i]);
+    printf(", slots");
+    for (size_t i = 0; i < counts[LIST_SLOTS]; i++)
+        printf(" %04x", (unsigned)batch->slots[i]);
+    printf(", seconds");
+    for (size_t i = 0; i < counts[LIST_SECONDS]; i++)
+        printf(" %08" PRIx32, batch->seconds[i]);
+    printf(", %zu answers", counts[LIST_ANSWERS]);
 }
 
 void soak_say_call(const struct soak_call *call)
@@ -56,6 +76,8 @@ void soak_say_call(const struct soak_call *call)
         printf(", %zu records", call->records);
     if (has_room(call->which))
         printf(", room %zu", call->room);
+    if (call->which == CALL_RECEIVE_MANY)
+        say_lists(&call->batch);
     if (call->which == CALL_BUILD)
         printf(", data %zu", call->data);
     if (call->which == CALL_BUILD)
@@ -156,6 +178,18 @@ static struct ends reply_ends(const struct soak_tally *tally)
     return ends;
 }
 
+/* Likewise the items of batches, none of which lacks room. */
+static struct ends item_ends(const struct soak_tally *tally)
+{
+    struct ends ends = {"item of a batch", {false}, {0}};
+
+    for (uint32_t i = 0; i < CALL_NUMBERS; i++)
+        ends.due[i] = call_ends_in(CALL_RECEIVE, i) &&
+                      i != HJ_SHORT_OUTPUT && i != HJ_BAD_NUMBER;
+    memcpy(ends.times, tally->item_ends, sizeof ends.times);
+    return ends;
+}
+
 static bool say_ends(const struct ends *ends, bool aloud)
 {
     bool met = true;
@@ -180,12 +214,14 @@ static bool all_ends(const struct soak_tally *tally, bool aloud)
     static const char *const GROUPS[] = {
         "hj_read_words",    "hj_build_words", "hj_read_echo_words",
         "hj_build_request", "hj_build_reply", SETTINGS,
-        "hj_receive_at",    "hj_echo",        "hj_sweep",
-        "hj_take",          READING};
+        "hj_receive_at",    "hj_receive_many", "hj_echo",
+        "hj_sweep",         "hj_take",        READING};
     struct ends ends = onward_ends(tally);
     bool met = say_ends(&ends, aloud);
 
     ends = reply_ends(tally);
+    met = say_ends(&ends, aloud) && met;
+    ends = item_ends(tally);
     met = say_ends(&ends, aloud) && met;
 
     for (size_t i = 0; i < sizeof GROUPS / sizeof *GROUPS; i++) {
@@ -196,6 +232,29 @@ static bool all_ends(const struct soak_tally *tally, bool aloud)
 }
 
 /* ---- The table ----------------------------------------------------------- */
+
+/* How many of the lengths were met in every list of a batch. */
+static uint32_t listed_met(const struct soak_tally *tally)
+{
+    uint32_t met = 0;
+
+    for (uint32_t length = 0; length <= MOST_LISTED; length++) {
+        bool in_all = true;
+
+        for (int list = 0; list < SOAK_LISTS; list++)
+            in_all = in_all && tally->listed[list][length] > 0;
+        met += in_all;
+    }
+    return met;
+}
+
+static void say_batches(const struct soak_tally *tally)
+{
+    say("a batch's lists of 0 to 70, each tried", listed_met(tally));
+    say("batches heard, single calls the same", tally->batches_heard);
+    say("  items of them", tally->items);
+    say("  with a refused one between others", tally->refused_between);
+}
 
 void soak_say_tally(const struct soak_tally *tally)
 {
@@ -211,6 +270,7 @@ void soak_say_tally(const struct soak_tally *tally)
         lengths_met(tally->wrong_missions, MOST_MISSIONS));
     say("lists of 0 to 530 records tried",
         lengths_met(tally->lists, MOST_LISTS));
+    say_batches(tally);
     say("histories", tally->states[SOAK_HISTORY]);
     say("  calls on them, plain's answers the same",
         tally->calls_on[SOAK_HISTORY]);
@@ -243,7 +303,8 @@ bool soak_is_whole(const struct soak_tally *tally)
                  lengths_met(tally->wrong_missions, MOST_MISSIONS) ==
                      MOST_MISSIONS &&
                  lengths_met(tally->lists, MOST_LISTS) == MOST_LISTS + 1 &&
-                 tally->ledgers > 0 &&
+                 listed_met(tally) == MOST_LISTED + 1 &&
+                 tally->refused_between > 0 && tally->ledgers > 0 &&
                  tally->found[0] > tally->over[0] && tally->over[0] > 0 &&
                  tally->found[1] > tally->over[1] && tally->over[1] > 0 &&
                  tally->floods_kept > 0 && tally->floods_held > 0 &&

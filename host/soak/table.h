@@ -28,6 +28,7 @@ static inline enum soak_sent soak_sent_as(const struct soak_answer *answer)
 #define MOST_BOARDS 100
 #define MOST_MISSIONS 745
 #define MOST_LISTS 530
+#define MOST_LISTED 70 /* of a list of a batch */
 
 struct soak_tally {
     uint64_t calls;
@@ -38,6 +39,7 @@ struct soak_tally {
     uint64_t wrong_boards[SOAK_MOST_WORDS + 1];
     uint64_t wrong_missions[SOAK_MOST_WORDS + 1];
     uint64_t lists[SOAK_MOST_RECORDS + 1];
+    uint64_t listed[SOAK_LISTS][SOAK_MOST_LISTED + 1]; /* of a batch */
     uint64_t states[SOAK_STATES];   /* made, of each sort */
     uint64_t calls_on[SOAK_STATES]; /* on the right words */
     uint64_t ledgers;               /* ports whose ledger closed */
@@ -47,6 +49,10 @@ struct soak_tally {
     uint64_t onward[CALL_NUMBERS];
     uint64_t replies[CALL_NUMBERS]; /* what became of echo requests */
     uint64_t sent[SOAK_SENT]; /* datagrams, by their headers */
+    uint64_t items;           /* heard in batches, on the right words */
+    uint64_t item_ends[CALL_NUMBERS]; /* that they ended in */
+    uint64_t batches_heard;   /* that had an item */
+    uint64_t refused_between; /* of them, with a refused one between others */
     uint64_t found[2]; /* searches in histories, without a route and with one */
     uint64_t over[2];  /* of them, where a longer one that is not up matches */
     uint64_t floods_kept; /* floods whose pair was kept */
