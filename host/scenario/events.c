@@ -45,18 +45,24 @@ void event_step(void)
         line_more() ? line_number("how many arrivals", 1, MOST_STEPS) : 1;
 
     line_end();
-    for (uint32_t step = 0; step < steps; step++) {
-        if (!net_step(EVER))
+    while (steps > 0) {
+        uint32_t ended = net_step(EVER, steps);
+
+        if (ended == 0)
             line_refuse("something on a wire", "nothing");
+        steps -= ended;
     }
 }
 
 /* All that arrives up to that moment. */
 static void run_until(uint64_t latest)
 {
-    for (uint32_t step = 0; step < MOST_STEPS; step++) {
-        if (!net_step(latest))
+    for (uint32_t left = MOST_STEPS; left > 0;) {
+        uint32_t ended = net_step(latest, left);
+
+        if (ended == 0)
             return;
+        left -= ended;
     }
     line_refuse("an end (a ring needs a hop count)", "20000 arrivals");
 }

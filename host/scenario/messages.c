@@ -43,6 +43,13 @@ bool message_of(const struct datagram *datagram, hj_message *message)
                         reading.length - reading.header, message) == HJ_DONE;
 }
 
+bool message_asks(const struct datagram *datagram)
+{
+    hj_message message;
+
+    return message_of(datagram, &message) && message.type == HJ_ECHO_REQUEST;
+}
+
 uint32_t message_data(const struct datagram *datagram,
                       const hj_message *message)
 {

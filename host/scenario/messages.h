@@ -14,6 +14,8 @@ uint32_t message_request(uint16_t identifier, uint16_t sequence,
                          uint32_t octets, uint8_t *message);
 /* Whether a datagram carries an echo request or reply, and what it says. */
 bool message_of(const struct datagram *datagram, hj_message *message);
+/* Whether it carries an echo request. */
+bool message_asks(const struct datagram *datagram);
 /* Octets of data behind the message's own. */
 uint32_t message_data(const struct datagram *datagram,
                       const hj_message *message);

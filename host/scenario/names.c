@@ -42,6 +42,7 @@ static const char *const NUMBERS[HJ_PORT_SET_UP + 1] = {
         "a code or size out of range, or the other mission's port",
     [HJ_WRONG_CLASS] = "the wrong class of address",
     [HJ_UNKNOWN_TP_ID] = "unknown transport number",
+    [HJ_BAD_BATCH] = "lists, octets or room that make no batch",
     [HJ_FLOOD_UNMARKED] = "flooded without a source or a timestamp",
     [HJ_SECOND_PAST] = "a second before the last one accepted",
     [HJ_PAIRS_HELD] = "all places for pairs are held",

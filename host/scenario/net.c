@@ -1,13 +1,11 @@
 /*
- * net.c: what moves between the nodes: the datagrams that they keep by slot,
- * the wires and the clock.
+ * net.c: what moves between the nodes: the wires and the clock.
  *
- * It does what flight software does around the library. A datagram arrives: a
- * free slot is found, the relay judges (hj_receive), and if ports took it, the
- * headers that the relay wrote, one for each of them, and the data that came
- * stay under the slot. A wire is free: the relay hands out a slot (hj_take),
- * and that port's header and the data go out. A slot is free again when each
- * port that took it has handed it out.
+ * It does what flight software does around the library. A wire is free: the
+ * relay hands out a slot (hj_take), and that port's header and the data go out.
+ * A slot is free again when each port that took it has handed it out. What
+ * arrives at a node at one moment is heard together, before a wire begins; how,
+ * is in hearing.c.
  *
  * Time is counted, not waited for: a datagram is on the wire for 8 bits an
  * octet, and arrives whole. Nothing else takes time. A wire sends one datagram
@@ -20,17 +18,12 @@
  */
 #include "net.h"
 
-#include "answers.h"
 #include "beside.h"
 #include "copies.h"
-#include "expect.h"
 #include "foretold.h"
-#include "meaning.h"
+#include "hearing.h"
 #include "messages.h"
-#include "replies.h"
-#include "slots.h"
 #include "told.h"
-#include "told_echo.h"
 
 /* ---- A wire begins ----------------------------------------------------- */
 
@@ -116,47 +109,7 @@ void net_start_wires(void)
     }
 }
 
-/* ---- A datagram arrives ------------------------------------------------ */
-
-/* What is delivered is handed on. There are no control messages but echoes. */
-static void deliver(uint32_t at, uint32_t port, const struct datagram *came)
-{
-    hj_message message;
-
-    if (!message_of(came, &message))
-        return;
-    if (message.type == HJ_ECHO_REQUEST) {
-        answer_echo(at, port, came);
-        return;
-    }
-    replies_note(at, port, came, &message);
-    told_reply(came, &message);
-}
-
-static void arrive(uint32_t at, uint32_t port, const struct datagram *came)
-{
-    struct node *node = &nodes[at];
-    uint32_t mission = node_mission(node, port);
-    uint16_t slot = slots_free(node, mission);
-    struct kept *kept = &node->slots[mission][slot];
-    uint32_t before[HJ_COUNTERS];
-    hj_arrival arrival = {port, slot, second_now()};
-
-    node_counters(node, mission, before);
-    kept->reply = false;
-    kept->came = *came;
-    kept->verdict = hj_receive(LENT_BOARD(node), LENT_MISSION(node, mission),
-                               LENT_ROUTES(node), arrival, came->octets,
-                               came->length, kept->output, sizeof kept->output);
-    slots_count(node, kept);
-    beside_receive(node, arrival, kept);
-    expect_note(at, port, kept);
-    told_arrival(at, port, kept, before);
-    meaning_hold(at, port, kept);
-    foretold_enter(at, slot, kept);
-    if (hj_local(kept->verdict) == HJ_DELIVERED)
-        deliver(at, port, came);
-}
+/* ---- A wire ends ------------------------------------------------------- */
 
 static void note_sooner(struct wire *wire, struct wire **soonest)
 {
@@ -164,23 +117,8 @@ static void note_sooner(struct wire *wire, struct wire **soonest)
         *soonest = wire;
 }
 
-/* What was on a wire comes to its end: it arrives, or it was lost. */
-static void end_wire(struct wire *wire)
-{
-    static struct datagram came;
-    const struct wire *back = &nodes[wire->peer].wires[wire->peer_port];
-
-    now = wire->until;
-    came = wire->flying;
-    wire->busy = false;
-    if (wire->lost)
-        told_lost(back->peer, back->peer_port);
-    else
-        arrive(wire->peer, wire->peer_port, &came);
-    net_start_wires();
-}
-
-bool net_step(uint64_t latest)
+/* The first of those that end next. */
+static struct wire *next_to_end(void)
 {
     struct wire *soonest = NULL;
 
@@ -188,8 +126,80 @@ bool net_step(uint64_t latest)
         for (uint32_t port = 0; port < HJ_PORTS; port++)
             note_sooner(&nodes[node].wires[port], &soonest);
     }
-    if (soonest == NULL || soonest->until > latest)
-        return false;
-    end_wire(soonest);
-    return true;
+    return soonest;
+}
+
+static void lose(struct wire *wire)
+{
+    const struct wire *back = &nodes[wire->peer].wires[wire->peer_port];
+
+    wire->busy = false;
+    told_lost(back->peer, back->peer_port);
+}
+
+/* Whether what is on the wire arrives now, and where these do. */
+static bool joins(const struct wire *wire, const struct arrivals *arrivals)
+{
+    return wire->busy && !wire->lost && wire->until == now &&
+           wire->peer == arrivals->node &&
+           node_mission(&nodes[wire->peer], wire->peer_port) ==
+               arrivals->mission;
+}
+
+/* Answers whether more may join: an echo request is answered before the next
+ * one is heard. */
+static bool join(struct wire *wire, struct arrivals *arrivals)
+{
+    uint32_t place = arrivals->count++;
+
+    wire->busy = false;
+    arrivals->came[place] = wire->flying;
+    arrivals->how[place].port = wire->peer_port;
+    arrivals->how[place].second = second_now();
+    return !message_asks(&wire->flying);
+}
+
+/* What arrives where the first does, in the order of the wires. */
+static void gather(const struct wire *first, uint32_t most,
+                   struct arrivals *arrivals)
+{
+    bool open = true;
+
+    arrivals->node = first->peer;
+    arrivals->mission = node_mission(&nodes[first->peer], first->peer_port);
+    arrivals->count = 0;
+    for (uint32_t i = 0; open && i < node_count * HJ_PORTS; i++) {
+        struct wire *wire = &nodes[i / HJ_PORTS].wires[i % HJ_PORTS];
+
+        if (joins(wire, arrivals))
+            open = join(wire, arrivals) && arrivals->count < most;
+    }
+}
+
+/* What is on the wire is lost, or arrives, and what arrives with it; answers
+ * how many that are. */
+static uint32_t end_wires(struct wire *first, uint32_t most)
+{
+    static struct arrivals arrivals;
+
+    if (first->lost) {
+        lose(first);
+        return 1;
+    }
+    gather(first, most, &arrivals);
+    hear(&arrivals);
+    return arrivals.count;
+}
+
+uint32_t net_step(uint64_t latest, uint32_t most)
+{
+    struct wire *first = next_to_end();
+    uint32_t ended;
+
+    if (first == NULL || first->until > latest)
+        return 0;
+    now = first->until;
+    ended = end_wires(first, most);
+    net_start_wires();
+    return ended;
 }

@@ -12,7 +12,8 @@ void net_take(uint32_t node, uint32_t port);
 void net_start_wires(void);
 /* As long as it takes. */
 #define EVER UINT64_MAX
-/* The next arrival, or loss; false where there is none up to that moment. */
-bool net_step(uint64_t latest);
+/* The next arrival, and those at the same moment that are heard with it, up to
+ * so many; or the next loss. Answers how many, 0 for none up to that moment. */
+uint32_t net_step(uint64_t latest, uint32_t most);
 
 #endif

@@ -22,8 +22,9 @@
 #define MOST_USER_DATA (HJ_REPLY_OCTETS + MOST_DATA)
 /* Datagrams of a node's own that may stand before one of its wires. */
 #define MOST_OWN 64
-/* One for each entry that can wait on all ports, and one that arrives. */
-#define SLOTS (HJ_PORTS * HJ_QUEUE + 1)
+/* One for each entry that can wait on all ports, and for each datagram that
+ * arrives at one moment, one by each port. */
+#define SLOTS (HJ_PORTS * HJ_QUEUE + HJ_PORTS)
 
 struct datagram {
     uint32_t header; /* octets of the header, at the front */

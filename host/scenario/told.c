@@ -322,5 +322,6 @@ void told_arrival(uint32_t node, uint32_t port, const struct kept *kept,
     }
     told_ports(verdict);
     headers_of(&nodes[node], verdict);
-    told_counters(&nodes[node], node_mission(&nodes[node], port), before);
+    if (before != NULL)
+        told_counters(&nodes[node], node_mission(&nodes[node], port), before);
 }

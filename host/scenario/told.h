@@ -28,7 +28,8 @@ void told_ports(hj_verdict verdict);
 /* The counters of the mission that moved. */
 void told_counters(const struct node *node, uint32_t mission,
                    const uint32_t *before);
-/* What came by the port, and the mission's counters before it did. */
+/* What came by the port. The mission's counters are told against those before,
+ * unless these are null. */
 void told_arrival(uint32_t node, uint32_t port, const struct kept *kept,
                   const uint32_t *before);
 

@@ -17,6 +17,7 @@
  *                           is told by two nodes
  *   copies.c                how many copies a flood makes
  *   answers.c               echo requests are answered
+ *   hearing.c               what arrives is heard, by single calls or batches
  *   net.c                   datagrams on their way between the nodes
  *   settings.c, wires.c     the words that set up; those that befall a link
  *   sends.c, events.c       the word that sends; those that step and tell

@@ -50,7 +50,7 @@ static void begin(void)
 /* The net runs until it is quiet. */
 static void run(void)
 {
-    while (net_step(EVER))
+    while (net_step(EVER, UINT32_MAX) > 0)
         continue;
 }
 
