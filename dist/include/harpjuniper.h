@@ -6,7 +6,8 @@
  * the answer that its definition states (docs/PROMISES.md). You need not check
  * an input first: bad input gets a refusal number and changes nothing that was
  * lent, except in the mission that received it the counters, the last second
- * and a kept pair.
+ * and a kept pair; and in a batch that is heard each item has its answer
+ * written, a refused one too.
  *
  * Two missions, 0 and 1, share a relay. Three things are lent to its calls:
  *   - the board, the operator's: router or host, the lifetime of floods, echo
@@ -22,7 +23,8 @@
  * What the caller must ensure, since no proof reaches across the call:
  *   - each pointer is valid for as many octets, words or records as the count
  *     passed with it (a null pointer with a count of 0 is valid);
- *   - words and records are aligned as uint32_t is;
+ *   - words and records are aligned as uint32_t is, and each other list as its
+ *     type is;
  *   - two buffers lent to one call do not overlap;
  *   - while a call works on what it may change, in whatever thread, no other
  *     call is lent the same; what calls only read may be lent to many at once,
@@ -61,10 +63,10 @@ extern "C" {
 /* ---- The version -------------------------------------------------------- */
 
 /* The version of this header and of the library that it comes with. */
-#define HJ_VERSION "0.4.3"
+#define HJ_VERSION "0.5.0"
 #define HJ_VERSION_MAJOR 0
-#define HJ_VERSION_MINOR 4
-#define HJ_VERSION_PATCH 3
+#define HJ_VERSION_MINOR 5
+#define HJ_VERSION_PATCH 0
 
 /* ---- Numbers that hold everywhere ------------------------------------- */
 
@@ -81,8 +83,9 @@ extern "C" {
 /* The longest header, in octets: the smallest output of hj_build, and what each
  * port has of the output of hj_receive. */
 #define HJ_HEADER_ROOM 50u
-/* The smallest output of hj_receive, in octets, however many ports are set up:
- * the header for port p stands from octet HJ_HEADER_ROOM * p on. */
+/* The smallest output of hj_receive, in octets, however many ports are set up,
+ * and what each item has of the output of hj_receive_many: the header for port
+ * p stands from octet HJ_HEADER_ROOM * p on. */
 #define HJ_OUTPUT_ROOM (HJ_PORTS * HJ_HEADER_ROOM)
 /* The most octets of user data in a datagram that is built, and so of an echo
  * message. */
@@ -93,6 +96,9 @@ extern "C" {
 /* Octets of an echo message before its data. */
 #define HJ_REQUEST_OCTETS 8
 #define HJ_REPLY_OCTETS 26
+
+/* The most datagrams in one call of hj_receive_many. */
+#define HJ_MOST_ITEMS 64
 
 /* How many there are of each, numbered from 0; of routes the most in a list. */
 #define HJ_MISSIONS 2
@@ -152,6 +158,10 @@ extern "C" {
 #define HJ_WRONG_CLASS 25     /* wrong address class */
 #define HJ_UNKNOWN_TP_ID 26   /* the transport protocol is not assigned; in
                                  the local half only */
+#define HJ_BAD_BATCH 27       /* many datagrams in one call: lists of unequal
+                                 length, over HJ_MOST_ITEMS items, lengths that
+                                 sum to more than the octets lent, or output
+                                 under HJ_OUTPUT_ROOM octets an item */
 #define HJ_FLOOD_UNMARKED 28  /* flooded, without a source or a timestamp */
 #define HJ_SECOND_PAST 29     /* the second is under the last accepted one */
 #define HJ_PAIRS_HELD 30      /* flooded, and all HJ_PAIRS places are held; in
@@ -190,7 +200,8 @@ extern "C" {
 
 /* Counters, each modulo 2^32. Later ones are appended. */
 #define HJ_IN_RECEIVES 0       /* npInReceives: each receipt but 16, 17, 21
-                                  and 29 */
+                                  and 29; each item of a batch is one, unless
+                                  the whole call is refused */
 #define HJ_IN_BAD_LENGTH 1     /* npInBadLength: refusals 1 and 3 */
 #define HJ_IN_BAD_VERSION 2    /* npInBadVersion: 2 */
 #define HJ_IN_BAD_ADDRESS 3    /* npInBadAddress: 4, 6 and 7 */
@@ -332,9 +343,9 @@ typedef struct hj_reading {
 } hj_reading;
 
 /*
- * What an echo message says, as hj_read_echo finds it, or as hj_build_echo is to
- * build it. The data go on to its end. With a refusal every other number is 0.
- * Each octet of it belongs to a member, so that two of them can be compared
+ * What an echo message says, as hj_read_echo finds it, or as hj_build_echo is
+ * to build it. The data go on to its end. With a refusal every other number is
+ * 0. Each octet of it belongs to a member, so that two of them can be compared
  * whole.
  */
 typedef struct hj_message {
@@ -423,10 +434,17 @@ static inline uint32_t hj_header_octets(hj_verdict verdict, uint32_t port)
     return hj_rewritten_octets(verdict);
 }
 
-/* The header for a port, 0 to 7, in the output of hj_receive. */
+/* The header for a port, 0 to 7, in the output of hj_receive, or in that of an
+ * item. */
 static inline const uint8_t *hj_header(const uint8_t *output, uint32_t port)
 {
     return output + HJ_HEADER_ROOM * port;
+}
+
+/* The output of an item, 0 to HJ_MOST_ITEMS - 1, in that of hj_receive_many. */
+static inline const uint8_t *hj_item_output(const uint8_t *output, size_t item)
+{
+    return output + HJ_OUTPUT_ROOM * item;
 }
 
 /* Octets of the reply at the front of the output of hj_echo, header and
@@ -435,6 +453,21 @@ static inline uint32_t hj_reply_octets(hj_verdict verdict)
 {
     return (uint32_t)(verdict >> 40 & 0xffffu);
 }
+
+/*
+ * Many datagrams for one call, hj_receive_batch: how each arrived, and room for
+ * the answers and for the output, but not the octets of the datagrams.
+ * hj_batch_add fills it. It has some 27,000 octets, which is much for a stack.
+ */
+typedef struct hj_batch {
+    hj_verdict answers[HJ_MOST_ITEMS];
+    size_t items; /* of the lists, how many are filled; 0 at first */
+    uint32_t lengths[HJ_MOST_ITEMS];
+    uint32_t ports[HJ_MOST_ITEMS];
+    uint32_t seconds[HJ_MOST_ITEMS];
+    uint16_t slots[HJ_MOST_ITEMS];
+    uint8_t output[HJ_MOST_ITEMS * HJ_OUTPUT_ROOM];
+} hj_batch;
 
 /*
  * The parts of hj_take's answer. hj_refusal, above, gives the refusal; with a
@@ -656,7 +689,7 @@ hj_answer hj_build_reply(uint16_t identifier, uint16_t sequence,
  * In every call below board_words should be HJ_BOARD_WORDS, mission_words
  * HJ_MISSION_WORDS, and route_count, the records of the list, at most
  * HJ_ROUTES. The "right words" are that many. A call that refuses changes
- * nothing, except as hj_receive and hj_echo say.
+ * nothing, except as hj_receive, hj_receive_many and hj_echo say.
  */
 
 /*
@@ -866,6 +899,60 @@ hj_verdict hj_receive_at(const hj_board *board, size_t board_words,
                          size_t room);
 
 /*
+ * The verdicts on many datagrams that arrived on ports of the mission, a batch,
+ * in one call: it saves a call for each, and looks at the addresses of the
+ * ports once. Item i is a datagram of lengths[i] octets, and the items are laid
+ * end to end in the octets, without gaps; what is lent beyond their sum is
+ * ignored. It came by ports[i], its slot is slots[i] and its second seconds[i].
+ *
+ * Returns the first of these that holds, in this order:
+ *   HJ_BAD_NUMBER (21)  route_count is over HJ_ROUTES;
+ *   HJ_BAD_BATCH (27)   port_count, slot_count, second_count or answer_count is
+ *                       not length_count; length_count is over HJ_MOST_ITEMS;
+ *                       the lengths sum to more than octet_count (the sum never
+ *                       wraps); or room is under HJ_OUTPUT_ROOM * length_count;
+ *   HJ_DONE (0)         done; also where there is no item.
+ * With 21 and 27 no item is heard: no second is accepted, and nothing is
+ * counted or written.
+ *
+ * Else each item is heard in its turn as hj_receive_at hears a datagram, with
+ * output of its own, and sees what those before it did. answers[i] is its
+ * verdict. Its output is the HJ_OUTPUT_ROOM octets from HJ_OUTPUT_ROOM * i on
+ * (hj_item_output), in which the header for port p stands at hj_header, as
+ * hj_receive says; no other octet of the output is ever written. So answers,
+ * output and state are those of single calls in the same order, which is
+ * proved (docs/PROMISES.md, W-201).
+ *
+ * A refused item changes what it would by itself, and the next goes on: one
+ * with HJ_NO_PORT or HJ_SECOND_PAST changes nothing, any other is counted.
+ * Without the right words HJ_DONE is returned, and each item is HJ_NO_PORT. An
+ * item of length 0 is HJ_SHORT, unless HJ_NO_PORT or HJ_SECOND_PAST comes
+ * first. HJ_SHORT_OUTPUT is given to none.
+ *
+ * Three things to watch:
+ *   - Nothing is taken while a batch is heard. Where more items go to a port
+ *     than its queue has room for, the port drops the others. With queues that
+ *     were emptied, a batch of HJ_QUEUE items drops none.
+ *   - A second that is too late, in one item, shuts out those behind it that
+ *     have a lower one (Seconds and floods, above).
+ *   - The library keeps no octets. Leave the octets and the output alone until
+ *     the slots are taken.
+ *
+ * hj_receive_batch, below, does the same with a hj_batch, which has the lists
+ * and the output in it.
+ */
+uint32_t hj_receive_many(const hj_board *board, size_t board_words,
+                         hj_mission *mission, size_t mission_words,
+                         const hj_record *routes, size_t route_count,
+                         const uint32_t *lengths, size_t length_count,
+                         const uint32_t *ports, size_t port_count,
+                         const uint16_t *slots, size_t slot_count,
+                         const uint32_t *seconds, size_t second_count,
+                         const uint8_t *octets, size_t octet_count,
+                         hj_verdict *answers, size_t answer_count,
+                         uint8_t *output, size_t room);
+
+/*
  * Answers an echo request that arrived on a port of the mission: makes the
  * reply, which goes out by the route of the request's source. The octets begin
  * with the datagram; those beyond its length field are ignored. The slot is the
@@ -1028,8 +1115,8 @@ hj_answer hj_get_lifetime(const hj_board *board, size_t board_words);
 hj_answer hj_get_echo_drop(const hj_board *board, size_t board_words);
 
 /*
- * The last second that the mission accepted, by hj_receive or hj_sweep; 0 at
- * first. A second under it is refused.
+ * The last second that the mission accepted, by hj_receive, by an item of
+ * hj_receive_many or by hj_sweep; 0 at first. A second under it is refused.
  *
  * Returns an answer: hj_value is that second, 0 to 2^32 - 1, or hj_refusal is
  *   HJ_BAD_NUMBER (21)  not the right words.
@@ -1105,7 +1192,7 @@ hj_found hj_search(const hj_board *board, size_t board_words,
 /*
  * The library's calls take numbers and pointers alone. What follows is inline,
  * and only puts numbers into structures and takes them out again; hj_build_echo
- * also tests that they fit.
+ * and hj_batch_add also test that they fit.
  */
 
 /* Two words as one number, and the words of a number, upper half first. */
@@ -1408,6 +1495,60 @@ static inline hj_verdict hj_receive(const hj_board *board, size_t board_words,
     return hj_receive_at(board, board_words, mission, mission_words, routes,
                          route_count, arrival.port, arrival.slot,
                          arrival.second, octets, length, output, room);
+}
+
+/*
+ * Adds an item to the lists of a batch, behind those that it has: how the
+ * datagram arrived, and how many octets it has. The octets themselves it does
+ * not take: the caller lays them behind those of the items before it, and lends
+ * all of them to hj_receive_batch. To fill a batch again, set its items to 0.
+ *
+ * Returns
+ *   HJ_DONE (0)        done;
+ *   HJ_BAD_BATCH (27)  the batch has HJ_MOST_ITEMS items, and nothing changes.
+ */
+static inline uint32_t hj_batch_add(hj_batch *batch, hj_arrival arrival,
+                                    uint32_t length)
+{
+    if (batch->items >= HJ_MOST_ITEMS)
+        return HJ_BAD_BATCH;
+    batch->lengths[batch->items] = length;
+    batch->ports[batch->items] = arrival.port;
+    batch->slots[batch->items] = arrival.slot;
+    batch->seconds[batch->items] = arrival.second;
+    batch->items++;
+    return HJ_DONE;
+}
+
+/*
+ * The verdicts on the items of a batch, as hj_receive_many gives them: they are
+ * in its answers, the headers in its output. The octets are those of all items,
+ * laid end to end.
+ *
+ * Returns the first of these that holds, in this order:
+ *   HJ_BAD_NUMBER (21)  route_count is over HJ_ROUTES;
+ *   HJ_BAD_BATCH (27)   the batch says more than HJ_MOST_ITEMS items, or its
+ *                       lengths sum to more than octet_count;
+ *   HJ_DONE (0)         done.
+ */
+static inline uint32_t hj_receive_batch(const hj_board *board,
+                                        size_t board_words,
+                                        hj_mission *mission,
+                                        size_t mission_words,
+                                        const hj_record *routes,
+                                        size_t route_count, hj_batch *batch,
+                                        const uint8_t *octets,
+                                        size_t octet_count)
+{
+    int fits = batch->items <= HJ_MOST_ITEMS;
+    size_t items = fits ? batch->items : HJ_MOST_ITEMS;
+    size_t room = fits ? HJ_OUTPUT_ROOM * items : 0; /* none: that is 27 */
+
+    return hj_receive_many(board, board_words, mission, mission_words, routes,
+                           route_count, batch->lengths, items, batch->ports,
+                           items, batch->slots, items, batch->seconds, items,
+                           octets, octet_count, batch->answers, items,
+                           batch->output, room);
 }
 
 /*
