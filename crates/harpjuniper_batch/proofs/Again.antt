@@ -1,5 +1,5 @@
--- A `&κ mut [T]` that is lent as a `&κ′ mut [T]` for a lifetime κ′ of a call, and comes back with other elements, as many. It says nothing of the
--- crate, and can be copied as it stands.
+-- A `&κ mut [T]` that is lent as a `&κ′ mut [T]` for a lifetime κ′ of a call, and comes back with other elements, as many. The text is the
+-- kit's (example writer), which crates cannot cite; it says nothing of this crate.
 --     LentAgain        what the holder keeps while the slice is lent under the name γ₁: the lender's part at κ′, and its own borrow at κ, open, with
 --                      both halves of its ghost variable
 --     lends-again      own (the `&κ mut [T]` ((b, o), γ, ys)) ∗ [κ]_q  ⊢ ⇛ ∃ γ₁. own (the `&κ′ mut [T]` ((b, o), γ₁, ys)) ∗ LentAgain γ₁

@@ -8,20 +8,11 @@ use Rattle.judge.specs.declared.Asked.{Asked}
 use Rattle.listing.specs.declared.Query.{Query}
 use Rattle.listing.specs.declared.Scan.{Scan}
 use Rattle.listing.specs.Scan.{scanOf}
-use Rattle.batch.specs.declared.Plan.{Plan}
 use Rattle.batch.specs.declared.Progress.{Progress}
 use Rattle.relay.specs.Split.{queryOf}
-use Rattle.batch.specs.Turn.{Askable, Asks, Finishable, Finishes, Hearable, ItemHeard}
+use Rattle.batch.specs.Turn.{Asks, Finishes, ItemHeard}
 
 module _ (b w : List ℕ) (rs : List Record) (lengths ports slots seconds octets answers output : List ℕ) (i : ℕ) (at : Progress) where
-  pub may-ask : (p : Plan) → Hearable b w (length rs) lengths ports slots seconds octets answers output i at p
-      → Askable b w lengths ports seconds octets i at p
-  may-ask p h = h .0
-
-  pub may-finish : (p : Plan) → Hearable b w (length rs) lengths ports slots seconds octets answers output i at p
-      → (a : Asked) → Asks b w (length rs) lengths ports seconds octets i a → Finishable b w lengths slots seconds octets answers output i at a
-  may-finish p h a e = h .1 a e
-
   pub heard : (a : Asked) → Asks b w (length rs) lengths ports seconds octets i a → (q : Query) → q ≡ queryOf a → (s : Scan) → s ≡ scanOf q rs
       → (next : Progress) (words told left : List ℕ) → Finishes b w lengths slots seconds octets answers output i at a s next words told left
       → ItemHeard b w rs lengths ports slots seconds octets answers output i at next words told left
