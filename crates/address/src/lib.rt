@@ -8,26 +8,28 @@
 // - Whether a path address is valid. A path has no other class: 10.x.y.255 is a valid path and no broadcast.
 // - Whether a mask is ones and then zeros, and how many ones. A mask stays a number too: of two such masks the one with
 //   more ones is the greater, unsigned.
+#![tactic(auto)]
+
 ghost use Rattle.std.specs.Prelude.{◌≡◌, ◌<◌};
 ghost use Rattle.address.specs.Class.{class_of, class_number, family_of, scps_class, net_class};
 ghost use Rattle.address.specs.Path.{path_form, path_number};
 ghost use Rattle.address.specs.Mask.{mask_form, ones_of};
 
 // The address of an end system or of a group of them, in net 10 or another net of RFC 791.
-#[derive(Drop)]
+#[derive(Clone, Copy)]
 pub struct Address(pub u32);
 
-#[derive(Drop)]
+#[derive(Clone, Copy)]
 pub struct Mask(pub u32);
 
-#[derive(Drop)]
+#[derive(Clone, Copy)]
 pub struct PathAddress(pub u32);
 
 // The caller's number of a datagram that waits. It is handed back as it came, and may repeat.
-#[derive(Drop)]
+#[derive(Clone, Copy)]
 pub struct Slot(pub u16);
 
-#[derive(Drop)]
+#[derive(Clone, Copy)]
 pub enum Class {
     Invalid,
     Unicast,
@@ -61,7 +63,7 @@ const TWO_OCTETS: u32 = 0x1_0000;
 const THREE_OCTETS: u32 = 0x100_0000;
 
 // What the first octet says. `Net` holds how many addresses a net of that class has.
-#[derive(Drop)]
+#[derive(Clone, Copy)]
 pub enum Family {
     Net(u32),
     Scps,
@@ -130,7 +132,7 @@ pub fn class_of(a: Address) -> Class
     }
 }
 
-#[derive(Drop)]
+#[derive(Clone, Copy)]
 pub enum PathForm {
     Invalid,
     Valid,
@@ -160,7 +162,7 @@ pub fn path_number(f: PathForm) -> u32
 }
 
 // Ones and then zeros, with the number of ones; or anything else.
-#[derive(Drop)]
+#[derive(Clone, Copy)]
 pub enum MaskForm {
     Ones(u32),
     Mixed,

@@ -5,6 +5,8 @@
 // answers its number and changes nothing, a taken one answers 0 and its record stands in the place. A filled record has 1 as its flag,
 // an emptied place is the record of a fresh mission, so that equal settings are equal states. Any number is an argument and any words of the right
 // number are a board or a mission: a place that is none is refused by 21, and emptying an empty place is taken.
+#![tactic(auto)]
+
 pub mod groups_and_paths;
 
 ghost use Rattle.std.specs.Prelude.{◌≡◌, length};

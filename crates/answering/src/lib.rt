@@ -5,6 +5,8 @@
 // itself is lent to none of the three. The request is not received here: nothing is counted for it, no second is asked for, and nothing is remembered.
 //
 // The awkward case is a request that gets no reply: that is no refusal, and nothing at all is counted or written.
+#![tactic(auto)]
+
 ghost use Rattle.std.specs.Prelude.{◌≡◌, ◌≢◌, length};
 ghost use Rattle.state.specs.Seen.{Board};
 ghost use Rattle.state.specs.Layout.{mission_words, decode};

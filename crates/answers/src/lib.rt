@@ -5,6 +5,8 @@
 // answers the first five of its reply, which has no local half, and then its octets in sixteen bits. Taking answers the refusal above 32 bits of entry: the
 // precedence above the slot. The awkward case is a part over 255, which no ending has: each is taken modulo 256 all the same, so that no part can reach into
 // the next.
+#![tactic(auto)]
+
 ghost use Rattle.std.specs.Prelude.{◌≡◌, ◌%◌, ◌^◌, ◌<◌};
 ghost use Rattle.answers.specs.Answers.{ruling_parts, header_parts, receive_number, reply_number, taking_number};
 

@@ -7,6 +7,8 @@
 //
 // The awkward cases are lengths whose sum would pass what a word holds: they are taken from the octets lent one by one, and never added up; and an
 // item that is refused, which is answered like any other, and the next goes on.
+#![tactic(auto)]
+
 ghost use Rattle.std.specs.Prelude.{◌≡◌, ltb, length};
 ghost use Rattle.checks.specs.Order.{first_of};
 ghost use Rattle.batch.specs.Items.{start_of, many_checks};
@@ -28,7 +30,7 @@ use survey::names::Names;
 pub const ITEMS: usize = 64;
 
 // What is known before the first item: the refusal of the whole call, or 0; how many items are heard; and the names of the ports.
-#[derive(Drop)]
+#[derive(Clone, Copy)]
 pub struct Plan {
     pub refusal: u32,
     pub items: usize,
@@ -36,7 +38,7 @@ pub struct Plan {
 }
 
 // Where the next item's octets begin.
-#[derive(Drop)]
+#[derive(Clone, Copy)]
 pub struct Progress {
     pub from: usize,
 }

@@ -4,6 +4,8 @@
 // the length field counts them, and the checksum last, since it sums all. The checks stand in page 01's order 17, 19, 20 (`header::limits`,
 // module `range`), each a function that answers a `Check`. The awkward case is a refusal: everything is tested before the first octet is
 // written. The next leg of a datagram writes headers of the same form without these checks (crate next_leg); module `measure` says how long one is.
+#![tactic(auto)]
+
 pub mod measure;
 pub mod range;
 

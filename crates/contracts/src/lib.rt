@@ -13,3 +13,4 @@
 // whatever is proved of the rows is proved of what the code gives back.
 //
 // The awkward case is the slot: the words have 16 bits for one. A slot that C cannot pass would ask for words that there are not.
+#![tactic(auto)]

@@ -15,3 +15,4 @@
 // that they are kept, and a few relays that they shut out.
 //
 // The awkward case is the call that is lent no words, like reading a header: it stands in the history, and the words stay.
+#![tactic(auto)]

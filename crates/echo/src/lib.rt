@@ -6,6 +6,8 @@
 //
 // The awkward part is the checksum, which stands among the octets that it sums. The writer writes it as zero, sums, and writes it again. The reader
 // cannot write: it adds the two octets before it to the sum of those behind it, which is the same (proofs/Sums.antt), since it stands at an even place.
+#![tactic(auto)]
+
 ghost use Rattle.std.specs.Prelude.{◌≡◌, false, ◌+◌, ◌≤◌, ltb, length};
 ghost use Rattle.checks.specs.Order.{check_of};
 ghost use Rattle.octets.specs.Octets.{number, pasted, fronted};
@@ -49,7 +51,7 @@ const BEHIND_CHECKSUM: usize = 4;
 
 // What a reply says of the request that it answers: its hop count, its timestamp's format and the timestamp itself; the MTU of the port that it came in by,
 // and that port's bit rate, 0 where it is not known.
-#[derive(Drop)]
+#[derive(Clone, Copy)]
 pub struct Seen {
     pub hops: u8,
     pub format: u8,
@@ -58,14 +60,14 @@ pub struct Seen {
     pub rate: u32,
 }
 
-#[derive(Drop)]
+#[derive(Clone, Copy)]
 pub enum Kind {
     Request,
     Reply(Seen),
 }
 
 // A message but for its data.
-#[derive(Drop)]
+#[derive(Clone, Copy)]
 pub struct Message {
     pub identifier: u16,
     pub sequence: u16,
@@ -73,7 +75,7 @@ pub struct Message {
 }
 
 // What reading answers: the message, or the number of the first check that failed.
-#[derive(Drop)]
+#[derive(Clone, Copy)]
 pub enum Reading {
     Good(Message),
     Refused(u8),
@@ -259,7 +261,7 @@ pub fn write_message(m: Message, echoed: &[u8], out: &mut [u8]) -> usize
 {
     let from = put_fixed(out, m);
     let size = from + echoed.len();
-    bytes::copy(echoed, &mut out[from..size]);
+    octets::put_front(echoed, &mut out[from..size]);
     let sum = checksum::checksum(&out[..size]);
     octets::put_number(out, CHECKSUM_AT, 2, sum as u64);
     size

@@ -7,6 +7,8 @@
 //
 // One walk over the places answers both questions, whether the pair is held and which place is free. The awkward cases: what is for this node alone is not
 // sent on, so no pair is looked up for it or kept; and in words that no call wrote, a pair may be younger than the sweep, which is then as if it had no age.
+#![tactic(auto)]
+
 ghost use Rattle.std.specs.Prelude.{◌≡◌, suc, ◌<◌, length, eqb};
 ghost use Rattle.checks.specs.Order.{pick, first_of};
 ghost use Rattle.sets.specs.Limits.{pair_places};

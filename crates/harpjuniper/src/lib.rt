@@ -4,6 +4,8 @@
 // (include/harpjuniper.h) has a doc block for each. The fields of a header stand in words (crate numbers, module `in_words`), since no struct
 // crosses to C. None requires anything: whatever octets, lengths or words come, the answer is the one that the definitions state. An answer
 // that is a refusal or a value is one number of 64 bits, the refusal above the value.
+#![tactic(auto)]
+
 ghost use Rattle.std.specs.Prelude.{◌≡◌, ◌<◌, length};
 ghost use Rattle.checks.specs.Answer.{refusal_number};
 ghost use Rattle.header.specs.Read.{read_of};

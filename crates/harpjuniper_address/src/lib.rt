@@ -2,6 +2,8 @@
 //
 // Nothing is lent to be written, and nothing is required: every number has a class, every path a form, and octets of any number, none
 // among them, have a checksum.
+#![tactic(auto)]
+
 ghost use Rattle.std.specs.Prelude.{◌≡◌};
 ghost use Rattle.address.specs.Class.{class_of, class_number};
 ghost use Rattle.address.specs.Path.{path_form, path_number};

@@ -7,6 +7,8 @@
 //
 // The awkward case is a refusal of the whole call, 21 or 27: then no item is heard, and nothing is written. Words of the wrong number are no such
 // refusal: each item is answered 16, as a call of its own would be.
+#![tactic(auto)]
+
 ghost use Rattle.std.specs.Prelude.{length};
 ghost use Rattle.batch.specs.Items.{Lists};
 ghost use Rattle.batch.specs.Turn.{Hearable, ItemHeard};

@@ -7,6 +7,8 @@
 //
 // The awkward cases are those of receiving, a list over 512 records, which is refused by 21, and words of the wrong number, refused by 16; and a datagram that
 // gets no reply, which is an answer without a number.
+#![tactic(auto)]
+
 ghost use Rattle.harpjuniper_echo.specs.Face.{AnswersEcho};
 
 use routes::Record;

@@ -5,6 +5,8 @@
 // is a refusal or a value is one number of 64 bits, the refusal above the value.
 //
 // The awkward case is a request, which has no numbers of what was seen: their words are 0, and the type tells it from a reply that has them 0.
+#![tactic(auto)]
+
 ghost use Rattle.std.specs.Prelude.{◌≡◌, length};
 ghost use Rattle.echo.specs.Message.{reading_of};
 ghost use Rattle.echo.specs.Built.{built_of, built_output};

@@ -6,6 +6,8 @@
 // is not set up: it is read like any other, and its first word says so; a pair's first word is its format, and 0 where the place is free. A port is read
 // whosever it is. The routes are lent as a list of records, and
 // are read in the crate `harpjuniper_routes`.
+#![tactic(auto)]
+
 ghost use Rattle.std.specs.Prelude.{◌≡◌};
 ghost use Rattle.checks.specs.Answer.{refusal_number};
 ghost use Rattle.state.specs.Seen.{Board, State};

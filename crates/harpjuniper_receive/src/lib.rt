@@ -8,6 +8,8 @@
 // The awkward cases are a list over 512 records, which is refused by 21, and words of the wrong number, which hold no port: the answer is 16. Then
 // nothing is sought, and nothing is written. The library's archive is put together of the crates whose names begin with `harpjuniper`; the C header
 // (include/harpjuniper.h) has a doc block for each call.
+#![tactic(auto)]
+
 ghost use Rattle.harpjuniper_receive.specs.Face.{Receives};
 
 use routes::Record;

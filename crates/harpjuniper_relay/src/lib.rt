@@ -3,6 +3,8 @@
 // Each function tests the number of words lent and then calls the relay. None requires anything: whatever words or port come, the answer is
 // the one that the definitions state. Where the words are not as many as a board or a mission's state has, there is no port: taking answers
 // 16, reading and sweeping answer 21, and nothing is written. The board is lent to read: a sweep takes the lifetime from it.
+#![tactic(auto)]
+
 ghost use Rattle.std.specs.Prelude.{◌≡◌};
 ghost use Rattle.state.specs.Relay.{Relay};
 ghost use Rattle.state.specs.Seen.{Board, State, on_memory};

@@ -5,6 +5,8 @@
 // again the record that it read. They are proved by hand, step by step, for a list of any length.
 //
 // The awkward case is a place beyond the list's end: the record there reads as an empty one, and storing there does nothing.
+#![tactic(auto)]
+
 ghost use Rattle.harpjuniper_routes.specs.Face.{Searches, SetsRoute, ClearsRoute, ReadsRouteWord};
 
 use routes::Record;

@@ -5,6 +5,8 @@
 // Each function tests the number of words lent and then calls the setting. None requires anything: whatever words and numbers come, the
 // answer is 0 or the number of the first test that refuses, and a refused setting changes nothing. Where the words are not as many as
 // a board or a mission has, there is no port or place in them: 21.
+#![tactic(auto)]
+
 pub mod groups_and_paths;
 
 ghost use Rattle.std.specs.Prelude.{◌≡◌};

@@ -11,6 +11,8 @@
 // table 3-5 are the five variants of `Addresses`, so that neither can a combination that table 3-6 forbids. What is left for refusal
 // 19 are numbers that are too large for their element. The awkward element is the timestamp with an explicit P-field: its length
 // stands in its own first octet.
+#![tactic(auto)]
+
 pub mod control_bits;
 pub mod flags;
 pub mod limits;
@@ -19,14 +21,14 @@ pub mod pfield;
 use address::{Address, PathAddress};
 
 // An IPv6 address: its first eight octets and its last eight.
-#[derive(Drop)]
+#[derive(Clone, Copy)]
 pub struct Six {
     pub high: u64,
     pub low: u64,
 }
 
 // The address types of table 3-5, a destination first and then a source where there is one.
-#[derive(Drop)]
+#[derive(Clone, Copy)]
 pub enum Addresses {
     BasicPath(u8),
     ExtendedPath(PathAddress),
@@ -36,21 +38,21 @@ pub enum Addresses {
 }
 
 // Basic QOS: precedence, routing requirements and program specific.
-#[derive(Drop)]
+#[derive(Clone, Copy)]
 pub enum Qos {
     Absent,
     Present(u8, u8, u8),
 }
 
 // An element of one octet: hop count and expanded QOS.
-#[derive(Drop)]
+#[derive(Clone, Copy)]
 pub enum Octet {
     Absent,
     Present(u8),
 }
 
 // A timestamp: three octets of time; a P-field and the octets of time that it gives; four octets of time.
-#[derive(Drop)]
+#[derive(Clone, Copy)]
 pub enum Timestamp {
     Absent,
     Implicit(u64),
@@ -59,7 +61,7 @@ pub enum Timestamp {
 }
 
 // What the elements of a header say. `checksum` and `intermediate` are flags, 0 or 1.
-#[derive(Drop)]
+#[derive(Clone, Copy)]
 pub struct Fields {
     pub tpid: u8,
     pub addresses: Addresses,
@@ -72,7 +74,7 @@ pub struct Fields {
 }
 
 // A header as it was read: its fields, the length field and the header's own length in octets.
-#[derive(Drop)]
+#[derive(Clone, Copy)]
 pub struct Header {
     pub fields: Fields,
     pub length: usize,
@@ -80,7 +82,7 @@ pub struct Header {
 }
 
 // The control field: bits 20 to 23, 24 to 31 and 32 to 39 as numbers, 0 where absent, and the place after it.
-#[derive(Drop)]
+#[derive(Clone, Copy)]
 pub struct Control {
     pub first: u8,
     pub second: u8,
@@ -89,7 +91,7 @@ pub struct Control {
 }
 
 // The place at which each element after the addresses stands, or would stand, and the octets of the whole header.
-#[derive(Drop)]
+#[derive(Clone, Copy)]
 pub struct Layout {
     pub qos: usize,
     pub hops: usize,
@@ -100,7 +102,7 @@ pub struct Layout {
 }
 
 // What reading answers: the header, or the number of the first check that failed.
-#[derive(Drop)]
+#[derive(Clone, Copy)]
 pub enum Read {
     Good(Header),
     Refused(u8),
@@ -108,7 +110,7 @@ pub enum Read {
 
 // Where a header that is sent on differs from the one that came: the place of the hop count and whether it is there, the place of the
 // checksum and whether it is there. `counted` and `summed` are flags, 0 or 1.
-#[derive(Drop)]
+#[derive(Clone, Copy)]
 pub struct Renewal {
     pub hops: usize,
     pub counted: u8,
@@ -117,14 +119,14 @@ pub struct Renewal {
 }
 
 // What reading answers where the header may be sent on.
-#[derive(Drop)]
+#[derive(Clone, Copy)]
 pub enum Found {
     Good(Header, Renewal),
     Refused(u8),
 }
 
 // What building answers: the octets of the header that was written, or the number of the first check that failed.
-#[derive(Drop)]
+#[derive(Clone, Copy)]
 pub enum Built {
     Done(usize),
     Refused(u8),

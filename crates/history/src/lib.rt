@@ -17,3 +17,4 @@
 //
 // The awkward case is the counter that comes round to 0 after 2^32 - 1: the tally of the rules is a number without end, and a counter
 // is equal to it modulo 2^32.
+#![tactic(auto)]

@@ -18,7 +18,7 @@ use next_leg::{Leg, Legs};
 use verdict::{Case, Local, Onward, Ruling, Way, Wish};
 
 // A ruling, and the headers of the copies that ports took.
-#[derive(Drop)]
+#[derive(Clone, Copy)]
 pub struct Ruled {
     pub ruling: Ruling,
     pub legs: Legs,

@@ -8,6 +8,8 @@
 //
 // The awkward case is a refusal: it has a ruling too, one that delivers nothing, grants nothing and drops nothing, so that whoever carries
 // an ending out need not ask whether it is a refusal.
+#![tactic(auto)]
+
 pub mod finishing;
 pub mod ruling;
 
@@ -51,7 +53,7 @@ pub const OUTPUT_ROOM: usize = sets::indexes::PORTS * header::limits::LONGEST_HE
 
 // All that becomes of a datagram: the refusal that ended the call, or 0 and the ruling, the precedence it waits with, its header's own length, and
 // the headers of its copies.
-#[derive(Drop)]
+#[derive(Clone, Copy)]
 pub struct Ending {
     pub refusal: u32,
     pub ruling: Ruling,
@@ -63,7 +65,7 @@ pub struct Ending {
 // What is known before the search: the refusal that ends the call, or 0 and the target; what the place of a group or a path says; what the rule
 // asks of node, arrival port and header; the ports set up; the destination; the mission's number; the precedence; the arrival port's address; the
 // header, and where it differs when it is sent on as it came.
-#[derive(Drop)]
+#[derive(Clone, Copy)]
 pub struct Asked {
     pub refusal: u32,
     pub target: Target,
@@ -80,7 +82,7 @@ pub struct Asked {
 
 // What is looked up of a destination: the refusal that ends the call, or 0 and the target; what the place of a group or a path says; the ports set
 // up. It is looked up apart from the header, which is large: handing that to a function and back costs more than most of what is asked.
-#[derive(Drop)]
+#[derive(Clone, Copy)]
 pub struct Looked {
     pub refusal: u32,
     pub target: Target,

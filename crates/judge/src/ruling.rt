@@ -14,7 +14,7 @@ use survey::Sought;
 use verdict::{Case, Flood};
 
 // Where a datagram came in: the port as a set, and its address.
-#[derive(Drop)]
+#[derive(Clone, Copy)]
 pub struct Arrival {
     pub set: u32,
     pub address: Address,

@@ -3,6 +3,8 @@
 // A header says by the bits of its control field which elements follow, and the elements lie end to end in one fixed order, so a
 // place is the sum of the sizes before it. The reader needs the places to find the fields, a header that is kept to find hop count
 // and checksum. The awkward one is the timestamp with an explicit P-field: every place behind it waits for the octet at its own.
+#![tactic(auto)]
+
 ghost use Rattle.std.specs.Prelude.{◌≡◌, ◌≤◌};
 ghost use Rattle.checks.specs.Order.{check_of};
 ghost use Rattle.header.specs.Form.{control_of, forbidden, wrong_ipv6, address_size, stamp_size, layout_of};

@@ -5,3 +5,4 @@
 // that is lent the board to read is said of both, and where either words are wrong there is no relay. What C is told and what is left are then
 // one equation each, for any words whatever. Two lists of words with the same view are the same list, so that the view left fixes every
 // word.
+#![tactic(auto)]

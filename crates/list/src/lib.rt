@@ -3,6 +3,8 @@
 // The toolchain proves no function by itself that refers to a record behind a reference. So the functions here are thin, and each is proved by a
 // walk of its MIR: they test a bound, read or store one record, or loop; what a record adds to a scan is crate listing's, which is covered.
 // Each is total: beyond the list a record is empty and a store does nothing. A list of any length is taken.
+#![tactic(auto)]
+
 ghost use Rattle.std.specs.Prelude.{◌≡◌, set};
 ghost use Rattle.routes.specs.Records.{record_at};
 ghost use Rattle.listing.specs.Scan.{scan_of};

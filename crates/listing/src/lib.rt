@@ -6,6 +6,8 @@
 // hides a later one of its entry.
 // The scan is a struct of numbers and comes back as it is where a record does not match, so that such a record costs nine instructions. The
 // awkward case is a mask that is not ones and then zeros: it may match, but it is refused, and so seen by no count.
+#![tactic(auto)]
+
 ghost use Rattle.std.specs.Prelude.{◌≡◌};
 ghost use Rattle.checks.specs.Order.{first_of};
 ghost use Rattle.listing.specs.Listed.{checks_of};
@@ -24,7 +26,7 @@ use routes::Record;
 
 // What is sought, if anything: the refusal that stands before the search, 0 for none; nothing, the longest match that is up, or the record with
 // this very entry; the address that records are to match, the mask of the same entry, the mission, and the set of its ports.
-#[derive(Drop)]
+#[derive(Clone, Copy)]
 pub struct Query {
     pub refusal: u32,
     pub sought: u32,
@@ -42,7 +44,7 @@ pub const BEST: u32 = 1;
 pub const SAME: u32 = 2;
 
 // What a scan has found, 0 for nothing: its place, mask, port and capabilities. And the set of the counts of ones of the masks it saw.
-#[derive(Drop)]
+#[derive(Clone, Copy)]
 pub struct Scan {
     pub found: u32,
     pub place: usize,

@@ -3,6 +3,8 @@
 // Group and path addresses are matched exactly and differ from place to place, so that at most one place holds an address; what is
 // found is told to the verdict as the ports to send to, and whether this node is meant too. The places are a mission's own: what they say
 // is said for any board. The awkward case is a state that no history leaves, with one address in two places: the lower place holds.
+#![tactic(auto)]
+
 pub mod for_target;
 
 ghost use Rattle.std.specs.Prelude.{◌≡◌, length};

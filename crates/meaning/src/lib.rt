@@ -5,6 +5,8 @@
 // once sent a dose to another domain). So what a header names is a function of the arrival port's address and the header, stated
 // once here; everything later compares names and never bare octets. The awkward case is an IPv6 header, which is read and not
 // carried: what it names has a case of its own, which no check lets through.
+#![tactic(auto)]
+
 pub mod asked;
 pub mod flood;
 
@@ -32,7 +34,7 @@ use header::{Addresses, Fields, Qos};
 pub const FLOOD_ROUTING: u8 = 3;
 
 // What a destination names: an end system or a group of them, a path, or a system that is not reached by what is carried here.
-#[derive(Drop)]
+#[derive(Clone, Copy)]
 pub enum Aim {
     Node(Address),
     Path(PathAddress),
@@ -40,7 +42,7 @@ pub enum Aim {
 }
 
 // What a source names, where there is one.
-#[derive(Drop)]
+#[derive(Clone, Copy)]
 pub enum Origin {
     From(Address),
     Unsaid,

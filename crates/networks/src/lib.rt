@@ -7,6 +7,8 @@
 // not made apart.
 // The answers hold for all 2^32 numbers. The awkward ones stand only on a board that no history leaves: a mixed mask, of which
 // every zero is a host bit, and an address of no network, multicast or invalid, which has no class broadcast.
+#![tactic(auto)]
+
 ghost use Rattle.std.specs.Prelude.{◌≡◌};
 ghost use Rattle.networks.specs.Networks.{in_net10, domain_of, subnet_broadcast, class_broadcast};
 
@@ -38,7 +40,7 @@ pub fn subnet_broadcast(a: Address, m: Mask) -> Address
 }
 
 // The broadcast of a network, or that there is no such network.
-#[derive(Drop)]
+#[derive(Clone, Copy)]
 pub enum Broadcast {
     At(Address),
     None,

@@ -7,6 +7,8 @@
 //
 // The awkward case is a header whose control field was not the shortest: rewritten it loses octets, so that a copy with an element more can still be
 // shorter. Paths of one octet are never widened; the verdict keeps them in their domain.
+#![tactic(auto)]
+
 ghost use Rattle.std.specs.Prelude.{◌≡◌, true, false, not, ◌*◌, ◌≤◌, ◌<◌, eqb, length};
 ghost use Rattle.octets.specs.Octets.{fronted};
 ghost use Rattle.header.specs.Limits.{longest_header, length_limit};
@@ -48,7 +50,7 @@ pub const FIRST_HOPS: u8 = 64;
 
 // What the header of a copy is made of, but for its port: the address of the port that it came in by, the capabilities of the route taken (0 without
 // one), and the header that came.
-#[derive(Drop)]
+#[derive(Clone, Copy)]
 pub struct Leg {
     pub arrival: Address,
     pub code: u32,
@@ -56,7 +58,7 @@ pub struct Leg {
 }
 
 // The octets of the datagram as a port of the arrival port's domain gets it, and as another does.
-#[derive(Drop)]
+#[derive(Clone, Copy)]
 pub struct Lengths {
     pub near: usize,
     pub far: usize,
@@ -64,7 +66,7 @@ pub struct Lengths {
 
 // The headers of the copies that ports took: what they are made of; of these ports those in another domain, and those whose header is rewritten; and the
 // octets of that header, 0 where there is none.
-#[derive(Drop)]
+#[derive(Clone, Copy)]
 pub struct Legs {
     pub arrival: Address,
     pub code: u32,

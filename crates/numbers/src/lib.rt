@@ -5,6 +5,8 @@
 // Outward nothing can go wrong: what is absent is 0. On the way back much can: module `validity` tests whether numbers stand for some
 // fields, and module `fields_from` makes the fields. The awkward number is one of an absent element: it is 0 on both ways, so that fields
 // have one set of numbers only.
+#![tactic(auto)]
+
 pub mod fields_from;
 pub mod in_words;
 pub mod validity;
@@ -26,7 +28,7 @@ use header::{Addresses, Fields, Octet, Qos, Timestamp};
 
 // A number of up to sixteen octets.
 #[repr(C)]
-#[derive(Drop)]
+#[derive(Clone, Copy)]
 pub struct Wide {
     pub high: u64,
     pub low: u64,
@@ -35,7 +37,7 @@ pub struct Wide {
 // The fields of a header. `sourced`, `qualified`, `counted` and `expands` are the flags of source, basic QOS, hop count and
 // expanded QOS.
 #[repr(C)]
-#[derive(Drop)]
+#[derive(Clone, Copy)]
 pub struct Numbers {
     pub destination: Wide,
     pub source: Wide,

@@ -4,8 +4,10 @@
 // of them, several small fields share one, and what is absent is written as a number of no octets. An octet past the end is 0, so that a
 // definition over octets needs no side condition; code asks for one past the end only where it may not be there, and reads numbers within.
 // Writing says what the whole string is afterwards (`pasted`), so that pieces written one after the other join by one law.
+#![tactic(auto)]
+
 ghost use Rattle.std.specs.Prelude.{◌≡◌, length, ◌+◌, ◌*◌, ◌≤◌, ◌<◌, ◌^◌};
-ghost use Rattle.octets.specs.Octets.{octet, number, octets, pasted};
+ghost use Rattle.octets.specs.Octets.{octet, number, octets, pasted, fronted};
 
 // The octet at a place, 0 past the end.
 pub fn octet_at(s: &[u8], place: usize) -> u8
@@ -88,4 +90,12 @@ pub fn put_number(out: &mut [u8], place: usize, count: usize, value: u64) -> usi
         rest /= 256;
     }
     place + count
+}
+
+// Writes octets over the front of a lent string.
+pub fn put_front(s: &[u8], out: &mut [u8])
+    requires { length s.now ≤ length out.old }
+    ensures { out.new ≡ fronted s.now out.old }
+{
+    out[..s.len()].copy_from_slice(s);
 }

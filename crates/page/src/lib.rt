@@ -11,3 +11,4 @@
 // The awkward case is the route line. The page counts a mask's ones, and the code compares masks as numbers. The two are the same where masks are
 // ones and then zeros, as 22 leaves them; so the tables take the comparison as an argument. With masks as numbers the theorem holds of any relay,
 // and with their ones of a relay with such masks.
+#![tactic(auto)]

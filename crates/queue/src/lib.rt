@@ -10,6 +10,8 @@
 // say which entries wait: such a queue takes nothing in, hands nothing out and stays as it is. Entries out of order go out as
 // they stand, and a newcomer still goes just ahead of the first lower one. Whatever lies behind the waiting entries moves up
 // with them at a take, and a put writes over the first place of it alone.
+#![tactic(auto)]
+
 ghost use Rattle.std.specs.Prelude.{◌≡◌, ◌++◌, ◌+◌, ◌<◌, take, drop};
 ghost use Rattle.queue.specs.Queue.{entry_places, insert, moved_up, fresh, put_of, take_of};
 
@@ -17,7 +19,7 @@ use address::Slot;
 
 // What waits for a datagram: the caller's number of it and its precedence. Together they have thirty-two bits, one word of the
 // state.
-#[derive(Drop)]
+#[derive(Clone, Copy)]
 pub struct Entry {
     pub slot: Slot,
     pub precedence: u16,
@@ -30,27 +32,27 @@ const PLACES: usize = ENTRIES as usize;
 
 const LAST: usize = PLACES - 1;
 
-#[derive(Drop)]
+#[derive(Clone, Copy)]
 pub struct Queue {
     pub entries: [Entry; PLACES],
     pub count: u32,
 }
 
 // Whether the newcomer was taken in. The queue stands first in an answer, aligned as in the state: that spares copies.
-#[derive(Drop)]
+#[derive(Clone, Copy)]
 pub struct Put {
     pub queue: Queue,
     pub took: bool,
 }
 
-#[derive(Drop)]
+#[derive(Clone, Copy)]
 pub enum Head {
     First(Entry),
     Nothing,
 }
 
 // What was handed out, and the queue without it.
-#[derive(Drop)]
+#[derive(Clone, Copy)]
 pub struct Taken {
     pub queue: Queue,
     pub head: Head,

@@ -4,6 +4,8 @@
 // that the octets reach that far: an octet past the end reads as 0, and check 3 refuses every header whose own length passes the
 // length field, or whose length field passes the octets lent, before a field is made of it. The awkward case is a P-field that lies
 // past the end: it reads as 0, which only makes the header too long by less, and the answer is 3 all the same.
+#![tactic(auto)]
+
 pub mod fields;
 
 ghost use Rattle.std.specs.Prelude.{◌≡◌, ◌≤◌, length, ltb};
@@ -18,7 +20,7 @@ use checks::Check;
 use header::{Control, Found, Header, Layout, Read, Renewal, control_bits};
 
 // The control field, or the number of the check that refuses it.
-#[derive(Drop)]
+#[derive(Clone, Copy)]
 enum Front {
     Good(Control),
     Refused(u8),

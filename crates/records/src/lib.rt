@@ -4,6 +4,8 @@
 // Each field is a whole word, and the flags are numbers: a board or a state that C lends may hold any words, and each of them must be some
 // record. A flag says no by 0 and yes by anything else; settings write only 0 and 1. A set of ports has port p as 2^p. The record of
 // a route stands with the search, the queue in a crate of its own.
+#![tactic(auto)]
+
 ghost use Rattle.std.specs.Prelude.{◌≡◌};
 ghost use Rattle.records.specs.Held.{holds_number, holds_group, holds_path, holds_pair};
 
@@ -11,7 +13,7 @@ use address::{Address, Mask, PathAddress};
 
 // `ready` is 0 where the port is not set up.
 #[repr(C)]
-#[derive(Drop)]
+#[derive(Clone, Copy)]
 pub struct Port {
     pub ready: u32,
     pub address: Address,
@@ -21,7 +23,7 @@ pub struct Port {
 
 // A port and the mission that it was given to when it was written.
 #[repr(C)]
-#[derive(Drop)]
+#[derive(Clone, Copy)]
 pub struct OwnedPort {
     pub port: Port,
     pub mission: u32,
@@ -29,7 +31,7 @@ pub struct OwnedPort {
 
 // A multicast address, the set of ports to send to and the set of subscribed ports.
 #[repr(C)]
-#[derive(Drop)]
+#[derive(Clone, Copy)]
 pub struct Group {
     pub filled: u32,
     pub address: Address,
@@ -39,7 +41,7 @@ pub struct Group {
 
 // A path address, the set of ports to send to and whether it is delivered here.
 #[repr(C)]
-#[derive(Drop)]
+#[derive(Clone, Copy)]
 pub struct PathPlace {
     pub filled: u32,
     pub path: PathAddress,
@@ -50,7 +52,7 @@ pub struct PathPlace {
 // The source and the timestamp of a flooded datagram: the source as four octets, the format of the timestamp, and its octets, the P-field with the time's upper
 // part in one word, and the time's lower part in another.
 #[repr(C)]
-#[derive(Drop)]
+#[derive(Clone, Copy)]
 pub struct Pair {
     pub format: u32,
     pub source: Address,
@@ -60,7 +62,7 @@ pub struct Pair {
 
 // A pair that is kept, and the second in which it came. A format of 0 is a free place.
 #[repr(C)]
-#[derive(Drop)]
+#[derive(Clone, Copy)]
 pub struct PairPlace {
     pub pair: Pair,
     pub second: u32,

@@ -7,6 +7,8 @@
 // that a refused setting changes nothing. Each function is total: a number out of range is refused by the first test, before it is
 // used as a place. The awkward case is 35: a port is written once, and this is tested last, so that a second writing with a wrong value gets that
 // value's number.
+#![tactic(auto)]
+
 pub mod groups_and_paths;
 pub mod same_entry;
 

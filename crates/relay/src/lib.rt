@@ -8,6 +8,8 @@
 // The awkward case is words of the wrong number, which hold no relay, and a list that is too long: both are refusals like others, but
 // nothing is counted. Nor is anything by 16, 17 and 29 otherwise; every other refusal counts, and then the words are of the right number. The output is written
 // only where a port took an entry, a stretch for each such port, and then the header was read and there was room, which the verdict has tested.
+#![tactic(auto)]
+
 pub mod outgoing;
 
 ghost use Rattle.std.specs.Prelude.{◌≡◌, List, ℕ, ◌≤◌, eqb, length};

@@ -66,10 +66,10 @@ fn send_if(p: usize, took: u32, far: u32, near: &[u8], other: &[u8], output: &mu
     let from = LONGEST_HEADER * p;
     let to = from + LONGEST_HEADER;
     if (far >> p as u32) % 2 == 1 {
-        bytes::copy(other, &mut output[from..to]);
+        octets::put_front(other, &mut output[from..to]);
         return;
     }
-    bytes::copy(near, &mut output[from..to]);
+    octets::put_front(near, &mut output[from..to]);
 }
 
 // The headers of all ports that took an entry.

@@ -7,6 +7,8 @@
 //
 // The awkward case is a request with one-octet addresses: the reply keeps them, and the address of the arrival port, where it is the source, is its last octet. It is
 // widened only where the route leads into another domain.
+#![tactic(auto)]
+
 pub mod request;
 pub mod sending;
 
@@ -52,7 +54,7 @@ const MOST_ECHOED: usize = header::limits::MOST_DATA - echo::REPLY_SIZE;
 
 // What is known before the search: the refusal that ends the call, 0 for none; whether a reply is made; its header's fields and its message; where in the request
 // the data stand that it sends back, and how many; its precedence and its destination; the arrival port's address; the ports set up, and the mission's number.
-#[derive(Drop)]
+#[derive(Clone, Copy)]
 pub struct Answering {
     pub refusal: u32,
     pub made: u32,

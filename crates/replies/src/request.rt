@@ -23,7 +23,7 @@ use verdict::{Local, Survey};
 pub const SCMP: u8 = 1;
 
 // The identifier and the sequence number of a request, or that there is none.
-#[derive(Drop)]
+#[derive(Clone, Copy)]
 pub enum Asking {
     Asks(u16, u16),
     Nothing,

@@ -33,7 +33,7 @@ use verdict::{Local, Obstacle, Ruling, Survey, Way, Wish};
 
 // What becomes of a reply: the refusal that ended the call, or 0 and the ruling, which asks nothing where none is made; the precedence it waits with; what its route asks
 // for; the port that took it where that lies in another domain; and the octets of the datagram that goes.
-#[derive(Drop)]
+#[derive(Clone, Copy)]
 pub struct Replied {
     pub refusal: u32,
     pub ruling: Ruling,
@@ -188,7 +188,7 @@ pub fn write_reply(a: Answering, e: Replied, octets: &[u8], output: &mut [u8])
         echo::REPLY_SIZE + a.count,
         &mut header,
     );
-    bytes::copy(&header[..size], output);
+    octets::put_front(&header[..size], output);
     let from = a.from;
     let to = from + a.count;
     let message = a.message;

@@ -7,6 +7,8 @@
 //
 // The awkward case is a list that is too long or words of the wrong number. Both are 21, as a place beyond the list's end is, and the order in which
 // they are tested shows nowhere.
+#![tactic(auto)]
+
 ghost use Rattle.std.specs.Prelude.{◌≡◌};
 ghost use Rattle.lent_state.specs.Read.{word_answer};
 ghost use Rattle.route_calls.specs.Search.{search_parts};
@@ -34,7 +36,7 @@ use listing::{Query, Scan};
 use routes::Record;
 
 // A record to be written: what refuses it before the list is read, its place, the ports of the mission that may use it, and the record.
-#[derive(Drop)]
+#[derive(Clone, Copy)]
 pub struct Order {
     pub refusal: u32,
     pub place: usize,
@@ -43,7 +45,7 @@ pub struct Order {
 }
 
 // A place to be emptied, and what refuses that.
-#[derive(Drop)]
+#[derive(Clone, Copy)]
 pub struct Emptying {
     pub refusal: u32,
     pub place: usize,

@@ -7,6 +7,8 @@
 //
 // The awkward case is a hop count of 0. It stays 0: the relay refuses it before it comes here, and as a leaf by itself this function
 // must not bring a used-up datagram back with 255 hops.
+#![tactic(auto)]
+
 ghost use Rattle.std.specs.Prelude.{◌≡◌, ◌-◌, ◌≤◌, ◌<◌, length};
 ghost use Rattle.octets.specs.Octets.{fronted};
 ghost use Rattle.header.specs.Limits.{longest_header};
@@ -39,7 +41,7 @@ pub fn send_on(s: &[u8], out: &mut [u8], c: Renewal) -> usize
     ensures out_after { out.new ≡ fronted (header_sent_on s.now) out.old }
 {
     let checksum = c.checksum;
-    bytes::copy(&s[..checksum], out);
+    octets::put_front(&s[..checksum], out);
     lessen(out, c.hops, c.counted);
     writer::elements::put_checksum(out, checksum, c.summed)
 }

@@ -4,6 +4,8 @@
 // test, and the laws that such loops are proved by stand beside it. Each definition grows at its end, as the loops do: what is gathered
 // of the first p + 1 is made of what is gathered of the first p. The awkward cases: a search for the first place that finds none answers
 // the number of places, which is no place; and a port over 7 is in no set, so that its set is the empty one.
+#![tactic(auto)]
+
 pub mod indexes;
 
 ghost use Rattle.std.specs.Prelude.{◌≡◌};

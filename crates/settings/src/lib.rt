@@ -4,6 +4,8 @@
 // size, a yes/no number or a mission's number, 25 for an address of the wrong class. Page 01 tests them in the order 21, 25, 22, 24, 23, 35: numbers and
 // order are their caller's, who also has what needs the board, the mission or the list (a port set up, a same entry elsewhere). A check is total
 // by itself: a mask is judged for an address of any class.
+#![tactic(auto)]
+
 ghost use Rattle.std.specs.Prelude.{◌≡◌, not};
 ghost use Rattle.checks.specs.Order.{check_of};
 ghost use Rattle.settings.specs.Refusals.{

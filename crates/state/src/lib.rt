@@ -9,3 +9,4 @@
 // garbage included, is a board, every list of 732 is a state, and no two of them are the same one. So a promise over the decoded side fixes
 // every word. The words are cut in sections, and each section in records of one length, so that one law covers every read of a record
 // and one every write.
+#![tactic(auto)]

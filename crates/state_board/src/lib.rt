@@ -6,6 +6,8 @@
 // length and a number in range, which the calls from C have tested. No board is bad: any 43 words hold some port in each place.
 // A mission sees a port as it stands where it is its own, and else one that is not set up; a number over 1, which only words that no call
 // wrote can have, owns none. So the rules above, which ask a port whether it is set up, need not ask whose it is.
+#![tactic(auto)]
+
 pub mod ready;
 
 ghost use Rattle.std.specs.Prelude.{◌≡◌, not, ◌<◌, length, get_or};

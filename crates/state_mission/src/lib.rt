@@ -4,6 +4,8 @@
 // asked for. The crates `state_places`, `state_queues` and `state_pairs` do the same for groups and paths, for queues, and for what is
 // remembered of floods. Each promise is over `decode` alone: above these four nobody sees a word. What is required is the length and a number in range, which the calls from C have tested. No
 // state is bad: any 732 words hold some record in each place, and any number; one over 1 is no mission's, and such a mission owns no port.
+#![tactic(auto)]
+
 ghost use Rattle.std.specs.Prelude.{◌≡◌, ◌<◌, length};
 ghost use Rattle.sets.specs.Limits.{counter_count};
 ghost use Rattle.state.specs.Layout.{mission_words, decode};

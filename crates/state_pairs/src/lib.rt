@@ -3,6 +3,8 @@
 // As in the crate `state_mission`: the caller lends the whole state, each function works on the words of one part, and each promise is over
 // `decode` alone. A free place is a record too, the fresh one where a sweep freed it; in words that no call wrote it may have other numbers, and
 // is free all the same where its format is 0.
+#![tactic(auto)]
+
 ghost use Rattle.std.specs.Prelude.{◌≡◌, ◌<◌, length};
 ghost use Rattle.sets.specs.Limits.{pair_places};
 ghost use Rattle.state.specs.Layout.{mission_words, decode, pair_place_of, pair_words};

@@ -2,6 +2,8 @@
 //
 // As in the crate `state_mission`: the caller lends the whole state, each function works on the words of one place, and each promise is over
 // `decode` alone. An empty place is a record too, the fresh one where a call emptied it.
+#![tactic(auto)]
+
 ghost use Rattle.std.specs.Prelude.{◌≡◌, ◌<◌, length};
 ghost use Rattle.sets.specs.Limits.{group_places, path_places};
 ghost use Rattle.state.specs.Layout.{mission_words, decode, group_of, group_words, path_of, path_words};

@@ -3,6 +3,8 @@
 // As in the crate `state_mission`: the caller lends the whole state, each function works on the words of one queue, and each promise is over
 // `decode` alone. A queue is 33 words: its 32 entries, free ones too, and then how many of them wait. Slot and precedence of an entry,
 // of sixteen bits each, share a word: nothing is lost either way, and on the machines that we know a queue is copied as it stands.
+#![tactic(auto)]
+
 ghost use Rattle.std.specs.Prelude.{◌≡◌, ◌<◌, length};
 ghost use Rattle.sets.specs.Limits.{port_count};
 ghost use Rattle.state.specs.Layout.{mission_words, decode, entry_of_word, entry_word, queue_of, queue_words};

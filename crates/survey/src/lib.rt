@@ -8,6 +8,8 @@
 //
 // The awkward cases are a port in net 10, of which two addresses are broadcasts: that of its own subnet, 10.x.y.255, and 10.255.255.255; and a datagram
 // that is not equally long on all ports, since its header is rewritten for some: two lengths are asked with, for ports of the domain and for others.
+#![tactic(auto)]
+
 pub mod names;
 
 ghost use Rattle.std.specs.Prelude.{◌≡◌, true, ◌^◌, ◌≤◌, ◌<◌, length};
@@ -37,14 +39,14 @@ use sets::indexes::PORTS;
 use verdict::Survey;
 
 // The destination: an end system's address or a group's, or none that a port could have.
-#[derive(Drop)]
+#[derive(Clone, Copy)]
 pub enum Destination {
     Node(Address),
     Other,
 }
 
 // What is asked of the wanted ports: the arrival port's domain, and the octets of the datagram as a port of that domain gets it, and as another does.
-#[derive(Drop)]
+#[derive(Clone, Copy)]
 pub struct Sought {
     pub domain: u32,
     pub near: u32,

@@ -27,7 +27,7 @@ use verdict::Survey;
 
 // 1 where the ports were looked at; the set of those that are set up; the marks of all names; and of each port the address, the broadcast of its
 // subnet, and that of its class network.
-#[derive(Drop)]
+#[derive(Clone, Copy)]
 pub struct Names {
     pub looked: u32,
     pub ready: u32,

@@ -4,6 +4,8 @@
 // in which it goes out: to take is to take from the front.
 //
 // The awkward case is a queue with nothing in it: it answers a number of its own (18), and the state stays as it is to the last word.
+#![tactic(auto)]
+
 ghost use Rattle.std.specs.Prelude.{◌≡◌, length};
 ghost use Rattle.state.specs.Seen.{seated, on_seated};
 ghost use Rattle.state.specs.Layout.{board_words, decode_board, mission_words, decode};
@@ -13,7 +15,7 @@ use checks::Check;
 use queue::{Entry, Head};
 
 // What taking from a port answers.
-#[derive(Drop)]
+#[derive(Clone, Copy)]
 pub enum Taking {
     Handed(Entry),
     Refused(u32),

@@ -5,6 +5,8 @@
 // and each copy that was dropped counts by itself. A counter is told by its place; what does not count has none, and moves nothing.
 //
 // The awkward case is 15, every queue full: the number itself has no counter, its copies have.
+#![tactic(auto)]
+
 pub mod reply;
 
 ghost use Rattle.std.specs.Prelude.{◌≡◌, length};
@@ -28,7 +30,7 @@ use judge::Ending;
 use verdict::{Local, Onward, Ruling};
 
 // A counter, by its place among the eighteen; or none.
-#[derive(Drop)]
+#[derive(Clone, Copy)]
 pub enum Counter {
     At(u32),
     Nothing,

@@ -8,6 +8,8 @@
 //
 // The awkward case is a number of page 01 that both halves use, 1: delivered in one, sent on in the other. So each half is a kind of its
 // own, and has its number (0, 1, 26; 0, 1, 9 to 11, 13 to 15, 30) by a function.
+#![tactic(auto)]
+
 pub mod copies;
 pub mod local_half;
 pub mod onward_half;
@@ -17,7 +19,7 @@ ghost use Rattle.verdict.specs.Numbers.{local_number, obstacle_number, onward_nu
 ghost use Rattle.verdict.specs.Rule.{code_of, except_by};
 
 // Which line of the onward half a destination falls under, apart from what a host makes of it.
-#[derive(Drop)]
+#[derive(Clone, Copy)]
 pub enum Target {
     Here,
     Broadcast,
@@ -28,7 +30,7 @@ pub enum Target {
 
 // What the ports say of a datagram: the ports set up, those with the destination's address, those it is a broadcast of, those in the
 // domain of the arrival port, those that the datagram fits as they would get it, those with a full queue.
-#[derive(Drop)]
+#[derive(Clone, Copy)]
 pub struct Survey {
     pub ready: u32,
     pub addressed: u32,
@@ -40,7 +42,7 @@ pub struct Survey {
 
 // What the place for a group or a path says, where there is one: the ports to send to, and whether it is delivered here (a path) or
 // subscribed on the arrival port (a group).
-#[derive(Drop)]
+#[derive(Clone, Copy)]
 pub enum Place {
     Held(u32, u32),
     Missing,
@@ -48,7 +50,7 @@ pub enum Place {
 
 // What the route search found: the port of the route taken, as a set, and its capabilities, which say what a header needs on that leg. A route that is
 // taken is up.
-#[derive(Drop)]
+#[derive(Clone, Copy)]
 pub enum Way {
     By(u32, u32),
     Lost,
@@ -56,7 +58,7 @@ pub enum Way {
 
 // What the pairs of a mission say of a datagram that is to be flooded by a router. Plain: it is not, and the lines of the onward half decide. Unsent: its pair
 // is held, or it is for this node alone. Full: every place holds another pair. New: its pair is kept, in this place.
-#[derive(Drop)]
+#[derive(Clone, Copy)]
 pub enum Flood {
     Plain,
     Unsent,
@@ -67,7 +69,7 @@ pub enum Flood {
 // What is asked of the rule besides: the arrival port as a set, whether the node is a router, whether intermediate delivery is asked
 // for, whether the TP-ID is assigned, whether it goes by a path of one octet, which is bound to its domain, whether the hops are used up, and what the
 // pairs say.
-#[derive(Drop)]
+#[derive(Clone, Copy)]
 pub struct Case {
     pub arrival: u32,
     pub router: u32,
@@ -79,7 +81,7 @@ pub struct Case {
 }
 
 // The local half. Unknown: it would be delivered, and its TP-ID is not assigned.
-#[derive(Drop)]
+#[derive(Clone, Copy)]
 pub enum Local {
     No,
     Delivered,
@@ -87,7 +89,7 @@ pub enum Local {
 }
 
 // What keeps a datagram from being sent on.
-#[derive(Drop)]
+#[derive(Clone, Copy)]
 pub enum Obstacle {
     NotForUs,
     HopsUsedUp,
@@ -99,7 +101,7 @@ pub enum Obstacle {
 }
 
 // What a line of the onward half makes of a datagram, before any queue is looked at: it is wanted on the ports of a set.
-#[derive(Drop)]
+#[derive(Clone, Copy)]
 pub enum Wish {
     NotAsked,
     Refused(Obstacle),
@@ -107,7 +109,7 @@ pub enum Wish {
 }
 
 // The onward half. SentOn: some port took an entry.
-#[derive(Drop)]
+#[derive(Clone, Copy)]
 pub enum Onward {
     NotAsked,
     SentOn,
@@ -115,7 +117,7 @@ pub enum Onward {
 }
 
 // The ruling: both halves, and the ports that are granted a copy, that took it and that dropped it.
-#[derive(Drop)]
+#[derive(Clone, Copy)]
 pub struct Ruling {
     pub local: Local,
     pub onward: Onward,

@@ -5,3 +5,4 @@
 // the lent slice; the laws in proofs/ say, once and for any lengths, what a piece read so is, and what all sections and pieces are
 // after one was written. The awkward case is a list that is too short for its sections: the definitions are total, and each law
 // asks for just the length that it needs.
+#![tactic(auto)]

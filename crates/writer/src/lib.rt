@@ -4,6 +4,8 @@
 // the output from a place on and answers the place behind them, so that a header is a chain of calls. Each promise says what the whole
 // output is afterwards; two neighbours join by one law (`put_two` in crate octets). The awkward piece is one that is absent: it is written
 // like the others, as no octets, so that the chain has no gaps.
+#![tactic(auto)]
+
 pub mod addresses;
 pub mod elements;
 pub mod front;
