@@ -1,0 +1,22 @@
+-- `layout::stamp_size` meets its contract, format by format. Assumes nothing.
+use borrow.Author.Rules.{rules}
+use borrow.Author.Tests.{ne_eqb}
+use native.Mathlib.Omega.{arith}
+use Rattle.header.specs.Form.{stamp_size}
+use Rattle.layout.proofs.stamp_size.Goals as goal
+
+pub returns-in-0 : goal.returns-in-0
+unfolding stamp_size
+returns-in-0 c = simp c.in-0.is
+
+pub returns-in-1 : goal.returns-in-1
+unfolding stamp_size
+returns-in-1 c = simp c.in-1.is
+
+pub returns-in-2 : goal.returns-in-2
+unfolding stamp_size
+returns-in-2 c = simp c.in-2.is (omega arith)
+
+pub returns-in_default : goal.returns-in_default
+unfolding stamp_size
+returns-in_default c = let r = c.in-0.rest in simp (ne_eqb _ _ r.0.0.1, ne_eqb _ _ r.0.1, ne_eqb _ _ r.1)
