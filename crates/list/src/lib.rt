@@ -1,7 +1,6 @@
 // The list of routes that both missions are lent: a record of it read, written, and all of it scanned.
 //
-// The toolchain proves no function by itself that refers to a record behind a reference. So the functions here are thin, and each is proved by a
-// walk of its MIR: they test a bound, read or store one record, or loop; what a record adds to a scan is crate listing's, which is covered.
+// The functions here are thin: they test a bound, read or store one record, or loop; what a record adds to a scan is crate listing's.
 // Each is total: beyond the list a record is empty and a store does nothing. A list of any length is taken.
 #![tactic(auto)]
 
