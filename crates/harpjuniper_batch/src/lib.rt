@@ -1,9 +1,8 @@
 // What C calls with many datagrams: a batch, heard one item after the other.
 //
-// All that is done stands in crate batch, but for the scan of the list of routes. These two functions alone have all ten slices, and are proved by
-// hand, step by step: the one asks about an item, scans the list for its route and finishes it, the other does so for each item. Nothing is required
-// of the caller: whatever words, records, lists, octets or room come, the answer is the one that the definitions state, and so are all answers and
-// outputs.
+// All that is done stands in crate batch, but for the scan of the list of routes. These two functions alone have all ten slices: the one asks about
+// an item, scans the list for its route and finishes it, the other does so for each item. Nothing is required of the caller: whatever words, records,
+// lists, octets or room come, the answer is the one that the definitions state, and so are all answers and outputs.
 //
 // The awkward case is a refusal of the whole call, 21 or 27: then no item is heard, and nothing is written. Words of the wrong number are no such
 // refusal: each item is answered 16, as a call of its own would be.

@@ -1,9 +1,8 @@
 // What C calls with an echo request: answering it.
 //
-// As in receiving, three things are lent: the operator's board and list of routes, to be read, and the mission's own words. Covered code judges the request and
-// makes the reply (`answering::before`); the list is scanned for its route; and covered code sends it (`answering::after`). This function alone has all five
-// slices, does not branch, and is proved by hand, step by step. Nothing is required: whatever words, records, octets, port, slot or room come, the answer is the
-// one that the definitions state.
+// As in receiving, three things are lent: the operator's board and list of routes, to be read, and the mission's own words. Crate answering judges the request and
+// makes the reply (`before`); the list is scanned for its route; and crate answering sends it (`after`). This function alone has all five
+// slices, and does not branch. Nothing is required: whatever words, records, octets, port, slot or room come, the answer is the one that the definitions state.
 //
 // The awkward cases are those of receiving, a list over 512 records, which is refused by 21, and words of the wrong number, refused by 16; and a datagram that
 // gets no reply, which is an answer without a number.

@@ -1,9 +1,9 @@
 // What C calls with a datagram: receiving.
 //
-// Three things are lent: the operator's board and list of routes, to be read, and the mission's own words. Covered code reads the board, the mission and
-// the octets and says what is to be looked up (`relay::before`); the list is scanned for it; and covered code finishes the verdict, counts, enters
-// the copies and writes the header that goes out (`relay::after`). This function alone has all five slices, does not branch, and is proved by hand,
-// step by step. Nothing is required: whatever words, records, octets, port, slot, second or room come, the answer is the one that the definitions state.
+// Three things are lent: the operator's board and list of routes, to be read, and the mission's own words. Crate relay reads the board, the mission and
+// the octets and says what is to be looked up (`before`); the list is scanned for it; and crate relay finishes the verdict, counts, enters
+// the copies and writes the header that goes out (`after`). This function alone has all five slices, and does not branch.
+// Nothing is required: whatever words, records, octets, port, slot, second or room come, the answer is the one that the definitions state.
 //
 // The awkward cases are a list over 512 records, which is refused by 21, and words of the wrong number, which hold no port: the answer is 16. Then
 // nothing is sought, and nothing is written. The library's archive is put together of the crates whose names begin with `harpjuniper`; the C header

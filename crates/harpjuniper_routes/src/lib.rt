@@ -2,7 +2,7 @@
 //
 // The list is lent as records, up to 512 of them, and may hold anything. These functions only scan it, read one record and store one (crate `list`),
 // and pass what they have by value to crate `route_calls`, which decides. None of them branches: a call that is refused seeks nothing and stores
-// again the record that it read. They are proved by hand, step by step, for a list of any length.
+// again the record that it read. They are proved for a list of any length.
 //
 // The awkward case is a place beyond the list's end: the record there reads as an empty one, and storing there does nothing.
 #![tactic(auto)]

@@ -1,9 +1,9 @@
 // The calls on a list of routes, but for the list itself: what a call seeks in it, and what it answers and writes.
 //
-// A function that is lent a list of records is proved by hand, step by step, so that crate `harpjuniper_routes` does no more than scan the list, read
-// one record of it and store one. All that decides is here and works on numbers and records by value: what refuses a call before the list is
-// read, what is to be found in it, and what follows from what was found. A call that is refused seeks nothing, so that its scan ends at once, and
-// stores again the record that it read: no branch is left to the caller, and a refused writing changes nothing.
+// Crate `harpjuniper_routes` does no more than scan the list, read one record of it and store one. All that decides is here and works on numbers and
+// records by value: what refuses a call before the list is read, what is to be found in it, and what follows from what was found. A call that is
+// refused seeks nothing, so that its scan ends at once, and stores again the record that it read: no branch is left to the caller, and a refused
+// writing changes nothing.
 //
 // The awkward case is a list that is too long or words of the wrong number. Both are 21, as a place beyond the list's end is, and the order in which
 // they are tested shows nowhere.
