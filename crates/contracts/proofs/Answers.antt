@@ -72,7 +72,7 @@ use Rattle.contracts.specs.Promised.{
   Passable,
   promised,
 }
-use Rattle.contracts.specs.Contracts.{Spot, Lying, Contract, Says}
+use Rattle.contracts.specs.Stated.{Spot, Lying, Contract, Says}
 use Rattle.contracts.proofs.Formed.{Formed, decode_formed, words_length, words_hold, board_length, board_holds}
 use Rattle.contracts.proofs.Kept.{KeptIn, set_router_kept, set_port_kept, set_lifetime_kept, set_drop_kept, fresh_board_kept}
 use Rattle.contracts.proofs.Kept.{set_group_kept, set_path_kept, clear_group_kept, clear_path_kept, taken_kept}

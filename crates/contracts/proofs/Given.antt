@@ -19,8 +19,8 @@ use Rattle.harpjuniper_messages.proofs.hj_build_request as build-request
 use Rattle.harpjuniper_messages.proofs.hj_build_reply as build-reply
 use Rattle.harpjuniper_settings.proofs.hj_board_words as board-words
 use Rattle.harpjuniper_settings.proofs.hj_mission_words as mission-words
-use Rattle.harpjuniper_settings.proofs.hj_fresh_board as fresh_board_lem
-use Rattle.harpjuniper_settings.proofs.hj_fresh_mission as fresh_mission_lem
+use Rattle.harpjuniper_settings.proofs.hj_fresh_board as fresh-board
+use Rattle.harpjuniper_settings.proofs.hj_fresh_mission as fresh-mission
 use Rattle.harpjuniper_settings.proofs.hj_set_router as set-router
 use Rattle.harpjuniper_settings.proofs.hj_set_port as set-port
 use Rattle.harpjuniper_settings.proofs.hj_set_lifetime as set-lifetime
@@ -36,7 +36,7 @@ use Rattle.harpjuniper_reads.proofs.hj_port_word as port-word
 use Rattle.harpjuniper_reads.proofs.hj_group_word as group-word
 use Rattle.harpjuniper_reads.proofs.hj_path_word as path-word
 use Rattle.harpjuniper_reads.proofs.hj_last_second as last-second
-use Rattle.harpjuniper_reads.proofs.hj_pair_word as pair_word_lem
+use Rattle.harpjuniper_reads.proofs.hj_pair_word as pair-word
 use Rattle.harpjuniper_relay.proofs.hj_take as take
 use Rattle.harpjuniper_relay.proofs.hj_counter as counter
 use Rattle.harpjuniper_relay.proofs.hj_waiting as waiting
@@ -48,6 +48,13 @@ use Rattle.harpjuniper_routes.proofs.hj_search as search-route
 use Rattle.harpjuniper_receive.proofs.hj_receive_at as receive-at
 use Rattle.harpjuniper_batch.proofs.hj_receive_many as many
 use Rattle.harpjuniper_echo.proofs.hj_echo as echo
+use Rattle.harpjuniper_routes.specs.contracts.hj_set_route as set-route-said
+use Rattle.harpjuniper_routes.specs.contracts.hj_clear_route as clear-route-said
+use Rattle.harpjuniper_routes.specs.contracts.hj_route_word as route-word-said
+use Rattle.harpjuniper_routes.specs.contracts.hj_search as search-route-said
+use Rattle.harpjuniper_receive.specs.contracts.hj_receive_at as receive-at-said
+use Rattle.harpjuniper_batch.specs.contracts.hj_receive_many as many-said
+use Rattle.harpjuniper_echo.specs.contracts.hj_echo as echo-said
 use Rattle.contracts.specs.Promised.{
   Exported,
   hj_read_words,
@@ -90,98 +97,98 @@ use Rattle.contracts.specs.Promised.{
   hj_waiting,
   hj_sweep,
 }
-use Rattle.contracts.specs.Walked.{plainly, searches, sets_route, clears_route, reads_word, receives, receives_many, echoes}
+use Rattle.contracts.specs.Named.{plainly, searches, sets_route, clears_route, reads_word, receives, receives_many, echoes}
 use Rattle.contracts.specs.Functions.{function_of, Unchecked}
 
--- ---- the walked functions: their clauses, in whatever world, are what specs/Walked.antt says
+-- ---- the functions that are lent a list: their clauses, in whatever world, are what specs/Named.antt says
 module _ {M : Type 1} {𝓤 : Ura M} (𝓛 : Logic 𝓤) (mem : Memory → SProp 𝓤) (run : Routine → Fun 𝓤) where
-  pub set_route_says : set-route.clauses 𝓛 mem run ≡ plainly 𝓤 set-route.ended sets_route
+  pub set_route_says : set-route-said.clauses 𝓛 mem run ≡ plainly 𝓤 set-route-said.ended sets_route
   set_route_says = refl
 
-  pub clear_route_says : clear-route.clauses 𝓛 mem run ≡ plainly 𝓤 clear-route.ended clears_route
+  pub clear_route_says : clear-route-said.clauses 𝓛 mem run ≡ plainly 𝓤 clear-route-said.ended clears_route
   clear_route_says = refl
 
-  pub route_word_says : route-word.clauses 𝓛 mem run ≡ plainly 𝓤 route-word.ended reads_word
+  pub route_word_says : route-word-said.clauses 𝓛 mem run ≡ plainly 𝓤 route-word-said.ended reads_word
   route_word_says = refl
 
-  pub search_route_says : search-route.clauses 𝓛 mem run ≡ plainly 𝓤 search-route.ended searches
+  pub search_route_says : search-route-said.clauses 𝓛 mem run ≡ plainly 𝓤 search-route-said.ended searches
   search_route_says = refl
 
-  pub receive_at_says : receive-at.clauses 𝓛 mem run ≡ plainly 𝓤 receive-at.ended receives
+  pub receive_at_says : receive-at-said.clauses 𝓛 mem run ≡ plainly 𝓤 receive-at-said.ended receives
   receive_at_says = refl
 
-  pub many_says : many.clauses 𝓛 mem run ≡ plainly 𝓤 many.ended receives_many
+  pub many_says : many-said.clauses 𝓛 mem run ≡ plainly 𝓤 many-said.ended receives_many
   many_says = refl
 
-  pub echo_says : echo.clauses 𝓛 mem run ≡ plainly 𝓤 echo.ended echoes
+  pub echo_says : echo-said.clauses 𝓛 mem run ≡ plainly 𝓤 echo-said.ended echoes
   echo_says = refl
 
 -- ---- the table
 pub nobody_checks_first : (c : Exported) → Unchecked (function_of c)
-nobody_checks_first (hj_read_words octets n) = λ v γ k same.
-    read-words.Reads.known v γ k _ same (read-words.Met.met v.𝓤 v.𝓛 v.𝓜 v.𝓡)
-nobody_checks_first (hj_build_words n size o) = λ v γ k same.
-    build-words.Reads.known v γ k _ same (build-words.Met.met v.𝓤 v.𝓛 v.𝓜 v.𝓡)
-nobody_checks_first (hj_class a) = λ v γ k same. class.Reads.known v γ k _ same (class.Met.met v.𝓤 v.𝓛 v.𝓜 v.𝓡)
-nobody_checks_first (hj_path p) = λ v γ k same. form.Reads.known v γ k _ same (form.Met.met v.𝓤 v.𝓛 v.𝓜 v.𝓡)
-nobody_checks_first (hj_checksum octets) = λ v γ k same. checksum.Reads.known v γ k _ same (checksum.Met.met v.𝓤 v.𝓛 v.𝓜 v.𝓡)
-nobody_checks_first (hj_read_echo_words octets n) = λ v γ k same.
-    read-echo-words.Reads.known v γ k _ same (read-echo-words.Met.met v.𝓤 v.𝓛 v.𝓜 v.𝓡)
-nobody_checks_first (hj_build_request identifier sequence echoed o) = λ v γ k same.
-    build-request.Reads.known v γ k _ same (build-request.Met.met v.𝓤 v.𝓛 v.𝓜 v.𝓡)
-nobody_checks_first (hj_build_reply identifier sequence hops format stamp mtu rate echoed o) = λ v γ k same.
-    build-reply.Reads.known v γ k _ same (build-reply.Met.met v.𝓤 v.𝓛 v.𝓜 v.𝓡)
-nobody_checks_first hj_board_words = λ v γ k same. board-words.Reads.known v γ k _ same (board-words.Met.met v.𝓤 v.𝓛 v.𝓜 v.𝓡)
-nobody_checks_first hj_mission_words = λ v γ k same. mission-words.Reads.known v γ k _ same (mission-words.Met.met v.𝓤 v.𝓛 v.𝓜 v.𝓡)
-nobody_checks_first (hj_fresh_board b) = λ v γ k same. fresh_board_lem.Reads.known v γ k _ same (fresh_board_lem.Met.met v.𝓤 v.𝓛 v.𝓜 v.𝓡)
-nobody_checks_first (hj_fresh_mission m number) = λ v γ k same.
-    fresh_mission_lem.Reads.known v γ k _ same (fresh_mission_lem.Met.met v.𝓤 v.𝓛 v.𝓜 v.𝓡)
-nobody_checks_first (hj_set_router b router) = λ v γ k same.
-    set-router.Reads.known v γ k _ same (set-router.Met.met v.𝓤 v.𝓛 v.𝓜 v.𝓡)
-nobody_checks_first (hj_set_port b p address mask mtu mission) = λ v γ k same.
-    set-port.Reads.known v γ k _ same (set-port.Met.met v.𝓤 v.𝓛 v.𝓜 v.𝓡)
-nobody_checks_first (hj_set_lifetime b lifetime) = λ v γ k same.
-    set-lifetime.Reads.known v γ k _ same (set-lifetime.Met.met v.𝓤 v.𝓛 v.𝓜 v.𝓡)
-nobody_checks_first (hj_set_echo_drop b drop) = λ v γ k same.
-    set-echo-drop.Reads.known v γ k _ same (set-echo-drop.Met.met v.𝓤 v.𝓛 v.𝓜 v.𝓡)
-nobody_checks_first (hj_set_route b rs i prefix mask p availability capabilities mission) = λ v γ k same.
-    cited v.𝓤 v.𝓛.H (triple_of v.𝓛 set-route.signature (set-route.spec v.𝓛 v.𝓜.mem v.𝓡.run))
-    v.𝓜 v.𝓡 γ k set-route.Symbol.routine same (set-route.Met.met v.𝓤 v.𝓛 v.𝓜 v.𝓡)
-nobody_checks_first (hj_clear_route rs i) = λ v γ k same.
-    cited v.𝓤 v.𝓛.H (triple_of v.𝓛 clear-route.signature (clear-route.spec v.𝓛 v.𝓜.mem v.𝓡.run))
-    v.𝓜 v.𝓡 γ k clear-route.Symbol.routine same (clear-route.Met.met v.𝓤 v.𝓛 v.𝓜 v.𝓡)
-nobody_checks_first (hj_set_group b m i address send subscribed) = λ v γ k same.
-    set-group.Reads.known v γ k _ same (set-group.Met.met v.𝓤 v.𝓛 v.𝓜 v.𝓡)
-nobody_checks_first (hj_set_path b m i to send here) = λ v γ k same.
-    set-path.Reads.known v γ k _ same (set-path.Met.met v.𝓤 v.𝓛 v.𝓜 v.𝓡)
-nobody_checks_first (hj_clear_group m i) = λ v γ k same. clear-group.Reads.known v γ k _ same (clear-group.Met.met v.𝓤 v.𝓛 v.𝓜 v.𝓡)
-nobody_checks_first (hj_clear_path m i) = λ v γ k same. clear-path.Reads.known v γ k _ same (clear-path.Met.met v.𝓤 v.𝓛 v.𝓜 v.𝓡)
-nobody_checks_first (hj_get_router b) = λ v γ k same. get-router.Reads.known v γ k _ same (get-router.Met.met v.𝓤 v.𝓛 v.𝓜 v.𝓡)
-nobody_checks_first (hj_get_lifetime b) = λ v γ k same. get-lifetime.Reads.known v γ k _ same (get-lifetime.Met.met v.𝓤 v.𝓛 v.𝓜 v.𝓡)
-nobody_checks_first (hj_get_echo_drop b) = λ v γ k same.
-    get-echo-drop.Reads.known v γ k _ same (get-echo-drop.Met.met v.𝓤 v.𝓛 v.𝓜 v.𝓡)
-nobody_checks_first (hj_port_word b p word) = λ v γ k same. port-word.Reads.known v γ k _ same (port-word.Met.met v.𝓤 v.𝓛 v.𝓜 v.𝓡)
-nobody_checks_first (hj_route_word rs i word) = λ v γ k same.
-    cited v.𝓤 v.𝓛.H (triple_of v.𝓛 route-word.signature (route-word.spec v.𝓛 v.𝓜.mem v.𝓡.run))
-    v.𝓜 v.𝓡 γ k route-word.Symbol.routine same (route-word.Met.met v.𝓤 v.𝓛 v.𝓜 v.𝓡)
-nobody_checks_first (hj_group_word m i word) = λ v γ k same.
-    group-word.Reads.known v γ k _ same (group-word.Met.met v.𝓤 v.𝓛 v.𝓜 v.𝓡)
-nobody_checks_first (hj_path_word m i word) = λ v γ k same. path-word.Reads.known v γ k _ same (path-word.Met.met v.𝓤 v.𝓛 v.𝓜 v.𝓡)
-nobody_checks_first (hj_last_second m) = λ v γ k same. last-second.Reads.known v γ k _ same (last-second.Met.met v.𝓤 v.𝓛 v.𝓜 v.𝓡)
-nobody_checks_first (hj_pair_word m i word) = λ v γ k same. pair_word_lem.Reads.known v γ k _ same (pair_word_lem.Met.met v.𝓤 v.𝓛 v.𝓜 v.𝓡)
-nobody_checks_first (hj_search b m rs a) = λ v γ k same.
-    cited v.𝓤 v.𝓛.H (triple_of v.𝓛 search-route.signature (search-route.spec v.𝓛 v.𝓜.mem v.𝓡.run))
-    v.𝓜 v.𝓡 γ k search-route.Symbol.routine same (search-route.Met.met v.𝓤 v.𝓛 v.𝓜 v.𝓡)
-nobody_checks_first (hj_receive_at b m rs p slot second octets o) = λ v γ k same.
-    cited v.𝓤 v.𝓛.H (triple_of v.𝓛 receive-at.signature (receive-at.spec v.𝓛 v.𝓜.mem v.𝓡.run))
-    v.𝓜 v.𝓡 γ k receive-at.Symbol.routine same (receive-at.Met.met v.𝓤 v.𝓛 v.𝓜 v.𝓡)
-nobody_checks_first (hj_receive_many b m rs lengths ports slots seconds octets n o) = λ v γ k same.
-    cited v.𝓤 v.𝓛.H (triple_of v.𝓛 many.signature (many.spec v.𝓛 v.𝓜.mem v.𝓡.run))
-    v.𝓜 v.𝓡 γ k many.Symbol.routine same (many.Met.met v.𝓤 v.𝓛 v.𝓜 v.𝓡)
-nobody_checks_first (hj_echo b m rs p slot octets o) = λ v γ k same.
-    cited v.𝓤 v.𝓛.H (triple_of v.𝓛 echo.signature (echo.spec v.𝓛 v.𝓜.mem v.𝓡.run))
-    v.𝓜 v.𝓡 γ k echo.Symbol.routine same (echo.Met.met v.𝓤 v.𝓛 v.𝓜 v.𝓡)
-nobody_checks_first (hj_take b m p) = λ v γ k same. take.Reads.known v γ k _ same (take.Met.met v.𝓤 v.𝓛 v.𝓜 v.𝓡)
-nobody_checks_first (hj_counter m i) = λ v γ k same. counter.Reads.known v γ k _ same (counter.Met.met v.𝓤 v.𝓛 v.𝓜 v.𝓡)
-nobody_checks_first (hj_waiting m p) = λ v γ k same. waiting.Reads.known v γ k _ same (waiting.Met.met v.𝓤 v.𝓛 v.𝓜 v.𝓡)
-nobody_checks_first (hj_sweep b m second) = λ v γ k same. sweep.Reads.known v γ k _ same (sweep.Met.met v.𝓤 v.𝓛 v.𝓜 v.𝓡)
+nobody_checks_first (hj_read_words octets n) = λ w wired γ k same.
+    read-words.Reads.known w γ k _ same (read-words.Met.met w.𝓤 w.𝓛 w.𝓜 w.𝓡 wired)
+nobody_checks_first (hj_build_words n size o) = λ w wired γ k same.
+    build-words.Reads.known w γ k _ same (build-words.Met.met w.𝓤 w.𝓛 w.𝓜 w.𝓡 wired)
+nobody_checks_first (hj_class a) = λ w wired γ k same. class.Reads.known w γ k _ same (class.Met.met w.𝓤 w.𝓛 w.𝓜 w.𝓡 wired)
+nobody_checks_first (hj_path p) = λ w wired γ k same. form.Reads.known w γ k _ same (form.Met.met w.𝓤 w.𝓛 w.𝓜 w.𝓡 wired)
+nobody_checks_first (hj_checksum octets) = λ w wired γ k same. checksum.Reads.known w γ k _ same (checksum.Met.met w.𝓤 w.𝓛 w.𝓜 w.𝓡 wired)
+nobody_checks_first (hj_read_echo_words octets n) = λ w wired γ k same.
+    read-echo-words.Reads.known w γ k _ same (read-echo-words.Met.met w.𝓤 w.𝓛 w.𝓜 w.𝓡 wired)
+nobody_checks_first (hj_build_request identifier sequence echoed o) = λ w wired γ k same.
+    build-request.Reads.known w γ k _ same (build-request.Met.met w.𝓤 w.𝓛 w.𝓜 w.𝓡 wired)
+nobody_checks_first (hj_build_reply identifier sequence hops format stamp mtu rate echoed o) = λ w wired γ k same.
+    build-reply.Reads.known w γ k _ same (build-reply.Met.met w.𝓤 w.𝓛 w.𝓜 w.𝓡 wired)
+nobody_checks_first hj_board_words = λ w wired γ k same. board-words.Reads.known w γ k _ same (board-words.Met.met w.𝓤 w.𝓛 w.𝓜 w.𝓡 wired)
+nobody_checks_first hj_mission_words = λ w wired γ k same. mission-words.Reads.known w γ k _ same (mission-words.Met.met w.𝓤 w.𝓛 w.𝓜 w.𝓡 wired)
+nobody_checks_first (hj_fresh_board b) = λ w wired γ k same. fresh-board.Reads.known w γ k _ same (fresh-board.Met.met w.𝓤 w.𝓛 w.𝓜 w.𝓡 wired)
+nobody_checks_first (hj_fresh_mission m number) = λ w wired γ k same.
+    fresh-mission.Reads.known w γ k _ same (fresh-mission.Met.met w.𝓤 w.𝓛 w.𝓜 w.𝓡 wired)
+nobody_checks_first (hj_set_router b router) = λ w wired γ k same.
+    set-router.Reads.known w γ k _ same (set-router.Met.met w.𝓤 w.𝓛 w.𝓜 w.𝓡 wired)
+nobody_checks_first (hj_set_port b p address mask mtu mission) = λ w wired γ k same.
+    set-port.Reads.known w γ k _ same (set-port.Met.met w.𝓤 w.𝓛 w.𝓜 w.𝓡 wired)
+nobody_checks_first (hj_set_lifetime b lifetime) = λ w wired γ k same.
+    set-lifetime.Reads.known w γ k _ same (set-lifetime.Met.met w.𝓤 w.𝓛 w.𝓜 w.𝓡 wired)
+nobody_checks_first (hj_set_echo_drop b drop) = λ w wired γ k same.
+    set-echo-drop.Reads.known w γ k _ same (set-echo-drop.Met.met w.𝓤 w.𝓛 w.𝓜 w.𝓡 wired)
+nobody_checks_first (hj_set_route b rs i prefix mask p availability capabilities mission) = λ w wired γ k same.
+    cited w.𝓤 w.𝓛.H (triple_of w.𝓛 set-route-said.signature (set-route-said.spec w.𝓛 w.𝓜.mem w.𝓡.returns))
+    w.𝓜 w.𝓡 γ k (w.𝓡.env set-route.Symbol.name) same (set-route.Met.met w.𝓤 w.𝓛 w.𝓜 w.𝓡 wired)
+nobody_checks_first (hj_clear_route rs i) = λ w wired γ k same.
+    cited w.𝓤 w.𝓛.H (triple_of w.𝓛 clear-route-said.signature (clear-route-said.spec w.𝓛 w.𝓜.mem w.𝓡.returns))
+    w.𝓜 w.𝓡 γ k (w.𝓡.env clear-route.Symbol.name) same (clear-route.Met.met w.𝓤 w.𝓛 w.𝓜 w.𝓡 wired)
+nobody_checks_first (hj_set_group b m i address send subscribed) = λ w wired γ k same.
+    set-group.Reads.known w γ k _ same (set-group.Met.met w.𝓤 w.𝓛 w.𝓜 w.𝓡 wired)
+nobody_checks_first (hj_set_path b m i to send here) = λ w wired γ k same.
+    set-path.Reads.known w γ k _ same (set-path.Met.met w.𝓤 w.𝓛 w.𝓜 w.𝓡 wired)
+nobody_checks_first (hj_clear_group m i) = λ w wired γ k same. clear-group.Reads.known w γ k _ same (clear-group.Met.met w.𝓤 w.𝓛 w.𝓜 w.𝓡 wired)
+nobody_checks_first (hj_clear_path m i) = λ w wired γ k same. clear-path.Reads.known w γ k _ same (clear-path.Met.met w.𝓤 w.𝓛 w.𝓜 w.𝓡 wired)
+nobody_checks_first (hj_get_router b) = λ w wired γ k same. get-router.Reads.known w γ k _ same (get-router.Met.met w.𝓤 w.𝓛 w.𝓜 w.𝓡 wired)
+nobody_checks_first (hj_get_lifetime b) = λ w wired γ k same. get-lifetime.Reads.known w γ k _ same (get-lifetime.Met.met w.𝓤 w.𝓛 w.𝓜 w.𝓡 wired)
+nobody_checks_first (hj_get_echo_drop b) = λ w wired γ k same.
+    get-echo-drop.Reads.known w γ k _ same (get-echo-drop.Met.met w.𝓤 w.𝓛 w.𝓜 w.𝓡 wired)
+nobody_checks_first (hj_port_word b p word) = λ w wired γ k same. port-word.Reads.known w γ k _ same (port-word.Met.met w.𝓤 w.𝓛 w.𝓜 w.𝓡 wired)
+nobody_checks_first (hj_route_word rs i word) = λ w wired γ k same.
+    cited w.𝓤 w.𝓛.H (triple_of w.𝓛 route-word-said.signature (route-word-said.spec w.𝓛 w.𝓜.mem w.𝓡.returns))
+    w.𝓜 w.𝓡 γ k (w.𝓡.env route-word.Symbol.name) same (route-word.Met.met w.𝓤 w.𝓛 w.𝓜 w.𝓡 wired)
+nobody_checks_first (hj_group_word m i word) = λ w wired γ k same.
+    group-word.Reads.known w γ k _ same (group-word.Met.met w.𝓤 w.𝓛 w.𝓜 w.𝓡 wired)
+nobody_checks_first (hj_path_word m i word) = λ w wired γ k same. path-word.Reads.known w γ k _ same (path-word.Met.met w.𝓤 w.𝓛 w.𝓜 w.𝓡 wired)
+nobody_checks_first (hj_last_second m) = λ w wired γ k same. last-second.Reads.known w γ k _ same (last-second.Met.met w.𝓤 w.𝓛 w.𝓜 w.𝓡 wired)
+nobody_checks_first (hj_pair_word m i word) = λ w wired γ k same. pair-word.Reads.known w γ k _ same (pair-word.Met.met w.𝓤 w.𝓛 w.𝓜 w.𝓡 wired)
+nobody_checks_first (hj_search b m rs a) = λ w wired γ k same.
+    cited w.𝓤 w.𝓛.H (triple_of w.𝓛 search-route-said.signature (search-route-said.spec w.𝓛 w.𝓜.mem w.𝓡.returns))
+    w.𝓜 w.𝓡 γ k (w.𝓡.env search-route.Symbol.name) same (search-route.Met.met w.𝓤 w.𝓛 w.𝓜 w.𝓡 wired)
+nobody_checks_first (hj_receive_at b m rs p slot second octets o) = λ w wired γ k same.
+    cited w.𝓤 w.𝓛.H (triple_of w.𝓛 receive-at-said.signature (receive-at-said.spec w.𝓛 w.𝓜.mem w.𝓡.returns))
+    w.𝓜 w.𝓡 γ k (w.𝓡.env receive-at.Symbol.name) same (receive-at.Met.met w.𝓤 w.𝓛 w.𝓜 w.𝓡 wired)
+nobody_checks_first (hj_receive_many b m rs lengths ports slots seconds octets n o) = λ w wired γ k same.
+    cited w.𝓤 w.𝓛.H (triple_of w.𝓛 many-said.signature (many-said.spec w.𝓛 w.𝓜.mem w.𝓡.returns))
+    w.𝓜 w.𝓡 γ k (w.𝓡.env many.Symbol.name) same (many.Met.met w.𝓤 w.𝓛 w.𝓜 w.𝓡 wired)
+nobody_checks_first (hj_echo b m rs p slot octets o) = λ w wired γ k same.
+    cited w.𝓤 w.𝓛.H (triple_of w.𝓛 echo-said.signature (echo-said.spec w.𝓛 w.𝓜.mem w.𝓡.returns))
+    w.𝓜 w.𝓡 γ k (w.𝓡.env echo.Symbol.name) same (echo.Met.met w.𝓤 w.𝓛 w.𝓜 w.𝓡 wired)
+nobody_checks_first (hj_take b m p) = λ w wired γ k same. take.Reads.known w γ k _ same (take.Met.met w.𝓤 w.𝓛 w.𝓜 w.𝓡 wired)
+nobody_checks_first (hj_counter m i) = λ w wired γ k same. counter.Reads.known w γ k _ same (counter.Met.met w.𝓤 w.𝓛 w.𝓜 w.𝓡 wired)
+nobody_checks_first (hj_waiting m p) = λ w wired γ k same. waiting.Reads.known w γ k _ same (waiting.Met.met w.𝓤 w.𝓛 w.𝓜 w.𝓡 wired)
+nobody_checks_first (hj_sweep b m second) = λ w wired γ k same. sweep.Reads.known w γ k _ same (sweep.Met.met w.𝓤 w.𝓛 w.𝓜 w.𝓡 wired)

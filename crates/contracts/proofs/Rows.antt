@@ -61,7 +61,7 @@ use Rattle.contracts.specs.Promised.{
   hj_sweep,
   promised,
 }
-use Rattle.contracts.specs.Contracts.{BoardAlone, MissionAlone, RoutesAlone, OutputAlone, NumbersAlone, HearsAlone, ManyAlone, Lying, Contract, Says}
+use Rattle.contracts.specs.Stated.{BoardAlone, MissionAlone, RoutesAlone, OutputAlone, NumbersAlone, HearsAlone, ManyAlone, Lying, Contract, Says}
 use Rattle.contracts.proofs.OneResult.{same_things, one_result_each}
 
 -- ---- each form of contract, and its form of row: t is what is lent

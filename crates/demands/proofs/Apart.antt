@@ -7,7 +7,7 @@ use mathlib.Core.List.{List, [], map}
 use Rattle.lent_state.proofs.Same.{board_injective, lent_injective}
 use Rattle.lent_state.specs.View.{lent_board}
 use Rattle.contracts.specs.Promised.{Result, lent_to, promised}
-use Rattle.contracts.specs.Contracts.{Says}
+use Rattle.contracts.specs.Stated.{Says}
 use Rattle.contracts.proofs.Rows.{says_row, one_result_by_contract}
 use Rattle.history.specs.Calls.{
   OperatorCall,

@@ -23,7 +23,7 @@ use Rattle.page.proofs.Rows.{every_check}
 use Rattle.batch.specs.Items.{most_items, Lists, start_of, octets_at, room_at, many_checks}
 use Rattle.batch.specs.Many.{items_held, answer_at, items_answered, items_sent, many_refusal, many_heard}
 use Rattle.contracts.specs.Promised.{Things, Result, Passable, Allows, lent_to, promised}
-use Rattle.contracts.specs.Contracts.{Says}
+use Rattle.contracts.specs.Stated.{Says}
 use Rattle.contracts.proofs.Answers.{each_call_answers}
 use Rattle.contracts.proofs.Rows.{says_row}
 use Rattle.demands.specs.Trace.{Customer, Step, Words, mission_of, words_after, Trace, AllPass}

@@ -34,7 +34,7 @@ use Rattle.echo.specs.declared.Reading.{Reading as Message}
 use Rattle.harpjuniper_messages.specs.Face.{message_count}
 use Rattle.harpjuniper_messages.specs.Face as messages
 use Rattle.contracts.specs.Promised.{Things, Result, Promise, Allows, lent_to, looking, hj_read_words, hj_build_words, hj_read_echo_words}
-use Rattle.contracts.specs.Contracts.{Says}
+use Rattle.contracts.specs.Stated.{Says}
 use Rattle.contracts.proofs.Answers.{each_call_answers}
 use Rattle.contracts.proofs.Rows.{says_row, one_result_by_contract, row_contract}
 use Rattle.contracts.proofs.Given as goal

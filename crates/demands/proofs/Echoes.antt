@@ -103,7 +103,7 @@ use Rattle.page.proofs.Replies.{
 }
 use Rattle.harpjuniper_echo.specs.Face.{echo_answer}
 use Rattle.contracts.specs.Promised.{Result, lent_to, hj_echo}
-use Rattle.contracts.specs.Contracts.{Says}
+use Rattle.contracts.specs.Stated.{Says}
 use Rattle.contracts.proofs.Rows.{says_row}
 use Rattle.history.specs.Calls.{orders, drop_flag, views, MissionCall, echoes, Call, operator, own}
 use Rattle.history.specs.Seat.{Seat, fresh_seat, state_of, relay_in, relay_with, answering_by, replied_by}

@@ -15,7 +15,7 @@ use Rattle.lent_state.specs.View.{Lent, Held, Other, lent_board, lent, by_lent, 
 use Rattle.lent_state.proofs.Calls.{board_held_told, board_other_told, board_other_changed, held_told, other_told, other_changed}
 use Rattle.lent_state.proofs.Same.{board_injective, lent_injective}
 use Rattle.contracts.specs.Promised.{Result, hj_fresh_board, hj_fresh_mission}
-use Rattle.contracts.specs.Contracts.{Says}
+use Rattle.contracts.specs.Stated.{Says}
 use Rattle.contracts.proofs.Rows.{says_row}
 use Rattle.demands.specs.Trace.{Customer, first, second, number_of}
 

@@ -4,7 +4,7 @@ use Prim.Native.Nat.{ℕ}
 use mathlib.Core.Path.{◌≡◌, refl, sym, ap, ◌∙◌}
 use mathlib.Core.List.{List, [], ◌∷◌, map}
 use Rattle.contracts.specs.Promised.{Result, Exported}
-use Rattle.contracts.specs.Contracts.{Says}
+use Rattle.contracts.specs.Stated.{Says}
 use Rattle.contracts.proofs.Rows.{one_result_by_contract}
 use Rattle.history.specs.Calls.{Call, operator, own}
 use Rattle.demands.specs.Trace.{Customer, first, second, Step, operates, flies, Words, mission_of, words_after, Trace, history_of, orders_of}

@@ -27,7 +27,7 @@ use Rattle.echo.proofs.Refusals.{reads_good, builds_exactly}
 use Rattle.echo.proofs.Trip.{SeenFits, KindFits, Fits, written_length, written_data, read_written, written_read}
 use Rattle.harpjuniper_messages.specs.Face.{message_count, message_words, refusal_in, read_answer, left_by, read_left, built_answer}
 use Rattle.contracts.specs.Promised.{Result, Passable, hj_read_echo_words}
-use Rattle.contracts.specs.Contracts.{Says}
+use Rattle.contracts.specs.Stated.{Says}
 use Rattle.contracts.proofs.Answers.{each_call_answers}
 use Rattle.contracts.proofs.Rows.{says_row}
 use Rattle.page.specs.Table.{GivenBy}

@@ -3,7 +3,7 @@
 use mathlib.Core.Path.{◌≡◌, refl, ap, ap₂, subst, ◌∙◌}
 use mathlib.Core.List.{List, [], ◌∷◌, ◌++◌, append-nil}
 use Rattle.contracts.specs.Promised.{Result}
-use Rattle.contracts.specs.Contracts.{Says}
+use Rattle.contracts.specs.Stated.{Says}
 use Rattle.history.specs.Calls.{MissionCall, Call, operator, own}
 use Rattle.history.specs.Seat.{Seat, fresh_seat}
 use Rattle.history.specs.Outcome.{seat_after, next}

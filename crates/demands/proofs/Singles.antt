@@ -17,7 +17,7 @@ use Rattle.batch.specs.Many.{items_held, answer_at}
 use Rattle.batch.proofs.Stretches.{room_length}
 use Rattle.harpjuniper_receive.specs.Face.{receive_answer, receive_words, receive_output}
 use Rattle.contracts.specs.Promised.{Result, Allows, promised}
-use Rattle.contracts.specs.Contracts.{Says}
+use Rattle.contracts.specs.Stated.{Says}
 use Rattle.contracts.proofs.Answers.{each_call_answers}
 use Rattle.contracts.proofs.Kept.{get_d_each}
 use Rattle.contracts.proofs.Rows.{says_row}

@@ -11,7 +11,7 @@ use Rattle.state.specs.Seen.{State}
 use Rattle.state.specs.Layout.{decode_board, decode}
 use Rattle.lent_state.specs.View.{Held, lent_board, lent}
 use Rattle.contracts.specs.Promised.{Result, Allows}
-use Rattle.contracts.specs.Contracts.{Says}
+use Rattle.contracts.specs.Stated.{Says}
 use Rattle.history.specs.Seat.{Seat}
 use Rattle.history.specs.Calls.{
   Order,

@@ -14,7 +14,7 @@ use Rattle.state.specs.Layout.{board_words, decode_board, mission_words, decode}
 use Rattle.tally.specs.Tally.{counted_all}
 use Rattle.lent_state.specs.View.{Held, Other, lent_board, lent}
 use Rattle.contracts.specs.Promised.{Result, Allows}
-use Rattle.contracts.specs.Contracts.{Says}
+use Rattle.contracts.specs.Stated.{Says}
 use Rattle.contracts.proofs.Rows.{says_row}
 use Rattle.history.specs.Calls.{Call, operator, own}
 use Rattle.history.specs.Seat.{Seat, fresh_seat, state_of}

@@ -15,7 +15,7 @@ use Rattle.answers.specs.Answers.{part_at}
 use Rattle.words.specs.Cut.{total}
 use Rattle.batch.specs.Items.{Lists, start_of, room_at}
 use Rattle.contracts.specs.Promised.{Things, Result}
-use Rattle.contracts.specs.Contracts.{Says}
+use Rattle.contracts.specs.Stated.{Says}
 use Rattle.contracts.proofs.Answers.{each_call_answers}
 use Rattle.history.specs.Calls.{MissionCall, hears}
 use Rattle.history.proofs.Marked.{opened}

@@ -41,7 +41,7 @@ use Rattle.state.proofs.Fresh.{fresh_board_length, fresh_length}
 use Rattle.tally.specs.Tally.{counter_for, counted_at}
 use Rattle.harpjuniper_relay.specs.Face.{counter_answer, waiting_answer}
 use Rattle.contracts.specs.Promised.{Result}
-use Rattle.contracts.specs.Contracts.{Says}
+use Rattle.contracts.specs.Stated.{Says}
 use Rattle.contracts.proofs.Answers.{each_call_answers}
 use Rattle.contracts.proofs.Kept.{get_d_each}
 use Rattle.answers.specs.Answers.{part_at}

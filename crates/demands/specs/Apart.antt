@@ -5,7 +5,7 @@
 use Rattle.std.specs.Prelude.{ℕ, ◌≡◌, ◌≢◌, List, [], ◌∷◌}
 use Rattle.checks.specs.Order.{pick}
 use Rattle.contracts.specs.Promised.{Result, lent_to}
-use Rattle.contracts.specs.Contracts.{Says}
+use Rattle.contracts.specs.Stated.{Says}
 use Rattle.history.specs.Calls.{OperatorCall, Call, MissionCall}
 use Rattle.demands.specs.Trace.{Customer, Step, operates, flies, step_of, Words, mission_of, is_of, made, words_after, Trace, Begun, history_of, orders_of, Gives}
 

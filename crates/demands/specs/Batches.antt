@@ -12,7 +12,7 @@ use Rattle.judge.specs.Ending.{output_room}
 use Rattle.answers.specs.Answers.{part_at}
 use Rattle.batch.specs.Items.{most_items, Lists, octets_at, room_at}
 use Rattle.contracts.specs.Promised.{Result, lent_to, Exported, hj_receive_many}
-use Rattle.contracts.specs.Contracts.{Says}
+use Rattle.contracts.specs.Stated.{Says}
 use Rattle.history.specs.Calls.{hears}
 use Rattle.history.specs.Ranges.{Octets}
 use Rattle.demands.specs.Trace.{Customer, first, second, Step, operates, flies, Words, mission_of, made, words_after, Trace, Fit, Passes, Begun, is_of, history_of}

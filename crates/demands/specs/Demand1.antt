@@ -24,7 +24,7 @@ use Rattle.page.specs.Memory.{kept_place, page_memory}
 use Rattle.harpjuniper.specs.Face.{reading_count}
 use Rattle.harpjuniper_messages.specs.Face.{message_count}
 use Rattle.contracts.specs.Promised.{Things, Result, lent_to, Passable, Exported, hj_fresh_board, hj_fresh_mission, hj_read_words, hj_build_words, hj_read_echo_words}
-use Rattle.contracts.specs.Contracts.{Lying, Contract, Says}
+use Rattle.contracts.specs.Stated.{Lying, Contract, Says}
 use Rattle.contracts.specs.Functions.{function_of, Unchecked}
 use Rattle.history.specs.Calls.{
   set_router,

@@ -46,7 +46,7 @@ use Rattle.page.specs.Sought.{RouteTaken}
 use Rattle.page.specs.Replies.{RequestAnswered, ReplyTo, reply_verdict}
 use Rattle.harpjuniper_messages.specs.Face.{message_count, message_words}
 use Rattle.contracts.specs.Promised.{Result, lent_to, hj_echo}
-use Rattle.contracts.specs.Contracts.{Says}
+use Rattle.contracts.specs.Stated.{Says}
 use Rattle.history.specs.Calls.{drop_flag, views, MissionCall, echoes, counter, waiting, looks, Call}
 use Rattle.history.specs.Outcome.{replied, own_outcome}
 use Rattle.history.specs.Parts.{the_drop, About}

@@ -16,7 +16,7 @@ use Rattle.relay.specs.Outgoing.{stretch_of}
 use Rattle.harpjuniper.specs.Face.{Reading, reading_count, reading_words}
 use Rattle.harpjuniper_reads.specs.Back.{port_answer, group_answer, path_answer}
 use Rattle.contracts.specs.Promised.{Result, Exported, hj_read_words, hj_build_words, hj_read_echo_words, hj_build_request, hj_build_reply}
-use Rattle.contracts.specs.Contracts.{Says}
+use Rattle.contracts.specs.Stated.{Says}
 use Rattle.history.specs.Seat.{Seat}
 use Rattle.history.specs.Parts.{Part, the_router, the_port, the_lifetime, the_drop, the_group, the_path}
 use Rattle.history.specs.Calls.{

@@ -46,7 +46,7 @@ use Rattle.contracts.specs.Promised.{
   hj_waiting,
   hj_sweep,
 }
-use Rattle.contracts.specs.Contracts.{Says}
+use Rattle.contracts.specs.Stated.{Says}
 use Rattle.queue.specs.Order.{Each}
 use Rattle.routes.specs.declared.Record.{Record}
 use Rattle.route_calls.specs.Calls.{record_words}

@@ -1,6 +1,6 @@
--- The seven functions that are lent a list of routes. They are proved by a walk through their code, so that no `Reads` is made of their contracts: what a
--- contract promises is named here, and that the clauses in the source (crates harpjuniper_routes, _receive, _batch and _echo, src/) say this
--- and no more, in whatever world the code runs, is proved by computing (proofs/Given.antt). Assumes nothing.
+-- The seven functions that are lent a list of routes. What the contract of each promises is one clause, which is named here; that the clauses in the
+-- source (crates harpjuniper_routes, _receive, _batch and _echo, src/) say this and no more, in whatever world the code runs, is proved by computing
+-- (proofs/Given.antt). Assumes nothing.
 use seplogic.Ra.Ura.{Ura}
 use base.Logic.{emp}
 use contract.Lifetimes.{Lfts}
