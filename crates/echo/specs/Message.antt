@@ -1,6 +1,6 @@
 -- SCMP Echo Request and Echo Reply: 003, 3.3.2 (figure 3-4: type, code, checksum) and 3.3.4.7 (identifier, sequence number, and what a reply adds, in the order
 -- of 3.3.4.7.5). A message is the user data of a datagram. Assumes nothing.
-use Rattle.std.specs.Prelude.{ℕ, ◌+◌, Bool, not, ◌&&◌, ◌||◌, List, [], ◌∷◌, ◌++◌, length, take, drop, eqb, ltb}
+use Rattle.std.specs.Prelude.{ℕ, Bool, not, ◌&&◌, ◌||◌, List, [], ◌∷◌, ◌++◌, length, take, drop, eqb, ltb}
 use Rattle.checks.specs.Order.{pick, Checks, first_of}
 use Rattle.octets.specs.Octets.{octet, number, octets}
 use Rattle.checksum.specs.Sum.{checksum_of}

@@ -1,7 +1,6 @@
 -- `echo::build_message` meets its contract. Assumes nothing.
 use native.Mathlib.Omega.{arith}
 use Rattle.echo.proofs.Laws.{roomy, no_room, too_long, done}
-use borrow.Author.Rules.{rules}
 use Rattle.echo.proofs.build_message.Goals as goal
 
 pub returns-in_default : goal.returns-in_default

@@ -1,6 +1,5 @@
 -- `echo::check_sum` meets its contract. Assumes nothing.
 use borrow.Author.Tests.{eq-eqb, ne_eqb}
-use borrow.Author.Rules.{rules}
 use Rattle.echo.proofs.check_sum.Goals as goal
 
 pub returns-then-pair_at-sum_asked : goal.returns-then-pair_at-sum_asked

@@ -2,7 +2,6 @@
 use mathlib.Core.Path.{sym, ◌∙◌}
 use Rattle.octets.specs.Octets.{octet}
 use Rattle.echo.proofs.Laws.{other_code, is_request, is_reply_lem, is_other}
-use borrow.Author.Rules.{rules}
 use Rattle.echo.proofs.check_type.Goals as goal
 
 pub returns-then-octet_at-ne0 : goal.returns-then-octet_at-ne0

@@ -1,6 +1,5 @@
 -- `echo::check_whole` meets its contract. Assumes nothing.
 use borrow.Author.Tests.{eq-eqb, ne_eqb, lt-ltb, le-ltb}
-use borrow.Author.Rules.{rules}
 use Rattle.echo.proofs.check_whole.Goals as goal
 
 pub returns-then-octet_at-ne-REPLY_TYPE : goal.returns-then-octet_at-ne-REPLY_TYPE

@@ -1,6 +1,5 @@
 -- `echo::kind_in` meets its contract. Assumes nothing.
 use borrow.Author.Tests.{eq-eqb, ne_eqb}
-use borrow.Author.Rules.{rules}
 use Rattle.echo.proofs.kind_in.Goals as goal
 
 pub returns-then-octet_at-eq-REQUEST_TYPE : goal.returns-then-octet_at-eq-REQUEST_TYPE

@@ -2,7 +2,6 @@
 use native.Mathlib.Omega.{arith}
 use mathlib.Core.Path.{◌∙◌}
 use Rattle.echo.proofs.Laws.{kind_length, fixed_put}
-use borrow.Author.Rules.{rules}
 use Rattle.echo.proofs.put_fixed.Goals as goal
 
 pub put_number-a-requires : goal.put_number-a-requires

@@ -1,6 +1,5 @@
 -- `echo::put_seen` meets its contract. Assumes nothing.
 use Rattle.echo.proofs.Laws.{seen_put}
-use borrow.Author.Rules.{rules}
 use Rattle.echo.proofs.put_seen.Goals as goal
 
 pub returns : goal.returns

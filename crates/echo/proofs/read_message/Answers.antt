@@ -6,7 +6,6 @@ use Rattle.checks.specs.Order.{check_of}
 use Rattle.checks.specs.declared.Check.TheVariants.{Passed}
 use Rattle.echo.specs.Message.{request_size, other_type, cut_reply}
 use Rattle.echo.proofs.Laws.{short, no_echo, no_reply_lem, reply-room, no-sum, read}
-use borrow.Author.Rules.{rules}
 use Rattle.echo.proofs.read_message.Goals as goal
 use Rattle.echo.proofs.read_message.Goals.{In-Passed, In-Passed-check_whole}
 

@@ -1,5 +1,4 @@
 -- `echo::seen_in` meets its contract. Assumes nothing.
-use borrow.Author.Rules.{rules}
 use Rattle.echo.proofs.seen_in.Goals as goal
 
 pub returns : goal.returns

@@ -1,7 +1,6 @@
 -- `echo::sum_asked` meets its contract. Assumes nothing.
 use native.Mathlib.Omega.{arith}
 use Rattle.echo.proofs.Sums.{asked}
-use borrow.Author.Rules.{rules}
 use Rattle.echo.proofs.sum_asked.Goals as goal
 
 pub returns : goal.returns

@@ -1,5 +1,4 @@
 -- `layout::address_size` meets its contract, test by test. Assumes nothing.
-use borrow.Author.Rules.{rules}
 use Rattle.header.specs.Form.{address_size}
 use Rattle.header.proofs.Tests.{equal, other}
 use Rattle.layout.proofs.address_size.Goals as goal

@@ -1,5 +1,4 @@
 -- `layout::check_form` meets its contract, test by test; the last part is what `check_ipv6` answers. Assumes nothing.
-use borrow.Author.Rules.{rules}
 use Rattle.header.specs.Form.{forbidden}
 use Rattle.header.proofs.Tests.{equal, other}
 use Rattle.layout.proofs.check_form.Goals as goal

@@ -1,5 +1,4 @@
 -- `layout::control_of` meets its contract: a control octet that is not there, by the bit before it, is 0. Assumes nothing.
-use borrow.Author.Rules.{rules}
 use Prim.Native.Nat.{◌*◌, ◌≤◌}
 use native.Mathlib.Omega.{arith}
 use Rattle.header.specs.Form.{control_of}

@@ -1,5 +1,4 @@
 -- `layout::layout_of` meets its contract: each place is a sum of bits and of sizes that are small, so no sum wraps. Assumes nothing.
-use borrow.Author.Rules.{rules}
 use Prim.Native.Nat.{◌+◌, ◌*◌, ◌≤◌}
 use native.Mathlib.Omega.{arith}
 use Rattle.header.specs.Form.{layout_of}

@@ -1,5 +1,4 @@
 -- `layout::stamp_size` meets its contract, format by format. Assumes nothing.
-use borrow.Author.Rules.{rules}
 use borrow.Author.Tests.{ne_eqb}
 use native.Mathlib.Omega.{arith}
 use Rattle.header.specs.Form.{stamp_size}
@@ -19,4 +18,6 @@ returns-in-2 c = simp c.in-2.is (omega arith)
 
 pub returns-in_default : goal.returns-in_default
 unfolding stamp_size
-returns-in_default c = let r = c.in-0.rest in simp (ne_eqb _ _ r.0.0.1, ne_eqb _ _ r.0.1, ne_eqb _ _ r.1)
+returns-in_default c =
+    let f = c.args.format in
+    simp (ne_eqb f 0 (omega arith), ne_eqb f 1 (omega arith), ne_eqb f 2 (omega arith))

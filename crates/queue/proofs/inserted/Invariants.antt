@@ -1,13 +1,10 @@
 -- `queue::inserted` meets its contract. Before the first loop's place stand those that stay ahead of the newcomer; the second loop leaves
 -- open the place that it has come to. Assumes nothing.
-use borrow.Author.Rules.{rules}
-use native.Mathlib.Omega.{arith}
-use Prim.Native.Nat.{◌-◌, ◌≤◌, ◌<◌}
+use Prim.Native.Nat.{◌-◌, ◌≤◌}
 use mathlib.Core.Path.{◌≡◌}
-use mathlib.Core.Logic.{⊎_elim}
-use lib.ListN.{length, take}
+use lib.ListN.{take}
 use Rattle.queue.specs.Queue.{precedence_of}
-use Rattle.queue.proofs.Steps.{Stay, Place, stay_none, stay_more, place_met, place_last, shifted, shift_none, shift_turn, shift_end}
+use Rattle.queue.proofs.Steps.{Stay, Place, shifted}
 use Rattle.queue.proofs.inserted.Given as goal
 
 abbrev pub invariant-loop-place : goal.invariant-loop-place

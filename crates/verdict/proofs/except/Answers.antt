@@ -1,7 +1,6 @@
 -- `verdict::except` meets its contract: each answer by the tests that led to it. Assumes nothing.
 use native.Mathlib.Omega.{arith}
 use lib.Bits.{and_le_l}
-use borrow.Author.Rules.{rules}
 use Rattle.verdict.proofs.except.Goals as goal
 
 pub overflow_sub-result : goal.overflow_sub-result

@@ -1,6 +1,5 @@
 -- `queue::Queue::put` meets its contract. Assumes nothing.
 use mathlib.Core.Path.{sym}
-use borrow.Author.Rules.{rules}
 use Rattle.queue.proofs.Cases.{put_room, put_full}
 use Rattle.queue.proofs.Queue.put.Goals as goal
 

@@ -1,17 +1,16 @@
 -- `queue::Queue::take` meets its contract. Assumes nothing.
-use mathlib.Core.Path.{◌≡◌, sym, ◌∙◌}
+use mathlib.Core.Path.{◌≡◌, sym}
 use native.Mathlib.Omega.{arith}
-use borrow.Author.Rules.{rules}
-use lib.ListN.{length, length-map}
+use lib.ListN.{length}
 use Rattle.queue.proofs.Cases.{take_over, take_none, take_first}
 use Rattle.queue.proofs.Queue.take.Goals as goal
 use Rattle.queue.proofs.Queue.take.Goals.{Start}
 
 pub returns-in-1-to-32 : goal.returns-in-1-to-32
-returns-in-1-to-32 c = let wide : length c.args.self.entries ≡ 32 = sym (length-map c.args.self.entries _) ∙ c.well_formed.0.1.1.0.1.0.1 in rw c.moved_up-entries.ensures (sym (take_first c.args.self _ (omega arith) (omega arith) (omega (arith, wide))))
+returns-in-1-to-32 c = let wide : length c.args.self.entries ≡ 32 = omega arith in rw c.moved_up-entries.ensures (sym (take_first c.args.self _ (omega arith) (omega arith) (omega (arith, wide))))
 
 pub returns-in_default : goal.returns-in_default
 returns-in_default c = sym (take_none _ (omega arith))
 
 pub returns-in_default-2 : goal.returns-in_default-2
-returns-in_default-2 c = sym (take_over _ c.if-n-lt33.false)
+returns-in_default-2 c = sym (take_over _ (omega arith))

@@ -1,5 +1,4 @@
 -- `verdict::copies::after_hops` meets its contract: each answer by what its callees ensure. Assumes nothing.
-use borrow.Author.Rules.{rules}
 use Rattle.verdict.proofs.copies.after_hops.Goals as goal
 
 pub returns-in-Refused : goal.returns-in-Refused

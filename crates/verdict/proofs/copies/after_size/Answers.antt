@@ -1,5 +1,4 @@
 -- `verdict::copies::after_size` meets its contract: each answer by what its callees ensure. Assumes nothing.
-use borrow.Author.Rules.{rules}
 use Rattle.verdict.proofs.copies.after_size.Goals as goal
 
 pub returns-in-Refused : goal.returns-in-Refused

@@ -1,6 +1,5 @@
 -- `verdict::copies::copies_of` meets its contract: each answer by the law of its return. Assumes nothing.
 use Rattle.verdict.proofs.copies.Laws.{copies_none, copies_some}
-use borrow.Author.Rules.{rules}
 use Rattle.verdict.proofs.copies.copies_of.Goals as goal
 
 pub returns-then-took-eq0 : goal.returns-then-took-eq0

@@ -2,7 +2,6 @@
 use mathlib.Core.Path.{ap, ◌∙◌}
 use Rattle.verdict.specs.Rule.{after_size}
 use Rattle.verdict.specs.declared.Wish.{Wish}
-use borrow.Author.Rules.{rules}
 use Rattle.verdict.proofs.copies.granted_among.Goals as goal
 
 pub returns : goal.returns

@@ -1,6 +1,5 @@
 -- `verdict::copies::ruling_of` meets its contract: each answer by what its callees ensure. Assumes nothing.
 use Rattle.verdict.specs.Rule.{ruling_of}
-use borrow.Author.Rules.{rules}
 use Rattle.verdict.proofs.copies.ruling_of.Goals as goal
 
 pub returns-in-NotAsked : goal.returns-in-NotAsked

@@ -1,6 +1,5 @@
 -- `verdict::local_half::local_of` meets its contract: each answer by the law of its return. Assumes nothing.
 use Rattle.verdict.proofs.local_half.Laws.{local_no, local_unknown, local_yes}
-use borrow.Author.Rules.{rules}
 use Rattle.verdict.proofs.local_half.local_of.Goals as goal
 
 pub returns-then-wanted_here-eq0 : goal.returns-then-wanted_here-eq0

@@ -1,6 +1,5 @@
 -- `verdict::local_half::target_of` meets its contract: each answer by the law of its return. Assumes nothing.
 use Rattle.verdict.proofs.local_half.Laws.{ours_itself, broadcast_of_ours_lem, by_class_lem}
-use borrow.Author.Rules.{rules}
 use Rattle.verdict.proofs.local_half.target_of.Goals as goal
 
 pub returns-then-s-ne0 : goal.returns-then-s-ne0

@@ -1,5 +1,4 @@
 -- `verdict::onward_half::flood_line` meets its contract: what is plain is not asked of it. Assumes nothing.
-use borrow.Author.Rules.{rules}
 use Rattle.verdict.proofs.onward_half.flood_line.Goals as goal
 
 pub returns-in-Plain : goal.returns-in-Plain

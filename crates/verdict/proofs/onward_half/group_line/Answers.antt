@@ -2,7 +2,6 @@
 use Rattle.verdict.proofs.onward_half.Laws.{group_alone, group_none, group_some}
 use Rattle.verdict.specs.Rule.{group_line}
 use mathlib.Core.Path.{refl}
-use borrow.Author.Rules.{rules}
 use Rattle.verdict.proofs.onward_half.group_line.Goals as goal
 
 pub returns-in_default : goal.returns-in_default

@@ -1,5 +1,4 @@
 -- `verdict::onward_half::host_line` meets its contract: nothing is asked, or what its callee answers. Assumes nothing.
-use borrow.Author.Rules.{rules}
 use Rattle.verdict.proofs.onward_half.host_line.Goals as goal
 
 pub returns-in-Broadcast : goal.returns-in-Broadcast

@@ -1,7 +1,6 @@
 -- `verdict::onward_half::path_line` meets its contract: each answer by the law of its return. Assumes nothing.
 use Rattle.verdict.specs.Rule.{path_line}
 use Rattle.verdict.proofs.onward_half.Laws.{path_some, path_here, path_none}
-use borrow.Author.Rules.{rules}
 use Rattle.verdict.proofs.onward_half.path_line.Goals as goal
 
 pub returns-in_default : goal.returns-in_default

@@ -1,6 +1,5 @@
 -- `verdict::onward_half::plain_line` meets its contract: each answer by what its callees ensure. Assumes nothing.
 use Rattle.verdict.proofs.onward_half.Laws.{of_host, of_router}
-use borrow.Author.Rules.{rules}
 use Rattle.verdict.proofs.onward_half.plain_line.Goals as goal
 
 pub returns-then-c-eq0 : goal.returns-then-c-eq0

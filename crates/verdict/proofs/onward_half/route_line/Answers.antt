@@ -1,6 +1,5 @@
 -- `verdict::onward_half::route_line` meets its contract: each answer by the way that was told. Assumes nothing.
 use Rattle.verdict.specs.Rule.{route_line}
-use borrow.Author.Rules.{rules}
 use Rattle.verdict.proofs.onward_half.route_line.Goals as goal
 
 pub returns-in_default : goal.returns-in_default

@@ -1,5 +1,4 @@
 -- `verdict::onward_half::router_line` meets its contract: each answer by what its callees ensure. Assumes nothing.
-use borrow.Author.Rules.{rules}
 use mathlib.Core.Path.{ap, ◌∙◌}
 use Rattle.verdict.specs.Rule.{broadcast_line}
 use Rattle.verdict.proofs.onward_half.router_line.Goals as goal

@@ -1,5 +1,4 @@
 -- `verdict::onward_half::unheard` meets its contract, case by case. Assumes nothing.
-use borrow.Author.Rules.{rules}
 use Rattle.verdict.proofs.onward_half.unheard.Goals as goal
 
 pub returns-in-No : goal.returns-in-No

@@ -1,5 +1,4 @@
 -- `writer::addresses::put_addresses` meets its contract, row by row of table 3-5: one piece, or two one after the other. Assumes nothing.
-use borrow.Author.Rules.{rules}
 use native.Mathlib.Omega.{arith}
 use Rattle.octets.proofs.Laws.{put_one, put_two, put_numbers}
 use Rattle.header.specs.Build.{addresses_octets}
@@ -27,4 +26,4 @@ returns-in-ExtendedEndSystem c = let t = put_numbers _ _ _ _ _ _ _ _ _ _ (c.put_
 
 pub returns-in-Ipv6 : goal.returns-in-Ipv6
 unfolding addresses_octets
-returns-in-Ipv6 c = let a = c.a-in-Ipv6-1.given in let t = put_two _ _ _ _ _ _ _ _ (c.put_six-next.ensures.value, c.put_six-next.ensures.out_after) (c.put_six.ensures.value, c.put_six.ensures.out_after) (omega (arith, six_length a.0.0, six_length a.0.1.0)) in rw a.1 (record { value = t.0; out_after = t.1 })
+returns-in-Ipv6 c = let t = put_two _ _ _ _ _ _ _ _ (c.put_six-next.ensures.value, c.put_six-next.ensures.out_after) (c.put_six.ensures.value, c.put_six.ensures.out_after) (omega (arith, six_length c.in-Ipv6.d, six_length c.in-Ipv6.s)) in rw c.in-Ipv6.is (record { value = t.0; out_after = t.1 })

@@ -1,5 +1,4 @@
 -- `writer::addresses::put_six` meets its contract: two numbers of eight octets, one after the other. Assumes nothing.
-use borrow.Author.Rules.{rules}
 use native.Mathlib.Omega.{arith}
 use Rattle.octets.proofs.Laws.{put_numbers}
 use Rattle.header.specs.Build.{six_octets}

@@ -1,5 +1,4 @@
 -- `writer::elements::put_octet` meets its contract, absent and present. Assumes nothing.
-use borrow.Author.Rules.{rules}
 use Rattle.octets.proofs.Laws.{put_none, put_one}
 use Rattle.header.specs.Build.{octet_octets}
 use Rattle.writer.proofs.elements.put_octet.Goals as goal

@@ -1,5 +1,4 @@
 -- `writer::elements::put_stamp` meets its contract, format by format. Assumes nothing.
-use borrow.Author.Rules.{rules}
 use native.Mathlib.Omega.{arith}
 use Rattle.octets.proofs.Laws.{put_none, put_one, put_numbers}
 use Rattle.header.specs.Build.{stamp_octets}

@@ -1,5 +1,4 @@
 -- `writer::front::put_front` meets its contract: four numbers, one after the other, of which the last two may have no octets. Assumes nothing.
-use borrow.Author.Rules.{rules}
 use native.Mathlib.Omega.{arith}
 use Rattle.header.proofs.Pieces.{present_le}
 use Rattle.writer.proofs.front.Laws.{front_put}

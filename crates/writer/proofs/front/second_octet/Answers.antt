@@ -1,5 +1,4 @@
 -- `writer::front::second_octet` meets its contract: each bit has its own weight, so no sum wraps. Assumes nothing.
-use borrow.Author.Rules.{rules}
 use Prim.Native.Nat.{◌≤◌}
 use native.Mathlib.Omega.{arith}
 use Rattle.header.specs.Build.{second_octet}

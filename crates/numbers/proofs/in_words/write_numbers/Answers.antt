@@ -1,0 +1,86 @@
+-- `numbers::in_words::write_numbers` leaves the words of the numbers: all of them were stored, one by one. Assumes nothing.
+use native.Mathlib.Omega.{arith}
+use lib.ListN.{length-set}
+use Rattle.numbers.specs.InWords.{numbers_words}
+use Rattle.words.proofs.Parts.{all_stored}
+use borrow.Author.Rules.{rules}
+use Rattle.numbers.proofs.in_words.write_numbers.Goals as goal
+
+pub bounds-words-2 : goal.bounds-words-2
+bounds-words-2 c = simp length-set (omega (arith, c.requires))
+
+pub bounds-words-3 : goal.bounds-words-3
+bounds-words-3 c = simp length-set (omega (arith, c.requires))
+
+pub bounds-words-4 : goal.bounds-words-4
+bounds-words-4 c = simp length-set (omega (arith, c.requires))
+
+pub bounds-words-5 : goal.bounds-words-5
+bounds-words-5 c = simp length-set (omega (arith, c.requires))
+
+pub bounds-words-6 : goal.bounds-words-6
+bounds-words-6 c = simp length-set (omega (arith, c.requires))
+
+pub bounds-words-7 : goal.bounds-words-7
+bounds-words-7 c = simp length-set (omega (arith, c.requires))
+
+pub bounds-words-8 : goal.bounds-words-8
+bounds-words-8 c = simp length-set (omega (arith, c.requires))
+
+pub bounds-words-9 : goal.bounds-words-9
+bounds-words-9 c = simp length-set (omega (arith, c.requires))
+
+pub bounds-words-10 : goal.bounds-words-10
+bounds-words-10 c = simp length-set (omega (arith, c.requires))
+
+pub bounds-words-11 : goal.bounds-words-11
+bounds-words-11 c = simp length-set (omega (arith, c.requires))
+
+pub bounds-words-12 : goal.bounds-words-12
+bounds-words-12 c = simp length-set (omega (arith, c.requires))
+
+pub bounds-words-13 : goal.bounds-words-13
+bounds-words-13 c = simp length-set (omega (arith, c.requires))
+
+pub bounds-words-14 : goal.bounds-words-14
+bounds-words-14 c = simp length-set (omega (arith, c.requires))
+
+pub bounds-words-15 : goal.bounds-words-15
+bounds-words-15 c = simp length-set (omega (arith, c.requires))
+
+pub bounds-words-16 : goal.bounds-words-16
+bounds-words-16 c = simp length-set (omega (arith, c.requires))
+
+pub bounds-words-17 : goal.bounds-words-17
+bounds-words-17 c = simp length-set (omega (arith, c.requires))
+
+pub bounds-words-18 : goal.bounds-words-18
+bounds-words-18 c = simp length-set (omega (arith, c.requires))
+
+pub bounds-words-19 : goal.bounds-words-19
+bounds-words-19 c = simp length-set (omega (arith, c.requires))
+
+pub bounds-words-20 : goal.bounds-words-20
+bounds-words-20 c = simp length-set (omega (arith, c.requires))
+
+pub bounds-words-21 : goal.bounds-words-21
+bounds-words-21 c = simp length-set (omega (arith, c.requires))
+
+pub bounds-words-22 : goal.bounds-words-22
+bounds-words-22 c = simp length-set (omega (arith, c.requires))
+
+pub bounds-words-23 : goal.bounds-words-23
+bounds-words-23 c = simp length-set (omega (arith, c.requires))
+
+pub bounds-words-24 : goal.bounds-words-24
+bounds-words-24 c = simp length-set (omega (arith, c.requires))
+
+pub bounds-words-25 : goal.bounds-words-25
+bounds-words-25 c = simp length-set (omega (arith, c.requires))
+
+pub shape_of-words : goal.shape_of-words
+shape_of-words c = simp length-set
+
+pub returns : goal.returns
+unfolding numbers_words
+returns c = all_stored c.args.words.now (numbers_words c.args.n) c.requires
