@@ -1,0 +1,6 @@
+-- `relay::query_of` meets its contract. Assumes nothing.
+use borrow.Author.Rules.{rules}
+use Rattle.relay.proofs.query_of.Goals as goal
+
+pub returns : goal.returns
+returns c = cc
