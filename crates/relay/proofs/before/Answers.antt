@@ -1,6 +1,5 @@
 -- `relay::before` meets its contract: no names are no wrong names. Assumes nothing.
 use Rattle.survey.proofs.Naming.{unlooked}
-use borrow.Author.Rules.{rules}
 use Rattle.relay.proofs.before.Goals as goal
 
 pub before_named-requires : goal.before_named-requires

@@ -1,6 +1,5 @@
 -- `relay::before_named` meets its contract. Assumes nothing.
 use Rattle.relay.proofs.Asking.{asked_long, asked_no_board, asked_no_mission, asked_right}
-use borrow.Author.Rules.{rules}
 use Rattle.relay.proofs.before_named.Goals as goal
 
 pub returns-then-count : goal.returns-then-count

@@ -1,8 +1,6 @@
 -- `relay::carry_out` meets its contract. Assumes nothing.
-use native.Mathlib.Omega.{arith}
 use Rattle.relay.specs.Outgoing.{sent_output}
 use Rattle.relay.proofs.Received.{received}
-use borrow.Author.Rules.{rules}
 use Rattle.relay.proofs.carry_out.Goals as goal
 
 pub count-requires : goal.count-requires

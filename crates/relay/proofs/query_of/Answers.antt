@@ -1,5 +1,4 @@
 -- `relay::query_of` meets its contract. Assumes nothing.
-use borrow.Author.Rules.{rules}
 use Rattle.relay.proofs.query_of.Goals as goal
 
 pub returns : goal.returns

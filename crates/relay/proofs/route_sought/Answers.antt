@@ -1,6 +1,5 @@
 -- `relay::route_sought` meets its contract. Assumes nothing.
 use Rattle.relay.proofs.Asking.{routed_not, routed}
-use borrow.Author.Rules.{rules}
 use Rattle.relay.proofs.route_sought.Goals as goal
 
 pub returns-then-router-eq0 : goal.returns-then-router-eq0

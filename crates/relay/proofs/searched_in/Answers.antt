@@ -2,9 +2,7 @@
 use mathlib.Core.Path.{ap, ◌∙◌}
 use Prim.Native.Nat.{ℕ}
 use borrow.Author.Tests.{eq-eqb, ne_eqb}
-use Rattle.verdict.specs.declared.Flood.{Flood}
 use Rattle.judge.specs.Asked.{unless_flood}
-use borrow.Author.Rules.{rules}
 use Rattle.relay.proofs.searched_in.Goals as goal
 
 pub returns-then-refusal-ne0 : goal.returns-then-refusal-ne0

@@ -3,7 +3,6 @@ use borrow.Author.Tests.{eq-eqb, ne_eqb}
 use Prim.Native.Nat.{ℕ}
 use mathlib.Core.Path.{ap}
 use Rattle.verdict.specs.declared.Way.TheVariants.{By}
-use borrow.Author.Rules.{rules}
 use Rattle.relay.proofs.way_in.Goals as goal
 
 pub returns-then-s-eq0 : goal.returns-then-s-eq0

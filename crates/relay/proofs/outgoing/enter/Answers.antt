@@ -1,7 +1,6 @@
 -- `relay::outgoing::enter` meets its contract. Assumes nothing.
 use Rattle.state.specs.Layout.{decode}
 use Rattle.relay.proofs.outgoing.Entries.{one_entered}
-use borrow.Author.Rules.{rules}
 use Rattle.relay.proofs.outgoing.enter.Goals as goal
 
 pub returns : goal.returns

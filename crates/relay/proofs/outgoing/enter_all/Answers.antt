@@ -1,11 +1,5 @@
 -- `relay::outgoing::enter_all` meets its contract: after p turns the first p ports have their entry. Assumes nothing.
 use native.Mathlib.Omega.{arith}
-use Prim.Native.Nat.{◌-◌, ◌≤◌}
-use mathlib.Core.Path.{◌≡◌}
-use lib.ListN.{length}
-use Rattle.state.specs.Seen.{Board, on_seated}
-use Rattle.state.specs.Layout.{mission_words, decode}
-use Rattle.relay.specs.Outgoing.{entered_all}
 use Rattle.relay.proofs.outgoing.Entries.{nobody_yet, one_further, all_entered}
 use borrow.Author.Rules.{rules}
 use Rattle.relay.proofs.outgoing.enter_all.Goals as goal

@@ -1,6 +1,5 @@
 -- `relay::outgoing::enter_if` meets its contract. Assumes nothing.
 use Rattle.relay.proofs.outgoing.Entries.{not_in, is_in}
-use borrow.Author.Rules.{rules}
 use Rattle.relay.proofs.outgoing.enter_if.Goals as goal
 
 pub returns-then-took-only_port-eq0 : goal.returns-then-took-only_port-eq0

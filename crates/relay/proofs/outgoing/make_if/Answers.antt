@@ -1,6 +1,5 @@
 -- `relay::outgoing::make_if` meets its contract. Assumes nothing.
 use Rattle.relay.proofs.outgoing.Headers.{header_fits, made_ready, none_ready}
-use borrow.Author.Rules.{rules}
 use Rattle.relay.proofs.outgoing.make_if.Goals as goal
 
 pub returns-then-ports-eq0 : goal.returns-then-ports-eq0

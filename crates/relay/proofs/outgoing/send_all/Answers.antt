@@ -3,7 +3,6 @@ use mathlib.Core.Path.{refl, sym, ◌∙◌}
 use lib.Seq.{length-take-le}
 use native.Mathlib.Omega.{arith}
 use Rattle.relay.proofs.outgoing.Headers.{few_taken, ready_sent, took_none}
-use borrow.Author.Rules.{rules}
 use Rattle.relay.proofs.outgoing.send_all.Goals as goal
 
 pub returns-then-took-eq0 : goal.returns-then-took-eq0

@@ -1,9 +1,6 @@
 -- `relay::outgoing::send_each` meets its contract. Assumes nothing.
 use native.Mathlib.Omega.{arith}
-use Prim.Native.Nat.{◌-◌, ◌≤◌}
-use mathlib.Core.Path.{◌≡◌, refl}
-use lib.ListN.{length}
-use Rattle.relay.specs.Outgoing.{chosen_below}
+use mathlib.Core.Path.{refl}
 use Rattle.relay.proofs.outgoing.Headers.{none_sent, one_further, all_sent}
 use borrow.Author.Rules.{rules}
 use Rattle.relay.proofs.outgoing.send_each.Goals as goal

@@ -1,11 +1,8 @@
 -- `relay::outgoing::send_each` meets its contract. Assumes nothing.
-use native.Mathlib.Omega.{arith}
 use Prim.Native.Nat.{◌-◌, ◌≤◌}
-use mathlib.Core.Path.{◌≡◌, refl}
+use mathlib.Core.Path.{◌≡◌}
 use lib.ListN.{length}
 use Rattle.relay.specs.Outgoing.{chosen_below}
-use Rattle.relay.proofs.outgoing.Headers.{none_sent, one_further, all_sent}
-use borrow.Author.Rules.{rules}
 use Rattle.relay.proofs.outgoing.send_each.Given as goal
 
 abbrev pub invariant-loop-p : goal.invariant-loop-p
