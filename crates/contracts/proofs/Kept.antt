@@ -18,7 +18,7 @@ use Rattle.address.specs.declared.Slot.{Slot}
 use Rattle.sets.specs.Sets.{only_port}
 use Rattle.sets.specs.Limits.{port_count, group_places, path_places}
 use Rattle.queue.specs.Order.{Each}
-use Rattle.queue.specs.Queue.{free, fresh as freshQueue, waiting, precedence_of, insert, put_of, taken_from, take_of}
+use Rattle.queue.specs.Queue.{free, fresh as fresh_queue, waiting, precedence_of, insert, put_of, taken_from, take_of}
 use Rattle.queue.specs.declared.Entry.{Entry}
 use Rattle.queue.specs.declared.Queue.{Queue}
 use Rattle.queue.specs.declared.Head.{Head}
@@ -98,8 +98,8 @@ module _ {A : Type 0} (P : A → Type 0) where
 free_fits : SlotFits free
 free_fits = omega arith
 
-fresh_formed : FormedQueue freshQueue
-unfolding freshQueue
+fresh_formed : FormedQueue fresh_queue
+unfolding fresh_queue
 fresh_formed = (refl, replicate_each SlotFits 32 free free_fits)
 
 module _ (q : Queue) (formed : FormedQueue q) where
@@ -174,7 +174,7 @@ KeptIn r = FormedMission r.mission
 
 module _ (r : Relay) (formed : KeptIn r) where
   queue_in_lem : (p : ℕ) → FormedQueue (queue_in r p)
-  queue_in_lem p = get_d_each FormedQueue r.mission.queues p freshQueue fresh_formed formed.queues
+  queue_in_lem p = get_d_each FormedQueue r.mission.queues p fresh_queue fresh_formed formed.queues
 
   -- settings, each refused or taken
   pub set_group_kept : (i : ℕ) (address : Address) (send subscribed : ℕ) → KeptIn (settled_group r i address send subscribed)

@@ -26,7 +26,7 @@ use Rattle.taking.specs.Taking.{taken_relay}
 use Rattle.batch.specs.Items.{Lists}
 use Rattle.batch.specs.Many.{items_held, items_answered, items_sent, many_refusal, many_heard}
 use Rattle.harpjuniper.specs.Face.{reading_of, read_answer, read_left, build_words_answer, build_words_output}
-use Rattle.harpjuniper_messages.specs.Face.{read_answer as readEchoAnswer, read_left as readEchoLeft, request_of, reply_of, built_answer}
+use Rattle.harpjuniper_messages.specs.Face.{read_answer as read_echo_answer, read_left as read_echo_left, request_of, reply_of, built_answer}
 use Rattle.harpjuniper_reads.specs.Back.{port_answer, group_answer, path_answer, pair_answer}
 use Rattle.harpjuniper_routes.specs.Face.{search_told, route_word_told}
 use Rattle.harpjuniper_receive.specs.Face.{receive_answer, receive_words, receive_output}
@@ -266,7 +266,7 @@ promised (hj_path p) = looking nothing (path_number (path_form p))
 promised (hj_checksum octets) = looking nothing (checksum_of octets)
 promised (hj_read_echo_words octets n) =
     let c = hj_read_echo_words octets n in
-    numbers_left (looking (lent_to c) (readEchoAnswer (length n) (message_in octets))) (readEchoLeft (message_in octets) n)
+    numbers_left (looking (lent_to c) (read_echo_answer (length n) (message_in octets))) (read_echo_left (message_in octets) n)
 promised (hj_build_request identifier sequence echoed o) =
     let m = request_of identifier sequence in
     output_left (looking (an_output o) (built_answer (built_of m (length echoed) (length o)))) (built_output m echoed o)

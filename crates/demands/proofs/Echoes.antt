@@ -43,7 +43,7 @@ use Rattle.state.specs.Relay.{Mission, Relay, port_in, port_set_up, route_in}
 use Rattle.state.specs.Seen.{Board, State, fresh_board}
 use Rattle.survey.proofs.Bits.{in_none}
 use Rattle.lookup.specs.ForTarget.{way_for}
-use Rattle.lent_state.specs.View.{Lent, Held, Other, lent_board, lent, by_lent, told_board, told as toldOf, told_both, too_long}
+use Rattle.lent_state.specs.View.{Lent, Held, Other, lent_board, lent, by_lent, told_board, told as told_of, told_both, too_long}
 use Rattle.lent_state.proofs.Same.{lent_injective}
 use Rattle.listing.specs.Listed.{seen}
 use Rattle.listing.proofs.Counting.{seen_contiguous}
@@ -60,7 +60,7 @@ use Rattle.replies.specs.Replied.{
   answering_of,
   no_reply,
   replied_among,
-  replied_via as byWay,
+  replied_via as by_way,
   replied_to,
   replied_of,
   wire_fields,
@@ -131,7 +131,7 @@ use Rattle.demands.specs.Trace.{
   flies,
   Words,
   mission_of,
-  made as madeOn,
+  made as made_on,
   words_after,
   Begun,
   history_of,
@@ -170,7 +170,7 @@ module _ (r : Relay) (number dropping at : ℕ) (octets : List ℕ) (room : ℕ)
   unmade_is z = picks _ _ _ (eq-eqb made.made 0 z)
 
   -- the entry has the precedence of the request
-  precedence_way : (w : Way) → (byWay r made w room).precedence ≡ made.precedence
+  precedence_way : (w : Way) → (by_way r made w room).precedence ≡ made.precedence
   unfolding replied_among
   precedence_way Lost = refl
   precedence_way (By set code) = refl
@@ -238,8 +238,8 @@ module _ {A : Type 0} (P : A → Type 0) where
       by (Held b) = all b
       by (Other o) = other
 
-  state_any : (f : State → A) (d : A) (w : List ℕ) → P d → ((s : State) → P (f s)) → P (toldOf f d w)
-  unfolding toldOf
+  state_any : (f : State → A) (d : A) (w : List ℕ) → P d → ((s : State) → P (f s)) → P (told_of f d w)
+  unfolding told_of
   state_any f d w other all = by (lent w)
     where
       by : (v : Lent State) → P (by_lent f d v)
@@ -247,7 +247,7 @@ module _ {A : Type 0} (P : A → Type 0) where
       by (Other o) = other
 
   both_any : (f : Board → State → A) (d : A) (v w : List ℕ) → P d → ((b : Board) (s : State) → P (f b s)) → P (told_both f d v w)
-  both_any f d v w other all = board_any (λ (b : Board). toldOf (f b) d w) d v other (λ b. state_any (f b) d w other (all b))
+  both_any f d v w other all = board_any (λ (b : Board). told_of (f b) d w) d v other (λ b. state_any (f b) d w other (all b))
 
 -- octets that no relay makes a reply to
 abbrev NoneAnswers : List ℕ → Type 0
@@ -635,12 +635,12 @@ module _ (who : Customer) (steps : List Step) (rs : List Record) (at : ℕ) (slo
       (ap (λ (r : Relay). r.mission) (nobody_took (relay_in seat) slot (as_ending w) (ap (λ (y : Ruling). y.took) none)))
       (ap (λ (y : Ruling). counted_all (counters who steps) (reply_moves y)) none)
 
-  none_leaves : onward_in x ≡ 0 → x.left ≡ lent_to (madeOn g.before (flies who (echoes rs at slot octets output)))
+  none_leaves : onward_in x ≡ 0 → x.left ≡ lent_to (made_on g.before (flies who (echoes rs at slot octets output)))
   none_leaves z =
       let c = own (echoes rs at slot octets output) in
       let hold = words_hold who g.lent steps g.before g.begun in
       let row = gives_row who steps c x g in
-      whole (lent_to (madeOn g.before (flies who (echoes rs at slot octets output)))) x.answer x
+      whole (lent_to (made_on g.before (flies who (echoes rs at slot octets output)))) x.answer x
       (record {
         answer = refl;
         board = row.board ∙ sym hold.0;

@@ -29,7 +29,7 @@ use Rattle.judge.specs.declared.Ending.{Ending}
 use Rattle.relay.specs.Outgoing.{sent_output}
 use Rattle.relay.specs.Received.{heard_ending, heard_memory, received_state}
 use Rattle.lent_state.specs.View.{Lent, Held, lent_board, lent, by_lent, on_lent, told_board, changed_board, told, changed, told_both, changed_both, changed_relay, too_long}
-use Rattle.echo.specs.Message.{reading_of as echoOf}
+use Rattle.echo.specs.Message.{reading_of as echo_of}
 use Rattle.echo.specs.declared.Reading.{Reading as Message}
 use Rattle.replies.specs.Replied.{replied_to, replied_output}
 use Rattle.replies.specs.declared.Answering.{Answering}
@@ -77,7 +77,7 @@ use Rattle.history.specs.Calls.{
   search,
   counter,
   waiting,
-  read as readHeader,
+  read as read_header,
   build,
   class,
   form,
@@ -312,14 +312,14 @@ module _ (b m : List ℕ) (x : Seat) (l : List ℕ) (board : lent_board b ≡ He
   look_row_lem (search rs a) = same_promise (search_answer_lem rs a) board mission refl refl refl
   look_row_lem (counter i) = same_promise (own_told _ _) refl mission refl refl refl
   look_row_lem (waiting p) = same_promise (own_told _ _) refl mission refl refl refl
-  look_row_lem (readHeader octets) =
+  look_row_lem (read_header octets) =
       same_promise (reading_answer (reading_of (read_of octets))) refl refl refl refl (reading_left (read_of octets))
   look_row_lem (build fields size output) =
       same_promise (build_answer_lem fields size (length output)) refl refl refl (build_output_lem fields size output) refl
   look_row_lem (class a) = refl
   look_row_lem (form p) = refl
   look_row_lem (checksum octets) = refl
-  look_row_lem (read_echo octets) = same_promise (message_answer (echoOf octets)) refl refl refl refl (message_left (echoOf octets))
+  look_row_lem (read_echo octets) = same_promise (message_answer (echo_of octets)) refl refl refl refl (message_left (echo_of octets))
   look_row_lem (build_request i n echoed output) = refl
   look_row_lem (build_reply i n seen echoed output) = refl
   look_row_lem board_size = refl
@@ -379,7 +379,7 @@ module _ (b m : List ℕ) (x : Seat) (l : List ℕ) (board : lent_board b ≡ He
     look_after (search rs a) k = (board, k.mission)
     look_after (counter i) k = (board, k.mission)
     look_after (waiting p) k = (board, k.mission)
-    look_after (readHeader octets) k = (board, mission)
+    look_after (read_header octets) k = (board, mission)
     look_after (build fields size output) k = (board, mission)
     look_after (class a) k = (board, mission)
     look_after (form p) k = (board, mission)

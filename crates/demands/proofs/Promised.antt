@@ -8,7 +8,7 @@ use Rattle.address.specs.Class.{class_of, class_number}
 use Rattle.address.specs.Path.{path_form, path_number}
 use Rattle.checksum.specs.Sum.{checksum_of}
 use Rattle.header.specs.Read.{read_of}
-use Rattle.echo.specs.Message.{reading_of as echoOf}
+use Rattle.echo.specs.Message.{reading_of as echo_of}
 use Rattle.echo.specs.Built.{built_of, built_output}
 use Rattle.echo.specs.declared.Kind.TheVariants.{Reply}
 use Rattle.numbers.specs.InWords.{numbers_words}
@@ -23,7 +23,7 @@ use Rattle.replies.specs.Replied.{replied_output}
 use Rattle.answering.specs.Split.{number_for}
 use Rattle.answers.specs.Answers.{receive_number}
 use Rattle.harpjuniper.specs.Face.{reading_of, reading_words, build_answer, build_output}
-use Rattle.harpjuniper_messages.specs.Face.{message_count, refusal_in as readRefusal, left_by, request_of, built_answer}
+use Rattle.harpjuniper_messages.specs.Face.{message_count, refusal_in as read_refusal, left_by, request_of, built_answer}
 use Rattle.route_calls.specs.Search.{search_answer}
 use Rattle.harpjuniper_routes.specs.Face.{route_word_told}
 use Rattle.harpjuniper_reads.specs.Back.{port_answer, group_answer, path_answer, pair_answer}
@@ -170,8 +170,8 @@ module _ (x : Seat) (l : List ℕ) where
   look_promised (form p) = asking (path_number (path_form p.0))
   look_promised (checksum octets) = asking (checksum_of octets)
   look_promised (read_echo octets) =
-      let r = echoOf octets in
-      promise (readRefusal r) no_board no_mission [] [] (left_by r (replicate message_count 0))
+      let r = echo_of octets in
+      promise (read_refusal r) no_board no_mission [] [] (left_by r (replicate message_count 0))
   look_promised (build_request i n echoed output) =
       promise (built_answer (built_of (request_of i n) (length echoed) (length output))) no_board no_mission [] (built_output (request_of i n) echoed output) []
   look_promised (build_reply i n seen echoed output) =

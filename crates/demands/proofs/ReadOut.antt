@@ -13,7 +13,7 @@ use Rattle.checks.specs.Answer.{refusal_number}
 use Rattle.header.specs.Build.{size_of, built_by}
 use Rattle.header.specs.Limits.{lacks_room, most_data, too_much_data}
 use Rattle.header.proofs.BuiltLaws.{built_size}
-use Rattle.echo.specs.Message.{echo_checks, message_of, reading_of as echoOf}
+use Rattle.echo.specs.Message.{echo_checks, message_of, reading_of as echo_of}
 use Rattle.echo.specs.Built.{size_with, build_checks, built_of}
 use Rattle.echo.specs.declared.Kind.TheVariants.{Reply}
 use Rattle.echo.specs.declared.Message.{Message}
@@ -32,7 +32,7 @@ use Rattle.answers.proofs.Digits.{entry_parts}
 use Rattle.harpjuniper.specs.Face.{fields_out, numbers_checks, build_answer}
 use Rattle.harpjuniper.proofs.Promises.{fields_in}
 use Rattle.harpjuniper_relay.specs.Face.{counter_answer, waiting_answer}
-use Rattle.harpjuniper_messages.specs.Face.{refusal_in as readRefusal, request_of, built_answer}
+use Rattle.harpjuniper_messages.specs.Face.{refusal_in as read_refusal, request_of, built_answer}
 use Rattle.contracts.specs.Promised.{Result}
 use Rattle.history.specs.Seat.{Seat}
 use Rattle.history.specs.Calls.{
@@ -159,11 +159,11 @@ told_value m value true e low = eqb-true m 0 e
 told_value m value false e low = omega (arith, low)
 
 -- echo messages: what is read is refused by the first check that holds, and what is built has at most 8,141 octets
-pub message_refusal : (s : List ℕ) → readRefusal (echoOf s) ≡ first_of (echo_checks s)
-unfolding echoOf
+pub message_refusal : (s : List ℕ) → read_refusal (echo_of s) ≡ first_of (echo_checks s)
+unfolding echo_of
 message_refusal s = let n = first_of (echo_checks s) in by n (message_of s) (eqb n 0) refl
   where
-    by : (n : ℕ) (k : Message) (t : Bool) → eqb n 0 ≡ t → readRefusal (pick t (reading.Good k) (reading.Refused n)) ≡ n
+    by : (n : ℕ) (k : Message) (t : Bool) → eqb n 0 ≡ t → read_refusal (pick t (reading.Good k) (reading.Refused n)) ≡ n
     by n k true e = sym (eqb-true n 0 e)
     by n k false e = refl
 

@@ -22,7 +22,7 @@ use Rattle.verdict.specs.declared.Ruling.{Ruling}
 use Rattle.verdict.specs.declared.Target.TheVariants.{Route}
 use Rattle.verdict.specs.declared.Way.{Way}
 use Rattle.verdict.specs.declared.Way.TheVariants.{By, Lost}
-use Rattle.replies.specs.Replied.{answering_of, no_reply, replied_among, replied_via as byWay, replied_to, replied_of, wire_reply, replied_output}
+use Rattle.replies.specs.Replied.{answering_of, no_reply, replied_among, replied_via as by_way, replied_to, replied_of, wire_reply, replied_output}
 use Rattle.replies.specs.declared.Answering.{Answering}
 use Rattle.replies.specs.declared.sending.Replied.{Replied}
 use Rattle.replies.proofs.Goes.{goes_length, goes_short}
@@ -64,7 +64,7 @@ module _ (r : Relay) (number dropping at : ℕ) (octets output : List ℕ) where
   sent = replied_of r number dropping at octets (length output)
 
   -- a reply that no port took has no octets; one that a port took has those that C is told, under 8,192
-  untaken_way : (w : Way) → (byWay r made w (length output)).ruling.took ≡ 0 → (byWay r made w (length output)).octets ≡ 0
+  untaken_way : (w : Way) → (by_way r made w (length output)).ruling.took ≡ 0 → (by_way r made w (length output)).octets ≡ 0
   unfolding replied_among
   untaken_way Lost z = refl
   untaken_way (By set code) z = picks _ _ _ (eq-eqb _ 0 z)
@@ -73,8 +73,8 @@ module _ (r : Relay) (number dropping at : ℕ) (octets output : List ℕ) where
   unfolding replied_of replied_to
   untaken_octets = by (eqb made.made 0)
     where
-      by : (t : Bool) → (pick t (no_reply made.refusal) (byWay r made (way_for r Route made.destination) (length output))).ruling.took ≡ 0
-          → (pick t (no_reply made.refusal) (byWay r made (way_for r Route made.destination) (length output))).octets ≡ 0
+      by : (t : Bool) → (pick t (no_reply made.refusal) (by_way r made (way_for r Route made.destination) (length output))).ruling.took ≡ 0
+          → (pick t (no_reply made.refusal) (by_way r made (way_for r Route made.destination) (length output))).octets ≡ 0
       by true z = refl
       by false z = untaken_way (way_for r Route made.destination) z
 

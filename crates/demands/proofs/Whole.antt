@@ -17,7 +17,7 @@ use Rattle.header.specs.declared.Read.{Read}
 use Rattle.header.specs.declared.Read.TheVariants as read
 use Rattle.header.specs.Build.{built_by, output_by}
 use Rattle.header.specs.declared.Built.TheVariants as built
-use Rattle.echo.specs.Message.{message_octets, reading_of as echoOf}
+use Rattle.echo.specs.Message.{message_octets, reading_of as echo_of}
 use Rattle.echo.specs.Built.{size_with, build_checks, built_of, built_output}
 use Rattle.echo.specs.declared.Kind.TheVariants.{Reply}
 use Rattle.echo.specs.declared.Message.{Message}
@@ -47,7 +47,7 @@ use Rattle.lent_state.proofs.Calls.{board_other_told, board_other_changed, other
 use Rattle.lent_state.proofs.Calls.{no_board_told, no_board_changed, no_mission_told, no_mission_changed}
 use Rattle.lent_state.proofs.Same.{board_injective, lent_injective}
 use Rattle.harpjuniper.specs.Face.{reading_of, reading_words, reading_count, numbers_checks, build_output}
-use Rattle.harpjuniper_messages.specs.Face.{message_count, refusal_in as readRefusal, left_by, request_of}
+use Rattle.harpjuniper_messages.specs.Face.{message_count, refusal_in as read_refusal, left_by, request_of}
 use Rattle.harpjuniper_echo.specs.Face.{echo_answer, echo_words, echo_output}
 use Rattle.harpjuniper_routes.specs.Face.{search_told, route_word_told}
 use Rattle.harpjuniper_receive.specs.Face.{receive_answer, receive_words, receive_output}
@@ -86,7 +86,7 @@ use Rattle.history.specs.Calls.{
   search,
   counter,
   waiting,
-  read as readHeader,
+  read as read_header,
   build,
   class,
   form,
@@ -157,7 +157,7 @@ taken_old r p (Handed e) is h = true_false (sym h)
 taken_old r p (Refused n) is h = refused_take_leaves r p n is
 
 -- of an echo message that is refused
-refused_message : (r : Reading) → not (eqb (readRefusal r) 0) ≡ true → left_by r (replicate message_count 0) ≡ replicate message_count 0
+refused_message : (r : Reading) → not (eqb (read_refusal r) 0) ≡ true → left_by r (replicate message_count 0) ≡ replicate message_count 0
 refused_message (reading.Refused n) h = refl
 refused_message (reading.Good k) h = true_false (sym h)
 
@@ -253,13 +253,13 @@ module _ (b m : List ℕ) (x : Seat) (l : List ℕ) (board : lent_board b ≡ He
   look_left (search rs a) h = same_promise refl (sym board) (sym mission) refl refl refl
   look_left (counter i) h = same_promise refl refl (sym mission) refl refl refl
   look_left (waiting p) h = same_promise refl refl (sym mission) refl refl refl
-  look_left (readHeader octets) h = same_promise refl refl refl refl refl (refused_reading (read_of octets) h)
+  look_left (read_header octets) h = same_promise refl refl refl refl refl (refused_reading (read_of octets) h)
   look_left (build fields size output) h =
       same_promise refl refl refl refl (settled_old (first_of (numbers_checks fields size (length output))) _ output h) refl
   look_left (class a) h = refl
   look_left (form p) h = refl
   look_left (checksum octets) h = refl
-  look_left (read_echo octets) h = same_promise refl refl refl refl refl (refused_message (echoOf octets) (ap (λ (n : ℕ). not (eqb n 0)) (message_refusal octets) ∙ h))
+  look_left (read_echo octets) h = same_promise refl refl refl refl refl (refused_message (echo_of octets) (ap (λ (n : ℕ). not (eqb n 0)) (message_refusal octets) ∙ h))
   look_left (build_request i n echoed output) h =
       same_promise refl refl refl refl (unbuilt (request_of i n) echoed output h) refl
   look_left (build_reply i n seen echoed output) h =
@@ -296,7 +296,7 @@ lack_answer (own (looks last_second)) = refusal_number 21
 lack_answer (own (looks (search rs a))) = 21
 lack_answer (own (looks (counter i))) = refusal_number 21
 lack_answer (own (looks (waiting p))) = refusal_number 21
-lack_answer (own (looks (readHeader octets))) = 21
+lack_answer (own (looks (read_header octets))) = 21
 lack_answer (own (looks (build fields size output))) = 21
 lack_answer (own (looks (class a))) = 21
 lack_answer (own (looks (form p))) = 21
@@ -381,7 +381,7 @@ module _ (b m : List ℕ) where
   look_lacks (search rs a) w = same_promise (search_lacks w rs a.0) refl refl refl refl refl
   look_lacks (counter i) w = same_promise (own_told w _ _) refl refl refl refl refl
   look_lacks (waiting p) w = same_promise (own_told w _ _) refl refl refl refl refl
-  look_lacks (readHeader octets) w = absurd w
+  look_lacks (read_header octets) w = absurd w
   look_lacks (build fields size output) w = absurd w
   look_lacks (class a) w = absurd w
   look_lacks (form p) w = absurd w
@@ -553,7 +553,7 @@ long_left b m (own (looks last_second)) h = absurd h
 long_left b m (own (looks (search rs a))) h = same_promise (search_answer_lem b m rs h a.0) refl refl refl refl refl
 long_left b m (own (looks (counter i))) h = absurd h
 long_left b m (own (looks (waiting p))) h = absurd h
-long_left b m (own (looks (readHeader octets))) h = absurd h
+long_left b m (own (looks (read_header octets))) h = absurd h
 long_left b m (own (looks (build fields size output))) h = absurd h
 long_left b m (own (looks (class a))) h = absurd h
 long_left b m (own (looks (form p))) h = absurd h

@@ -7,7 +7,7 @@ use Rattle.checks.specs.Order.{pick}
 use Rattle.header.specs.Read.{header_of}
 use Rattle.meaning.specs.Asked.{precedence_asked}
 use Rattle.queue.specs.Order.{Placed}
-use Rattle.queue.specs.Queue.{waiting as waitingIn, precedence_of}
+use Rattle.queue.specs.Queue.{waiting as waiting_in, precedence_of}
 use Rattle.page.specs.Table.{verdict_of}
 use Rattle.sets.specs.Limits.{port_count, counter_count}
 use Rattle.sets.specs.Sets.{in_set}
@@ -88,7 +88,7 @@ pub record Demand3 : Type 0 where
       ↔ ((k ≡ before p m x cs + higher_enter p m x (and_then cs c) ds + 1) × (k ≤ takes_since p m (and_then cs c) ds))
   -- where r is how many stand before it in the port's queue when it is placed,
   pub foretold_behind : (m : ℕ) (cs : List Call) (c : Call) (p : ℕ) (x : Copy) → p < port_count → taken_by p (length cs) (seat_after m cs) c ≡ x ∷ []
-      → (at : Placed precedence_of (entry_of x) (waitingIn (queue_at (seat_after m cs).mission p)) (waitingIn (queue_at (seat_after m (and_then cs c)).mission p)))
+      → (at : Placed precedence_of (entry_of x) (waiting_in (queue_at (seat_after m cs).mission p)) (waiting_in (queue_at (seat_after m (and_then cs c)).mission p)))
       × (length at.before ≡ before p m x cs)
   -- "Refused calls and other ports' traffic count nothing": a call that is idle on the port counts nothing, and idle is what is refused,
   pub foretold_idle : (m : ℕ) (cs ds : List Call) (c : Call) (p : ℕ) (x : Copy) → Idle p m cs c → CountsNothing p m x cs c ds

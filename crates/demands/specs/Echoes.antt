@@ -5,7 +5,7 @@
 use Rattle.std.specs.Prelude.{ℕ, ◌+◌, ◌-◌, ◌%◌, ◌^◌, ◌<◌, ◌≤◌, ◌≡◌, ◌↔◌, ◌≢◌, true, false, ◌||◌, List, [], ◌∷◌, ◌++◌, length, replicate, take, drop, get_or}
 use Rattle.checks.specs.Order.{pick, NoneHolds, FirstHolds}
 use Rattle.checks.specs.Answer.{refusal_number}
-use Rattle.octets.specs.Octets.{octets as numberOctets}
+use Rattle.octets.specs.Octets.{octets as number_octets}
 use Rattle.address.specs.declared.Address.{Address}
 use Rattle.address.specs.declared.Slot.{Slot}
 use Rattle.header.specs.Limits.{most_data, length_limit}
@@ -223,7 +223,7 @@ pub record Echoes : Type 0 where
       → Gives steps (operates (views drop_flag)) x → x.answer ≡ 0
   -- "placed in the least-significant octets of the field and the unused octets shall be set to all '0s'" (003, 3.3.4.7.5): the number that a reply has for
   -- the timestamp of a request, in eight octets
-  pub stamp_placed : (t : Timestamp) → numberOctets 8 (stamp_number t) ≡ replicate (8 - length (stamp_octets t)) 0 ++ stamp_octets t
+  pub stamp_placed : (t : Timestamp) → number_octets 8 (stamp_number t) ≡ replicate (8 - length (stamp_octets t)) 0 ++ stamp_octets t
   -- what hj_echo answers, and the reply; a list over 512 records is refused by 21 (demand 1)
   pub answers : (who : Customer) (steps : List Step) (rs : List Record) (at : ℕ) (slot : Slot) (octets output : List ℕ) (x : Result)
       → Gives steps (flies who (echoes rs at slot octets output)) x → too_long rs ≡ false

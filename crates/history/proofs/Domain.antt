@@ -45,7 +45,7 @@ use Rattle.settings.specs.Refusals.{other_class, port_class_refused, mtu_refused
 use Rattle.settings.proofs.Values.{mtu_taken}
 use Rattle.state.specs.Relay.{Relay, port_in, among_ports, port_set_up}
 use Rattle.state.proofs.Seen.{seen_set_up}
-use Rattle.judge.specs.Ending.{refused_by, call_checks as heardChecks, header_ending, octets_ending, ruled_ending, arrival_at, ending_of}
+use Rattle.judge.specs.Ending.{refused_by, call_checks as heard_checks, header_ending, octets_ending, ruled_ending, arrival_at, ending_of}
 use Rattle.judge.specs.declared.Ending.{Ending}
 use Rattle.relay.specs.Received.{new_entry}
 use Rattle.replies.specs.Replied.{call_checks, answering_of, wire_fields, message_size, wire_length, own_reply, wire_header, wire_reply}
@@ -101,7 +101,7 @@ page_read : (r : Relay) (port second : ℕ) (octets : List ℕ) (room : ℕ) →
     → WasRead octets (ending_of r port second octets room)
 unfolding ending_of
 page_read r port second octets room took =
-    let n = first_of (heardChecks r port second room) in
+    let n = first_of (heard_checks r port second room) in
     let case = took_case (eqb n 0) n (octets_ending r (arrival_at r port) (read_of octets)) took in
     rw case.0 (octets_read r port second octets (read_of octets) refl case.1)
 

@@ -25,9 +25,9 @@ use Rattle.header.specs.Onward.{lessened, sent_body, header_sent_on}
 use Rattle.header.specs.Form.{control_of, forbidden, address_size, stamp_size, layout_of}
 use Rattle.header.specs.Read.{addresses_of, qos_of, octet_of, length_of, fields_of, header_of, read_checks, read_of}
 use Rattle.queue.specs.Order.{Each, insert_by, Placed}
-use Rattle.queue.specs.Queue.{waiting, precedence_of, fresh as freshQueue, put_of, take_of}
+use Rattle.queue.specs.Queue.{waiting, precedence_of, fresh as fresh_queue, put_of, take_of}
 use Rattle.queue.specs.Waits.{Chosen, nobody, one, chosen, ordered, rank_by}
-use Rattle.queue.specs.Foretold.{Deed, enters, hands_out, entered, takes_in, how_many, out, left, AtTake, handed, standing_before, Other, is_out, while_waits as whileLine}
+use Rattle.queue.specs.Foretold.{Deed, enters, hands_out, entered, takes_in, how_many, out, left, AtTake, handed, standing_before, Other, is_out, while_waits as while_line}
 use Rattle.queue.proofs.Each.{each_so, each_append}
 use Rattle.queue.proofs.Order.{insert_placed, insert_map}
 use Rattle.queue.proofs.Waits.{chosen_asked, ordered_enters}
@@ -71,7 +71,7 @@ use Rattle.history.specs.Calls.{
   own,
 }
 use Rattle.history.specs.Outcome.{is_refusal, number, entry, Out, nothing, from, of_taking, outcome, next, run_from, seat_after, sum_from}
-use Rattle.history.specs.Ledger.{one as oneIf, out_by, handed_out}
+use Rattle.history.specs.Ledger.{one as one_if, out_by, handed_out}
 use Rattle.history.specs.Line.{Copy, entry_of, taken_by, handed_by, left_by, line_by, line_from, taken_from, handed_from, line_at, taken_at, taking_of, times, InTurn}
 use Rattle.history.specs.Foretold.{and_then, handed_since, takes_since, answered_by, answered_from, answered_since, before, Idle, is_handed, waits_from, higher_enter, CountsNothing, taken_since, while_waits}
 use Rattle.history.proofs.Line.{queue_waits, taken_turn, taken_later, taken_in_turn, line_turns}
@@ -172,43 +172,43 @@ module _ (p : ℕ) where
   -- ---- while x waits
   module _ (x : Copy) where
     while_out : (line : List Copy) (o : Out) (es : List (Deed Copy))
-        → whileLine rank turn_of x line (out_deed o ++ es)
-        ≡ pick (is_handed p x (handed_by p o (chosen rank line))) [] (out_deed o ++ whileLine rank turn_of x (left_by p o line (chosen rank line)) es)
-    unfolding whileLine
+        → while_line rank turn_of x line (out_deed o ++ es)
+        ≡ pick (is_handed p x (handed_by p o (chosen rank line))) [] (out_deed o ++ while_line rank turn_of x (left_by p o line (chosen rank line)) es)
+    unfolding while_line
     while_out line nothing es = refl
     while_out line (from q e) es = by (chosen rank line) refl
       where
         stops : Chosen Copy → List (Deed Copy)
-        stops c = pick (is_out turn_of x c) [] (hands_out ∷ whileLine rank turn_of x (left c) es)
+        stops c = pick (is_out turn_of x c) [] (hands_out ∷ while_line rank turn_of x (left c) es)
 
         at_none : chosen rank line ≡ nobody → (t : Bool)
-            → whileLine rank turn_of x line (pick t (hands_out ∷ []) [] ++ es) ≡ pick t (hands_out ∷ []) [] ++ whileLine rank turn_of x line es
-        at_none is true = ap stops is ∙ ap (λ (l : List Copy). hands_out ∷ whileLine rank turn_of x l es) (sym (none_wait line is))
+            → while_line rank turn_of x line (pick t (hands_out ∷ []) [] ++ es) ≡ pick t (hands_out ∷ []) [] ++ while_line rank turn_of x line es
+        at_none is true = ap stops is ∙ ap (λ (l : List Copy). hands_out ∷ while_line rank turn_of x l es) (sym (none_wait line is))
         at_none is false = refl
 
         at_one : (y : Copy) (others : List Copy) → chosen rank line ≡ one y others → (t : Bool)
-            → whileLine rank turn_of x line (pick t (hands_out ∷ []) [] ++ es)
-            ≡ pick (is_handed p x (pick t (y ∷ []) [])) [] (pick t (hands_out ∷ []) [] ++ whileLine rank turn_of x (pick t others line) es)
+            → while_line rank turn_of x line (pick t (hands_out ∷ []) [] ++ es)
+            ≡ pick (is_handed p x (pick t (y ∷ []) [])) [] (pick t (hands_out ∷ []) [] ++ while_line rank turn_of x (pick t others line) es)
         at_one y others is true = ap stops is
         at_one y others is false = refl
 
         by : (c : Chosen Copy) → chosen rank line ≡ c
-            → whileLine rank turn_of x line (out_deed (from q e) ++ es)
-            ≡ pick (is_handed p x (handed_by p (from q e) c)) [] (out_deed (from q e) ++ whileLine rank turn_of x (left_by p (from q e) line c) es)
+            → while_line rank turn_of x line (out_deed (from q e) ++ es)
+            ≡ pick (is_handed p x (handed_by p (from q e) c)) [] (out_deed (from q e) ++ while_line rank turn_of x (left_by p (from q e) line c) es)
         by nobody is = at_none is (eqb q p)
         by (one y others) is = at_one y others is (eqb q p)
 
     while_in : (ts line : List Copy) (es : List (Deed Copy))
-        → whileLine rank turn_of x line (map enters ts ++ es) ≡ map enters ts ++ whileLine rank turn_of x (line ++ ts) es
-    unfolding whileLine
-    while_in [] line es = ap (λ (l : List Copy). whileLine rank turn_of x l es) (sym (append-nil line))
+        → while_line rank turn_of x line (map enters ts ++ es) ≡ map enters ts ++ while_line rank turn_of x (line ++ ts) es
+    unfolding while_line
+    while_in [] line es = ap (λ (l : List Copy). while_line rank turn_of x l es) (sym (append-nil line))
     while_in (y ∷ ts) line es =
         ap (λ (ds : List (Deed Copy)). enters y ∷ ds)
-        (while_in ts (line ++ (y ∷ [])) es ∙ ap (λ (l : List Copy). map enters ts ++ whileLine rank turn_of x l es) (append_assoc line (y ∷ []) ts))
+        (while_in ts (line ++ (y ∷ [])) es ∙ ap (λ (l : List Copy). map enters ts ++ while_line rank turn_of x l es) (append_assoc line (y ∷ []) ts))
 
     while_deeds : (cs : List Call) (n : ℕ) (seat : Seat) (line : List Copy)
-        → whileLine rank turn_of x line (deeds_from n seat cs) ≡ deeds_from n seat (waits_from p x n seat line cs)
-    unfolding whileLine
+        → while_line rank turn_of x line (deeds_from n seat cs) ≡ deeds_from n seat (waits_from p x n seat line cs)
+    unfolding while_line
     while_deeds [] n seat line = refl
     while_deeds (c ∷ cs) n seat line =
         while_out line (outcome seat c).out _
@@ -366,7 +366,7 @@ module _ (p m : ℕ) where
   nothing_out (from q e) line nobody idle = (refl, refl)
   nothing_out (from q e) line (one y others) idle = by (eqb q p) idle
     where
-      by : (t : Bool) → oneIf t ≡ 0 → (pick t (y ∷ []) [] ≡ []) × (pick t others line ≡ line)
+      by : (t : Bool) → one_if t ≡ 0 → (pick t (y ∷ []) [] ≡ []) × (pick t others line ≡ line)
       by true h = absurd (omega arith)
       by false h = (refl, refl)
 
@@ -573,7 +573,7 @@ mistakes =
     ∷ []
 
 breaks : Each Breaks mistakes
-unfolding first_of heard_ending heard_memory ending_of memory_of call_checks among_ports ports_seen seen_port other_class class_of class_in family_of scps_class port_mask_refused form_refused mask_form ones_of ones_below ones_refused fresh_board fresh_mission fresh_memory freshQueue read_of read_checks control_of forbidden length_of layout_of address_size stamp_size header_ending header_memory remembering flood_of header_of fields_of qos_of addresses_of aim_of origin_of rule_of rule_target ruled_by ruling_of granted_of plain_line line_of target_of survey_below own_broadcast named_below subnet_broadcast octet_of copies_of take_outcome received_relay entered_all entered_if put_of take_of insert_by chosen taken_relay rewrites next_length next_header legs_for legs_of lessened sent_body header_sent_on checksum_octets
+unfolding first_of heard_ending heard_memory ending_of memory_of call_checks among_ports ports_seen seen_port other_class class_of class_in family_of scps_class port_mask_refused form_refused mask_form ones_of ones_below ones_refused fresh_board fresh_mission fresh_memory fresh_queue read_of read_checks control_of forbidden length_of layout_of address_size stamp_size header_ending header_memory remembering flood_of header_of fields_of qos_of addresses_of aim_of origin_of rule_of rule_target ruled_by ruling_of granted_of plain_line line_of target_of survey_below own_broadcast named_below subnet_broadcast octet_of copies_of take_outcome received_relay entered_all entered_if put_of take_of insert_by chosen taken_relay rewrites next_length next_header legs_for legs_of lessened sent_body header_sent_on checksum_octets
 breaks = ((refl, refl, refl, refl), ((refl, refl, refl, refl), ((refl, refl, refl, refl), ((refl, refl, refl, refl), ((refl, refl, refl, refl), tt)))))
 
 pub all_mistaken : Each (λ (m : Mistake). Holds m.rule → ⊥) mistakes

@@ -13,7 +13,7 @@ use Rattle.checks.specs.Order.{pick}
 use Rattle.checks.proofs.Laws.{either}
 use Rattle.sets.specs.Sets.{in_set}
 use Rattle.address.specs.declared.Slot.{Slot}
-use Rattle.queue.specs.Queue.{fresh as freshQueue, put_of, take_of}
+use Rattle.queue.specs.Queue.{fresh as fresh_queue, put_of, take_of}
 use Rattle.queue.specs.declared.Entry.{Entry}
 use Rattle.queue.specs.declared.Head.{Head}
 use Rattle.queue.specs.declared.Head.TheVariants.{First, Nothing}
@@ -98,14 +98,14 @@ module _ (p : ℕ) (inside : p < 8) where
   take_closes r port l false Nothing e u z = omega arith
   take_closes r port l false (First x) e true z =
       let same = eqb-true port p z in
-      let left : get_or (set (queues_of r) port (take_of (queue_in r port)).queue) p freshQueue ≡ (take_of (queue_in r port)).queue =
-      ap (λ (n : ℕ). get_or (set (queues_of r) port (take_of (queue_in r port)).queue) n freshQueue) (sym same)
+      let left : get_or (set (queues_of r) port (take_of (queue_in r port)).queue) p fresh_queue ≡ (take_of (queue_in r port)).queue =
+      ap (λ (n : ℕ). get_or (set (queues_of r) port (take_of (queue_in r port)).queue) n fresh_queue) (sym same)
       ∙ get_or-set_same (queues_of r) port _ _ (rw (l, same) inside) in
       ap (λ (n : ℕ). (queue_in r n).count) (sym same)
       ∙ take_count (queue_in r port) x e
       ∙ omega (arith, ap one z, ap (λ (q : Queue). q.count) left)
   take_closes r port l false (First x) e false z =
-      let other = get_or-set_other (queues_of r) port p (take_of (queue_in r port)).queue freshQueue (λ w. eqb-false port p z (sym w)) in
+      let other = get_or-set_other (queues_of r) port p (take_of (queue_in r port)).queue fresh_queue (λ w. eqb-false port p z (sym w)) in
       omega (arith, ap one z, ap (λ (q : Queue). q.count) other)
 
   taken_closes : (r : Relay) (port : ℕ) → Eight r
@@ -127,7 +127,7 @@ module _ (p : ℕ) (inside : p < 8) where
   one_call seat (operator (views v)) l = stays_closed seat _ refl
   one_call seat (own (sets s)) l =
       stays_closed seat (queue_in (settle (relay_in seat) s) p).count
-      (ap (λ (x : List Queue). (get_or x p freshQueue).count) (settle_queues (relay_in seat) s))
+      (ap (λ (x : List Queue). (get_or x p fresh_queue).count) (settle_queues (relay_in seat) s))
   one_call seat (own (hears rs port slot second octets output)) l =
       received_closes seat slot (heard_by seat rs port second octets (length output)) l (fair seat p inside rs port second octets (length output))
   one_call seat (own (echoes rs port slot octets output)) l =
@@ -145,8 +145,8 @@ module _ (p : ℕ) (inside : p < 8) where
   all_calls (c ∷ cs) seat l = omega (arith, one_call seat c l, all_calls cs (next seat c) (next_eight seat c l))
 
   fresh_none : (queue_at fresh_mission p).count ≡ 0
-  unfolding fresh_mission freshQueue
-  fresh_none = ap (λ (q : Queue). q.count) (get_or-replicate {A = Queue} 8 p freshQueue freshQueue inside)
+  unfolding fresh_mission fresh_queue
+  fresh_none = ap (λ (q : Queue). q.count) (get_or-replicate {A = Queue} 8 p fresh_queue fresh_queue inside)
 
   -- Copies granted to port p over the history of mission m = handed out there + waiting there now + dropped there.
   pub ledger : (m : ℕ) (cs : List Call)

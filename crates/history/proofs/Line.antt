@@ -15,7 +15,7 @@ use Rattle.checks.proofs.Bools.{true_false}
 use Rattle.checks.proofs.Laws.{either}
 use Rattle.sets.specs.Sets.{in_set}
 use Rattle.queue.specs.Order.{Each}
-use Rattle.queue.specs.Queue.{fresh as freshQueue, put_of, take_of}
+use Rattle.queue.specs.Queue.{fresh as new_queue, put_of, take_of}
 use Rattle.queue.specs.Waits.{Chosen, nobody, one, chosen, rank_by, Highest, Waits}
 use Rattle.queue.specs.Foretold.{how_many}
 use Rattle.queue.proofs.Foretold.{many_append}
@@ -98,17 +98,17 @@ module _ (p : ℕ) (inside : p < 8) where
   take_case r n port line l w true h e u z c is = w
   take_case r n port line l w false Nothing e u z c is = w
   take_case r n port line l w false (First x) e false z nobody is =
-      rw (get_or-set_other (queues_of r) port p (take_of (queue_in r port)).queue freshQueue (λ y. eqb-false port p z (sym y))) w
+      rw (get_or-set_other (queues_of r) port p (take_of (queue_in r port)).queue new_queue (λ y. eqb-false port p z (sym y))) w
   take_case r n port line l w false (First x) e false z (one y others) is =
-      rw (z, get_or-set_other (queues_of r) port p (take_of (queue_in r port)).queue freshQueue (λ y. eqb-false port p z (sym y))) w
+      rw (z, get_or-set_other (queues_of r) port p (take_of (queue_in r port)).queue new_queue (λ y. eqb-false port p z (sym y))) w
   take_case r n port line l w false (First x) e true z nobody is =
       let empty : line ≡ [] = rw is at (chosen_asked (rank_by entry_of) line) in
       let none = (waits_nothing entry_of w).1 empty in
       true_false (cc (none, e, eqb-true port p z))
   take_case r n port line l w false (First x) e true z (one y others) is =
       let same = eqb-true port p z in
-      let left : get_or (set (queues_of r) port (take_of (queue_in r port)).queue) p freshQueue ≡ (take_of (queue_in r p)).queue =
-      ap (λ (n : ℕ). get_or (set (queues_of r) port (take_of (queue_in r port)).queue) n freshQueue) (sym same)
+      let left : get_or (set (queues_of r) port (take_of (queue_in r port)).queue) p new_queue ≡ (take_of (queue_in r p)).queue =
+      ap (λ (n : ℕ). get_or (set (queues_of r) port (take_of (queue_in r port)).queue) n new_queue) (sym same)
       ∙ get_or-set_same (queues_of r) port _ _ (rw (l, same) inside)
       ∙ ap (λ (n : ℕ). (take_of (queue_in r n)).queue) same in
       rw (z, left) (waits_take entry_of w y others is).1
@@ -125,7 +125,7 @@ module _ (p : ℕ) (inside : p < 8) where
   next_waits seat n (operator (orders o)) line l w = stays (relay_in seat) (relay_in (next seat (operator (orders o)))) line refl w
   next_waits seat n (operator (views v)) line l w = stays (relay_in seat) (relay_in seat) line refl w
   next_waits seat n (own (sets s)) line l w =
-      stays (relay_in seat) (settle (relay_in seat) s) line (ap (λ (x : List Queue). get_or x p freshQueue) (settle_queues (relay_in seat) s)) w
+      stays (relay_in seat) (settle (relay_in seat) s) line (ap (λ (x : List Queue). get_or x p new_queue) (settle_queues (relay_in seat) s)) w
   next_waits seat n (own (hears rs port slot second octets output)) line l w = heard_waits seat n rs port slot second octets output line l w
   next_waits seat n (own (echoes rs port slot octets output)) line l w = echoed_waits seat n rs port slot octets output line l w
   next_waits seat n (own (takes port)) line l w =
@@ -139,9 +139,9 @@ module _ (p : ℕ) (inside : p < 8) where
   all_wait [] n seat line l w = w
   all_wait (c ∷ cs) n seat line l w = all_wait cs (suc n) (next seat c) (line_by p n seat c line) (next_eight seat c l) (next_waits seat n c line l w)
 
-  fresh_queue : queue_at fresh_mission p ≡ freshQueue
+  fresh_queue : queue_at fresh_mission p ≡ new_queue
   unfolding fresh_mission
-  fresh_queue = get_or-replicate {A = Queue} 8 p freshQueue freshQueue inside
+  fresh_queue = get_or-replicate {A = Queue} 8 p new_queue freshQueue inside
 
   pub fresh_waits : Waits entry_of (queue_at fresh_mission p) []
   fresh_waits = rw fresh_queue (waits_fresh entry_of)

@@ -10,7 +10,7 @@ use lib.ListN.{length, replicate}
 use borrow.Author.Tests.{lt-ltb}
 use Rattle.checks.proofs.Bools.{true_false}
 use Rattle.sets.specs.Sets.{in_set}
-use Rattle.octets.specs.Octets.{octets as octetsOf}
+use Rattle.octets.specs.Octets.{octets as octets_of}
 use Rattle.checksum.specs.Sum.{words, sum_from, ones_sum}
 use Rattle.address.specs.Mask.{mask_of}
 use Rattle.address.specs.Octets.{dotted}
@@ -195,7 +195,7 @@ pub record Cases : Type 0 where
 
 -- and the rules of replies
 unfoldable opened_replies : Unit {0}
-unfolding words sum_from ones_sum message_of echo_checks reading_of asking_of asks_in_header is_asked answer_to reply_fields echoed_count call_checks answering_of wire_fields wire_length replied_among replied_to survey_within found_of carried_asked aim_asked node_asked size_of second_octet third_octet rest_octets addresses_octets qos_octets octet_octets stamp_octets octetsOf echo_answering echo_reply
+unfolding words sum_from ones_sum message_of echo_checks reading_of asking_of asks_in_header is_asked answer_to reply_fields echoed_count call_checks answering_of wire_fields wire_length replied_among replied_to survey_within found_of carried_asked aim_asked node_asked size_of second_octet third_octet rest_octets addresses_octets qos_octets octet_octets stamp_octets octets_of echo_answering echo_reply
 opened_replies = tt
 
 pub cases : Cases

@@ -240,7 +240,7 @@ module _ (r : Relay) (at : ℕ) (a : Answering) (room : ℕ) (arrived : a.arriva
         ∙ ap₂ ◌&&◌ (sym (took_in p l)) (not-not (lies_far r at p))
 
     wanted_when : (p : ℕ) → p < 8 → in_set p ruling.took ≡ true → ports p ≡ true
-    wanted_when p l is = (bools.and-true (ports p) _ (bools.and-true (size p) (has_room r p) (sym (took_in p l) ∙ is)).0).0
+    wanted_when p l is = (bools.and_true (ports p) _ (bools.and_true (size p) (has_room r p) (sym (took_in p l) ∙ is)).0).0
 
     module _ (alone : Alone ports) (p : ℕ) (l : p < 8) (is : in_set p ruling.took ≡ true) where
       far_told : not (eqb far 0) ≡ lies_far r at p
@@ -250,7 +250,7 @@ module _ (r : Relay) (at : ℕ) (a : Answering) (room : ℕ) (arrived : a.arriva
           other : lies_far r at p ≡ false → (q : ℕ) → q < 8 → (in_set q ruling.took && lies_far r at q) ≡ false
           other near q k =
               bools.refuted (in_set q ruling.took && lies_far r at q) λ e.
-              let both = bools.and-true (in_set q ruling.took) (lies_far r at q) e in
+              let both = bools.and_true (in_set q ruling.took) (lies_far r at q) e in
               bools.true_false (sym both.1 ∙ ap (lies_far r at) (alone q p k l (wanted_when q k both.0) (wanted_when p l is)) ∙ near)
 
           by : (t : Bool) → lies_far r at p ≡ t → not (eqb far 0) ≡ t

@@ -8,7 +8,7 @@ use mathlib.Core.Bool.{Bool, not}
 use mathlib.Core.List.{List}
 use lib.ListN.{length, drop}
 use lib.Dec.{eqb}
-use Rattle.octets.specs.Octets.{number as number_in, octets as octetsOf}
+use Rattle.octets.specs.Octets.{number as number_in, octets as octets_of}
 use Rattle.address.specs.declared.Address.{Address}
 use Rattle.header.specs.Limits.{most_data}
 use Rattle.octets.proofs.Laws.{number_lt}
@@ -70,7 +70,7 @@ stamp_octets_lem : (t : Timestamp) → Octets (stamp_octets t)
 unfolding stamp_octets
 stamp_octets_lem stamp.Absent = λ i. omega arith
 stamp_octets_lem (stamp.Implicit t) = octets_small 3 t
-stamp_octets_lem (stamp.Explicit p t) = append_small (octetsOf 1 p) (octetsOf (time_size p) t) (octets_small 1 p) (octets_small (time_size p) t)
+stamp_octets_lem (stamp.Explicit p t) = append_small (octets_of 1 p) (octets_of (time_size p) t) (octets_small 1 p) (octets_small (time_size p) t)
 stamp_octets_lem (stamp.Binary t) = octets_small 4 t
 
 stamp_fits : (t : Timestamp) → stamp_number t < 2 ^ 64

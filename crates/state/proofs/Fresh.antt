@@ -3,7 +3,7 @@ use native.Mathlib.Nat.{le_of_suc-le-suc}
 use Prim.Native.Nat.{ℕ, zero, suc, ◌<◌}
 use mathlib.Core.Path.{◌≡◌, refl, ap}
 use lib.ListN.{length, get_or, set, length-replicate, get_or-replicate}
-use Rattle.queue.specs.Queue.{fresh as freshQueue}
+use Rattle.queue.specs.Queue.{fresh as fresh_queue}
 use Rattle.words.specs.Cut.{pieces}
 use Rattle.state.specs.Seen.{fresh_board, fresh_mission, fresh_memory, fresh_state}
 use Rattle.state.specs.Layout.{board_words, board_of, decode_board, fresh_board_words, mission_words, state_of, decode, fresh_words, queue_of}
@@ -24,7 +24,7 @@ fresh_board_word i h = get_or-replicate {A = ℕ} board_words i 0 0 h
 -- ---- a mission's state
 module _ (n : ℕ) where
   pub fresh : decode (fresh_words n) ≡ fresh_state n
-  unfolding decode state_of fresh_words fresh_state fresh_mission fresh_memory freshQueue pieces queue_of
+  unfolding decode state_of fresh_words fresh_state fresh_mission fresh_memory fresh_queue pieces queue_of
   fresh = refl
 
   pub fresh_length : length (fresh_words n) ≡ mission_words

@@ -8,7 +8,7 @@ use Rattle.std.specs.Prelude.{ℕ, ◌+◌, ◌%◌, ◌^◌, Bool, ◌&&◌, Li
 use Rattle.sets.specs.Limits.{port_count}
 use Rattle.sets.specs.Sets.{port_set}
 use Rattle.queue.specs.declared.Queue.{Queue}
-use Rattle.queue.specs.Queue.{fresh as freshQueue}
+use Rattle.queue.specs.Queue.{fresh as fresh_queue}
 use Rattle.routes.specs.declared.Route.{Route}
 use Rattle.routes.specs.Routes.{empty_route}
 use Rattle.records.specs.declared.Port.{Port}
@@ -46,7 +46,7 @@ abbrev pub path_at : Mission → ℕ → PathPlace
 path_at m i = get_or m.paths i fresh_path
 
 abbrev pub queue_at : Mission → ℕ → Queue
-queue_at m p = get_or m.queues p freshQueue
+queue_at m p = get_or m.queues p fresh_queue
 
 -- of a memory
 abbrev pub pair_at : Memory → ℕ → PairPlace

@@ -3,7 +3,7 @@
 -- where its records are judged (crate listing). Assumes nothing.
 use Rattle.std.specs.Prelude.{ℕ, List, [], map, get_or, set, replicate}
 use Rattle.sets.specs.Limits.{port_count, group_places, path_places, pair_places, counter_count}
-use Rattle.queue.specs.Queue.{fresh as freshQueue}
+use Rattle.queue.specs.Queue.{fresh as fresh_queue}
 use Rattle.records.specs.declared.Port.{Port}
 use Rattle.records.specs.declared.OwnedPort.{OwnedPort}
 use Rattle.records.specs.Fresh.{fresh_owned, fresh_group, fresh_path, fresh_pair}
@@ -50,7 +50,7 @@ fresh_mission =
     record {
       groups = replicate group_places fresh_group;
       paths = replicate path_places fresh_path;
-      queues = replicate port_count freshQueue;
+      queues = replicate port_count fresh_queue;
     }
 
 -- page 02, W-207: no pair is held, and the last second is "0 at first"
