@@ -3,9 +3,6 @@ use native.Mathlib.Omega.{arith}
 use Rattle.batch.proofs.Stretches.{item_fits, asked_item}
 use Rattle.batch.proofs.ask.Goals as goal
 
-pub overflow_cast-to : goal.overflow_cast-to
-overflow_cast-to c = omega (arith, c.shared_slice_known-7-1.given c.args.i)
-
 pub overflow_add-to : goal.overflow_add-to
 overflow_add-to c = omega (arith, item_fits c.args.lengths.now c.args.octets.now c.args.i c.args.at c.requires.0, c.well_formed)
 

@@ -10,17 +10,11 @@ use Rattle.batch.proofs.finish.Goals as goal
 pub refuse-requires : goal.refuse-requires
 refuse-requires c = λ k. (was_judged _ _ _ _ _ _ c.requires.1.1.1.1.1 k.0 k.1.1.0).1.0
 
-pub overflow_cast-result : goal.overflow_cast-result
-overflow_cast-result c = omega (arith, c.shared_slice_known-then-refusal-ne0-2-1.given c.args.i)
-
 pub overflow_add-result : goal.overflow_add-result
 overflow_add-result c = omega (arith, item_fits c.args.lengths.now c.args.octets.now c.args.i c.args.at c.requires.0, c.well_formed)
 
 pub returns-then-refusal-ne0 : goal.returns-then-refusal-ne0
 returns-then-refusal-ne0 c = refused_item c.args.board.now c.args.mission.now c.args.lengths.now c.args.slots.now c.args.seconds.now c.args.octets.now c.args.answers.now c.args.output.now c.args.i c.args.at c.args.a c.requires c.args.s _ _ _ c.if-refusal-ne0.true refl c.refuse.ensures.value (c.refuse.ensures.by_index _ _ (λ k. (was_judged _ _ _ _ _ _ c.requires.1.1.1.1.1 k.0 k.1.1.0).0))
-
-pub overflow_cast-to : goal.overflow_cast-to
-overflow_cast-to c = omega (arith, c.shared_slice_known-6-1.given c.args.i)
 
 pub overflow_add-to : goal.overflow_add-to
 overflow_add-to c = omega (arith, item_fits c.args.lengths.now c.args.octets.now c.args.i c.args.at c.requires.0, c.well_formed)

@@ -6,9 +6,6 @@ use Rattle.batch.proofs.sum_passes.Goals as goal
 pub loop-i-init : goal.loop-i-init
 loop-i-init c = omega (arith, starts c.args.lengths.now)
 
-pub overflow_cast-n : goal.overflow_cast-n
-overflow_cast-n c = omega (arith, c.shared_slice_known-1.given c.loop-i.i)
-
 pub returns-then-left-n : goal.returns-then-left-n
 returns-then-left-n c = one_passes _ _ _ _ c.loop-i.invariant.1 c.loop-i-test.true c.if-left-n.true
 
