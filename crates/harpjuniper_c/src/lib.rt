@@ -1,31 +1,18 @@
-// What C calls: every function of the library by its C name.
+// What C links: every function of the library under its C name.
+//
+// A crate is a library, for other crates to stand on, or a static library, for C to link. The functions that C calls stand in the crates `harpjuniper` and
+// `harpjuniper_..`, since contracts are told of them there. Here each stands once more, with the same parameters and the same promise, word for word, and only
+// calls the one there (`scripts/check-thin` asks that). Nothing is required of the caller.
 #![tactic(auto)]
 
-ghost use Rattle.std.specs.Prelude.{◌≡◌};
-ghost use Rattle.address.specs.Class.{class_of, class_number};
-ghost use Rattle.address.specs.Path.{path_form, path_number};
-ghost use Rattle.checksum.specs.Sum.{checksum_of};
-
-// The class of a four-octet address.
-#[unsafe(no_mangle)]
-pub extern "C" fn hj_class(address: u32) -> u32
-    ensures { result ≡ class_number (class_of address) }
-{
-    harpjuniper_address::hj_class(address)
-}
-
-// Whether a path address is valid.
-#[unsafe(no_mangle)]
-pub extern "C" fn hj_path(path: u32) -> u32
-    ensures { result ≡ path_number (path_form path) }
-{
-    harpjuniper_address::hj_path(path)
-}
-
-// The checksum of RFC 1071.
-#[unsafe(no_mangle)]
-pub extern "C" fn hj_checksum(octets: &[u8]) -> u16
-    ensures { result ≡ checksum_of octets.now }
-{
-    harpjuniper_address::hj_checksum(octets)
-}
+pub mod addresses;
+pub mod batches;
+pub mod echoes;
+pub mod groups_and_paths;
+pub mod headers;
+pub mod messages;
+pub mod readings;
+pub mod receiving;
+pub mod relaying;
+pub mod routing;
+pub mod setup;
