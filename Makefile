@@ -285,6 +285,7 @@ coverage-plain: build/generate build/coverage-plain/plain
 	scripts/coverage-plain
 
 promises: | tools
+	scripts/check-thin
 	scripts/check-promises
 	scripts/check-documents
 
