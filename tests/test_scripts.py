@@ -565,9 +565,11 @@ class TryEdits(Tree):
     def runs(self):
         """How often the prover was called since this was last asked."""
         path = os.path.join(self.root, "runs")
-        count = len(open(path, encoding="utf-8").readlines()) if os.path.exists(path) else 0
-        if count:
-            os.remove(path)
+        if not os.path.exists(path):
+            return 0
+        with open(path, encoding="utf-8") as file:
+            count = len(file.readlines())
+        os.remove(path)
         return count
 
     def log(self, crate="pair"):
