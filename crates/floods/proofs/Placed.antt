@@ -9,7 +9,6 @@ use Rattle.records.specs.declared.Pair.{Pair}
 use Rattle.header.specs.declared.Fields.{Fields}
 use Rattle.meaning.specs.Flood.{is_flooded, pair_of}
 use Rattle.state.specs.Relay.{Memory}
-use Rattle.verdict.specs.declared.Flood.{Flood}
 use Rattle.verdict.specs.declared.Flood.TheVariants.{Plain, Unsent, Full, New}
 use Rattle.verdict.specs.declared.Target.{Target}
 use Rattle.verdict.specs.declared.Target.TheVariants.{Here, Broadcast, Group, Path, Route}

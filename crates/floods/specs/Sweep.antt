@@ -4,7 +4,7 @@ use Rattle.checks.specs.Order.{pick, Checks, first_of}
 use Rattle.records.specs.Fresh.{fresh_pair}
 use Rattle.records.specs.Held.{is_free}
 use Rattle.records.specs.declared.PairPlace.{PairPlace}
-use Rattle.state.specs.Relay.{Memory, pair_at, put_pair, put_last}
+use Rattle.state.specs.Relay.{Memory, pair_at, put_pair}
 
 module _ (lifetime second : ℕ) where
   -- a place that holds a pair whose age, the sweep's second less its own, is over the lifetime

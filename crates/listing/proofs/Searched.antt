@@ -130,7 +130,7 @@ module _ (b : Board) (q : Query) (own : q.own ≡ own_of b q.mission) (best : q.
   turn true s f i h told =
       let noted-s = noted s (2 ^ ones_of (record_at rs i).mask) in
       subst (λ (w : Route). Told (taken_of q noted-s i (record_at rs i)) (better_of to f i w)) (sym (way_at i h))
-      (entered_told noted-s f i h (noted_told s _ f told))
+      (entered_told noted-s f i h (noted_told s (2 ^ ones_of (record_at rs i).mask) f told))
   turn false s f i h told =
       let none : candidate (route_at ways i) to ≡ false = refuted _ (λ c. true_false (sym (candidate_shown i c) ∙ h)) in
       subst (Told s) (no_candidate to i (route_at ways i) f none) told

@@ -14,7 +14,6 @@ use Rattle.state.specs.Layout.{board_words, mission_words, decode_board, decode}
 use Rattle.lent_state.specs.View.{Held, lent, told, changed, told_both, changed_both, too_long}
 use Rattle.lent_state.proofs.Calls.{board_held_told, both_held_told, no_board_told, no_board_changed, no_mission_told, no_mission_changed}
 use Rattle.verdict.specs.declared.Way.{Way}
-use Rattle.listing.specs.declared.Scan.{Scan}
 use Rattle.listing.specs.Scan.{scan_of}
 use Rattle.judge.specs.declared.Asked.{Asked}
 use Rattle.judge.specs.declared.Ending.{Ending}

@@ -14,7 +14,7 @@ pub counted : {A B : Type 0} (f : A → B) (l : List A) (n : ℕ) → length (ma
 counted f l n h = sym (length-map l f) ∙ h
 
 pub held : (es : List Entry) (us : List Val)
-    → shadow (each (entry.the_field).row.Denot (entry.the_field).row.own_val (map (entry.the_type).to es) us) → Slots es
+    → shadow (each (entry.the_row).Denot (entry.the_row).own_val es us) → Slots es
 held [] us s = tt
 held (e ∷ es) [] s = absurd s
 held (e ∷ es) (u ∷ us) s = (s.0.1.1.0.1.1.0.1, held es us s.1)

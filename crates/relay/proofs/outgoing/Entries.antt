@@ -8,6 +8,7 @@ use lib.Bits.{bit_and, and_zero_l}
 use lib.Dec.{eqb}
 use borrow.Author.Tests.{eq-eqb, ne_eqb}
 use Rattle.checks.specs.Order.{pick}
+use Rattle.checks.proofs.Bools.{true_false}
 use Rattle.sets.specs.Sets.{only_port}
 use Rattle.queue.specs.Queue.{put_of}
 use Rattle.queue.specs.declared.Entry.{Entry}
@@ -73,7 +74,14 @@ all_entered b s took e p h l et =
     et ∙ ap (λ (n : ℕ). on_seated b (λ r. entered_all r took e n) s) (let z : p ≡ 8 = omega arith in z)
 
 -- no port took
+none_case : (t : Bool) (r r' : Relay) → t ≡ true → pick t r r' ≡ r
+none_case true r r' h = refl
+none_case false r r' h = true_false (sym h)
+
 pub none_entered : (r : Relay) (e : Entry) (n : ℕ) → entered_all r 0 e n ≡ r
 unfolding entered_all entered_if
 none_entered r e zero = refl
-none_entered r e (suc p) = rw (and_zero_l (only_port p)) (none_entered r e p)
+none_entered r e (suc p) =
+    none_case (eqb (bit_and 0 (only_port p)) 0) (entered_all r 0 e p) (entered (entered_all r 0 e p) p e)
+    (eq-eqb (bit_and 0 (only_port p)) 0 (and_zero_l (only_port p)))
+    ∙ none_entered r e p

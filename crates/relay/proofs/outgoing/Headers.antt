@@ -3,10 +3,10 @@ use native.Mathlib.Omega.{arith}
 use native.Mathlib.Numerals.{add-one}
 use Prim.Native.Nat.{ℕ, zero, suc, ◌+◌, ◌-◌, ◌/◌, ◌%◌, ◌^◌, ◌≤◌}
 use mathlib.Core.Path.{◌≡◌, refl, sym, ap, subst, ◌∙◌}
-use mathlib.Core.Bool.{Bool, true, false, not}
+use mathlib.Core.Bool.{Bool, true, false}
 use mathlib.Core.List.{List, ◌++◌, append_assoc}
 use lib.ListN.{length, take, drop, take-append-drop, length-take, length-drop}
-use lib.Seq.{length-take-le, take-append_seam, take-length, drop-append-le, drop-drop}
+use lib.Seq.{length-take-le, take-append_seam, drop-append-le, drop-drop}
 use borrow.Rule.Slice.PartMut.{put_mid}
 use borrow.Author.Tests.{eq-eqb, ne_eqb}
 use Rattle.checks.specs.Order.{pick}
@@ -76,20 +76,19 @@ module _ (took far : ℕ) (near other : List ℕ) (p : ℕ) (lent : List ℕ) wh
 
     -- all octets of a header, copied to the front of its stretch
     copied : (vs : List ℕ) {mid : List ℕ} → length vs ≤ longest_header
-        → mid ≡ take (length vs) vs ++ drop (length vs) (take wide (drop (stretch_of p) lent))
+        → mid ≡ fronted vs (take wide (drop (stretch_of p) lent))
         → put_mid (stretch_of p) wide lent mid ≡ pasted lent (stretch_of p) vs
     copied vs few e =
-        stretch_written lent vs (stretch_of p) wide (omega (arith, few, wide_enough p lent room))
-        (e ∙ ap (λ (x : List ℕ). x ++ drop (length vs) (take wide (drop (stretch_of p) lent))) (take-length vs))
+        stretch_written lent vs (stretch_of p) wide (omega (arith, few, wide_enough p lent room)) e
 
     pub far_sent : {mid : List ℕ} → far / 2 ^ p % 2 ≡ 1 → length other ≤ longest_header
-        → mid ≡ take (length other) other ++ drop (length other) (take wide (drop (stretch_of p) lent))
+        → mid ≡ fronted other (take wide (drop (stretch_of p) lent))
         → put_mid (stretch_of p) wide lent mid ≡ chosen_if took far near other p lent
     unfolding chosen_if
     far_sent so few e = simp (eq-eqb _ 1 is, eq-eqb _ 1 so) (copied other few e)
 
     pub near_sent : {mid : List ℕ} → (far / 2 ^ p % 2 ≡ 1 → ⊥) → length near ≤ longest_header
-        → mid ≡ take (length near) near ++ drop (length near) (take wide (drop (stretch_of p) lent))
+        → mid ≡ fronted near (take wide (drop (stretch_of p) lent))
         → put_mid (stretch_of p) wide lent mid ≡ chosen_if took far near other p lent
     unfolding chosen_if
     near_sent so few e = simp (eq-eqb _ 1 is, ne_eqb _ 1 so) (copied near few e)

@@ -1,0 +1,6 @@
+-- `judge::ended_by` meets its contract. Assumes nothing.
+use borrow.Author.Rules.{rules}
+use Rattle.judge.proofs.ended_by.Goals as goal
+
+pub returns : goal.returns
+returns c = cc

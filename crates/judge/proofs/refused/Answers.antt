@@ -1,0 +1,6 @@
+-- `judge::refused` meets its contract. Assumes nothing.
+use borrow.Author.Rules.{rules}
+use Rattle.judge.proofs.refused.Goals as goal
+
+pub returns : goal.returns
+returns c = cc

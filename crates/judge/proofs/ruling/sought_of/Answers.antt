@@ -1,0 +1,6 @@
+-- `judge::ruling::sought_of` meets its contract. Assumes nothing.
+use borrow.Author.Rules.{rules}
+use Rattle.judge.proofs.ruling.sought_of.Goals as goal
+
+pub returns : goal.returns
+returns c = cc

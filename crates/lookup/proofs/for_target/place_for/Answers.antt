@@ -1,0 +1,6 @@
+-- `lookup::for_target::place_for` meets its contract. Assumes nothing.
+use borrow.Author.Rules.{rules}
+use Rattle.lookup.proofs.for_target.place_for.Goals as goal
+
+pub returns-in-Group : goal.returns-in-Group
+returns-in-Group c b = rw c.in-Group.is (c.group_place.ensures b)

@@ -1,0 +1,19 @@
+-- `lookup::group_place` meets its contract: no place below i is the group's. Assumes nothing.
+use native.Mathlib.Omega.{arith}
+use Prim.Native.Nat.{ℕ, ◌-◌, ◌≤◌}
+use mathlib.Core.Path.{◌≡◌, refl}
+use borrow.Author.Rules.{rules}
+use Rattle.sets.specs.Sets.{first_below}
+use Rattle.sets.proofs.Loops.{first_below_none}
+use Rattle.state.specs.Seen.{seated}
+use Rattle.state.specs.Layout.{decode}
+use Rattle.state.specs.Relay.{group_at}
+use Rattle.records.specs.Held.{holds_group}
+use Rattle.lookup.proofs.Found.{test_read, group_there, group_missing}
+use Rattle.lookup.proofs.group_place.Given as goal
+
+abbrev pub invariant-loop-i : goal.invariant-loop-i
+invariant-loop-i l = (l.i ≤ 16) × (first_below (λ (j : ℕ). holds_group (group_at (decode l.mission).mission j) l.a) l.i ≡ l.i)
+
+abbrev pub decreases-loop-i : goal.decreases-loop-i
+decreases-loop-i l = 16 - l.i

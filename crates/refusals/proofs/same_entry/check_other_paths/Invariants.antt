@@ -1,0 +1,13 @@
+-- `refusals::same_entry::check_other_paths` meets its contract: no place below i is another one with the same entry. Assumes nothing.
+use Prim.Native.Nat.{◌-◌, ◌≤◌}
+use borrow.Author.Rules.{rules}
+use Rattle.state.specs.Layout.{decode}
+use Rattle.refusals.specs.Elsewhere.{other_path, path_elsewhere}
+use Rattle.refusals.proofs.same_entry.Others.{NoneBelow, at_first, found, not_here, nowhere}
+use Rattle.refusals.proofs.same_entry.check_other_paths.Given as goal
+
+abbrev pub invariant-loop-i : goal.invariant-loop-i
+invariant-loop-i l = (l.i ≤ 16) × NoneBelow (other_path (decode l.mission).mission l.place l.p) l.i
+
+abbrev pub decreases-loop-i : goal.decreases-loop-i
+decreases-loop-i l = 16 - l.i

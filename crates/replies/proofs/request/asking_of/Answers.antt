@@ -1,0 +1,6 @@
+-- `replies::request::asking_of` meets its contract. Assumes nothing.
+use Rattle.replies.proofs.Chosen.{asks_of}
+use Rattle.replies.proofs.request.asking_of.Goals as goal
+
+pub returns : goal.returns
+returns c = asks_of c.args.h _ c.read_message.ensures c.asking_in.ensures

@@ -1,0 +1,15 @@
+-- `state_board::ready::ready_ports` meets its contract: the set so far is that of the first p ports. Assumes nothing.
+use native.Mathlib.Omega.{arith}
+use Prim.Native.Nat.{◌-◌, ◌≤◌}
+use mathlib.Core.Path.{◌≡◌, refl}
+use borrow.Author.Rules.{rules}
+use Rattle.state.specs.Layout.{decode_board}
+use Rattle.state.specs.Seen.{ports_seen}
+use Rattle.state_board.proofs.ready.Ready.{ready_below, room, turn, gathered}
+use Rattle.state_board.proofs.ready.ready_ports.Given as goal
+
+abbrev pub invariant-loop-p : goal.invariant-loop-p
+invariant-loop-p l = (l.p ≤ 8) × (l.set ≡ ready_below (ports_seen l.number (decode_board l.board)) l.p)
+
+abbrev pub decreases-loop-p : goal.decreases-loop-p
+decreases-loop-p l = 8 - l.p

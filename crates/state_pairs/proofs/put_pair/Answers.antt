@@ -1,0 +1,8 @@
+-- `state_pairs::put_pair` leaves every other part of the state. Assumes nothing.
+use Rattle.state.proofs.Writing.{pair_written}
+use borrow.Author.Rules.{rules}
+use Rattle.state_pairs.proofs.put_pair.Goals as goal
+
+pub returns : goal.returns
+returns c = pair_written c.args.mission.now c.requires.0 c.args.i c.args.x _ c.requires.1
+    c.write_pair.ensures

@@ -1,0 +1,8 @@
+-- `state_places::put_group` leaves every other part of the state. Assumes nothing.
+use Rattle.state.proofs.Writing.{group_written}
+use borrow.Author.Rules.{rules}
+use Rattle.state_places.proofs.put_group.Goals as goal
+
+pub returns : goal.returns
+returns c = group_written c.args.mission.now c.requires.0 c.args.i c.args.x _ c.requires.1
+    c.write_group.ensures

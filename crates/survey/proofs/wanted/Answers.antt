@@ -1,0 +1,23 @@
+-- `survey::wanted` meets its contract: after i turns it is the survey of the first i ports of the set. Assumes nothing.
+use native.Mathlib.Omega.{arith}
+use Prim.Native.Nat.{◌-◌, ◌≤◌}
+use mathlib.Core.Path.{◌≡◌, ◌∙◌}
+use Rattle.state.specs.Seen.{seated}
+use Rattle.state.specs.Layout.{decode_board, decode}
+use Rattle.survey.specs.Survey.{survey_within}
+use Rattle.survey.proofs.Walk.{roomy_wanted, turn_wanted, all_wanted}
+use borrow.Author.Rules.{rules}
+use Rattle.survey.proofs.wanted.Goals as goal
+
+pub loop-i-init : goal.loop-i-init
+unfolding survey_within
+loop-i-init c = (omega arith, c.none-s.ensures)
+
+pub see_if-s-requires : goal.see_if-s-requires
+see_if-s-requires c = (c.requires.0, (c.requires.1, (c.loop-i-test.true, roomy_wanted _ _ _ _ _ c.loop-i-test.true c.loop-i.invariant.1)))
+
+pub loop-i-preserved : goal.loop-i-preserved
+loop-i-preserved c = (omega arith, c.see_if-s.ensures ∙ turn_wanted _ _ _ _ c.loop-i.invariant.1)
+
+pub returns : goal.returns
+returns c = all_wanted _ _ _ _ _ c.loop-i-test.false c.loop-i.invariant
