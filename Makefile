@@ -16,7 +16,7 @@
 #   make flood     datagrams flooded on large random nets of relays
 #   make coverage-plain   what of host/plain the generated trace reaches
 #   make costs     puts what the last `make test` cost into docs/COSTS.md
-#   make clean     removes build/ and target/
+#   make clean     removes build/
 #
 # TARGET=x86-64, aarch64 or riscv64 says whose code an archive is and a program that
 # links it, and such a program stands in build/TARGET. Where it is not said, `make
@@ -76,12 +76,12 @@ HEADERS := $(wildcard $(INCLUDE)/*.h host/*/*.h host/*/*.def tests/*.h)
 .NOTPARALLEL:
 .DELETE_ON_ERROR:
 .PHONY: test archive archives release replay plain rehearsal silent-leg compare compare-all bench \
-	soak flood coverage-plain costs clean prepare tools format exports released header readme \
+	soak flood coverage-plain costs clean prepare tools exports released header readme \
 	call-tests host-tests promises install uninstall always
 
 # What can be said without a proof comes first. The gate then proves everything, makes
 # the archive of what was proved and runs the tests below on it (scripts/gate).
-test: prepare format header promises
+test: prepare header promises
 	@scripts/gate
 
 archive: $(call archive_of,$(or $(TARGET),x86-64))
@@ -100,53 +100,41 @@ prepare:
 tools:
 	@scripts/prepare hosts $(FOR)
 
-format: | prepare
-	rt fmt --check
-
 # ---- The archive
 
-# The crates that export to C. `rt staticlib` makes an archive of one crate's exports,
-# an object that shows no other name; ours is made of their objects.
-EXPORTING := harpjuniper harpjuniper_address harpjuniper_messages harpjuniper_settings \
-	harpjuniper_reads harpjuniper_routes harpjuniper_receive harpjuniper_batch harpjuniper_echo \
-	harpjuniper_relay
-KIT := build/kit
-KITS_TOOLS := $(KIT)/on/$(shell uname -m)/toolchain/bin
-objects_of = $(EXPORTING:%=build/$(1)/objects/%.o)
+# The crate that exports to C. Its static library is one object, that shows no other name.
+ARCHIVED := harpjuniper_c
+KITS_AR = "$(dir $(shell rt doc))toolchain/bin/llvm-ar"
 
 # The archive has no dates and no owners, so that it is the same to the octet wherever
 # it is made; by the kit's ar, which knows the objects of every target.
 define put_together
 	rm -f $(call archive_of,$(1))
-	$(KITS_TOOLS)/llvm-ar rcsD $(call archive_of,$(1)) $(call objects_of,$(1))
+	$(KITS_AR) rcsD $(call archive_of,$(1)) build/$(1)/objects/$(ARCHIVED).o
 endef
 
-# rt compiles for x86-64 alone. It runs on a kit of our own, whose clang does the same
-# and keeps the module (scripts/toolchain), for the other targets.
+# rt compiles for x86-64 alone. Here that is done with a toolchain of our own, whose clang
+# does the same and keeps the module (scripts/toolchain), for the other targets.
 # The folders are named too, since a file that is gone changes its folder only.
-# `rt check` proves what is not proved yet, on every core, and nothing after `rt ci`.
-# `rt staticlib` alone would prove one crate after the other, and two of them at once
-# write to the same files of target/.
-$(call archive_of,x86-64) build/modules/kept &: crates.txt $(shell find crates 2>/dev/null) \
-		scripts/toolchain scripts/keeping-clang | prepare
+# PROVED=proved says that `rt ci` has just passed, so that no library is proved twice.
+PROVED :=
+$(call archive_of,x86-64) build/modules/kept &: crates.txt \
+		$(shell find crates -name out -prune -o -print 2>/dev/null) \
+		scripts/libraries scripts/compile scripts/kit.py scripts/toolchain scripts/keeping-clang | prepare
 	rm -rf build/x86-64/objects build/modules
 	mkdir -p build/x86-64/objects build/modules
-	scripts/toolchain $(KIT)
-	scripts/in-memory rt check $(EXPORTING)
-	for crate in $(EXPORTING); do RATTLE_HOME="$(CURDIR)/$(KIT)" scripts/in-memory rt staticlib $$crate && \
-	    ar x --output build/x86-64/objects target/staticlib/lib$$crate.a && \
-	    mv $(KITS_TOOLS)/kept build/modules/$$crate || exit 1; done
+	scripts/libraries $(PROVED) $(ARCHIVED)
+	scripts/in-memory scripts/compile $(ARCHIVED) build/x86-64/objects/$(ARCHIVED).a build/modules/$(ARCHIVED)
+	cd build/x86-64/objects && ar x $(ARCHIVED).a && rm $(ARCHIVED).a
 	$(call put_together,x86-64)
-	ln -sf x86-64/libharpjuniper.a build
+	cp build/x86-64/libharpjuniper.a build
 	touch build/modules/kept
 
-# The same modules, compiled for another target.
+# The same module, compiled for another target.
 $(call archive_of,aarch64) $(call archive_of,riscv64): build/%/libharpjuniper.a: \
 		build/modules/kept scripts/lower scripts/bitcode.py include/harpjuniper.h
 	@mkdir -p $(@D)/objects
-	scripts/toolchain $(KIT)
-	for crate in $(EXPORTING); do \
-	    scripts/lower $* build/modules/$$crate $(@D)/objects/$$crate.o || exit 1; done
+	scripts/lower $* build/modules/$(ARCHIVED) $(@D)/objects/$(ARCHIVED).o
 	$(call put_together,$*)
 
 release: $(ARCHIVES)
@@ -297,6 +285,7 @@ coverage-plain: build/generate build/coverage-plain/plain
 	scripts/coverage-plain
 
 promises: | tools
+	scripts/check-thin
 	scripts/check-promises
 	scripts/check-documents
 
@@ -327,4 +316,4 @@ uninstall:
 	rm -f $(addprefix "$(into)"/,$(INSTALLED))
 
 clean:
-	rm -rf build target
+	rm -rf build

@@ -13,17 +13,25 @@ TARGETS = ("x86-64", "aarch64", "riscv64")
 # For each machine that the gate runs on, the targets that are not its own.
 OTHERS = {"x86_64": ("aarch64", "riscv64"), "aarch64": ("x86-64", "riscv64")}
 
-# rt ci in small: two crates, then a wrong program; each uses up the processor for as
-# many turns as it is told.
+# rt ci in small: two crates, and a wrong program beside the second; each prover uses up the
+# processor for as many turns as it is told. A wrong program is tried in a folder of its own.
 RT = """#!/bin/sh
-work() { i=0; while [ $i -lt $1 ]; do i=$((i + 1)); done; }
-[ "$1" = ci ] || exit 2
-(work {proof}) & wait; echo 'rt: one proved (1 s)'
-(work {proof}) & wait; echo 'rt: two proved (1 s)'
-(work {edits}) & wait; echo 'rt: must-fail one/first: refused'
-echo 'rt: ok'
+[ "$*" = ci ] || exit 2
+[ -z "$TMPDIR" ] || exit 3
+mkdir -p rt-edit-1
+rattle check --crate-name one src/lib.rt {proof}; echo 'rt: one proved'
+(cd rt-edit-1 && rattle check --crate-name one src/lib.rt {own}) &
+rattle check --crate-name two src/lib.rt {proof}; echo 'rt: two proved'
+wait; echo 'rt: must-fail one/first.edit: refused, as it must be'
+echo 'rt: ok{ok}; {done}'
 {last}
 """
+RATTLE = """#!/bin/bash
+for turns; do :; done
+exec -a rattle sh -c 'i=0; while [ $i -lt '$turns' ]; do i=$((i + 1)); done' "$@"
+"""
+ALL_DONE = "every proof and must-fail edit was done in this run"
+KEPT = "done in this run: 1 of the 2 proofs (of crates and of their tests); the others are kept from earlier runs"
 
 
 # What a gate on another machine is told of it.
@@ -33,21 +41,30 @@ MAKE = "--no-print-directory FROM=build TARGET= "
 
 
 class Gate(Tree):
-    """scripts/gate with stand-ins for rt, for the look at the logs, for make and for os.uname."""
+    """scripts/gate with stand-ins for rt and its prover, for the libraries, for the tries and the look at
+    their logs, for make and for os.uname."""
 
-    def gate(self, last="echo 4 passed, 0 failed", logs="exit 0", make="exit 0", edits=1, machine="x86_64"):
-        for script in ("gate", "costs.py", "in-memory"):
+    def gate(self, last="echo 4 passed, 0 failed", logs="exit 0", make="exit 0", edits=1, machine="x86_64",
+             libraries="exit 0", tries="exit 0", own=1, ok="", done=ALL_DONE):
+        for script in ("gate", "costs.py"):
             self.copy_script(script)
         self.write("crates.txt", "# two crates\none:\ntwo: one\n")
         for target in TARGETS:
             self.write(f"build/{target}/libharpjuniper.a", "of an earlier run\n")
             self.write(f"build/{target}/objects/one.o", "of an earlier run\n")
         self.write("scripts/check-must-fail", f"#!/bin/sh\necho looked at the logs\n{logs}\n", 0o755)
-        rt = RT.replace("{proof}", "60000").replace("{edits}", str(edits)).replace("{last}", last)
+        self.write("scripts/libraries", f"#!/bin/sh\necho libraries $*\n{libraries}\n", 0o755)
+        work = WORK.format(edits)
+        self.write("scripts/try-edits", f"#!/bin/sh\necho tried $*\n{work}\n{tries}\n", 0o755)
+        rt = RT
+        for name, value in (("proof", 300000), ("own", own), ("ok", ok), ("done", done), ("last", last)):
+            rt = rt.replace(f"{{{name}}}", str(value))
         self.write("bin/rt", rt, 0o755)
+        self.write("bin/rattle", RATTLE, 0o755)
         self.write("bin/make", f'#!/bin/sh\necho "$@"; ls build\n{make}\n', 0o755)
         self.write("site/sitecustomize.py", MACHINE.format(machine))
         path = os.path.join(self.root, "bin") + os.pathsep + os.environ["PATH"]
+        os.environ.pop("TMPDIR", None)
         with mock.patch.dict(os.environ, PYTHONPATH=os.path.join(self.root, "site")):
             status, output = self.run_script(os.path.join(self.root, "scripts/gate"), path=path)
         return status, output.strip().split("\n")
@@ -65,7 +82,8 @@ class Gate(Tree):
             status, lines = self.gate(machine=machine)
             self.assertEqual((status, lines[-1]), (0, "4 passed, 0 failed"), lines)
             self.assertEqual([line for line in lines if not line.startswith("cost:")][3:], [
-                "rt: ok", "looked at the logs", MAKE + "archives", "plain",
+                f"rt: ok; {ALL_DONE}", "libraries proved", "tried", "looked at the logs",
+                MAKE + "PROVED=proved archives", "plain",
                 MAKE + "exports released readme host-tests", "plain",
                 MAKE + f"TARGET={others[0]} exports call-tests", "plain",
                 MAKE + f"TARGET={others[1]} exports call-tests", "plain",
@@ -76,16 +94,51 @@ class Gate(Tree):
                 self.assertIn(f", {machine}, ", file.readline())
             os.remove(page)
 
-    def test_the_cost_is_split_at_the_last_crate(self):
-        _, lines = self.gate(edits=60000)
-        rows = {line[6:36].strip(): float(line.split()[-1]) for line in lines if line.startswith("cost: ") and line[6] != " "
-                and line.split()[-1][0].isdigit()}
+    def rows(self, **words):
+        """The last number of each row of the summary."""
+        _, lines = self.gate(**words)
+        return {line[6:36].strip(): float(line.split()[-1]) for line in lines if line.startswith("cost: ") and line[6] != " "
+                and line.split()[-1].replace(".", "").isdigit() and " bar " not in line}
+
+    def test_the_cost_is_split(self):
+        """By what a prover works on, and not by when: rt's own tries run beside proofs."""
+        rows = self.rows(edits=300000, own=300000)
         self.assertEqual(rows["one proof of everything"], 1.0)
         self.assertTrue(0.2 < rows["wrong programs"] < 0.9, rows)
+        self.assertTrue(1.2 < rows["rt ci, with its own tries"] < 2.2, rows)
 
     def test_too_dear(self):
-        lines = self.failed("cost over 3 proofs", edits=480000)
+        lines = self.failed("cost over 3 proofs", edits=2400000)
         self.assertNotIn("4 passed, 0 failed", lines)
+
+    def test_what_was_kept_is_compared_with_nothing(self):
+        status, lines = self.gate(edits=2400000, done=KEPT)
+        self.assertEqual((status, lines[-1]), (0, "4 passed, 0 failed"), lines)
+        self.assertIn("cost: rt ci took proofs of an earlier run, so none of this is compared with a bar", lines)
+        rows = self.rows(edits=2400000, done=KEPT)
+        self.assertEqual(sorted(rows), ["host tests", "rt ci, with its own tries", "static libraries", "wrong programs"])
+
+    def test_bad_edits(self):
+        """They fail nothing in rt."""
+        for bad in (1, 12):
+            ok = f"; handles allowed: none; must-fail edits: 3 refused, {bad} bad"
+            lines = self.failed(f"{bad} wrong programs are bad edits", ok=ok)
+            self.assertNotIn("tried", lines)
+        status, lines = self.gate(ok="; handles allowed: none; must-fail edits: 3 refused, 1 of them only by a limit")
+        self.assertEqual((status, lines[-1]), (0, "4 passed, 0 failed"), lines)
+
+    def test_rt_does_not_say_that_it_is_ok(self):
+        rt = RT.replace("echo 'rt: ok", "echo 'rt: fine")
+        with mock.patch(__name__ + ".RT", rt):
+            self.failed("rt ci says no line 'rt: ok'")
+
+    def test_a_library_fails(self):
+        lines = self.failed("a library cannot be built", libraries="exit 1")
+        self.assertNotIn("tried", lines)
+
+    def test_the_tries_fail(self):
+        lines = self.failed("a wrong program is not refused", tries="exit 1")
+        self.assertNotIn("looked at the logs", lines)
 
     def test_rt_fails(self):
         lines = self.failed("rt ci ended with status 1", last="echo 3 passed, 1 failed; exit 1")
@@ -98,7 +151,7 @@ class Gate(Tree):
     def test_the_host_tests_are_too_dear(self):
         """On every machine; those of the other targets and the comparison are of them."""
         for machine, words in (("x86_64", "TARGET=riscv64"), ("aarch64", "host-tests"), ("aarch64", "compare-all")):
-            make = f'case "$*" in *{words}*) {WORK.format(240000)} ;; esac'
+            make = f'case "$*" in *{words}*) {WORK.format(1200000)} ;; esac'
             lines = self.failed("the host tests cost over 0.5 of a proof", make=make, machine=machine)
             self.assertNotIn("4 passed, 0 failed", lines)
 

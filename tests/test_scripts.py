@@ -10,10 +10,15 @@ import os
 import re
 import shutil
 import subprocess
+import sys
 import unittest
 from unittest import mock
 
 from tree import ROOT, Tree
+
+sys.path.insert(0, os.path.join(ROOT, "scripts"))
+import edits  # stand beside the scripts that use them
+import kit
 
 # make hands its TARGET on in the environment. A test that is about one says it itself.
 os.environ.pop("TARGET", None)
@@ -270,22 +275,20 @@ class MustFail(Tree):
 
     def setUp(self):
         super().setUp()
+        self.write("crates.txt", "# one\npair:\n")
         self.write("crates/pair/src/lib.rt", SOURCE)
+        self.write("crates/pair/proofs/half/Proof.antt", PROOF)
         self.write("must-fail.txt", "# those that C calls\npair::half  # twice\n")
 
-    def edit(self, label, *changes, errors=(), lines=(FAILED,), text=None):
-        """An edit file, and what rt left of it: the edited source and the log."""
-        folder = f"target/must-fail/pair/{label}"
+    def edit(self, label, *changes, errors=(), lines=(FAILED,), text=None, proof="Proof"):
+        """An edit file, and the log that scripts/try-edits left of it."""
         heads = [f"# {head}\nfile: src/lib.rt\nold: {old}\nnew: {new}\n" for head, old, new in changes]
-        self.write(f"crates/pair/must-fail/{label}.edit", text or "\n".join(heads))
-        source = SOURCE
-        for _, old, new in changes:
-            source = source.replace(old, new)
-        self.write(f"{folder}/src/lib.rt", source)
-        self.write(f"{folder}/proofs/half/Proof.antt", PROOF)
-        where = f"{os.path.join(self.root, folder)}/proofs/half/Proof.antt"
+        path = f"crates/pair/must-fail/{label}.edit"
+        self.write(path, text or "\n".join(heads))
+        where = f"./proofs/half/{proof}.antt"
         log = [f"{where}:2:9: error: {error}" for error in errors] + list(lines) + ["logic=not-proved"]
-        self.write(f"{folder}/.log", "\n".join(log) + "\n")
+        stamp = edits.stamp(self.root, kit.crates(self.root)[0], os.path.join(self.root, path))
+        self.write(f"build/must-fail/pair/{label}.log", "\n".join([stamp, *log]) + "\n")
 
     def half(self, new="x / 3", name="half_not_the_half", errors=(FAILS, FOLLOWS), **more):
         """An edit file with one wrong program of half."""
@@ -448,13 +451,343 @@ class MustFail(Tree):
 
     def test_no_log(self):
         self.half()
-        os.remove(os.path.join(self.root, "target/must-fail/pair/first/.log"))
-        self.refused("rt left no log")
+        os.remove(os.path.join(self.root, "build/must-fail/pair/first.log"))
+        self.refused("there is no log")
 
     def test_the_log_of_another_edit(self):
         self.half()
-        self.write("target/must-fail/pair/first/src/lib.rt", SOURCE)
+        self.write("crates/pair/must-fail/first.edit", "# half_not_the_half: a third\nfile: src/lib.rt\nold: x / 2\nnew: x / 3\n")
         self.refused("its log is of other code, or of another edit")
+
+    def test_the_log_of_other_code(self):
+        """Of the crate itself, of its proofs, and of a crate that it stands on."""
+        self.write("crates.txt", "low:\npair: low\n")
+        self.write("crates/low/src/lib.rt", "// Nothing.\n")
+        for name, text in (("pair/src/lib.rt", SOURCE), ("pair/proofs/half/Proof.antt", PROOF), ("low/src/lib.rt", "// Nothing.\n")):
+            self.half()
+            self.write(f"crates/{name}", f"{text}// More.\n")
+            self.refused("first.edit: its log is of other code, or of another edit")
+            self.write(f"crates/{name}", text)
+
+    # ---- Answers, as today's prover has them
+
+    ANSWERS = """-- The answers.
+use Rattle.pair.proofs.half.Goals as goal
+
+small : (n : ℕ) → n < n + 1
+small n = omega arith
+
+pub returns-then-brace-eq1 : goal.returns-then-brace-eq1
+returns-then-brace-eq1 c = search rules
+
+pub returns : (w : ℕ) → Goals.returns w
+returns c = search rules
+"""
+    OPEN = "note: src/lib.rt:9:5: it is not proved that what the function ensures holds when it returns (`{}`)"
+
+    def answers(self):
+        self.write("crates/pair/proofs/half/Answers.antt", self.ANSWERS)
+
+    def test_an_answer(self):
+        self.answers()
+        for need in ("returns-then-brace-eq1", "returns"):
+            self.half(errors=(f"`{need}`: `omega`: the goal does not follow",), proof="Answers")
+            self.assertIn(f"must-fail pair/half_not_the_half: pair::half fails at {need}\n", self.check()[1])
+
+    def test_an_answer_that_says_no_type(self):
+        self.answers()
+        self.write("crates/pair/proofs/half/Answers.antt", "returns c = search rules\n")
+        self.half(errors=("`returns`: `search`: no proof",), proof="Answers")
+        self.assertIn("must-fail pair/half_not_the_half: pair::half fails at returns\n", self.check()[1])
+
+    def test_a_lemma_among_answers(self):
+        self.answers()
+        follows = "3 declarations that depend on `small`, which was not admitted, were not checked: returns"
+        self.half(errors=("`small`: `omega`: the goal does not follow", follows), proof="Answers")
+        self.refused("no need of pair::half fails")
+
+    def test_a_need_without_an_answer(self):
+        """The notes above the line of a function, or of a type, are on its needs alone."""
+        self.answers()
+        self.half(errors=(), lines=(self.OPEN.format("returns-then-brace-eq2"), self.FAILED))
+        self.assertIn("must-fail pair/half_not_the_half: pair::half fails at returns-then-brace-eq2\n", self.check()[1])
+        for other in ("struct pair::Pair: proved", "fn pair::other: proved"):
+            self.half(errors=(), lines=(self.OPEN.format("returns"), other, self.FAILED))
+            self.refused("no need of pair::half fails")
+
+    def test_a_need_that_search_does_not_prove(self):
+        made = "fn pair::half: no proof: expected answers in ./proofs/half/Answers.antt; `search` did not prove `div`, `returns`"
+        self.half(errors=(), lines=(self.OPEN.format("returns"), made))
+        self.assertIn("must-fail pair/half_not_the_half: pair::half fails at returns, div\n", self.check()[1])
+
+    def test_an_answer_to_a_need_that_is_gone(self):
+        """It shows nothing, whatever else does."""
+        self.answers()
+        for gone in ("`returns`: `goal.returns`: module `Rattle.pair.proofs.half.Goals` has no `returns` that can be named from here",
+                     "`returns`: record `Rattle.pair.proofs.half.Lts.Else1` has no field `if-brace-eq1` (nearest: .if-brace-eq2)"):
+            self.half(errors=(FAILS, gone), lines=(self.OPEN.format("returns-then-brace-eq2"), self.FAILED), proof="Answers")
+            self.refused("the proof of pair::half no longer fits, at returns")
+
+    def test_a_caller_without_answers(self):
+        """Which only follows from what it calls."""
+        for calls in ("`pair::half`, which is", "`pair::half` and `pair::first`, which are"):
+            self.half(lines=(self.FAILED, f"fn pair::whole: no proof: it calls {calls} not proved"))
+            self.assertIn("must-fail pair/half_not_the_half: pair::half fails at returns\n", self.check()[1])
+
+
+class TryEdits(Tree):
+    """scripts/try-edits with a stand-in for rt and its prover."""
+
+    EDIT = "# half_not_the_half: a third\nfile: src/lib.rt\nold: x / 2\nnew: x / 3\n"
+    GONE = ("./proofs/half/Answers.antt:{}:9: error: `returns`: record `Rattle.pair.proofs.half.Lts.Else1` has no field `if-a`\n"
+            "logic=not-proved")
+
+    def setUp(self):
+        super().setUp()
+        for script in ("try-edits", "edits.py", "kit.py"):
+            self.copy_script(script)
+        self.write("crates.txt", "low:\nuser: pair\npair: low\nfree staticlib: pair\n")
+        for crate in ("low", "pair", "user"):
+            self.write(f"crates/{crate}/src/lib.rt", SOURCE)
+            self.write(f"crates/{crate}/must-fail/first.edit", self.EDIT)
+        self.write("crates/pair/proofs/half/Answers.antt", MustFail.ANSWERS)
+        self.write("bin/rt", f"#!/bin/sh\n[ $1 = doc ] && echo {self.root}/kit/START-HERE.md\n", 0o755)
+        self.prover("echo logic=not-proved; exit 1")
+
+    def prover(self, body):
+        self.write("kit/bin/rattle", f'#!/bin/sh\necho run >>{self.root}/runs\necho "$*"\n{body}\n', 0o755)
+
+    def tried(self, *words, **variables):
+        path = os.path.join(self.root, "bin") + os.pathsep + os.environ["PATH"]
+        with mock.patch.dict(os.environ, variables):
+            return self.run_script(os.path.join(self.root, "scripts/try-edits"), *words, path=path)
+
+    def runs(self):
+        """How often the prover was called since this was last asked."""
+        path = os.path.join(self.root, "runs")
+        if not os.path.exists(path):
+            return 0
+        with open(path, encoding="utf-8") as file:
+            count = len(file.readlines())
+        os.remove(path)
+        return count
+
+    def log(self, crate="pair"):
+        with open(os.path.join(self.root, f"build/must-fail/{crate}/first.log"), encoding="utf-8") as file:
+            return file.read().splitlines()
+
+    def test_each_is_tried_once(self):
+        says = "try-edits: 3 files of wrong programs, each refused\n"
+        self.assertEqual((self.tried(), self.runs()), ((0, says), 3))
+        self.assertEqual((self.tried(), self.runs()), ((0, says), 0))
+        self.write("crates/low/src/lib.rt", f"{SOURCE}// More.\n")
+        self.assertEqual((self.tried(RT_JOBS="1"), self.runs()), ((0, says), 3))
+        self.write("crates/pair/must-fail/first.edit", self.EDIT + "# More.\n")
+        self.assertEqual((self.tried(), self.runs()), ((0, says), 1))
+        path = edits.stamp(self.root, kit.crates(self.root)[0], f"{self.root}/crates/pair/must-fail/first.edit")
+        self.assertEqual((self.log()[0], self.log()[-1]), (path, "logic=not-proved"))
+
+    def test_some_crates(self):
+        self.assertEqual(self.tried("pair", "low"), (0, "try-edits: 2 files of wrong programs, each refused\n"))
+        self.assertEqual(self.tried("pear"), (1, "try-edits: there is no crate pear\n"))
+
+    def test_what_the_prover_is_given(self):
+        """The edited crate, in a folder of its own, and the libraries below it."""
+        self.prover("cat src/lib.rt proofs/half/Answers.antt; echo logic=not-proved; exit 1")
+        self.tried("pair")
+        kits, built = f"{self.root}/kit", f"{self.root}/crates/low/out/rlib"
+        words = (f"check --crate-name pair src/lib.rt --extern std={kits}/rlibs/std.rlib -L dependency={kits}/rlibs "
+                 f"--extern low={built}/low.rlib -L dependency={built} --antt-project {kits}/rattle/logic/antt-project.json "
+                 f"--logic-built {kits}/logic_built --links pair= --jobs 1 --incremental ")
+        log = self.log()
+        self.assertTrue(log[1].startswith(words), log[1])
+        text = SOURCE.replace("x / 2", "x / 3") + MustFail.ANSWERS
+        self.assertEqual("\n".join(log[2:-1]) + "\n", text)
+        with open(os.path.join(self.root, "crates/pair/src/lib.rt"), encoding="utf-8") as file:
+            self.assertEqual(file.read(), SOURCE)
+
+    def test_what_it_stands_on_is_below(self):
+        self.tried("user")
+        words = self.log("user")[1]
+        rlib = f"{self.root}/crates/{{}}/out/rlib"
+        self.assertIn("--extern pair=" + rlib.format("pair") + "/pair.rlib -L dependency=" + rlib.format("low") +
+                      " -L dependency=" + rlib.format("pair") + " --antt", words)
+
+    def test_an_answer_that_does_not_fit_is_left_out(self):
+        at = MustFail.ANSWERS.splitlines().index("returns-then-brace-eq1 c = search rules") + 1
+        self.prover(f"cat proofs/half/Answers.antt\ngrep -q brace-eq1 proofs/half/Answers.antt && echo '{self.GONE.format(at)}' || "
+                    "echo logic=not-proved; exit 1")
+        self.assertEqual(self.tried("pair")[0], 0)
+        self.assertEqual(self.runs(), 2)
+        left = [line for line in MustFail.ANSWERS.splitlines() if "brace-eq1" not in line]
+        self.assertEqual([line for line in self.log()[2:-1] if line], [line for line in left if line])
+        with open(os.path.join(self.root, "crates/pair/proofs/half/Answers.antt"), encoding="utf-8") as file:
+            self.assertEqual(file.read(), MustFail.ANSWERS)
+
+    def test_answers_that_fit_nowhere(self):
+        """Where it is no answer that does not fit, all of the file is left out."""
+        self.prover(f"[ ! -f proofs/half/Answers.antt ] || echo '{self.GONE.format(2)}'; echo logic=not-proved; exit 1")
+        self.assertEqual(self.tried("pair")[0], 0)
+        self.assertEqual((self.runs(), len(self.log())), (2, 3))
+
+    def test_an_answer_that_does_not_fit_elsewhere(self):
+        """Of a function that is not changed, or in another file: that stays."""
+        for says in (self.GONE.format(8).replace("half/A", "whole/A"), self.GONE.format(8).replace("Answers", "Invariants")):
+            self.setUp()
+            self.prover(f"echo '{says}'; exit 1")
+            self.assertEqual(self.tried("pair")[0], 0)
+            self.assertEqual(self.runs(), 1)
+
+    def test_it_gives_up(self):
+        self.prover(f"echo '{self.GONE.format(8)}'; exit 1")
+        self.assertEqual(self.tried("pair")[0], 0)
+        self.assertLessEqual(self.runs(), 4)
+
+    def test_what_is_not_refused(self):
+        for body in ("echo logic=proved", "echo logic=not-proved", "echo no verdict; exit 3", "echo logic=not-proved; exit 2",
+                     "echo what; exit 1"):
+            self.setUp()
+            self.prover(body)
+            status, output = self.tried("pair")
+            self.assertEqual(status, 1, output)
+            self.assertIn("try-edits: crates/pair/must-fail/first.edit: the prover does not refuse it", output)
+            self.prover("echo logic=not-proved; exit 1")
+            self.runs()
+            self.assertEqual((self.tried("pair")[0], self.runs()), (0, 1), body)
+
+    def test_an_edit_that_cannot_be_applied(self):
+        self.write("crates/pair/must-fail/first.edit", self.EDIT.replace("x / 2", "x / 5"))
+        status, output = self.tried()
+        self.assertEqual((status, output), (1, "try-edits: crates/pair/must-fail/first.edit: 'x / 5' stands 0 times in src/lib.rt\n"))
+
+    def test_no_rt(self):
+        self.write("bin/rt", "#!/bin/sh\nexit 2\n", 0o755)
+        self.assertEqual(self.tried(), (1, "try-edits: there is no rt that says where its kit is\n"))
+
+
+class Libraries(Tree):
+    """scripts/libraries with a stand-in for rt."""
+
+    def setUp(self):
+        super().setUp()
+        for script in ("libraries", "kit.py", "in-memory"):
+            self.copy_script(script)
+        self.write("crates.txt", "user: pair\nlow:\npair: low\nother:\nfree staticlib: pair\n")
+        for crate in ("low", "pair", "user", "other", "free"):
+            self.write(f"crates/{crate}/src/lib.rt", SOURCE)
+        self.write("bin/rt", '#!/bin/sh\necho "${PWD##*/} $*" >>../../runs\n[ ${PWD##*/} != "$FAILS" ] || { echo why; exit 1; }\n', 0o755)
+
+    def built(self, *words, **variables):
+        """Status, what is said, and where rt was called."""
+        runs = os.path.join(self.root, "runs")
+        self.write("runs", "")
+        path = os.path.join(self.root, "bin") + os.pathsep + os.environ["PATH"]
+        with mock.patch.dict(os.environ, variables):
+            ended = self.run_script(os.path.join(self.root, "scripts/libraries"), *words, path=path)
+        with open(runs, encoding="utf-8") as file:
+            return (*ended, file.read().splitlines())
+
+    ALL = ["low lib", "other lib", "pair lib", "user lib"]
+
+    def test_all_of_them(self):
+        """Lowest first, and no static library."""
+        self.assertEqual(self.built(), (0, "", self.ALL))
+
+    def test_those_below(self):
+        self.assertEqual(self.built("free"), (0, "", ["low lib", "pair lib"]))
+        self.assertEqual(self.built("pair", "other"), (0, "", ["low lib"]))
+
+    def test_one_that_is_not_proved(self):
+        self.assertEqual(self.built(FAILS="other"), (1, "why\nlibraries: FAILED: other is not proved\n", self.ALL[:2]))
+
+    def test_right_after_rt_ci(self):
+        self.assertEqual(self.built("proved"), (0, "", []))
+        self.assertEqual(self.built("proved", "free"), (0, "", []))
+
+    def test_a_library_of_an_earlier_check(self):
+        """rt ci has put it back, and it may be of other code."""
+        self.write("crates/other/out/rlib/stamp", "of earlier code")
+        self.assertEqual(self.built("proved"), (0, "", self.ALL))
+        self.assertEqual(self.built("proved", "free"), (0, "", ["low lib", "pair lib"]))
+
+    def test_another_word(self):
+        self.assertEqual(self.built("proven"), (1, "usage: libraries [proved] [NAME..]\n", []))
+
+
+THIN = """// What C calls of `harpjuniper_address`.
+ghost use Rattle.std.specs.Prelude.{◌≡◌};
+
+// The class.
+#[unsafe(no_mangle)]
+pub extern "C" fn hj_class(address: u32, octets: &[u8]) -> u32
+    ensures value { result ≡ class_of (record { 0 = address }) }
+    ensures after { octets.now ≡ octets.now }
+{
+    harpjuniper_address::hj_class(address, octets)
+}
+"""
+
+
+class Thin(Tree):
+    """scripts/check-thin on one library of one function."""
+
+    def setUp(self):
+        super().setUp()
+        self.library = THIN.replace("    harpjuniper_address::hj_class(address, octets)\n", "    let a = address;\n    a / 2\n")
+        self.library += "\n// Not handed out.\npub fn half(x: u32) -> u32\n    ensures { result ≡ x }\n{\n    x\n}\n"
+        self.write("crates/harpjuniper_address/src/lib.rt", self.library)
+        self.write("crates/harpjuniper_c/src/addresses.rt", THIN)
+
+    def check(self, *words):
+        return self.run_script(os.path.join(ROOT, "scripts/check-thin"), *words, self.root)
+
+    def test_it_is_thin(self):
+        self.assertEqual(self.check(), (0, "thin: 1 functions of 1 files are handed to C as they are\n"))
+        several = THIN.replace("(address, octets)\n", "(\n        address, octets,\n    )\n")
+        self.write("crates/harpjuniper_c/src/addresses.rt", several)
+        self.assertEqual(self.check()[0], 0)
+
+    def refused(self, old, new, says):
+        self.assertIn(old, THIN)
+        self.write("crates/harpjuniper_c/src/addresses.rt", THIN.replace(old, new))
+        status, output = self.check()
+        self.assertEqual(status, 1, output)
+        self.assertIn(says, output)
+
+    def test_another_promise(self):
+        for old, new in (("class_of (record", "class_if (record"), ("    ensures after { octets.now ≡ octets.now }\n", ""),
+                         ("ensures value", "ensures number"), ("{ 0 = address }", "{ 0 = octets }"),
+                         ("    ensures value", "    requires { address < 2 }\n    ensures value")):
+            self.refused(old, new, "crates/harpjuniper_c/src/addresses.rt: hj_class has another head than in harpjuniper_address")
+
+    def test_other_parameters(self):
+        for old, new in (("address: u32, octets", "address: u16, octets"), ("&[u8]", "&mut [u8]"), (") -> u32", ") -> u64")):
+            self.refused(old, new, "hj_class has another head")
+
+    def test_another_body(self):
+        for new in ("harpjuniper_address::hj_path(address, octets)", "harpjuniper_address::hj_class(octets, address)",
+                    "harpjuniper_address::hj_class(address, octets) / 1", "return 0;\n    harpjuniper_address::hj_class(address, octets)"):
+            self.refused("harpjuniper_address::hj_class(address, octets)", new, "hj_class does something else than harpjuniper_address::hj_class(address,octets)")
+
+    def test_a_function_too_few_or_too_many(self):
+        self.refused("hj_class(address: u32", "hj_klass(address: u32", "only one of them hands out hj_class")
+        self.refused("#[unsafe(no_mangle)]\n", "", "only one of them hands out hj_class")
+        self.write("crates/harpjuniper_c/src/addresses.rt", THIN)
+        self.write("crates/harpjuniper_address/src/lib.rt", "// Nothing.\n")
+        self.assertEqual(self.check()[0], 1)
+
+    def test_a_file_too_few(self):
+        os.remove(os.path.join(self.root, "crates/harpjuniper_c/src/addresses.rt"))
+        self.assertEqual(self.check(), (1, "thin: there is no crates/harpjuniper_c/src/addresses.rt, for harpjuniper_address\n"))
+        self.write("crates/other/src/within.rt", self.library)
+        self.assertEqual(self.check(), (1, "thin: other::within hands out functions, and has no module here\n"))
+
+    def test_it_is_written_anew(self):
+        for text in ("", THIN.replace("class_of", "class_if")):
+            self.write("crates/harpjuniper_c/src/addresses.rt", text)
+            self.assertEqual(self.check("--renew")[0], 0)
+            with open(os.path.join(self.root, "crates/harpjuniper_c/src/addresses.rt"), encoding="utf-8") as file:
+                self.assertEqual(file.read().split("\n", 1)[1], THIN.split("\n", 1)[1])
 
 
 class Documents(Tree):

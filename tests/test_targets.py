@@ -16,7 +16,6 @@ import bitcode  # stands beside the script that uses it
 # make hands its TARGET on in the environment; these scripts are told theirs.
 os.environ.pop("TARGET", None)
 
-MACHINES = ("x86_64", "aarch64")
 # What the kit's clang answers: its words, a line of its input, and a status of its own.
 ANSWERS = """#!/bin/sh
 for word; do printf '<%s>\\n' "$word"; done
@@ -46,27 +45,25 @@ class Toolchain(Tree):
 
     def setUp(self):
         super().setUp()
-        self.folder = os.path.join(self.root, "made", "our kit")
+        self.folder = os.path.join(self.root, "made", "our tools")
         self.write("kit/KIT-ID", "1\n")
-        self.write("kit/docs/START-HERE.md", "a guide\n")
-        self.write("kit/lib/deep/one.rt", "one\n")
-        for machine in MACHINES:
-            self.write(f"kit/on/{machine}/bin/rattle", "prover\n", 0o755)
-            self.write(f"kit/on/{machine}/toolchain/lib/libLLVM.so", "library\n")
-            self.write(f"kit/on/{machine}/toolchain/bin/llvm-ar", "ar\n", 0o755)
-            self.write(f"kit/on/{machine}/toolchain/bin/clang", ANSWERS, 0o755)
-        self.write("bin/rt", f"#!/bin/sh\n[ $1 = doc ] && echo {self.root}/kit/docs/START-HERE.md\n", 0o755)
+        self.write("kit/START-HERE.md", "a guide\n")
+        self.write("kit/bin/rattle", "prover\n", 0o755)
+        self.write("kit/toolchain/lib/deep/libc.a", "library\n")
+        self.write("kit/toolchain/notes", "notes\n")
+        self.write("kit/toolchain/bin/llvm-ar", "ar\n", 0o755)
+        self.write("kit/toolchain/bin/clang", ANSWERS, 0o755)
+        self.write("bin/rt", f"#!/bin/sh\n[ $1 = doc ] && echo {self.root}/kit/START-HERE.md\n", 0o755)
         for tool in self.TOOLS:
             os.symlink(shutil.which(tool), os.path.join(self.root, "bin", tool))
 
-    def toolchain(self, *words, machine="x86_64"):
-        self.write("bin/uname", f"#!/bin/sh\necho {machine}\n", 0o755)
+    def toolchain(self, *words):
         path = os.path.join(self.root, "bin")
         return self.run_script(os.path.join(ROOT, "scripts/toolchain"), *words, path=path)
 
-    def made(self, machine="x86_64"):
-        self.assertEqual(self.toolchain(self.folder, machine=machine), (0, ""))
-        return os.path.join(self.folder, f"on/{machine}/toolchain/bin")
+    def made(self):
+        self.assertEqual(self.toolchain(self.folder), (0, ""))
+        return os.path.join(self.folder, "bin")
 
     def of_the_kit(self):
         """Each file and folder of the kit: its kind, when it was written, and what is in it."""
@@ -79,32 +76,32 @@ class Toolchain(Tree):
         return found
 
     def test_all_is_links_but_the_clang(self):
-        for machine in MACHINES:
-            self.made(machine)
-            tools = f"on/{machine}/toolchain/bin"
-            links, files = {}, []
-            for folder, folders, names in os.walk(self.folder):
-                for path in (os.path.join(folder, name) for name in folders + names):
-                    name = os.path.relpath(path, self.folder)
-                    if os.path.islink(path):
-                        links[name] = os.readlink(path)
-                    elif not os.path.isdir(path):
-                        files.append(name)
-            self.assertEqual(files, [f"{tools}/clang"])
-            same = ("KIT-ID", "docs", "lib", f"on/{machine}/bin", f"on/{machine}/toolchain/lib", f"{tools}/llvm-ar")
-            expected = {name: os.path.join(self.root, "kit", name) for name in same}
-            expected[f"{tools}/kits-clang"] = os.path.join(self.root, "kit", tools, "clang")
-            self.assertEqual(links, expected)
+        self.made()
+        links, files = {}, []
+        for folder, folders, names in os.walk(self.folder):
+            for path in (os.path.join(folder, name) for name in folders + names):
+                name = os.path.relpath(path, self.folder)
+                if os.path.islink(path):
+                    links[name] = os.readlink(path)
+                elif not os.path.isdir(path):
+                    files.append(name)
+        self.assertEqual(files, ["bin/clang"])
+        tools = os.path.join(self.root, "kit/toolchain")
+        expected = {name: os.path.join(tools, name) for name in ("lib", "notes", "bin/llvm-ar")}
+        expected["bin/kits-clang"] = os.path.join(tools, "bin/clang")
+        self.assertEqual(links, expected)
 
     def test_its_clang_keeps_and_does_the_same(self):
         tools = self.made()
         clang = os.path.join(tools, "clang")
         self.assertEqual(text_of(clang), text_of(ROOT, "scripts/keeping-clang"))
         self.write("module.bc", "the module\n")
-        kits = os.path.join(self.root, "kit/on/x86_64/toolchain/bin/clang")
+        kits = os.path.join(self.root, "kit/toolchain/bin/clang")
         self.assertEqual(answer_of(clang, *CALL, folder=self.root), answer_of(kits, *CALL, folder=self.root))
         self.assertEqual(text_of(tools, "kept/module.bc"), "the module\n")
-        self.assertEqual(os.readlink(os.path.join(tools, "kept/clang")), kits)
+        self.assertEqual(text_of(tools, "kept/clang"), f'#!/bin/sh\nexec "{kits}" "$@"\n')
+        kept = os.path.join(tools, "kept/clang")
+        self.assertEqual(answer_of(kept, *CALL, folder=self.root), answer_of(kits, *CALL, folder=self.root))
 
     def test_the_kit_is_not_written_to(self):
         before = self.of_the_kit()
@@ -116,25 +113,24 @@ class Toolchain(Tree):
 
     def test_it_is_made_anew(self):
         tools = self.made()
-        self.write("made/our kit/stray", "of an earlier kit\n")
+        self.write("made/our tools/stray", "of an earlier kit\n")
         os.symlink(os.path.join(self.root, "kit/gone"), os.path.join(self.folder, "gone"))
         os.mkdir(os.path.join(tools, "kept"))
-        self.write("kit/later", "new in the kit\n")
+        self.write("kit/toolchain/later", "new in the kit\n")
         self.made()
-        self.assertEqual(sorted(os.listdir(self.folder)), ["KIT-ID", "docs", "later", "lib", "on"])
+        self.assertEqual(sorted(os.listdir(self.folder)), ["bin", "later", "lib", "notes"])
         self.assertEqual(sorted(os.listdir(tools)), ["clang", "kits-clang", "llvm-ar"])
 
     def test_a_folder_that_is_named_from_here(self):
-        words = (os.path.join(ROOT, "scripts/toolchain"), "build/kit")
-        self.write("bin/uname", "#!/bin/sh\necho aarch64\n", 0o755)
+        words = (os.path.join(ROOT, "scripts/toolchain"), "build/tools")
         ended = answer_of(*words, folder=self.root, env={"PATH": os.path.join(self.root, "bin")})
         self.assertEqual(ended, (0, "", ""))
-        self.assertEqual(text_of(self.root, "build/kit/KIT-ID"), "1\n")
-        self.assertEqual(text_of(self.root, "build/kit/on/aarch64/toolchain/bin/llvm-ar"), "ar\n")
+        self.assertEqual(text_of(self.root, "build/tools/notes"), "notes\n")
+        self.assertEqual(text_of(self.root, "build/tools/bin/llvm-ar"), "ar\n")
 
     def refused(self, says, *words):
         """With a message, and with a folder that was there as it was."""
-        self.write("made/our kit/stray", "of an earlier kit\n")
+        self.write("made/our tools/stray", "of an earlier kit\n")
         status, output = self.toolchain(*words)
         self.assertEqual(status, 1, output)
         self.assertIn(f"toolchain: FAILED: {says}\n", output)
@@ -147,19 +143,18 @@ class Toolchain(Tree):
         self.refused("there is no rt that says where its kit is", self.folder)
 
     def test_no_clang_in_the_kit(self):
-        clang = "on/x86_64/toolchain/bin/clang"
+        clang = "toolchain/bin/clang"
         os.chmod(os.path.join(self.root, "kit", clang), 0o644)
         self.refused(f"the kit of rt has no {clang}", self.folder)
         os.remove(os.path.join(self.root, "kit", clang))
         self.refused(f"the kit of rt has no {clang}", self.folder)
 
     def test_the_kit_itself(self):
-        self.made()
-        self.write("bin/rt", f"#!/bin/sh\necho '{self.folder}/docs/START-HERE.md'\n", 0o755)
-        status, output = self.toolchain(self.folder)
+        tools = os.path.join(self.root, "kit/toolchain")
+        status, output = self.toolchain(tools)
         self.assertEqual(status, 1)
-        self.assertIn(f"toolchain: FAILED: {self.folder} is the kit that rt uses", output)
-        self.assertEqual(text_of(self.folder, "KIT-ID"), "1\n")
+        self.assertIn(f"toolchain: FAILED: {tools} is the toolchain of the kit itself", output)
+        self.assertEqual(text_of(tools, "notes"), "notes\n")
 
     def test_other_words(self):
         for words in ((), (self.folder, self.folder)):
@@ -190,7 +185,8 @@ class KeepingClang(Tree):
         self.assertEqual(sorted(os.listdir(os.path.join(self.bin, "kept"))), ["clang", "module.bc", "words"])
         self.assertEqual(text_of(self.bin, "kept/module.bc"), text_of(self.root, "work/module.bc"))
         self.assertEqual(text_of(self.bin, "kept/words"), "".join(word + "\n" for word in words))
-        self.assertEqual(os.readlink(os.path.join(self.bin, "kept/clang")), self.kits)
+        self.assertEqual(text_of(self.bin, "kept/clang"), f'#!/bin/sh\nexec "{self.kits}" "$@"\n')
+        self.assertTrue(os.access(os.path.join(self.bin, "kept/clang"), os.X_OK))
 
     def test_the_same_answer(self):
         self.same(*CALL)
@@ -221,6 +217,69 @@ class KeepingClang(Tree):
         status, output, complaint = answer_of(os.path.join(self.bin, "clang"), *CALL, folder=self.root)
         self.assertEqual((status, output), (2, ""))
         self.assertIn("module.bc", complaint)
+
+
+class Compile(Tree):
+    """scripts/compile with stand-ins for rt, its prover and the kit's clang."""
+
+    def setUp(self):
+        super().setUp()
+        for script in ("compile", "kit.py", "toolchain", "keeping-clang"):
+            self.copy_script(script)
+        self.write("crates.txt", "user: pair\nlow:\npair: low\nfree staticlib: pair\n")
+        os.makedirs(os.path.join(self.root, "crates/free"))
+        self.write("kit/START-HERE.md", "a guide\n")
+        self.write("kit/toolchain/bin/clang", '#!/bin/sh\necho "$*" >made\n', 0o755)
+        self.prover("echo module >module.bc; $tools/bin/clang -x ir module.bc -o module.o; cp made $made; echo logic=proved")
+        self.write("bin/rt", f"#!/bin/sh\n[ $1 = doc ] && echo {self.root}/kit/START-HERE.md\n", 0o755)
+
+    def prover(self, body):
+        self.write("kit/bin/rattle", f"""#!/bin/sh
+echo "$PWD $*" >{self.root}/called
+for word; do
+    [ "$before" != --toolchain ] || tools=$word
+    [ "$before" != -o ] || made=$word
+    before=$word
+done
+echo a line
+cd {self.root}
+{body}
+""", 0o755)
+
+    def compile(self, *words):
+        path = os.path.join(self.root, "bin") + os.pathsep + os.environ["PATH"]
+        return self.run_script(os.path.join(self.root, "scripts/compile"), *words, path=path)
+
+    def test_it_compiles_and_keeps(self):
+        made, kept = os.path.join(self.root, "free.a"), os.path.join(self.root, "kept/free")
+        self.write("kept/free/stray", "of an earlier run")
+        self.assertEqual(self.compile("free", made, kept), (0, "logic=proved\n"))
+        self.assertEqual(text_of(made), "-x ir module.bc -o module.o\n")
+        self.assertEqual(sorted(os.listdir(kept)), ["clang", "module.bc", "words"])
+        self.assertEqual(text_of(kept, "module.bc"), "module\n")
+        called = text_of(self.root, "called")
+        kits, rlib = f"{self.root}/kit", f"{self.root}/crates/{{}}/out/rlib"
+        self.assertTrue(called.startswith(
+            f"{self.root}/crates/free build --crate-name free src/lib.rt --extern std={kits}/rlibs/std.rlib -L dependency={kits}/rlibs "
+            f"--extern pair={rlib.format('pair')}/pair.rlib -L dependency={rlib.format('low')} -L dependency={rlib.format('pair')} "), called)
+        self.assertIn(" --crate-type staticlib --cpu x86-64 --backend llvm --toolchain ", called)
+
+    def test_no_link_is_left(self):
+        self.compile("free", os.path.join(self.root, "free.a"), os.path.join(self.root, "kept"))
+        links = [name for folder, folders, names in os.walk(self.root) for name in folders + names
+                 if os.path.islink(os.path.join(folder, name))]
+        self.assertEqual(links, [])
+
+    def test_what_is_not_proved(self):
+        self.prover("echo not proved; exit 1")
+        status, output = self.compile("free", os.path.join(self.root, "free.a"), os.path.join(self.root, "kept"))
+        self.assertEqual((status, output), (1, "a line\nnot proved\ncompile: FAILED: free\n"))
+        self.assertFalse(os.path.exists(os.path.join(self.root, "kept")))
+
+    def test_other_words(self):
+        self.assertEqual(self.compile("pair", "pair.a", "kept"), (1, "compile: FAILED: crates.txt has no static library pair\n"))
+        for words in ((), ("free",), ("free", "free.a"), ("free", "free.a", "kept", "more")):
+            self.assertEqual(self.compile(*words), (1, "usage: compile CRATE ARCHIVE KEPT\n"))
 
 
 LAYOUTS = {
@@ -408,7 +467,9 @@ CLASS = "noundef i32 @hj_class(i32 noundef %a0) #0"
 OWN_WORDS = ["--target=x86_64-unknown-linux-gnu", "-march=x86-64"]
 BEFORE = ["-ffunction-sections", "-mllvm", "-trap-unreachable", "--no-default-config", "-Werror", "-c", "-x", "ir"]
 BEHIND = ["-fPIC", "-O3"]
-KITS_WORDS = [*OWN_WORDS, *BEFORE, "module.bc", "-o", "module.o", *BEHIND, "--sysroot=/kit/toolchain"]
+KITS_WORDS = [OWN_WORDS[0], "--sysroot=/kit/toolchain", *OWN_WORDS[1:], *BEFORE, "module.bc", "-o", "module.o", *BEHIND]
+# The same, without the kit's folder.
+PLAIN_WORDS = [*OWN_WORDS, *BEFORE, "module.bc", "-o", "module.o", *BEHIND]
 INLINED = ["-mllvm", "-inline-threshold=100000"]
 TARGETS_WORDS = {
     "aarch64": ["--target=aarch64-unknown-linux-gnu", "-march=armv8-a", "-mgeneral-regs-only", "-mstrict-align",
@@ -494,7 +555,7 @@ class Lower(Tree):
 
     def test_more_words(self):
         """What rt adds is handed on."""
-        words = [*OWN_WORDS, "-fno-plt", *KITS_WORDS[2:], "-fno-math-errno"]
+        words = [*OWN_WORDS, "-fno-plt", *PLAIN_WORDS[2:], "-fno-math-errno"]
         self.handed("riscv64", words=words)
         called = text_of(self.root, "kept/called").splitlines()
         self.assertEqual(called.count("-fno-plt"), 1)
@@ -631,14 +692,14 @@ class Lower(Tree):
                              module=f"{MODULE}{line}\n")
 
     def test_other_words_of_rt(self):
-        at = KITS_WORDS.index("-o")
-        for words in (["--target=aarch64-unknown-linux-gnu", *KITS_WORDS[1:]],
-                      [OWN_WORDS[0], "-march=x86-64-v3", *KITS_WORDS[2:]],
-                      ["-march=x86-64", "--target=x86_64-unknown-linux-gnu", *KITS_WORDS[2:]],
-                      ["-Wall", *KITS_WORDS],
-                      KITS_WORDS[:at] + KITS_WORDS[at + 2:],
-                      KITS_WORDS[:at],
-                      ["c" if word == "ir" else word for word in KITS_WORDS],
+        at = PLAIN_WORDS.index("-o")
+        for words in (["--target=aarch64-unknown-linux-gnu", *PLAIN_WORDS[1:]],
+                      [OWN_WORDS[0], "-march=x86-64-v3", *PLAIN_WORDS[2:]],
+                      ["-march=x86-64", "--target=x86_64-unknown-linux-gnu", *PLAIN_WORDS[2:]],
+                      ["-Wall", *PLAIN_WORDS],
+                      PLAIN_WORDS[:at] + PLAIN_WORDS[at + 2:],
+                      PLAIN_WORDS[:at],
+                      ["c" if word == "ir" else word for word in PLAIN_WORDS],
                       [*OWN_WORDS, "-c", "-o", "module.o", "-x", "ir", "module.bc", *BEHIND],
                       [*OWN_WORDS, "-o", "module.o"],
                       OWN_WORDS, ["--version"], []):

@@ -2,7 +2,7 @@
 use native.Mathlib.Omega.{arith}
 use Prim.Native.Nat.{ℕ}
 use mathlib.Core.Path.{◌≡◌, refl, sym, ap, ◌∙◌}
-use mathlib.Core.Bool.{Bool, true, false, ◌||◌}
+use mathlib.Core.Bool.{Bool, true, false}
 use mathlib.Core.List.{List, [], ◌∷◌}
 use lib.Dec.{eqb}
 use borrow.Author.Tests.{ne_eqb, eqb-true, eqb-false}
@@ -10,7 +10,7 @@ use Rattle.checks.specs.Order.{pick, Checks, first_of}
 use Rattle.checks.proofs.Bools.{true_false}
 use Rattle.checks.proofs.Laws.{zero_none}
 use Rattle.header.specs.Onward.{found_of}
-use Rattle.header.specs.Read.{read_of, read_by, read_checks, header_of}
+use Rattle.header.specs.Read.{read_of, read_checks, header_of}
 use Rattle.header.specs.declared.Header.{Header}
 use Rattle.header.specs.declared.Renewal.{Renewal}
 use Rattle.header.specs.declared.Found.{Found}
@@ -24,7 +24,6 @@ use Rattle.meaning.specs.Arrival.{arrival_checks}
 use Rattle.meaning.specs.declared.Aim.{Aim}
 use Rattle.meaning.specs.declared.Aim.TheVariants as aim
 use Rattle.state.specs.Relay.{Memory, put_last, Relay}
-use Rattle.verdict.specs.declared.Flood.{Flood}
 use Rattle.verdict.specs.declared.Flood.TheVariants.{Plain}
 use Rattle.verdict.specs.declared.Target.TheVariants as target
 use Rattle.floods.specs.Memory.{remembering, InPlaces}

@@ -1,7 +1,6 @@
 -- `answers::header_parts` meets its contract. Assumes nothing.
 use native.Mathlib.Omega.{arith}
 use Rattle.answers.specs.Answers.{header_parts}
-use borrow.Author.Rules.{rules}
 use Rattle.answers.proofs.header_parts.Goals as goal
 
 pub returns : goal.returns

@@ -1,7 +1,6 @@
 -- `answers::receive_number` meets its contract. Assumes nothing.
 use native.Mathlib.Omega.{arith}
 use Rattle.answers.proofs.Joined.{received}
-use borrow.Author.Rules.{rules}
 use Rattle.answers.proofs.receive_number.Goals as goal
 
 pub header_parts-requires : goal.header_parts-requires

@@ -1,7 +1,6 @@
 -- `answers::reply_number` meets its contract. Assumes nothing.
 use native.Mathlib.Omega.{arith}
 use Rattle.answers.proofs.Joined.{replied}
-use borrow.Author.Rules.{rules}
 use Rattle.answers.proofs.reply_number.Goals as goal
 
 pub header_parts-requires : goal.header_parts-requires

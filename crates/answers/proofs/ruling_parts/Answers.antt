@@ -1,7 +1,6 @@
 -- `answers::ruling_parts` meets its contract. Assumes nothing.
 use native.Mathlib.Omega.{arith}
 use Rattle.answers.specs.Answers.{ruling_parts}
-use borrow.Author.Rules.{rules}
 use Rattle.answers.proofs.ruling_parts.Goals as goal
 
 pub returns : goal.returns

@@ -1,6 +1,5 @@
 -- `answers::taking_number` meets its contract. Assumes nothing.
 use mathlib.Core.Path.{refl}
-use borrow.Author.Rules.{rules}
 use Rattle.answers.proofs.taking_number.Goals as goal
 
 pub returns-in-Handed : goal.returns-in-Handed

@@ -1,5 +1,4 @@
 -- `judge::ask_aim` meets its contract. Assumes nothing.
-use borrow.Author.Rules.{rules}
 use Rattle.judge.proofs.ask_aim.Goals as goal
 
 pub returns-in-Node : goal.returns-in-Node

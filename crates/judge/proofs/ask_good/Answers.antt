@@ -4,7 +4,6 @@ use Rattle.state.specs.Layout.{decode_board, decode}
 use mathlib.Core.Path.{sym, ◌∙◌}
 use Rattle.checks.proofs.Laws.{passed_false, failed_true}
 use Rattle.judge.proofs.Stages.{good_refused, good_unmarked, good_asked}
-use borrow.Author.Rules.{rules}
 use Rattle.judge.proofs.ask_good.Goals as goal
 
 pub returns-then-l-ne0 : goal.returns-then-l-ne0

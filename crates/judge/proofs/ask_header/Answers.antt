@@ -2,7 +2,6 @@
 use native.Mathlib.Omega.{arith}
 use Rattle.checks.proofs.Steps.{fails_here, passes}
 use Rattle.judge.proofs.Stages.{header_refused, source_refused, header_aimed}
-use borrow.Author.Rules.{rules}
 use Rattle.judge.proofs.ask_header.Goals as goal
 
 pub returns-in_default : goal.returns-in_default

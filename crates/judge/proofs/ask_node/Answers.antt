@@ -1,7 +1,6 @@
 -- `judge::ask_node` meets its contract. Assumes nothing.
 use Rattle.state.specs.Layout.{decode}
 use Rattle.judge.proofs.Stages.{node_refused, node_looked_lem}
-use borrow.Author.Rules.{rules}
 use Rattle.judge.proofs.ask_node.Goals as goal
 
 pub returns-then-class_number-eq0 : goal.returns-then-class_number-eq0

@@ -1,6 +1,5 @@
 -- `judge::ask_octets` meets its contract. Assumes nothing.
 use mathlib.Core.Path.{sym, ◌∙◌}
-use borrow.Author.Rules.{rules}
 use Rattle.judge.proofs.ask_octets.Goals as goal
 
 pub returns-in-Good : goal.returns-in-Good

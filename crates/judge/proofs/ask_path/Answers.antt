@@ -1,6 +1,5 @@
 -- `judge::ask_path` meets its contract. Assumes nothing.
 use Rattle.judge.proofs.Stages.{path_refused, path_looked_lem}
-use borrow.Author.Rules.{rules}
 use Rattle.judge.proofs.ask_path.Goals as goal
 
 pub returns-then-path_number-eq0 : goal.returns-then-path_number-eq0

@@ -1,5 +1,4 @@
 -- `judge::destination_of` meets its contract. Assumes nothing.
-use borrow.Author.Rules.{rules}
 use Rattle.judge.proofs.destination_of.Goals as goal
 
 pub returns-in-Node : goal.returns-in-Node

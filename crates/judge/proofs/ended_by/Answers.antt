@@ -1,5 +1,4 @@
 -- `judge::ended_by` meets its contract. Assumes nothing.
-use borrow.Author.Rules.{rules}
 use Rattle.judge.proofs.ended_by.Goals as goal
 
 pub returns : goal.returns

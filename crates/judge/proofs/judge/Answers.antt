@@ -1,7 +1,6 @@
 -- `judge::judge` meets its contract. Assumes nothing.
 use Rattle.state_board.proofs.SetUp.{passed_port}
 use Rattle.judge.proofs.Stages.{port_told, port_seen, no_port_lem, no_room, past_second, judged}
-use borrow.Author.Rules.{rules}
 use Rattle.judge.proofs.judge.Goals as goal
 
 pub returns-in_default : goal.returns-in_default

@@ -1,5 +1,4 @@
 -- `judge::refused` meets its contract. Assumes nothing.
-use borrow.Author.Rules.{rules}
 use Rattle.judge.proofs.refused.Goals as goal
 
 pub returns : goal.returns

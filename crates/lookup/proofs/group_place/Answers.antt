@@ -1,13 +1,9 @@
 -- `lookup::group_place` meets its contract: no place below i is the group's. Assumes nothing.
 use native.Mathlib.Omega.{arith}
-use Prim.Native.Nat.{ℕ, ◌-◌, ◌≤◌}
-use mathlib.Core.Path.{◌≡◌, refl}
-use borrow.Author.Rules.{rules}
-use Rattle.sets.specs.Sets.{first_below}
+use mathlib.Core.Path.{refl}
 use Rattle.sets.proofs.Loops.{first_below_none}
 use Rattle.state.specs.Seen.{seated}
 use Rattle.state.specs.Layout.{decode}
-use Rattle.state.specs.Relay.{group_at}
 use Rattle.records.specs.Held.{holds_group}
 use Rattle.lookup.proofs.Found.{test_read, group_there, group_missing}
 use Rattle.lookup.proofs.group_place.Goals as goal

@@ -1,15 +1,10 @@
 -- `lookup::group_place` meets its contract: no place below i is the group's. Assumes nothing.
-use native.Mathlib.Omega.{arith}
 use Prim.Native.Nat.{ℕ, ◌-◌, ◌≤◌}
-use mathlib.Core.Path.{◌≡◌, refl}
-use borrow.Author.Rules.{rules}
+use mathlib.Core.Path.{◌≡◌}
 use Rattle.sets.specs.Sets.{first_below}
-use Rattle.sets.proofs.Loops.{first_below_none}
-use Rattle.state.specs.Seen.{seated}
 use Rattle.state.specs.Layout.{decode}
 use Rattle.state.specs.Relay.{group_at}
 use Rattle.records.specs.Held.{holds_group}
-use Rattle.lookup.proofs.Found.{test_read, group_there, group_missing}
 use Rattle.lookup.proofs.group_place.Given as goal
 
 abbrev pub invariant-loop-i : goal.invariant-loop-i

@@ -1,5 +1,4 @@
 -- `refusals::port_refusal` meets its contract: past each check the rest of the list decides. Assumes nothing.
-use borrow.Author.Rules.{rules}
 use mathlib.Core.Path.{refl, ◌∙◌}
 use Rattle.checks.specs.Order.{Checks}
 use Rattle.checks.proofs.Steps.{fails_here, passes, none_left}

@@ -1,6 +1,5 @@
 -- `state_board::check_port` meets its contract. Assumes nothing.
 use Rattle.state_board.proofs.SetUp.{over_seven, not_ready, set_up_lem}
-use borrow.Author.Rules.{rules}
 use Rattle.state_board.proofs.check_port.Goals as goal
 
 pub returns-then-port-ge-PORTS : goal.returns-then-port-ge-PORTS

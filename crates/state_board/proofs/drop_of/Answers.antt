@@ -1,6 +1,5 @@
 -- `state_board::drop_of` reads its part of the board. Assumes nothing.
 use Rattle.state.proofs.Reading.{drop_read}
-use borrow.Author.Rules.{rules}
 use Rattle.state_board.proofs.drop_of.Goals as goal
 
 pub returns : goal.returns

@@ -1,6 +1,5 @@
 -- `state_board::lifetime_of` reads its part of the board. Assumes nothing.
 use Rattle.state.proofs.Reading.{lifetime_read}
-use borrow.Author.Rules.{rules}
 use Rattle.state_board.proofs.lifetime_of.Goals as goal
 
 pub returns : goal.returns

@@ -1,6 +1,5 @@
 -- `state_board::owned_of` reads its part of the board. Assumes nothing.
 use Rattle.state.proofs.Reading.{owned_read}
-use borrow.Author.Rules.{rules}
 use Rattle.state_board.proofs.owned_of.Goals as goal
 
 pub returns : goal.returns

@@ -1,6 +1,5 @@
 -- `state_board::put_lifetime` leaves every other part of the board. Assumes nothing.
 use Rattle.state.proofs.Writing.{lifetime_written}
-use borrow.Author.Rules.{rules}
 use Rattle.state_board.proofs.put_lifetime.Goals as goal
 
 pub returns : goal.returns

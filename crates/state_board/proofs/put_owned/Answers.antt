@@ -1,6 +1,5 @@
 -- `state_board::put_owned` leaves every other part of the board. Assumes nothing.
 use Rattle.state.proofs.Writing.{owned_written}
-use borrow.Author.Rules.{rules}
 use Rattle.state_board.proofs.put_owned.Goals as goal
 
 pub returns : goal.returns

@@ -3,7 +3,6 @@ use mathlib.Core.Path.{sym, ap, ◌∙◌}
 use Rattle.records.specs.Owned.{seen_port}
 use Rattle.state.specs.Layout.{decode_board}
 use Rattle.state.proofs.Seen.{seen_at}
-use borrow.Author.Rules.{rules}
 use Rattle.state_board.proofs.seen_port.Goals as goal
 
 pub returns : goal.returns

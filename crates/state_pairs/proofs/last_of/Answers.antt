@@ -1,6 +1,5 @@
 -- `state_pairs::last_of` reads its part of the state. Assumes nothing.
 use Rattle.state.proofs.Reading.{last_read}
-use borrow.Author.Rules.{rules}
 use Rattle.state_pairs.proofs.last_of.Goals as goal
 
 pub returns : goal.returns

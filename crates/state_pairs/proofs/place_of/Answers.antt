@@ -1,6 +1,5 @@
 -- `state_pairs::place_of` reads its part of the state. Assumes nothing.
 use Rattle.state.proofs.Reading.{pair_read}
-use borrow.Author.Rules.{rules}
 use Rattle.state_pairs.proofs.place_of.Goals as goal
 
 pub returns : goal.returns

@@ -1,6 +1,5 @@
 -- `state_pairs::put_last` leaves every other part of the state. Assumes nothing.
 use Rattle.state.proofs.Writing.{last_written}
-use borrow.Author.Rules.{rules}
 use Rattle.state_pairs.proofs.put_last.Goals as goal
 
 pub returns : goal.returns

@@ -3,7 +3,6 @@ use native.Mathlib.Omega.{arith}
 use lib.ListN.{length-set}
 use Rattle.words.proofs.Parts.{all_stored}
 use Rattle.state.specs.Layout.{pair_words}
-use borrow.Author.Rules.{rules}
 use Rattle.state_pairs.proofs.write_pair.Goals as goal
 
 pub bounds-s-4 : goal.bounds-s-4

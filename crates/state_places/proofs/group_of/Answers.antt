@@ -1,6 +1,5 @@
 -- `state_places::group_of` reads its part of the state. Assumes nothing.
 use Rattle.state.proofs.Reading.{group_read}
-use borrow.Author.Rules.{rules}
 use Rattle.state_places.proofs.group_of.Goals as goal
 
 pub returns : goal.returns

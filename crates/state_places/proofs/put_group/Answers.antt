@@ -1,6 +1,5 @@
 -- `state_places::put_group` leaves every other part of the state. Assumes nothing.
 use Rattle.state.proofs.Writing.{group_written}
-use borrow.Author.Rules.{rules}
 use Rattle.state_places.proofs.put_group.Goals as goal
 
 pub returns : goal.returns

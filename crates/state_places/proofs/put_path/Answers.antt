@@ -1,6 +1,5 @@
 -- `state_places::put_path` leaves every other part of the state. Assumes nothing.
 use Rattle.state.proofs.Writing.{path_written}
-use borrow.Author.Rules.{rules}
 use Rattle.state_places.proofs.put_path.Goals as goal
 
 pub returns : goal.returns

@@ -1,7 +1,6 @@
 -- `state_places::write_group` leaves the words of the record. Assumes nothing.
 use Rattle.words.proofs.Parts.{all_stored}
 use Rattle.state.specs.Layout.{group_words}
-use borrow.Author.Rules.{rules}
 use Rattle.state_places.proofs.write_group.Goals as goal
 
 pub returns : goal.returns

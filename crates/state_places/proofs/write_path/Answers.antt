@@ -1,7 +1,6 @@
 -- `state_places::write_path` leaves the words of the record. Assumes nothing.
 use Rattle.words.proofs.Parts.{all_stored}
 use Rattle.state.specs.Layout.{path_words}
-use borrow.Author.Rules.{rules}
 use Rattle.state_places.proofs.write_path.Goals as goal
 
 pub returns : goal.returns

@@ -1,6 +1,5 @@
 -- `survey::broadcast_is` meets its contract. Assumes nothing.
 use mathlib.Core.Path.{refl}
-use borrow.Author.Rules.{rules}
 use Rattle.survey.proofs.broadcast_is.Goals as goal
 
 pub returns-in-At : goal.returns-in-At

@@ -1,6 +1,5 @@
 -- `survey::fits_port` meets its contract. Assumes nothing.
 use borrow.Author.Tests.{lt-ltb, le-ltb}
-use borrow.Author.Rules.{rules}
 use Rattle.survey.proofs.fits_port.Goals as goal
 
 pub returns-then-mtu-size : goal.returns-then-mtu-size

@@ -1,12 +1,8 @@
 -- `survey::named` meets its contract: after i turns it is the survey of the first i ports. Assumes nothing.
 use native.Mathlib.Omega.{arith}
-use Prim.Native.Nat.{◌-◌, ◌≤◌}
-use mathlib.Core.Path.{◌≡◌, ◌∙◌}
-use Rattle.state.specs.Seen.{ports_seen}
-use Rattle.state.specs.Layout.{decode_board}
+use mathlib.Core.Path.{◌∙◌}
 use Rattle.survey.specs.Survey.{named_below}
 use Rattle.survey.proofs.Walk.{roomy_named, turn_named, all_named}
-use borrow.Author.Rules.{rules}
 use Rattle.survey.proofs.named.Goals as goal
 
 pub loop-i-init : goal.loop-i-init

@@ -2,7 +2,6 @@
 use mathlib.Core.Path.{ap, ◌∙◌}
 use Rattle.networks.specs.declared.Broadcast.{Broadcast}
 use Rattle.survey.specs.Survey.{broadcast_is}
-use borrow.Author.Rules.{rules}
 use Rattle.survey.proofs.Walk.{own_subnet, own_class, no_broadcast}
 use Rattle.survey.proofs.own_broadcast.Goals as goal
 

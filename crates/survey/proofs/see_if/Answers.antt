@@ -1,6 +1,5 @@
 -- `survey::see_if` meets its contract. Assumes nothing.
 use Rattle.survey.proofs.Walk.{port_set_lem, port_room, unwanted, wanted_in, seen_numbered}
-use borrow.Author.Rules.{rules}
 use Rattle.survey.proofs.see_if.Goals as goal
 
 pub returns-then-set-i-ne1 : goal.returns-then-set-i-ne1

@@ -1,6 +1,5 @@
 -- `survey::see_named` meets its contract: a port that is not set up is in no set. Assumes nothing.
 use Rattle.survey.proofs.Walk.{named_not, named_all}
-use borrow.Author.Rules.{rules}
 use Rattle.survey.proofs.see_named.Goals as goal
 
 pub returns-then-p-eq0 : goal.returns-then-p-eq0

@@ -1,6 +1,5 @@
 -- `survey::see_wanted` meets its contract: a port that is not set up is in no set. Assumes nothing.
 use Rattle.survey.proofs.Walk.{wanted_not, wanted_all}
-use borrow.Author.Rules.{rules}
 use Rattle.survey.proofs.see_wanted.Goals as goal
 
 pub returns-then-p-eq0 : goal.returns-then-p-eq0

@@ -1,12 +1,8 @@
 -- `survey::wanted` meets its contract: after i turns it is the survey of the first i ports of the set. Assumes nothing.
 use native.Mathlib.Omega.{arith}
-use Prim.Native.Nat.{◌-◌, ◌≤◌}
-use mathlib.Core.Path.{◌≡◌, ◌∙◌}
-use Rattle.state.specs.Seen.{seated}
-use Rattle.state.specs.Layout.{decode_board, decode}
+use mathlib.Core.Path.{◌∙◌}
 use Rattle.survey.specs.Survey.{survey_within}
 use Rattle.survey.proofs.Walk.{roomy_wanted, turn_wanted, all_wanted}
-use borrow.Author.Rules.{rules}
 use Rattle.survey.proofs.wanted.Goals as goal
 
 pub loop-i-init : goal.loop-i-init

@@ -1,6 +1,5 @@
 -- `survey::with_port` meets its contract. Assumes nothing.
 use native.Mathlib.Nat.{add-zero}
-use borrow.Author.Rules.{rules}
 use Rattle.survey.proofs.with_port.Goals as goal
 
 pub returns-then-test : goal.returns-then-test

@@ -1,7 +1,6 @@
 -- `taking::take` meets its contract. Assumes nothing.
 use Rattle.state_board.proofs.SetUp.{passed_port}
 use Rattle.taking.proofs.Outcomes.{no_port_lem, nothing_waits, one_handed}
-use borrow.Author.Rules.{rules}
 use Rattle.taking.proofs.take.Goals as goal
 
 pub returns-in_default : goal.returns-in_default

@@ -1,6 +1,5 @@
 -- `judge::finishing::finish` meets its contract. Assumes nothing.
 use Rattle.judge.proofs.Finished.{finish_told}
-use borrow.Author.Rules.{rules}
 use Rattle.judge.proofs.finishing.finish.Goals as goal
 
 pub returns : goal.returns

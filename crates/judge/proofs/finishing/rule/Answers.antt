@@ -1,6 +1,5 @@
 -- `judge::finishing::rule` meets its contract. Assumes nothing.
 use Rattle.judge.proofs.Wanted.{wished_not, wished_refused, wished_among}
-use borrow.Author.Rules.{rules}
 use Rattle.judge.proofs.finishing.rule.Goals as goal
 
 pub returns-in-NotAsked : goal.returns-in-NotAsked

@@ -1,6 +1,5 @@
 -- `judge::finishing::rule_wanted` meets its contract. Assumes nothing.
 use Rattle.judge.proofs.Wanted.{among_told}
-use borrow.Author.Rules.{rules}
 use Rattle.judge.proofs.finishing.rule_wanted.Goals as goal
 
 pub returns : goal.returns

@@ -1,5 +1,4 @@
 -- `judge::ruling::sought_of` meets its contract. Assumes nothing.
-use borrow.Author.Rules.{rules}
 use Rattle.judge.proofs.ruling.sought_of.Goals as goal
 
 pub returns : goal.returns

@@ -1,5 +1,4 @@
 -- `lookup::for_target::place_for` meets its contract. Assumes nothing.
-use borrow.Author.Rules.{rules}
 use Rattle.lookup.proofs.for_target.place_for.Goals as goal
 
 pub returns-in-Group : goal.returns-in-Group

@@ -1,5 +1,4 @@
 -- `refusals::groups_and_paths::check_target` meets its contract. Assumes nothing.
-use borrow.Author.Rules.{rules}
 use mathlib.Core.Path.{◌∙◌}
 use mathlib.Core.Bool.{Bool}
 use Rattle.checks.proofs.Steps.{or_fails, or_passes}

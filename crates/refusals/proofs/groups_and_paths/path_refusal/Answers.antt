@@ -1,5 +1,4 @@
 -- `refusals::groups_and_paths::path_refusal` meets its contract: past each check the rest of the list decides. Assumes nothing.
-use borrow.Author.Rules.{rules}
 use Prim.Native.Nat.{ℕ}
 use mathlib.Core.Path.{◌≡◌, refl, ◌∙◌}
 use mathlib.Core.Bool.{Bool, ◌||◌}

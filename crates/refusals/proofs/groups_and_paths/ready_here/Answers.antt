@@ -1,5 +1,4 @@
 -- `refusals::groups_and_paths::ready_here` meets its contract. Assumes nothing.
-use borrow.Author.Rules.{rules}
 use Prim.Native.Nat.{ℕ}
 use mathlib.Core.Path.{ap, ◌∙◌}
 use Rattle.state.specs.Relay.{ready_of}

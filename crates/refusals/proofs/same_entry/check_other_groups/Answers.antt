@@ -1,9 +1,7 @@
 -- `refusals::same_entry::check_other_groups` meets its contract: no place below i is another one with the same entry. Assumes nothing.
-use Prim.Native.Nat.{◌-◌, ◌≤◌}
 use borrow.Author.Rules.{rules}
-use Rattle.state.specs.Layout.{decode}
-use Rattle.refusals.specs.Elsewhere.{other_group, group_elsewhere}
-use Rattle.refusals.proofs.same_entry.Others.{NoneBelow, at_first, found, not_here, nowhere}
+use Rattle.refusals.specs.Elsewhere.{group_elsewhere}
+use Rattle.refusals.proofs.same_entry.Others.{at_first, found, not_here, nowhere}
 use Rattle.refusals.proofs.same_entry.check_other_groups.Goals as goal
 
 pub loop-i-init : goal.loop-i-init

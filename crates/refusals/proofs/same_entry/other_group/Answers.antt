@@ -1,5 +1,4 @@
 -- `refusals::same_entry::other_group` meets its contract. Assumes nothing.
-use borrow.Author.Rules.{rules}
 use Rattle.records.specs.Held.{holds_group}
 use Rattle.refusals.proofs.same_entry.Others.{written, compared}
 use Rattle.refusals.proofs.same_entry.other_group.Goals as goal

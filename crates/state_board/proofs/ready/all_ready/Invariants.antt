@@ -1,13 +1,9 @@
 -- `state_board::ready::all_ready` meets its contract: the set so far is that of the first p ports. Assumes nothing.
-use native.Mathlib.Omega.{arith}
 use Prim.Native.Nat.{◌-◌, ◌≤◌}
-use mathlib.Core.Path.{◌≡◌, refl, sym, ap, ◌∙◌}
-use borrow.Author.Rules.{rules}
-use Rattle.records.specs.declared.OwnedPort.{OwnedPort}
+use mathlib.Core.Path.{◌≡◌}
 use Rattle.state.specs.Layout.{decode_board}
 use Rattle.state.specs.Seen.{all_ports}
-use Rattle.state.proofs.Seen.{all_at}
-use Rattle.state_board.proofs.ready.Ready.{ready_below, room, turn, gathered}
+use Rattle.state_board.proofs.ready.Ready.{ready_below}
 use Rattle.state_board.proofs.ready.all_ready.Given as goal
 
 abbrev pub invariant-loop-p : goal.invariant-loop-p

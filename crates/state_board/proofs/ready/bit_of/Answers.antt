@@ -1,5 +1,4 @@
 -- `state_board::ready::bit_of` meets its contract. Assumes nothing.
-use borrow.Author.Rules.{rules}
 use Rattle.state_board.proofs.ready.Ready.{bit_out, bit_in, shifted}
 use Rattle.state_board.proofs.ready.bit_of.Goals as goal
 

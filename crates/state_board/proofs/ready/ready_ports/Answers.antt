@@ -1,11 +1,10 @@
 -- `state_board::ready::ready_ports` meets its contract: the set so far is that of the first p ports. Assumes nothing.
 use native.Mathlib.Omega.{arith}
-use Prim.Native.Nat.{◌-◌, ◌≤◌}
-use mathlib.Core.Path.{◌≡◌, refl}
+use mathlib.Core.Path.{refl}
 use borrow.Author.Rules.{rules}
 use Rattle.state.specs.Layout.{decode_board}
 use Rattle.state.specs.Seen.{ports_seen}
-use Rattle.state_board.proofs.ready.Ready.{ready_below, room, turn, gathered}
+use Rattle.state_board.proofs.ready.Ready.{room, turn, gathered}
 use Rattle.state_board.proofs.ready.ready_ports.Goals as goal
 
 pub loop-p-init : goal.loop-p-init

@@ -1,11 +1,9 @@
 -- `state_board::ready::ready_ports` meets its contract: the set so far is that of the first p ports. Assumes nothing.
-use native.Mathlib.Omega.{arith}
 use Prim.Native.Nat.{◌-◌, ◌≤◌}
-use mathlib.Core.Path.{◌≡◌, refl}
-use borrow.Author.Rules.{rules}
+use mathlib.Core.Path.{◌≡◌}
 use Rattle.state.specs.Layout.{decode_board}
 use Rattle.state.specs.Seen.{ports_seen}
-use Rattle.state_board.proofs.ready.Ready.{ready_below, room, turn, gathered}
+use Rattle.state_board.proofs.ready.Ready.{ready_below}
 use Rattle.state_board.proofs.ready.ready_ports.Given as goal
 
 abbrev pub invariant-loop-p : goal.invariant-loop-p

@@ -1,11 +1,7 @@
 -- `survey::names::compared` meets its contract: after i turns the sets are of the first i ports. Assumes nothing.
 use native.Mathlib.Omega.{arith}
-use Prim.Native.Nat.{◌-◌, ◌≤◌}
-use mathlib.Core.Path.{◌≡◌, refl}
-use Rattle.sets.specs.Sets.{port_set}
-use Rattle.survey.specs.Names.{has_own, has_broadcast}
+use mathlib.Core.Path.{refl}
 use Rattle.survey.proofs.Naming.{room_for_port, turn_set, all_compared}
-use borrow.Author.Rules.{rules}
 use Rattle.survey.proofs.names.compared.Goals as goal
 
 pub loop-i-init : goal.loop-i-init

@@ -1,6 +1,5 @@
 -- `survey::names::mark_of` meets its contract. Assumes nothing.
 use Rattle.survey.proofs.Naming.{shifted}
-use borrow.Author.Rules.{rules}
 use Rattle.survey.proofs.names.mark_of.Goals as goal
 
 pub returns : goal.returns

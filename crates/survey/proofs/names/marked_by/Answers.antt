@@ -1,5 +1,4 @@
 -- `survey::names::marked_by` meets its contract. Assumes nothing.
-use borrow.Author.Rules.{rules}
 use Rattle.survey.proofs.names.marked_by.Goals as goal
 
 pub returns : goal.returns

@@ -1,6 +1,5 @@
 -- `survey::names::named_by` meets its contract: the names say what the ports say. Assumes nothing.
 use Rattle.survey.proofs.Naming.{compared_named, nobody_named}
-use borrow.Author.Rules.{rules}
 use Rattle.survey.proofs.names.named_by.Goals as goal
 
 pub returns-then-k-a-eq1 : goal.returns-then-k-a-eq1

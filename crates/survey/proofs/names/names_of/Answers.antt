@@ -1,11 +1,7 @@
 -- `survey::names::names_of` meets its contract: after i turns it has the names of the first i ports. Assumes nothing.
 use native.Mathlib.Omega.{arith}
-use Prim.Native.Nat.{◌-◌, ◌≤◌}
 use mathlib.Core.Path.{refl}
-use Rattle.state.specs.Seen.{ports_seen}
-use Rattle.state.specs.Layout.{decode_board}
-use Rattle.survey.proofs.Naming.{room_for_port, Gathered, no_port_yet, turn_names, all_ports_lem}
-use borrow.Author.Rules.{rules}
+use Rattle.survey.proofs.Naming.{room_for_port, no_port_yet, turn_names, all_ports_lem}
 use Rattle.survey.proofs.names.names_of.Goals as goal
 
 pub loop-i-init : goal.loop-i-init

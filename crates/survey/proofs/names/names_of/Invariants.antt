@@ -1,11 +1,8 @@
 -- `survey::names::names_of` meets its contract: after i turns it has the names of the first i ports. Assumes nothing.
-use native.Mathlib.Omega.{arith}
 use Prim.Native.Nat.{◌-◌, ◌≤◌}
-use mathlib.Core.Path.{refl}
 use Rattle.state.specs.Seen.{ports_seen}
 use Rattle.state.specs.Layout.{decode_board}
-use Rattle.survey.proofs.Naming.{room_for_port, Gathered, no_port_yet, turn_names, all_ports_lem}
-use borrow.Author.Rules.{rules}
+use Rattle.survey.proofs.Naming.{Gathered}
 use Rattle.survey.proofs.names.names_of.Given as goal
 
 abbrev pub invariant-loop-i : goal.invariant-loop-i
