@@ -70,7 +70,7 @@ use Rattle.history.specs.Calls.{
   operator,
   own,
 }
-use Rattle.history.specs.Outcome.{is_refusal, number, entry, Out, nothing, from, of_taking, outcome, next, run_from, seat_after, sum_from}
+use Rattle.history.specs.Outcome.{is_refusal, Out, nothing, from, of_taking, outcome, next, run_from, seat_after, sum_from}
 use Rattle.history.specs.Ledger.{one as one_if, out_by, handed_out}
 use Rattle.history.specs.Line.{Copy, entry_of, taken_by, handed_by, left_by, line_by, line_from, taken_from, handed_from, line_at, taken_at, taking_of, times, InTurn}
 use Rattle.history.specs.Foretold.{and_then, handed_since, takes_since, answered_by, answered_from, answered_since, before, Idle, is_handed, waits_from, higher_enter, CountsNothing, taken_since, while_waits}

@@ -62,6 +62,8 @@ use Rattle.history.specs.Parts.{
   path,
   setting_in,
 }
+use Rattle.relay.specs.Received.{received_relay}
+use Rattle.taking.specs.Taking.{taken_relay}
 use Rattle.history.proofs.Settled.{order_keeps, settle_keeps}
 use Rattle.history.proofs.Reach.{settings_of, received_settings, taken_settings}
 
@@ -160,10 +162,12 @@ module _ (seat : Seat) where
   own_holds (sets s) part other =
       settle_keeps (λ (x : Relay). on_own x.mission part ≡ setting_in seat part) (relay_in seat) s refl (λ z. written_left s part other)
   own_holds (hears rs at slot second octets output) part other =
-      settings_left _ (received_settings (relay_in seat) slot (heard_by seat rs at second octets (length output))) part
+      let e = heard_by seat rs at second octets (length output) in
+      settings_left (received_relay (relay_in seat) slot e).mission (received_settings (relay_in seat) slot e) part
   own_holds (echoes rs at slot octets output) part other =
-      settings_left _ (received_settings (relay_in seat) slot (as_ending (replied_by seat rs at octets (length output)))) part
-  own_holds (takes at) part other = settings_left _ (taken_settings (relay_in seat) at) part
+      let e = as_ending (replied_by seat rs at octets (length output)) in
+      settings_left (received_relay (relay_in seat) slot e).mission (received_settings (relay_in seat) slot e) part
+  own_holds (takes at) part other = settings_left (taken_relay (relay_in seat) at).mission (taken_settings (relay_in seat) at) part
   own_holds (sweeps second) part other = refl
   own_holds (looks l) part other = refl
 

@@ -141,7 +141,7 @@ module _ (p : ℕ) (inside : p < 8) where
 
   fresh_queue : queue_at fresh_mission p ≡ new_queue
   unfolding fresh_mission
-  fresh_queue = get_or-replicate {A = Queue} 8 p new_queue freshQueue inside
+  fresh_queue = get_or-replicate {A = Queue} 8 p new_queue new_queue inside
 
   pub fresh_waits : Waits entry_of (queue_at fresh_mission p) []
   fresh_waits = rw fresh_queue (waits_fresh entry_of)
