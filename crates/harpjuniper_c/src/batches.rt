@@ -19,7 +19,7 @@ pub extern "C" fn hj_receive_many(
 ) -> u32
     ensures { ReceivesMany board.now mission.old routes.now
         (record {
-          lengths = lengths.entry.now;
+          lengths = lengths.now;
           ports = ports.now;
           slots = slots.now;
           seconds = seconds.now;
