@@ -26,7 +26,6 @@ use Rattle.contracts.specs.Promised.{Result}
 use Rattle.history.specs.Calls.{counter, waiting, MissionCall, takes, Call, operator, own, looks, hears}
 use Rattle.history.specs.Seat.{Seat, heard_by}
 use Rattle.history.specs.Outcome.{own_outcome, next}
-use Rattle.history.specs.Ledger.{dropped}
 use Rattle.history.specs.Line.{entry_of, line_at, copy_of, taken_own}
 use Rattle.history.specs.Foretold.{answered_own, answered_from}
 use Rattle.listing.proofs.Counting.{seen_contiguous}
