@@ -92,10 +92,12 @@ pub fn put_number(out: &mut [u8], place: usize, count: usize, value: u64) -> usi
     place + count
 }
 
-// Writes octets over the front of a lent string.
+// Writes octets over the front of a lent string. One by one, and not by `copy_from_slice`: that asks the board for a `memmove`.
 pub fn put_front(s: &[u8], out: &mut [u8])
     requires { length s.now ≤ length out.old }
     ensures { out.new ≡ fronted s.now out.old }
 {
-    out[..s.len()].copy_from_slice(s);
+    for i in 0..s.len() {
+        out[i] = s[i];
+    }
 }
