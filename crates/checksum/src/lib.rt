@@ -7,7 +7,7 @@
 //
 // The awkward case is an odd number of octets. The last one then stands as the greater octet of a word of its own,
 // and a checksum element behind it straddles two words. As zero the element adds nothing wherever it stands
-// (`blank-sum` in proofs), so it is never summed in place: the octets before it are summed.
+// (`blank_sum` in proofs), so it is never summed in place: the octets before it are summed.
 #![tactic(auto)]
 
 ghost use Rattle.std.specs.Prelude.{◌≡◌, ◌+◌, ◌*◌, ◌≤◌, ◌<◌, length};

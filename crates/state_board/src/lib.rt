@@ -2,7 +2,7 @@
 //
 // The caller lends the whole board, 43 words, and each function works on the words of one part, so that nothing is copied that is
 // not asked for. The crates `state_mission`, `state_places`, `state_queues` and `state_pairs` do the same for a mission's words. Each promise is over
-// `decodeBoard` alone: above this crate nobody sees a word, and the layout can change without a proof above it. What is required is the
+// `decode_board` alone: above this crate nobody sees a word, and the layout can change without a proof above it. What is required is the
 // length and a number in range, which the calls from C have tested. No board is bad: any 43 words hold some port in each place.
 // A mission sees a port as it stands where it is its own, and else one that is not set up; a number over 1, which only words that no call
 // wrote can have, owns none. So the rules above, which ask a port whether it is set up, need not ask whose it is.
