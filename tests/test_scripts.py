@@ -624,6 +624,17 @@ class TryEdits(Tree):
         with open(os.path.join(self.root, "crates/pair/proofs/half/Answers.antt"), encoding="utf-8") as file:
             self.assertEqual(file.read(), MustFail.ANSWERS)
 
+    def test_an_answer_over_several_lines_is_left_out(self):
+        whole = MustFail.ANSWERS.replace("brace-eq1 c = search rules", "brace-eq1 c = simp (\n  one,\n  two,\n)")
+        self.assertNotEqual(whole, MustFail.ANSWERS)
+        self.write("crates/pair/proofs/half/Answers.antt", whole)
+        at = whole.splitlines().index("  two,") + 1
+        self.prover(f"cat proofs/half/Answers.antt\ngrep -q brace-eq1 proofs/half/Answers.antt && echo '{self.GONE.format(at)}' || "
+                    "echo logic=not-proved; exit 1")
+        self.assertEqual(self.tried("pair")[0], 0)
+        left = [line for line in MustFail.ANSWERS.splitlines() if "brace-eq1" not in line]
+        self.assertEqual([line for line in self.log()[2:-1] if line], [line for line in left if line])
+
     def test_answers_that_fit_nowhere(self):
         """Where it is no answer that does not fit, all of the file is left out."""
         self.prover(f"[ ! -f proofs/half/Answers.antt ] || echo '{self.GONE.format(2)}'; echo logic=not-proved; exit 1")
