@@ -45,7 +45,7 @@ class Gate(Tree):
     their logs, for make and for os.uname."""
 
     def gate(self, last="echo 4 passed, 0 failed", logs="exit 0", make="exit 0", edits=1, machine="x86_64",
-             libraries="exit 0", tries="exit 0", own=1, ok="", done=ALL_DONE):
+             libraries="exit 0", tries="exit 0", own=1, ok="", done=ALL_DONE, proof=300000):
         for script in ("gate", "costs.py"):
             self.copy_script(script)
         self.write("crates.txt", "# two crates\none:\ntwo: one\n")
@@ -57,7 +57,7 @@ class Gate(Tree):
         work = WORK.format(edits)
         self.write("scripts/try-edits", f"#!/bin/sh\necho tried $*\n{work}\n{tries}\n", 0o755)
         rt = RT
-        for name, value in (("proof", 300000), ("own", own), ("ok", ok), ("done", done), ("last", last)):
+        for name, value in (("proof", proof), ("own", own), ("ok", ok), ("done", done), ("last", last)):
             rt = rt.replace(f"{{{name}}}", str(value))
         self.write("bin/rt", rt, 0o755)
         self.write("bin/rattle", RATTLE, 0o755)
@@ -102,7 +102,8 @@ class Gate(Tree):
 
     def test_the_cost_is_split(self):
         """By what a prover works on, and not by when: rt's own tries run beside proofs."""
-        rows = self.rows(edits=300000, own=300000)
+        turns = 1800000  # a prover is looked at ten times a second, and its last tenth is not seen
+        rows = self.rows(edits=turns, own=turns, proof=turns)
         self.assertEqual(rows["one proof of everything"], 1.0)
         self.assertTrue(0.2 < rows["wrong programs"] < 0.9, rows)
         self.assertTrue(1.2 < rows["rt ci, with its own tries"] < 2.2, rows)
