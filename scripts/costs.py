@@ -22,9 +22,8 @@ from datetime import date
 TICK = os.sysconf("SC_CLK_TCK")
 INTERVAL = 0.1
 
-# Proof, wrong programs and static libraries together, in proofs of everything. A program that is
-# refused costs more than one that is proved: the prover searches at each need that fails.
-BAR = 5
+# Proof, wrong programs and static libraries together, in proofs of everything.
+BAR = 3
 # The host tests, in proofs of everything.
 HOST_BAR = 0.5
 # How rt says that it took nothing from an earlier run.

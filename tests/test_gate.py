@@ -109,7 +109,7 @@ class Gate(Tree):
         self.assertTrue(1.2 < rows["rt ci, with its own tries"] < 2.2, rows)
 
     def test_too_dear(self):
-        lines = self.failed("cost over 5 proofs", edits=4000000)
+        lines = self.failed("cost over 3 proofs", edits=2400000)
         self.assertNotIn("4 passed, 0 failed", lines)
 
     def test_what_was_kept_is_compared_with_nothing(self):
