@@ -8,8 +8,8 @@ use mathlib.Core.Logic.{◌≢◌}
 use lib.Arith.{lt-one}
 use lib.Pow.{pow_pos, pow_mono, high_ones, shr_lt}
 use lib.Count.{ones, ones_step, ones_cat, ones-ones, count_leading_zeros, leading_unique, leading_length}
+use Rattle.std.proofs.Common.{Some, None}
 use Rattle.address.specs.Mask.{mask_of, ones_of, mask_form}
-use Rattle.address.specs.declared.MaskForm.TheVariants.{Ones, Mixed}
 use Rattle.address.proofs.Ones.{ones_counted}
 use Rattle.address.proofs.Masks.{whole, mask_ones, form_ones, form_mixed}
 
@@ -51,11 +51,11 @@ only_leading m h e =
     let same : j ≡ 32 - n = omega (arith, s.1) in
     (omega (arith, s.1), subst (λ (x : ℕ). m ≡ 2 ^ 32 - 2 ^ x) same (omega (arith, s.2)))
 
-pub ones_told : (m : ℕ) → m < 2 ^ 32 → leading_ones m ≡ ones m → Ones (ones m) ≡ mask_form m
+pub ones_told : (m : ℕ) → m < 2 ^ 32 → leading_ones m ≡ ones m → Some (ones m) ≡ mask_form m
 ones_told m h e =
     let f = only_leading m h e in
     sym ((form_ones m (ones m)).1 (subst (λ (n : ℕ). (n ≤ 32) × (m ≡ mask_of n)) e f))
 
-pub mixed_told : (m : ℕ) → m < 2 ^ 32 → leading_ones m ≢ ones m → Mixed ≡ mask_form m
+pub mixed_told : (m : ℕ) → m < 2 ^ 32 → leading_ones m ≢ ones m → None ≡ mask_form m
 mixed_told m h n =
     sym ((form_mixed m).1 λ k l e. n (ap leading_ones e ∙ leading_mask k l ∙ sym (mask_ones k l) ∙ ap ones_of (sym e) ∙ ones_counted m h))

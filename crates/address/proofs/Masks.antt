@@ -11,9 +11,9 @@ use lib.Pow.{pow_pos, pow_mono, pow-lt, high_ones, shr_mod}
 use lib.Bits.{bit_and, and_high}
 use lib.Count.{ones, ones_cat, ones-ones}
 use borrow.Author.Tests.{eq-eqb, eqb-true}
+use Rattle.std.proofs.Common.{Some, None}
 use Rattle.checks.specs.Order.{pick}
 use Rattle.address.specs.Mask.{mask_of, ones_of, mask_form}
-use Rattle.address.specs.declared.MaskForm.TheVariants.{Ones, Mixed}
 use Rattle.address.proofs.Clash.{clash}
 use Rattle.address.proofs.Ones.{ones_counted, ones_at_most}
 
@@ -36,35 +36,35 @@ mask_ones n h =
     ∙ ones-ones n
 
 -- The form tells n ones exactly of the mask of n ones.
-pub form_ones : (m n : ℕ) → (mask_form m ≡ Ones n) ↔ ((n ≤ 32) × (m ≡ mask_of n))
+pub form_ones : (m n : ℕ) → (mask_form m ≡ Some n) ↔ ((n ≤ 32) × (m ≡ mask_of n))
 unfolding mask_form
 form_ones m n = (there (eqb m (mask_of (ones_of m))) refl, back)
   where
-    there : (t : Bool) → eqb m (mask_of (ones_of m)) ≡ t → pick t (Ones (ones_of m)) Mixed ≡ Ones n → (n ≤ 32) × (m ≡ mask_of n)
+    there : (t : Bool) → eqb m (mask_of (ones_of m)) ≡ t → pick t (Some (ones_of m)) None ≡ Some n → (n ≤ 32) × (m ≡ mask_of n)
     there true e f =
         let same : ones_of m ≡ n = cc in
         (subst (λ (k : ℕ). k ≤ 32) same (ones_at_most m), eqb-true m (mask_of (ones_of m)) e ∙ ap mask_of same)
     there false e f = clash (cc)
 
-    back : (n ≤ 32) × (m ≡ mask_of n) → pick (eqb m (mask_of (ones_of m))) (Ones (ones_of m)) Mixed ≡ Ones n
+    back : (n ≤ 32) × (m ≡ mask_of n) → pick (eqb m (mask_of (ones_of m))) (Some (ones_of m)) None ≡ Some n
     back h =
         let same : ones_of m ≡ n = ap ones_of h.1 ∙ mask_ones n h.0 in
-        ap (λ (t : Bool). pick t (Ones (ones_of m)) Mixed) (eq-eqb m (mask_of (ones_of m)) (h.1 ∙ ap mask_of (sym same))) ∙ ap Ones same
+        ap (λ (t : Bool). pick t (Some (ones_of m)) None) (eq-eqb m (mask_of (ones_of m)) (h.1 ∙ ap mask_of (sym same))) ∙ ap Some same
 
--- It tells Mixed exactly of the numbers that are no mask.
-pub form_mixed : (m : ℕ) → (mask_form m ≡ Mixed) ↔ ((n : ℕ) → n ≤ 32 → m ≢ mask_of n)
+-- It tells None exactly of the numbers that are no mask.
+pub form_mixed : (m : ℕ) → (mask_form m ≡ None) ↔ ((n : ℕ) → n ≤ 32 → m ≢ mask_of n)
 unfolding mask_form
 form_mixed m = (there, back (eqb m (mask_of (ones_of m))) refl)
   where
-    there : mask_form m ≡ Mixed → (n : ℕ) → n ≤ 32 → m ≢ mask_of n
+    there : mask_form m ≡ None → (n : ℕ) → n ≤ 32 → m ≢ mask_of n
     there e n h f = let g = (form_ones m n).1 (h, f) in clash (cc)
 
-    back : (t : Bool) → eqb m (mask_of (ones_of m)) ≡ t → ((n : ℕ) → n ≤ 32 → m ≢ mask_of n) → pick t (Ones (ones_of m)) Mixed ≡ Mixed
+    back : (t : Bool) → eqb m (mask_of (ones_of m)) ≡ t → ((n : ℕ) → n ≤ 32 → m ≢ mask_of n) → pick t (Some (ones_of m)) None ≡ None
     back true e none = absurd (none (ones_of m) (ones_at_most m) (eqb-true m (mask_of (ones_of m)) e))
     back false e none = refl
 
 -- Then the number of its ones is n.
-pub form_count : (m n : ℕ) → mask_form m ≡ Ones n → ones_of m ≡ n
+pub form_count : (m n : ℕ) → mask_form m ≡ Some n → ones_of m ≡ n
 form_count m n e = let h = (form_ones m n).0 e in ap ones_of h.1 ∙ mask_ones n h.0
 
 -- More ones is the greater number, unsigned.

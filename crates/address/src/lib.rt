@@ -16,20 +16,20 @@ ghost use Rattle.address.specs.Path.{path_form, path_number};
 ghost use Rattle.address.specs.Mask.{mask_form, ones_of};
 
 // The address of an end system or of a group of them, in net 10 or another net of RFC 791.
-#[derive(Clone, Copy)]
+#[derive(Clone, Copy, PartialEq, Eq)]
 pub struct Address(pub u32);
 
-#[derive(Clone, Copy)]
+#[derive(Clone, Copy, PartialEq, Eq)]
 pub struct Mask(pub u32);
 
-#[derive(Clone, Copy)]
+#[derive(Clone, Copy, PartialEq, Eq)]
 pub struct PathAddress(pub u32);
 
 // The caller's number of a datagram that waits. It is handed back as it came, and may repeat.
-#[derive(Clone, Copy)]
+#[derive(Clone, Copy, PartialEq, Eq)]
 pub struct Slot(pub u16);
 
-#[derive(Clone, Copy)]
+#[derive(Clone, Copy, PartialEq)]
 pub enum Class {
     Invalid,
     Unicast,
@@ -41,17 +41,19 @@ pub enum Class {
 }
 
 // The class as C and the traces have it.
-pub fn class_number(c: Class) -> u32
-    ensures { result ≡ class_number c }
-{
-    match c {
-        Class::Invalid => 0,
-        Class::Unicast => 1,
-        Class::Multicast => 2,
-        Class::NetBroadcast => 3,
-        Class::DomainBroadcast => 4,
-        Class::ScpsBroadcast => 5,
-        Class::LimitedBroadcast => 6,
+impl From<Class> for u32 {
+    ghost from_gives = { λ c n. n ≡ class_number c };
+
+    fn from(c: Class) -> u32 {
+        match c {
+            Class::Invalid => 0,
+            Class::Unicast => 1,
+            Class::Multicast => 2,
+            Class::NetBroadcast => 3,
+            Class::DomainBroadcast => 4,
+            Class::ScpsBroadcast => 5,
+            Class::LimitedBroadcast => 6,
+        }
     }
 }
 
@@ -132,52 +134,46 @@ pub fn class_of(a: Address) -> Class
     }
 }
 
-#[derive(Clone, Copy)]
+// An enum and no `bool`: what `hj_path` promises is the number of a form.
+#[derive(Clone, Copy, PartialEq)]
 pub enum PathForm {
     Invalid,
     Valid,
 }
 
+#[tactic(auto, unfolding(crate::specs::Path::path_form))]
 pub fn path_form(p: PathAddress) -> PathForm
     ensures { result ≡ path_form p.0 }
 {
     let v = p.0;
-    if v / THREE_OCTETS != 10 {
-        return PathForm::Invalid;
-    }
-    if v % ONE_OCTET == 254 {
+    if v / THREE_OCTETS != 10 || v % ONE_OCTET == 254 {
         return PathForm::Invalid;
     }
     PathForm::Valid
 }
 
 // The form as C and the traces have it.
-pub fn path_number(f: PathForm) -> u32
-    ensures { result ≡ path_number f }
-{
-    match f {
-        PathForm::Invalid => 0,
-        PathForm::Valid => 1,
+impl From<PathForm> for u32 {
+    ghost from_gives = { λ f n. n ≡ path_number f };
+
+    fn from(f: PathForm) -> u32 {
+        match f {
+            PathForm::Invalid => 0,
+            PathForm::Valid => 1,
+        }
     }
 }
 
-// Ones and then zeros, with the number of ones; or anything else.
-#[derive(Clone, Copy)]
-pub enum MaskForm {
-    Ones(u32),
-    Mixed,
-}
-
+// How many ones a mask has that is ones and then zeros; of any other mask nothing is said.
 // The leading ones are the leading zeros of the complement. Where these are all the ones of a number, it is ones and then zeros.
-pub fn mask_form(m: Mask) -> MaskForm
+pub fn mask_form(m: Mask) -> Option<u32>
     ensures { result ≡ mask_form m.0 }
 {
-    let v = m.0;
-    let ones = u32::count_ones(v);
-    if u32::leading_zeros(!v) != ones {
-        return MaskForm::Mixed;
+    let ones = m.0.count_ones();
+    if (!m.0).leading_zeros() != ones {
+        return None;
     }
-    MaskForm::Ones(ones)
+    Some(ones)
 }
 
 // The number of ones of any mask, wherever they stand.

@@ -2,7 +2,7 @@
 // `groups_and_paths`; routes, which stand in a list of their own, in the crate `route_calls`.
 //
 // Each call asks first what refuses it (crate `refusals`), and writes one place of the board or of the mission only where nothing does: a refused call
-// answers its number and changes nothing, a taken one answers 0 and its record stands in the place. A filled record has 1 as its flag,
+// answers its refusal and changes nothing, of a taken one its record stands in the place. A filled record has 1 as its flag,
 // an emptied place is the record of a fresh mission, so that equal settings are equal states. Any number is an argument and any words of the right
 // number are a board or a mission: a place that is none is refused by 21, and emptying an empty place is taken.
 #![tactic(auto)]
@@ -10,58 +10,53 @@
 pub mod groups_and_paths;
 
 ghost use Rattle.std.specs.Prelude.{◌≡◌, length};
-ghost use Rattle.checks.specs.Order.{first_of};
+ghost use Rattle.checks.specs.Order.{first_of, number_in};
 ghost use Rattle.state.specs.Layout.{board_words, decode_board, mission_words, decode};
 ghost use Rattle.refusals.specs.Lists.{port_checks, flag_checks, mission_checks};
 ghost use Rattle.adjust.specs.Settled.{settled_router, settled_drop, settled_port, settled_fresh};
 
 use address::{Address, Mask};
-use checks::Check;
+use checks::{Check, Refusal};
 use records::{OwnedPort, Port};
+use state::{BoardWords, MissionWords};
 
 // 1 makes the node a router, 0 a host.
-pub fn set_router(board: &mut [u32], router: u32) -> u32
-    requires { length board.old ≡ board_words }
-    ensures answer { result ≡ first_of (flag_checks router) }
+pub fn set_router(board: &mut BoardWords, router: u32) -> Result<(), Refusal>
+    ensures answer { number_in result ≡ first_of (flag_checks router) }
     ensures left { decode_board board.new ≡ settled_router (decode_board board.old) router }
 {
     let Check::Passed = settings::check_flag(router) else {
-        return 24;
+        return Err(Refusal::CodeOutOfRange);
     };
     state_board::put_router(board, router);
-    0
+    Ok(())
 }
 
 // 1 drops all echo requests, 0 answers them.
-pub fn set_drop(board: &mut [u32], drop: u32) -> u32
-    requires { length board.old ≡ board_words }
-    ensures answer { result ≡ first_of (flag_checks drop) }
+pub fn set_drop(board: &mut BoardWords, drop: u32) -> Result<(), Refusal>
+    ensures answer { number_in result ≡ first_of (flag_checks drop) }
     ensures left { decode_board board.new ≡ settled_drop (decode_board board.old) drop }
 {
     let Check::Passed = settings::check_flag(drop) else {
-        return 24;
+        return Err(Refusal::CodeOutOfRange);
     };
     state_board::put_drop(board, drop);
-    0
+    Ok(())
 }
 
 // Sets a port up, for that mission. A port is written once.
 pub fn set_port(
-    board: &mut [u32],
+    board: &mut BoardWords,
     port: u32,
     address: Address,
     mask: Mask,
     mtu: u32,
     mission: u32,
-) -> u32
-    requires { length board.old ≡ board_words }
-    ensures answer { result ≡ first_of (port_checks (decode_board board.old) port address mask mtu mission) }
+) -> Result<(), Refusal>
+    ensures answer { number_in result ≡ first_of (port_checks (decode_board board.old) port address mask mtu mission) }
     ensures left { decode_board board.new ≡ settled_port (decode_board board.old) port address mask mtu mission }
 {
-    let refusal = refusals::port_refusal(board, port, address, mask, mtu, mission);
-    if refusal != 0 {
-        return refusal;
-    }
+    refusals::port_refusal(board, port, address, mask, mtu, mission)?;
     let x = OwnedPort {
         port: Port {
             ready: 1,
@@ -72,18 +67,17 @@ pub fn set_port(
         mission,
     };
     state_board::put_owned(board, port as usize, x);
-    0
+    Ok(())
 }
 
 // Makes a mission of this number fresh, whatever stood there.
-pub fn fresh_mission(mission: &mut [u32], number: u32) -> u32
-    requires { length mission.old ≡ mission_words }
-    ensures answer { result ≡ first_of (mission_checks number) }
+pub fn fresh_mission(mission: &mut MissionWords, number: u32) -> Result<(), Refusal>
+    ensures answer { number_in result ≡ first_of (mission_checks number) }
     ensures left { decode mission.new ≡ settled_fresh (decode mission.old) number }
 {
     let Check::Passed = settings::check_place(number, sets::MISSIONS) else {
-        return 24;
+        return Err(Refusal::CodeOutOfRange);
     };
     state_mission::clear_mission(mission, number);
-    0
+    Ok(())
 }

@@ -1,4 +1,5 @@
 -- What is known before the search, by the number of routes and of words lent; and back. Assumes nothing.
+use Rattle.std.specs.Prelude.{Option}
 use Prim.Native.Nat.{ℕ, ◌≤◌, ◌<◌}
 use mathlib.Core.Path.{◌≡◌, refl, sym, ap, subst, subst⁻¹, ◌∙◌}
 use mathlib.Core.Bool.{Bool, true, false}
@@ -80,7 +81,7 @@ is_made_lem b w octets room a f made =
     (subst (λ (x : Answering). x.made ≡ 0 → ⊥) is made))
 
 pub would_go : (b w octets output : List ℕ) (a : Answering) → Following b w octets (length output) a → (a.made ≡ 0 → ⊥)
-    → (way : Way) (e : Replied) → e ≡ replied_to (seated (decode_board b) (decode w)) a way (length output) → (e.ruling.took ≡ 0 → ⊥) → Goes a e octets output
+    → (way : Option Way) (e : Replied) → e ≡ replied_to (seated (decode_board b) (decode w)) a way (length output) → (e.ruling.took ≡ 0 → ⊥) → Goes a e octets output
 would_go b w octets output a f made way e is took =
     let j = was_judged b w octets (length output) a f made in
     let r = seated (decode_board b) (decode w) in

@@ -1,4 +1,5 @@
 -- What answering leaves: a reply counted and entered, or nothing. Over plain variables. Assumes nothing.
+use Rattle.std.specs.Prelude.{Option}
 use Prim.Native.Nat.{ℕ}
 use mathlib.Core.Path.{◌≡◌, refl, ap, ◌∙◌}
 use mathlib.Core.List.{List}
@@ -73,7 +74,7 @@ module _ (b w octets output : List ℕ) (slot : ℕ) (a : Answering) (s : Scan) 
         ),
       )
 
-  pub after_done : (v : List ℕ) {out : List ℕ} {answer : ℕ} {way : Way} {e : Replied}
+  pub after_done : (v : List ℕ) {out : List ℕ} {answer : ℕ} {way : Option Way} {e : Replied}
       → length b ≡ board_words → length w ≡ mission_words → length v ≡ mission_words
       → way ≡ way_in s
       → e ≡ replied_to (seated (decode_board b) (decode w)) a way room
@@ -83,7 +84,7 @@ module _ (b w octets output : List ℕ) (slot : ℕ) (a : Answering) (s : Scan) 
       → (answer ≡ number_for (replied_after b w a s room)) × ((lent v ≡ words_after b w slot a s room) × (out ≡ output_after b w octets output a s room))
   unfolding replied_after
   after_done v eb ew ev way is told left written =
-      let e = is ∙ ap (λ (x : Way). replied_to (seated (decode_board b) (decode w)) a x room) way in (
+      let e = is ∙ ap (λ (x : Option Way). replied_to (seated (decode_board b) (decode w)) a x room) way in (
         told ∙ ap (λ (x : Replied). number_for x) e,
         (
           both_held_changed b w eb ew (λ (x : Board) (y : State). replied_state x y (record { 0 = slot }) (replied_after b w a s room)) v ev

@@ -1,4 +1,5 @@
 -- Where a reply is made, what is asked of the list has the mission's number and the set of its ports that are set up. Assumes nothing.
+use Rattle.std.specs.Prelude.{Option}
 use Prim.Native.Nat.{ℕ}
 use mathlib.Core.Path.{◌≡◌, refl, sym, subst, subst⁻¹}
 use mathlib.Core.Logic.{◌≢◌}
@@ -9,13 +10,12 @@ use borrow.Author.Tests.{eq-eqb}
 use Rattle.checks.specs.Order.{pick, first_of}
 use Rattle.checks.proofs.Bools.{true_false, and_true}
 use Rattle.header.specs.Build.{source_flag}
-use Rattle.header.specs.Onward.{found_of}
+use Rattle.header.specs.Onward.{found_of, Found}
 use Rattle.header.specs.declared.Addresses.{Addresses}
 use Rattle.header.specs.declared.Addresses.TheVariants.{BasicPath, ExtendedPath, BasicEndSystem, ExtendedEndSystem, Ipv6}
 use Rattle.header.specs.declared.Header.{Header}
 use Rattle.header.specs.declared.Renewal.{Renewal}
-use Rattle.header.specs.declared.Found.{Found}
-use Rattle.header.specs.declared.Found.TheVariants as found
+use Rattle.checks.specs.Told.{Good, Refused}
 use Rattle.meaning.specs.Names.{filled_in, aim_of}
 use Rattle.meaning.specs.Arrival.{arrival_checks}
 use Rattle.meaning.specs.Flood.{is_flooded}
@@ -78,10 +78,10 @@ module _ (r : Relay) (number : ℕ) where
 
   octets_asks : (at : Arrival) (x : Found) → Sourced (octets_asked r number at x) → Asks r number (octets_asked r number at x)
   unfolding carried_asked
-  octets_asks at (found.Good h c) s =
+  octets_asks at (Good (h, c)) s =
       else_asks (first_of (arrival_checks at.address h.fields)) (aim_asked r number at h c (aim_of at.address.0 h.fields.addresses))
       (aim_asks at h c at.address.0 h.fields.addresses refl) s
-  octets_asks at (found.Refused n) s = true_false (sym s)
+  octets_asks at (Refused n) s = true_false (sym s)
 
   -- ---- and so does the reply to it
   abbrev pub Searches : Answering → Type 0
@@ -96,6 +96,6 @@ module _ (r : Relay) (number : ℕ) where
       subst⁻¹ Searches w.is (refl, asks)
 
 -- ---- where no reply is made, nothing is asked
-pub none_same : (r t : Relay) (a : Answering) (w v : Way) (room : ℕ) → a.made ≡ 0 → replied_to r a w room ≡ replied_to t a v room
+pub none_same : (r t : Relay) (a : Answering) (w v : Option Way) (room : ℕ) → a.made ≡ 0 → replied_to r a w room ≡ replied_to t a v room
 unfolding replied_to
 none_same r t a w v room none = simp (eq-eqb a.made 0 none)

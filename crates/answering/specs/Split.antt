@@ -1,5 +1,5 @@
 -- Answering in two steps, with the scan of the list of routes between them, as receiving is (crate relay). b is the board's words, w the mission's. Assumes nothing.
-use Rattle.std.specs.Prelude.{ℕ, ◌≡◌, List, ltb}
+use Rattle.std.specs.Prelude.{ℕ, ◌≡◌, not, List, eqb, ltb}
 use Rattle.checks.specs.Order.{pick}
 use Rattle.sets.specs.Limits.{route_places}
 use Rattle.state.specs.Seen.{Board, State, seated}
@@ -8,7 +8,7 @@ use Rattle.lent_state.specs.View.{Lent, told_both, changed_both}
 use Rattle.listing.specs.declared.Query.{Query}
 use Rattle.listing.specs.declared.Scan.{Scan}
 use Rattle.answers.specs.Answers.{reply_number}
-use Rattle.relay.specs.Split.{way_in}
+use Rattle.relay.specs.Split.{best_if, way_in}
 use Rattle.replies.specs.Reply.{no_answer}
 use Rattle.replies.specs.Replied.{answering_of, replied_to, replied_output}
 use Rattle.replies.specs.declared.Answering.{Answering}
@@ -26,7 +26,7 @@ abbrev pub query_of : Answering → Query
 query_of a =
     record {
       refusal = a.refusal;
-      sought = a.made;
+      sought = best_if (not (eqb a.made 0));
       address = a.destination.0;
       mask = 0;
       mission = a.number;

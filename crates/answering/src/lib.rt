@@ -28,6 +28,7 @@ use listing::{Query, Scan};
 use queue::Entry;
 use replies::Answering;
 use replies::sending::Replied;
+use state::{BoardWords, MISSION_WORDS, MissionWords};
 use verdict::{Local, Wish};
 
 // What is known before the search, where so many routes are lent.
@@ -44,12 +45,12 @@ pub fn before(
     if sets::indexes::ROUTES < count {
         return replies::no_answer(21);
     }
-    if board.len() != state_board::BOARD_WORDS {
+    let Ok(board) = <&BoardWords>::try_from(board) else {
         return replies::no_answer(16);
-    }
-    if mission.len() != state_mission::MISSION_WORDS {
+    };
+    let Ok(mission) = <&MissionWords>::try_from(mission) else {
         return replies::no_answer(16);
-    }
+    };
     replies::answer(board, mission, port, octets, room)
 }
 
@@ -60,7 +61,7 @@ pub fn query_of(a: Answering) -> Query
     let destination = a.destination;
     Query {
         refusal: a.refusal,
-        sought: a.made,
+        sought: relay::best_if(a.made != 0),
         address: destination.0,
         mask: 0,
         mission: a.number,
@@ -70,14 +71,14 @@ pub fn query_of(a: Answering) -> Query
 
 // A reply carried out: counted, entered and written.
 fn carry_out(
-    mission: &mut [u32],
+    mission: &mut MissionWords,
     slot: Slot,
     octets: &[u8],
     output: &mut [u8],
     a: Answering,
     e: Replied,
 ) -> u64
-    requires { (length mission.old ≡ mission_words) × (e.ruling.took ≢ 0 → Goes a e octets.now output.old) }
+    requires { e.ruling.took ≢ 0 → Goes a e octets.now output.old }
     ensures value { result ≡ number_for e }
     ensures mission_after { (b : Board) → decode mission.new ≡ replied_state b (decode mission.old) slot e }
     ensures output_after { output.new ≡ replied_output a e octets.now output.old }
@@ -125,6 +126,8 @@ pub fn after(
     if a.made == 0 {
         return pass_over(a.refusal);
     }
+    let board = <&BoardWords>::try_from(board).unwrap();
+    let mission = mission.as_mut_array::<MISSION_WORDS>().unwrap();
     let e = replies::sending::finish(board, mission, a, relay::way_in(s), output.len());
     carry_out(mission, Slot(slot), octets, output, a, e)
 }

@@ -6,8 +6,8 @@ use Rattle.queue.specs.declared.Entry.{Entry}
 use Rattle.verdict.specs.Numbers.{local_number, onward_number}
 use Rattle.verdict.specs.declared.Ruling.{Ruling}
 use Rattle.judge.specs.declared.Ending.{Ending}
-use Rattle.taking.specs.declared.Taking.{Taking}
-use Rattle.taking.specs.declared.Taking.TheVariants.{Handed, Refused}
+use Rattle.taking.specs.Taking.{Taking}
+use Rattle.checks.specs.Told.{Good, Refused}
 
 -- ---- receiving: eight bits a part, the refusal lowest
 unfoldable pub ruling_parts : ℕ → ℕ → ℕ → ℕ → ℕ → ℕ
@@ -55,7 +55,7 @@ abbrev pub entry_number : Entry → ℕ
 entry_number e = e.precedence * 2 ^ 16 + e.slot.0
 
 abbrev pub taking_number : Taking → ℕ
-taking_number (Handed e) = entry_number e
+taking_number (Good e) = entry_number e
 taking_number (Refused n) = refusal_number n
 
 -- ---- what hj_refusal, hj_slot, hj_precedence and hj_value read of such a number

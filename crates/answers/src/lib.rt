@@ -8,10 +8,12 @@
 #![tactic(auto)]
 
 ghost use Rattle.std.specs.Prelude.{◌≡◌, ◌%◌, ◌^◌, ◌<◌};
+ghost use Rattle.checks.specs.Told.{told};
 ghost use Rattle.answers.specs.Answers.{ruling_parts, header_parts, receive_number, reply_number, taking_number};
 
+use checks::Refusal;
 use judge::Ending;
-use taking::Taking;
+use queue::Entry;
 use verdict::Ruling;
 
 // One part of an answer.
@@ -50,13 +52,11 @@ pub fn receive_number(e: Ending) -> u64
     ensures { result ≡ receive_number e }
 {
     let x = e.ruling;
-    let local = x.local;
-    let onward = x.onward;
     let legs = e.legs;
     let below = ruling_parts(
         part(e.refusal),
-        part(verdict::local_number(local)),
-        part(verdict::onward_number(onward)),
+        part(x.local.into()),
+        part(x.onward.into()),
         part(x.took),
         part(x.dropped),
     );
@@ -72,11 +72,10 @@ pub fn receive_number(e: Ending) -> u64
 pub fn reply_number(refusal: u32, x: Ruling, octets: usize) -> u64
     ensures { result ≡ reply_number refusal x octets }
 {
-    let onward = x.onward;
     let below = ruling_parts(
         part(refusal),
         0,
-        part(verdict::onward_number(onward)),
+        part(x.onward.into()),
         part(x.took),
         part(x.dropped),
     );
@@ -84,11 +83,11 @@ pub fn reply_number(refusal: u32, x: Ruling, octets: usize) -> u64
 }
 
 // What taking answers.
-pub fn taking_number(t: Taking) -> u64
-    ensures { result ≡ taking_number t }
+pub fn taking_number(t: Result<Entry, Refusal>) -> u64
+    ensures { result ≡ taking_number (told t) }
 {
     match t {
-        Taking::Handed(e) => e.precedence as u64 * 0x1_0000 + e.slot.0 as u64,
-        Taking::Refused(number) => checks::refusal_number(number),
+        Ok(e) => e.precedence as u64 * 0x1_0000 + e.slot.0 as u64,
+        Err(refusal) => checks::refusal_number(refusal.number()),
     }
 }

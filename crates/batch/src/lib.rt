@@ -24,6 +24,7 @@ ghost use Rattle.batch.specs.Turn.{
 
 use judge::Asked;
 use listing::Scan;
+use state::{BoardWords, MissionWords};
 use survey::names::Names;
 
 // The most items of a batch.
@@ -47,15 +48,13 @@ pub struct Progress {
 fn sum_passes(lengths: &[u32], octets: usize) -> bool
     ensures { result ≡ ltb octets (start_of lengths.now (length lengths.now)) }
 {
-    let mut i = 0;
     let mut left = octets;
-    while i < lengths.len() {
-        let n = lengths[i] as usize;
+    for length in lengths {
+        let n = *length as usize;
         if left < n {
             return true;
         }
         left -= n;
-        i += 1;
     }
     false
 }
@@ -105,12 +104,12 @@ fn refusal_by(
 fn names_in(board: &[u32], mission: &[u32]) -> Names
     ensures { NamesIn board.now mission.now result }
 {
-    if board.len() != state_board::BOARD_WORDS {
+    let Ok(board) = <&BoardWords>::try_from(board) else {
         return survey::names::no_names();
-    }
-    if mission.len() != state_mission::MISSION_WORDS {
+    };
+    let Ok(mission) = <&MissionWords>::try_from(mission) else {
         return survey::names::no_names();
-    }
+    };
     survey::names::names_of(board, state_mission::number_of(mission))
 }
 

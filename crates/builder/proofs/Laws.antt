@@ -1,7 +1,7 @@
 -- Pieces written one after the other make the header, and each refusal leaves the output as it was: said over plain variables. Assumes nothing.
 use native.Mathlib.Omega.{arith}
 use Prim.Native.Nat.{ℕ, ◌+◌, ◌*◌, ◌≤◌, ◌<◌}
-use mathlib.Core.Path.{◌≡◌, ap, sym, ◌∙◌}
+use mathlib.Core.Path.{◌≡◌, ap, ◌∙◌}
 use mathlib.Core.List.{List, ◌++◌, append_assoc}
 use lib.ListN.{length, take, length-append}
 use borrow.Author.Tests.{ltb-true, ltb-false}
@@ -16,7 +16,7 @@ use Rattle.header.specs.Build.{addresses_octets, qos_octets, octet_octets, stamp
 use Rattle.header.specs.declared.Fields.{Fields}
 use Rattle.header.specs.declared.Addresses.{Addresses}
 use Rattle.header.specs.declared.Addresses.TheVariants.{BasicPath, ExtendedPath, BasicEndSystem, ExtendedEndSystem, Ipv6}
-use Rattle.header.specs.declared.Built.TheVariants.{Done, Refused}
+use Rattle.checks.specs.Told.{Refused}
 use Rattle.header.proofs.Pieces.{six_length, qos_length, octet_length, stamp_le, qos_flag_le, octet_flag_le, present_le}
 use Rattle.header.proofs.BuiltLaws.{front_length, checksum_length, tested, built_refused}
 
@@ -101,29 +101,28 @@ short n h = ltb-false _ _ (passed_false _ h)
 
 module _ (f : Fields) (n : ℕ) (l : List ℕ) where
   -- a refusal writes nothing
-  unwritten : (m : ℕ) → built_of f n (length l) ≡ Refused m → (Refused m ≡ built_of f n (length l)) × (l ≡ built_output f n l)
+  unwritten : (m : ℕ) → built_of f n (length l) ≡ Refused m → l ≡ built_output f n l
   unfolding built_output
-  unwritten m e = (sym e, rw e)
+  unwritten m e = rw e
 
-  pub no_room : check_of (lacks_room (length l)) ≡ Failed → (Refused 17 ≡ built_of f n (length l)) × (l ≡ built_output f n l)
+  pub no_room : check_of (lacks_room (length l)) ≡ Failed → l ≡ built_output f n l
   no_room h = unwritten 17 ((built_refused f n (length l)).no_room.1 (ltb-true _ _ (failed_true _ h)))
 
   module _ (room : check_of (lacks_room (length l)) ≡ Passed) where
     pub roomy : longest_header ≤ length l
     roomy = ltb-false _ _ (passed_false _ room)
 
-    pub no_range : check_of (out_of_range f) ≡ Failed → (Refused 19 ≡ built_of f n (length l)) × (l ≡ built_output f n l)
+    pub no_range : check_of (out_of_range f) ≡ Failed → l ≡ built_output f n l
     no_range h = unwritten 19 ((built_refused f n (length l)).no_range.1 (roomy, failed_true (out_of_range f) h))
 
     module _ (fits : check_of (out_of_range f) ≡ Passed) where
-      pub too_long : check_of (too_much_data n) ≡ Failed → (Refused 20 ≡ built_of f n (length l)) × (l ≡ built_output f n l)
+      pub too_long : check_of (too_much_data n) ≡ Failed → l ≡ built_output f n l
       too_long h = unwritten 20 ((built_refused f n (length l)).too_long.1 (roomy, (passed_false (out_of_range f) fits, ltb-true _ _ (failed_true _ h))))
 
-      pub done : check_of (too_much_data n) ≡ Passed → (size : ℕ) (out : List ℕ) → size ≡ size_of f → out ≡ fronted (header_octets f n) l
-          → (Done size ≡ built_of f n (length l)) × (out ≡ built_output f n l)
+      pub done : check_of (too_much_data n) ≡ Passed → (out : List ℕ) → out ≡ fronted (header_octets f n) l → out ≡ built_output f n l
       unfolding built_of built_output build_checks first_of
-      done h size out es eo =
+      done h out eo =
           let a = passed_false (lacks_room (length l)) room in
           let b = passed_false (out_of_range f) fits in
           let c = passed_false (too_much_data n) h in
-          (simp (a, b, c) (ap Done es), simp (a, b, c) eo)
+          simp (a, b, c) eo

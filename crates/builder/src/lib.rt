@@ -1,4 +1,4 @@
-// The builder: fields to a header at the front of the output, or the number of the first check that fails.
+// The builder: fields to a header at the front of the output, or the refusal of the first check that fails.
 //
 // A header is its front, its addresses and its other elements (crate writer), end to end. The elements are written before the front, since
 // the length field counts them, and the checksum last, since it sums all. The checks stand in page 01's order 17, 19, 20 (`header::limits`,
@@ -10,12 +10,13 @@ pub mod measure;
 pub mod range;
 
 ghost use Rattle.std.specs.Prelude.{◌≡◌, ◌+◌, ◌≤◌, ◌<◌, length};
+ghost use Rattle.checks.specs.Order.{outcome};
 ghost use Rattle.octets.specs.Octets.{pasted, fronted};
 ghost use Rattle.header.specs.Limits.{longest_header, length_limit};
-ghost use Rattle.header.specs.Build.{rest_octets, size_of, header_octets, built_of, built_output};
+ghost use Rattle.header.specs.Build.{rest_octets, size_of, header_octets, build_refusals, built_output};
 
-use checks::Check;
-use header::{Built, Fields, control_bits};
+use checks::{Check, Refusal};
+use header::{Fields, control_bits};
 
 // The elements between control field and checksum.
 fn put_rest(out: &mut [u8], place: usize, f: Fields) -> usize
@@ -23,16 +24,11 @@ fn put_rest(out: &mut [u8], place: usize, f: Fields) -> usize
     ensures value { result ≡ place + length (rest_octets f) }
     ensures out_after { out.new ≡ pasted out.old place (rest_octets f) }
 {
-    let addresses = f.addresses;
-    let a = writer::addresses::put_addresses(out, place, addresses);
-    let qos = f.qos;
-    let b = writer::elements::put_qos(out, a, qos);
-    let hops = f.hops;
-    let c = writer::elements::put_octet(out, b, hops);
-    let stamp = f.stamp;
-    let d = writer::elements::put_stamp(out, c, stamp);
-    let expanded = f.expanded;
-    writer::elements::put_octet(out, d, expanded)
+    let a = writer::addresses::put_addresses(out, place, f.addresses);
+    let b = writer::elements::put_qos(out, a, f.qos);
+    let c = writer::elements::put_octet(out, b, f.hops);
+    let d = writer::elements::put_stamp(out, c, f.stamp);
+    writer::elements::put_octet(out, d, f.expanded)
 }
 
 // Writes the header of a datagram with n octets of user data.
@@ -58,18 +54,18 @@ pub fn write_header(f: Fields, n: usize, out: &mut [u8]) -> usize
 }
 
 // Builds the header of a datagram with n octets of user data.
-pub fn build_header(f: Fields, n: usize, out: &mut [u8]) -> Built
-    ensures value { result ≡ built_of f n (length out.old) }
+pub fn build_header(f: Fields, n: usize, out: &mut [u8]) -> Result<usize, Refusal>
+    ensures value { result ≡ outcome (build_refusals f n (length out.old)) (size_of f) }
     ensures out_after { out.new ≡ built_output f n out.old }
 {
     let Check::Passed = header::limits::check_room(out.len()) else {
-        return Built::Refused(17);
+        return Err(Refusal::NoOutputRoom);
     };
     let Check::Passed = crate::range::check_fields(f) else {
-        return Built::Refused(19);
+        return Err(Refusal::FieldOutOfRange);
     };
     let Check::Passed = header::limits::check_data(n) else {
-        return Built::Refused(20);
+        return Err(Refusal::TooMuchData);
     };
-    Built::Done(write_header(f, n, out))
+    Ok(write_header(f, n, out))
 }

@@ -22,14 +22,14 @@ fn addresses_size(a: Addresses) -> usize
 }
 
 // A timestamp, by its format.
-fn stamp_size(t: Timestamp) -> usize
+fn stamp_size(t: Option<Timestamp>) -> usize
     ensures { result ≡ timestamp_size t }
 {
     match t {
-        Timestamp::Absent => 0,
-        Timestamp::Implicit(_) => 3,
-        Timestamp::Explicit(p, _) => 1 + header::pfield::time_size(p),
-        Timestamp::Binary(_) => 4,
+        None => 0,
+        Some(Timestamp::Implicit(_)) => 3,
+        Some(Timestamp::Explicit(p, _)) => 1 + header::pfield::time_size(p),
+        Some(Timestamp::Binary(_)) => 4,
     }
 }
 
@@ -37,16 +37,11 @@ fn stamp_size(t: Timestamp) -> usize
 fn rest_size(f: Fields) -> usize
     ensures { result ≡ length (rest_octets f) }
 {
-    let addresses = f.addresses;
-    let qos = f.qos;
-    let hops = f.hops;
-    let stamp = f.stamp;
-    let expanded = f.expanded;
-    addresses_size(addresses)
-        + header::flags::qos_flag(qos) as usize
-        + header::flags::octet_flag(hops) as usize
-        + stamp_size(stamp)
-        + header::flags::octet_flag(expanded) as usize
+    addresses_size(f.addresses)
+        + header::flags::qos_flag(f.qos) as usize
+        + header::flags::octet_flag(f.hops) as usize
+        + stamp_size(f.stamp)
+        + header::flags::octet_flag(f.expanded) as usize
 }
 
 // The header whole.

@@ -19,19 +19,13 @@ fn numbers_in(octets: usize) -> u64
 }
 
 // Precedence under 16, routing requirements and program specific under 4.
-fn check_qos(q: Qos) -> Check
+fn check_qos(q: Option<Qos>) -> Check
     ensures { result ≡ check_of (qos_out_of_range q) }
 {
-    let Qos::Present(precedence, routing, program) = q else {
+    let Some(q) = q else {
         return Check::Passed;
     };
-    if 16 <= precedence {
-        return Check::Failed;
-    }
-    if 4 <= routing {
-        return Check::Failed;
-    }
-    if 4 <= program {
+    if 16 <= q.precedence || 4 <= q.routing || 4 <= q.program {
         return Check::Failed;
     }
     Check::Passed
@@ -49,14 +43,14 @@ fn check_time(octets: usize, time: u64) -> Check
 }
 
 // The time fits the octets that the format gives it.
-fn check_stamp(t: Timestamp) -> Check
+fn check_stamp(t: Option<Timestamp>) -> Check
     ensures { result ≡ check_of (stamp_out_of_range t) }
 {
     match t {
-        Timestamp::Absent => Check::Passed,
-        Timestamp::Implicit(time) => check_time(3, time),
-        Timestamp::Explicit(p, time) => check_time(header::pfield::time_size(p), time),
-        Timestamp::Binary(time) => check_time(4, time),
+        None => Check::Passed,
+        Some(Timestamp::Implicit(time)) => check_time(3, time),
+        Some(Timestamp::Explicit(p, time)) => check_time(header::pfield::time_size(p), time),
+        Some(Timestamp::Binary(time)) => check_time(4, time),
     }
 }
 
@@ -64,19 +58,11 @@ fn check_stamp(t: Timestamp) -> Check
 pub fn check_fields(f: Fields) -> Check
     ensures { result ≡ check_of (out_of_range f) }
 {
-    if 16 <= f.tpid {
+    if 16 <= f.tpid || 2 <= f.checksum || 2 <= f.intermediate {
         return Check::Failed;
     }
-    if 2 <= f.checksum {
-        return Check::Failed;
-    }
-    if 2 <= f.intermediate {
-        return Check::Failed;
-    }
-    let qos = f.qos;
-    let Check::Passed = check_qos(qos) else {
+    let Check::Passed = check_qos(f.qos) else {
         return Check::Failed;
     };
-    let stamp = f.stamp;
-    check_stamp(stamp)
+    check_stamp(f.stamp)
 }

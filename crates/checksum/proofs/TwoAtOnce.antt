@@ -1,12 +1,16 @@
 -- Words added two at a time in 32 bits, and folded at the end, give the sum of them added one by one: both are the plain sum modulo 65535, both are 0
 -- exactly where it is, and both are 16-bit words. Assumes nothing.
-use Prim.Native.Nat.{ℕ, zero, suc, ◌+◌, ◌*◌, ◌%◌, ◌<◌}
-use mathlib.Core.Path.{◌≡◌, refl, sym, ◌∙◌}
+use Prim.Native.Nat.{ℕ, zero, suc, ◌+◌, ◌*◌, ◌%◌, ◌≤◌, ◌<◌}
+use mathlib.Core.Path.{◌≡◌, refl, ap, sym, ◌∙◌}
 use mathlib.Core.List.{List, [], ◌∷◌}
 use native.Mathlib.Omega.{arith}
-use lib.ListN.{length, drop, length-drop}
+use lib.ListN.{get_or, length, take, drop, length-drop}
+use lib.Dec.{lit<}
+use lib.Seq.{drop-drop}
+use native.Mathlib.Nat.{add-zero}
+use Rattle.std.specs.Simd.{first_chunks}
+use Rattle.std.proofs.lemmas.List.{get_or-take, get_or-drop}
 use Rattle.octets.specs.Octets.{octet, number}
-use Rattle.octets.proofs.Laws.{two_pairs}
 use Rattle.checksum.specs.Sum.{word, words, around, around32, ones_sum}
 use Rattle.checksum.proofs.Words.{Octets, plain, plain_zero, plain_four, sum_from_plain, sum_from_zero, sum_from_none}
 use Rattle.checksum.proofs.Laws.{sum_fits}
@@ -25,11 +29,28 @@ same (suc x) (suc y) a b h = omega (arith, h.0)
 added : (v q a b r p : ℕ) → q ≡ a * 65536 + b → Alike (v + (a + (b + r))) p → Alike (around32 (v + q) + r) p
 added v q a b r p e h = (omega (arith, h.0), (λ z. h.1.0 (omega arith), λ z. (let n = h.1.1 z in omega arith)))
 
+-- one of the first k fours of octets, and its two words
+four_at : (k i : ℕ) (l : List ℕ) → i < k → get_or (first_chunks 4 k l) i [] ≡ take 4 (drop (4 * i) l)
+four_at zero i l h = absurd (omega arith)
+four_at (suc k) zero l h = refl
+four_at (suc k) (suc i) l h =
+    let e : 4 * suc i ≡ 4 + 4 * i = omega arith in
+    rw (e, four_at k i (drop 4 l) (omega arith)) (ap (take 4) (drop-drop (4 * i) 4 l))
+
+octet_of : (l : List ℕ) (n j : ℕ) → j < 4 → octet (take 4 (drop n l)) j ≡ octet l (n + j)
+octet_of l n j h = get_or-take 4 (drop n l) j 0 h ∙ get_or-drop n l j 0
+
+words_of : (l : List ℕ) (n : ℕ) → number (take 4 (drop n l)) 0 4 ≡ word (octet l n) (octet l (n + 1)) * 65536 + word (octet l (n + 2)) (octet l (n + 3))
+unfolding number
+words_of l n =
+    rw (octet_of l n 0 (lit< tt), octet_of l n 1 (lit< tt), octet_of l n 2 (lit< tt), octet_of l n 3 (lit< tt), add-zero n)
+    (omega arith)
+
 -- a turn of the loop
-pub turn : (l : List ℕ) (i v q p : ℕ) → 4 * i + 3 < length l → q ≡ number l (4 * i) 4 → Alike (v + plain (words (drop (4 * i) l))) p
-    → Alike (around32 (v + q) + plain (words (drop (4 * (i + 1)) l))) p
-turn l i v q p h e g =
-    added v q _ _ _ p (omega (arith, e, two_pairs l (4 * i) _ _ refl refl)) (rw (plain_four l i h) at g)
+pub turn : (l : List ℕ) (k i v q p : ℕ) → i < k → 4 * k ≤ length l → q ≡ number (get_or (first_chunks 4 k l) i []) 0 4
+    → Alike (v + plain (words (drop (4 * i) l))) p → Alike (around32 (v + q) + plain (words (drop (4 * (i + 1)) l))) p
+turn l k i v q p h room e g =
+    added v q _ _ _ p (e ∙ ap (λ (t : List ℕ). number t 0 4) (four_at k i l h) ∙ words_of l (4 * i)) (rw (plain_four l i (omega arith)) at g)
 
 -- two words q at the end, the last ones
 closed : (v q a b t p : ℕ) → q ≡ a * 65536 + b → t ≡ a + b → Alike (v + t) p → Alike (around32 (v + q)) p

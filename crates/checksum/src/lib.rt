@@ -60,15 +60,12 @@ pub fn ones_sum(s: &[u8]) -> u32
     ensures value { result ≡ ones_sum s.now }
     ensures upper_bound { result < 65536 }
 {
-    let whole = s.len() / 4;
+    let (fours, rest) = s.as_chunks::<4>();
     let mut sum: u64 = 0;
-    let mut i: usize = 0;
-    while i < whole {
-        sum = add_words(sum, octets::word_at(s, 4 * i));
-        i += 1;
+    for i in 0..fours.len() {
+        sum = add_words(sum, octets::word_at(&fours[i], 0));
     }
-    let from = 4 * whole;
-    folded(add_words(sum, last_words(&s[from..])))
+    folded(add_words(sum, last_words(rest)))
 }
 
 // The checksum of s: the complement of its sum.

@@ -1,4 +1,5 @@
 -- What each call from C leaves of a board or a state that words hold is a board or a state that words hold. Assumes nothing.
+use Rattle.std.specs.Prelude.{Option, Some, None}
 use native.Mathlib.Omega.{arith}
 use native.Mathlib.Nat.{le_of_lt}
 use Prim.Native.Nat.{ℕ, zero, suc, ◌+◌, ◌<◌}
@@ -21,8 +22,7 @@ use Rattle.queue.specs.Order.{Each}
 use Rattle.queue.specs.Queue.{free, fresh as fresh_queue, waiting, precedence_of, insert, put_of, taken_from, take_of}
 use Rattle.queue.specs.declared.Entry.{Entry}
 use Rattle.queue.specs.declared.Queue.{Queue}
-use Rattle.queue.specs.declared.Head.{Head}
-use Rattle.queue.specs.declared.Head.TheVariants.{First, Nothing}
+use Rattle.std.proofs.Common.{Option, Some, None}
 use Rattle.queue.specs.declared.Taken.{Taken}
 use Rattle.queue.proofs.Order.{insert_each}
 use Rattle.queue.proofs.Cases.{put_room, put_full}
@@ -40,9 +40,8 @@ use Rattle.refusals.specs.Lists.{port_checks, group_checks, path_checks, flag_ch
 use Rattle.adjust.specs.Settled.{new_port, new_group, new_path}
 use Rattle.adjust.specs.Settled.{settled_fresh, settled_router, settled_drop, settled_port, settled_group, settled_path, cleared_group, cleared_path}
 use Rattle.taking.specs.Taking.{without, taken_relay}
-use Rattle.header.specs.Read.{read_of}
-use Rattle.header.specs.declared.Read.{Read}
-use Rattle.header.specs.declared.Read.TheVariants as read
+use Rattle.header.specs.Read.{read_of, Read}
+use Rattle.checks.specs.Told.{Good, Refused}
 use Rattle.meaning.specs.Flood.{pair_of}
 use Rattle.routes.specs.declared.Record.{Record}
 use Rattle.verdict.specs.declared.Flood.{Flood}
@@ -56,8 +55,6 @@ use Rattle.judge.specs.Remembered.{header_memory, octets_memory, memory_of}
 use Rattle.judge.specs.declared.ruling.Arrival.{Arrival}
 use Rattle.judge.specs.declared.Ending.{Ending}
 use Rattle.tally.specs.Tally.{Move, moves_of, reply_moves, counted_at, counted_all}
-use Rattle.tally.specs.declared.Counter.{Counter}
-use Rattle.tally.specs.declared.Counter.TheVariants as counter
 use Rattle.relay.specs.Outgoing.{entered_if, entered_all}
 use Rattle.relay.specs.Received.{new_entry, received_relay, received_state, heard_memory}
 use Rattle.replies.specs.declared.sending.Replied.{Replied}
@@ -187,9 +184,9 @@ module _ (r : Relay) (formed : KeptIn r) where
       either KeptIn (eqb (first_of (path_checks r i path send here)) 0) (path_kept r.mission formed i (new_path path send here)) formed
 
   -- taking
-  without_kept : (p : ℕ) (rest : Queue) → FormedQueue rest → (h : Head) → KeptIn (without r p rest h)
-  without_kept p rest h (First e) = queue_kept r.mission formed p rest h
-  without_kept p rest h Nothing = formed
+  without_kept : (p : ℕ) (rest : Queue) → FormedQueue rest → (h : Option Entry) → KeptIn (without r p rest h)
+  without_kept p rest h (Some e) = queue_kept r.mission formed p rest h
+  without_kept p rest h None = formed
 
   pub taken_kept : (p : ℕ) → KeptIn (taken_relay r p)
   unfolding taken_relay
@@ -208,8 +205,8 @@ remembering_kept (New place) q second k h = length-set k.pairs place _ ∙ h
 
 octets_kept : (r : Relay) (at : Arrival) (second : ℕ) (x : Read) → FormedMemory r.memory → FormedMemory (octets_memory r at second x)
 unfolding header_memory
-octets_kept r at second (read.Good h) formed = remembering_kept _ (pair_of at.address.0 h.fields) second r.memory formed
-octets_kept r at second (read.Refused n) formed = formed
+octets_kept r at second (Good h) formed = remembering_kept _ (pair_of at.address.0 h.fields) second r.memory formed
+octets_kept r at second (Refused n) formed = formed
 
 pub heard_kept_lem : (x : Board) (s : State) (rs : List Record) (port second : ℕ) (octets : List ℕ) (room : ℕ)
     → FormedMemory s.memory → FormedMemory (heard_memory x s rs port second octets room)
@@ -225,10 +222,10 @@ swept_kept lifetime second k formed =
     either FormedMemory (eqb (first_of (sweep_checks k second)) 0) (length-map k.pairs _ ∙ formed) formed
 
 -- ---- receiving
-counted_kept : (l : List ℕ) → FormedCounters l → (at : Counter) (n : ℕ) → FormedCounters (counted_at l at n)
+counted_kept : (l : List ℕ) → FormedCounters l → (at : Option ℕ) (n : ℕ) → FormedCounters (counted_at l at n)
 unfolding counted_at
-counted_kept l h (counter.At place) n = length-set l place _ ∙ h
-counted_kept l h counter.Nothing n = h
+counted_kept l h (Some place) n = length-set l place _ ∙ h
+counted_kept l h None n = h
 
 all_counted_kept : (moves : List Move) (l : List ℕ) → FormedCounters l → FormedCounters (counted_all l moves)
 all_counted_kept [] l h = h

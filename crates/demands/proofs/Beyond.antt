@@ -1,5 +1,6 @@
 -- Octets beyond the length field change nothing of what an echo request is answered: two strings of which the same is read, and which are the same as far as
 -- the length field says, get the same reply, with the same data in it. Assumes nothing.
+use Rattle.std.specs.Prelude.{Option, Some, None}
 use native.Mathlib.Omega.{arith}
 use Prim.Native.Nat.{ℕ, zero, suc, ◌-◌, ◌≤◌}
 use mathlib.Core.Path.{◌≡◌, refl, sym, ap, ◌∙◌}
@@ -10,12 +11,10 @@ use lib.Seq.{take-take, take-nil, drop-nil}
 use lib.Dec.{eqb}
 use Rattle.checks.specs.Order.{pick, first_of}
 use Rattle.checks.proofs.Laws.{either}
-use Rattle.header.specs.Read.{length_of, header_of, read_checks, read_of}
+use Rattle.header.specs.Read.{length_of, header_of, read_checks, read_of, Read}
 use Rattle.header.specs.Onward.{renewal_of, found_of}
 use Rattle.header.specs.declared.Header.{Header}
-use Rattle.header.specs.declared.Read.{Read}
-use Rattle.header.specs.declared.Read.TheVariants as read
-use Rattle.header.specs.declared.Found.TheVariants as found
+use Rattle.checks.specs.Told.{Good, Refused}
 use Rattle.header.specs.declared.Renewal.{Renewal}
 use Rattle.header.proofs.Refusals.{read_good}
 use Rattle.echo.specs.Message.{reading_of}
@@ -34,8 +33,7 @@ use Rattle.replies.specs.Request.{user_data, asking_in, asking_of}
 use Rattle.replies.specs.Reply.{no_answer, asked_by, is_asked, answer_to}
 use Rattle.replies.specs.Replied.{call_checks, answering_of, destination_survey, heard_answer, echoed_of}
 use Rattle.replies.specs.declared.Answering.{Answering}
-use Rattle.replies.specs.declared.request.Asking.{Asking}
-use Rattle.replies.specs.declared.request.Asking.TheVariants.{Asks, Nothing}
+use Rattle.replies.specs.declared.request.Request.{Request}
 use Rattle.page.proofs.Answered.{made_tells}
 
 -- ---- octets within the first n are there in these
@@ -71,9 +69,9 @@ plain a =
       renewal = no_renewal;
     }
 
-plain_by : (x : Asking) (a : Asked) (s : Survey) (mtu : ℕ) → asked_by x a s mtu ≡ asked_by x (plain a) s mtu
-plain_by (Asks identifier sequence) a s mtu = refl
-plain_by Nothing a s mtu = refl
+plain_by : (x : Option Request) (a : Asked) (s : Survey) (mtu : ℕ) → asked_by x a s mtu ≡ asked_by x (plain a) s mtu
+plain_by (Some request) a s mtu = refl
+plain_by None a s mtu = refl
 
 plain_answer : (dropping : ℕ) (a : Asked) (s : Survey) (mtu : ℕ) (octets : List ℕ) → answer_to dropping a s mtu octets ≡ answer_to dropping (plain a) s mtu octets
 unfolding answer_to is_asked
@@ -83,8 +81,8 @@ plain_answer dropping a s mtu octets =
 -- ---- by what is read alone
 module _ (r : Relay) (number : ℕ) (at : Arrival) where
   abbrev asked_read : Read → Asked
-  asked_read (read.Good h) = plain (carried_asked r number at h no_renewal)
-  asked_read (read.Refused n) = refused_asked n
+  asked_read (Good h) = plain (carried_asked r number at h no_renewal)
+  asked_read (Refused n) = refused_asked n
 
   aim_plain : (h : Header) (c : Renewal) (x : Aim) → plain (aim_asked r number at h c x) ≡ plain (aim_asked r number at h no_renewal x)
   unfolding aim_asked node_asked path_asked
@@ -108,7 +106,7 @@ module _ (r : Relay) (number : ℕ) (at : Arrival) where
   found_plain s = by (first_of (read_checks s)) (eqb (first_of (read_checks s)) 0)
     where
       by : (n : ℕ) (t : Bool)
-          → plain (octets_asked r number at (pick t (found.Good (header_of s) (renewal_of s)) (found.Refused n))) ≡ asked_read (pick t (read.Good (header_of s)) (read.Refused n))
+          → plain (octets_asked r number at (pick t (Good (header_of s, renewal_of s)) (Refused n))) ≡ asked_read (pick t (Good (header_of s)) (Refused n))
       by n true = carried_plain (header_of s) (renewal_of s)
       by n false = refl
 
@@ -119,12 +117,12 @@ module _ (r : Relay) (number : ℕ) (at : Arrival) where
   aim_header P h (aim.Path p) none is = is
   aim_header P h aim.Uncarried none is = none
 
-  read_header : (P : Header → Type 0) (x : Read) → P no_header → ((h : Header) → x ≡ read.Good h → P h) → P (asked_read x).header
+  read_header : (P : Header → Type 0) (x : Read) → P no_header → ((h : Header) → x ≡ Good h → P h) → P (asked_read x).header
   unfolding carried_asked
-  read_header P (read.Good h) none is =
+  read_header P (Good h) none is =
       either (λ (a : Asked). P a.header) (eqb (first_of (arrival_checks at.address h.fields)) 0)
       (aim_header P h (aim_of at.address.0 h.fields.addresses) none (is h refl)) none
-  read_header P (read.Refused n) none is = none
+  read_header P (Refused n) none is = none
 
 header_length : (s : List ℕ) → (header_of s).length ≡ length_of s
 unfolding header_of
@@ -135,7 +133,7 @@ module _ (s t : List ℕ) (n : ℕ) (long : length_of s ≤ n) (AgreeAt : take n
   abbrev Alike : Header → Type 0
   Alike h = user_data h t ≡ user_data h s
 
-  header_alike : (h : Header) → read_of s ≡ read.Good h → Alike h
+  header_alike : (h : Header) → read_of s ≡ Good h → Alike h
   header_alike h is =
       let length_is : h.length ≡ length_of s = ap (λ (k : Header). k.length) ((read_good s h).0 is).1 ∙ header_length s in
       within (data_of h) h.size n s t (omega (arith, long, length_is)) AgreeAt

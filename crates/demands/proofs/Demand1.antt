@@ -12,7 +12,7 @@ use Rattle.checks.specs.Answer.{refusal_number}
 use Rattle.checks.proofs.Bools.{true_false}
 use Rattle.header.specs.Read.{read_of}
 use Rattle.header.specs.declared.Header.{Header}
-use Rattle.header.specs.declared.Read.TheVariants.{Good}
+use Rattle.checks.specs.Told.{Good}
 use Rattle.address.specs.declared.Slot.{Slot}
 use Rattle.numbers.specs.InWords.{field_words}
 use Rattle.routes.specs.declared.Record.{Record}
@@ -30,7 +30,7 @@ use Rattle.answering.specs.Echoed.{as_ending}
 use Rattle.relay.specs.Received.{received_relay}
 use Rattle.answers.specs.Answers.{part_at, refusal_in}
 use Rattle.harpjuniper.specs.Face.{Reading, reading_count, read_answer, read_left, build_words_answer, build_words_output}
-use Rattle.echo.specs.declared.Reading.{Reading as Message}
+use Rattle.echo.specs.Message.{Reading as Message}
 use Rattle.harpjuniper_messages.specs.Face.{message_count}
 use Rattle.harpjuniper_messages.specs.Face as messages
 use Rattle.contracts.specs.Promised.{Things, Result, Promise, Allows, lent_to, looking, hj_read_words, hj_build_words, hj_read_echo_words}

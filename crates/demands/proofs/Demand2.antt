@@ -8,7 +8,7 @@ use mathlib.Core.List.{List, [], ◌∷◌, ◌++◌}
 use lib.ListN.{length, take, drop, replicate}
 use lib.Dec.{eqb}
 use borrow.Author.Tests.{eq-eqb, ne_eqb, eqb-true, eqb-false, ltb-false}
-use Rattle.header.specs.declared.Read.{Read}
+use Rattle.header.specs.Read.{Read, read_checks, header_of, read_of}
 use Rattle.header.proofs.Answers.{read_bounds}
 use Rattle.history.specs.SearchBack.{LongestOrNo}
 use Rattle.history.proofs.SearchBack.{search_names_the_longest}
@@ -23,9 +23,8 @@ use Rattle.sets.specs.Sets.{in_set}
 use Rattle.address.specs.declared.Slot.{Slot}
 use Rattle.header.specs.Build.{size_of}
 use Rattle.header.specs.Limits.{longest_header, most_data, lacks_room, too_much_data}
-use Rattle.header.specs.Read.{read_checks, header_of, read_of}
 use Rattle.header.specs.declared.Header.{Header}
-use Rattle.header.specs.declared.Read.TheVariants.{Good, Refused}
+use Rattle.checks.specs.Told.{Good, Refused}
 use Rattle.header.proofs.Beyond.{agree_up_to_the_length}
 use Rattle.header.proofs.BuiltLaws.{built_size}
 use Rattle.header.specs.Shortest.{NoneShorter}
@@ -49,9 +48,7 @@ use Rattle.state.specs.Relay.{Memory, Relay, pair_at, port_in, port_set_up}
 use Rattle.state.specs.Seen.{Board, State}
 use Rattle.floods.specs.Sweep.{is_old, swept, sweep_checks, swept_memory}
 use Rattle.floods.proofs.Swept.{old_is, young_stays, free_after}
-use Rattle.taking.specs.Taking.{take_outcome}
-use Rattle.taking.specs.declared.Taking.{Taking}
-use Rattle.taking.specs.declared.Taking.TheVariants as taking
+use Rattle.taking.specs.Taking.{take_outcome, Taking}
 use Rattle.judge.specs.Ending.{refused_by, or_else, call_checks, octets_ending, ruled_ending, arrival_at, ending_of}
 use Rattle.judge.specs.declared.Ending.{Ending}
 use Rattle.judge.specs.Remembered.{octets_memory, memory_of}
@@ -532,9 +529,9 @@ module _ (who : Customer) (steps : List Step) where
       by_answer handed (refusal_number 18) (told_18 (line_at p m h) (port_set_up r p) (chosen (rank_by entry_of) (line_at p m h)) refl fits),
     )
 
-    taken_entry : (t : Taking) (e : Entry) → (of_taking p t).answer ≡ entry e → t ≡ taking.Handed e
-    taken_entry (taking.Handed y) e is = let same : y ≡ e = cc in ap taking.Handed same
-    taken_entry (taking.Refused n) e is = true_false cc
+    taken_entry : (t : Taking) (e : Entry) → (of_taking p t).answer ≡ entry e → t ≡ Good e
+    taken_entry (Good y) e is = let same : y ≡ e = cc in ap Good same
+    taken_entry (Refused n) e is = true_false cc
 
     takings_fit : (e : Entry) → own_out (takes p) x.answer ≡ entry e → EntryFits e
     takings_fit e is =
@@ -545,7 +542,7 @@ module _ (who : Customer) (steps : List Step) where
     same_header a b e = cc
 
     goes_case : (up : Bool) → port_set_up r p ≡ up → (c : Chosen Copy) → chosen (rank_by entry_of) (line_at p m h) ≡ c → (e : Entry)
-        → taking_of up c ≡ taking.Handed e → GoesOut r p (line_at p m h) e
+        → taking_of up c ≡ Good e → GoesOut r p (line_at p m h) e
     goes_case false is c out e handed = true_false cc
     goes_case true is nobody out e handed = true_false cc
     goes_case true is (one c others) out e handed =

@@ -1,4 +1,5 @@
 -- What is promised of echo messages is kept. Assumes nothing.
+use Rattle.std.specs.Prelude.{Option, Some, None}
 use native.Mathlib.Omega.{arith}
 use Prim.Native.Nat.{ℕ, ◌+◌, ◌%◌, ◌^◌, ◌<◌, ◌≤◌}
 use mathlib.Core.Path.{◌≡◌, refl, sym, ap, ap₂, subst, subst⁻¹, ◌∙◌}
@@ -7,7 +8,7 @@ use mathlib.Core.Bool.{Bool, true, false, not, ◌||◌}
 use mathlib.Core.List.{List, [], ◌∷◌, ◌++◌}
 use lib.ListN.{get_or, length, take}
 use lib.Dec.{eqb}
-use borrow.Author.Tests.{eq-eqb, eqb-true}
+use borrow.Author.Tests.{eq-eqb}
 use Rattle.checks.specs.Order.{pick, NoneHolds}
 use Rattle.checks.proofs.Bools.{true_false, not-false, or_true}
 use Rattle.checks.proofs.Laws.{either}
@@ -15,20 +16,17 @@ use Rattle.address.specs.declared.Address.{Address}
 use Rattle.address.specs.declared.Slot.{Slot}
 use Rattle.octets.specs.Octets.{fronted}
 use Rattle.header.specs.Limits.{length_limit}
-use Rattle.header.specs.Read.{length_of, header_of, read_of}
+use Rattle.header.specs.Read.{length_of, header_of, read_of, Read}
 use Rattle.header.specs.Build.{size_of, header_octets}
 use Rattle.header.specs.declared.Fields.{Fields}
 use Rattle.header.specs.declared.Header.{Header}
-use Rattle.header.specs.declared.Read.{Read}
-use Rattle.header.specs.declared.Read.TheVariants as read
+use Rattle.checks.specs.Told.{Good, Refused}
 use Rattle.header.proofs.Beyond.{agree_up_to_the_length}
-use Rattle.echo.specs.Message.{message_octets, reading_of, echoed_in}
+use Rattle.echo.specs.Message.{message_octets, reading_of, echoed_in, Reading}
 use Rattle.echo.specs.declared.Seen.{Seen}
 use Rattle.echo.specs.declared.Kind.{Kind}
 use Rattle.echo.specs.declared.Kind.TheVariants.{Request, Reply}
 use Rattle.echo.specs.declared.Message.{Message}
-use Rattle.echo.specs.declared.Reading.{Reading}
-use Rattle.echo.specs.declared.Reading.TheVariants as reading
 use Rattle.meaning.specs.Names.{aim_of, origin_of}
 use Rattle.queue.specs.Order.{Each}
 use Rattle.next_leg.specs.Leg.{asks_checksum, checksum_next, next_fields}
@@ -51,7 +49,6 @@ use Rattle.verdict.specs.Numbers.{onward_number}
 use Rattle.verdict.specs.declared.Ruling.{Ruling}
 use Rattle.verdict.specs.declared.Target.TheVariants.{Route}
 use Rattle.verdict.specs.declared.Way.{Way}
-use Rattle.verdict.specs.declared.Way.TheVariants.{By, Lost}
 use Rattle.judge.specs.Ending.{no_ruling}
 use Rattle.replies.specs.Request.{user_data}
 use Rattle.replies.specs.Reply.{no_answer, reply_qos, reply_fields}
@@ -170,10 +167,10 @@ module _ (r : Relay) (number dropping at : ℕ) (octets : List ℕ) (room : ℕ)
   unmade_is z = picks _ _ _ (eq-eqb made.made 0 z)
 
   -- the entry has the precedence of the request
-  precedence_way : (w : Way) → (by_way r made w room).precedence ≡ made.precedence
+  precedence_way : (w : Option Way) → (by_way r made w room).precedence ≡ made.precedence
   unfolding replied_among
-  precedence_way Lost = refl
-  precedence_way (By set code) = refl
+  precedence_way None = refl
+  precedence_way (Some way) = refl
 
   precedence_is : made.made ≡ 1 → sent.precedence ≡ made.precedence
   unfolding replied_of replied_to
@@ -274,18 +271,18 @@ module _ (octets : List ℕ) (none : NoneAnswers octets) where
 
 -- ---- user data that are a reply are no request, whatever header they stand behind
 abbrev header_in : Header → Read → Header
-header_in d (read.Good h) = h
-header_in d (read.Refused n) = d
+header_in d (Good h) = h
+header_in d (Refused n) = d
 
 abbrev message_in : Message → Reading → Message
-message_in d (reading.Good m) = m
-message_in d (reading.Refused n) = d
+message_in d (Good m) = m
+message_in d (Refused n) = d
 
 abbrev is_reply : Kind → Bool
 is_reply Request = false
 is_reply (Reply z) = true
 
-module _ (s : List ℕ) (h : Header) (k : Message) (z : Seen) (reads : read_of s ≡ read.Good h) (holds : reading_of (user_data h s) ≡ reading.Good k)
+module _ (s : List ℕ) (h : Header) (k : Message) (z : Seen) (reads : read_of s ≡ Good h) (holds : reading_of (user_data h s) ≡ Good k)
     (is : k.kind ≡ Reply z) where
   no_request : (r : Relay) (dropping at : ℕ) → RequestAnswered r dropping at s → ⊥
   no_request r dropping at q =
@@ -529,7 +526,7 @@ module _ (who : Customer) (steps : List Step) (rs : List Record) (at : ℕ) (slo
           let n = seat.number in
           let y = made_requested q n drops at octets room (was_made q n drops at octets room some) in
           let free = (reply_meaning q n drops at octets room some y).free in
-          stays_home a.arrival.0 e.code far a.fields (λ b. absurd (omega (arith, b, free))) (eqb-true _ 1 one-octet)
+          stays_home a.arrival.0 e.code far a.fields (λ b. absurd (omega (arith, b, free))) one-octet
 
       on_wire : ReplyOnTheWire q at p octets output a x
       on_wire =
@@ -545,7 +542,7 @@ module _ (who : Customer) (steps : List Step) (rs : List Record) (at : ℕ) (slo
             reads =
                 ap read_of out_is
                 ∙ unanswered.wire_reads q seat.number drops at octets room some small here wide e
-                ∙ ap (λ (t : Bool). read.Good (header t)) far_is;
+                ∙ ap (λ (t : Bool). Good (header t)) far_is;
             fields = ap₂ (λ (z : Address) (code : ℕ). wire_fields (lies_far q at p) z.0 code a.fields) tells.arrival page.code;
             hops = w.hops ∙ tells.hops;
             control = w.tpid ∙ tells.control;

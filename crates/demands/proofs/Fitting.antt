@@ -7,6 +7,7 @@ use mathlib.Core.Bool.{Bool, true, false, ◌&&◌}
 use mathlib.Core.List.{List, [], ◌∷◌, map}
 use lib.ListN.{length, get_or}
 use lib.Dec.{eqb, ltb}
+use Rattle.std.specs.Prelude.{Option, Some, None}
 use Rattle.checks.specs.Order.{pick, first_of}
 use Rattle.checks.specs.Answer.{refusal_number}
 use Rattle.checks.proofs.Laws.{either}
@@ -218,11 +219,11 @@ source_fits port small (BasicEndSystem d z) h = omega (arith, small, h.1)
 source_fits port small (ExtendedEndSystem d s) h = omega (arith, h.1)
 source_fits port small (Ipv6 d s) h = none_fits
 
-stamp_fits : (m : Timestamp) → StampFits m → Fit (format_of m ∷ upper_of m ∷ lower_of m ∷ [])
-stamp_fits stamp.Absent h = (omega arith, (omega arith, (omega arith, tt)))
-stamp_fits (stamp.Implicit t) h = (omega arith, (omega arith, (omega arith, tt)))
-stamp_fits (stamp.Explicit p t) h = (omega arith, (omega (arith, h.0), (omega arith, tt)))
-stamp_fits (stamp.Binary t) h = (omega arith, (omega arith, (omega arith, tt)))
+stamp_fits : (m : Option Timestamp) → StampFits m → Fit (format_of m ∷ upper_of m ∷ lower_of m ∷ [])
+stamp_fits None h = (omega arith, (omega arith, (omega arith, tt)))
+stamp_fits (Some (stamp.Implicit t)) h = (omega arith, (omega arith, (omega arith, tt)))
+stamp_fits (Some (stamp.Explicit p t)) h = (omega arith, (omega (arith, h.0), (omega arith, tt)))
+stamp_fits (Some (stamp.Binary t)) h = (omega arith, (omega arith, (omega arith, tt)))
 
 pair_fits : (port : ℕ) → port < 2 ^ 32 → (f : Fields) → range.InRange f → (when : ℕ) → when < 2 ^ 32 → PairFits (record { pair = pair_of port f; second = when })
 unfolding pair_of

@@ -14,7 +14,7 @@ use Rattle.address.specs.declared.Slot.{Slot}
 use Rattle.header.specs.Read.{read_of, header_of}
 use Rattle.header.specs.declared.Fields.{Fields}
 use Rattle.header.specs.declared.Header.{Header}
-use Rattle.header.specs.declared.Read.TheVariants.{Good}
+use Rattle.checks.specs.Told.{Good}
 use Rattle.header.proofs.Answers.{read_in_range}
 use Rattle.header.proofs.Refusals.{read_good}
 use Rattle.survey.proofs.Bits.{in_none}

@@ -7,9 +7,8 @@ use mathlib.Core.List.{List, []}
 use lib.ListN.{length, replicate}
 use lib.Dec.{eqb}
 use Rattle.checks.specs.Order.{pick, first_of}
-use Rattle.header.specs.Read.{read_of}
-use Rattle.header.specs.declared.Read.{Read}
-use Rattle.header.specs.declared.Read.TheVariants as read
+use Rattle.header.specs.Read.{read_of, Read}
+use Rattle.checks.specs.Told.{Good, Refused}
 use Rattle.numbers.specs.InWords.{numbers_words}
 use Rattle.numbers.specs.declared.Numbers.{Numbers}
 use Rattle.numbers.proofs.in_words.Halves.{numbers_again, words_count}
@@ -21,16 +20,13 @@ use Rattle.records.specs.Fresh.{fresh_group, fresh_path}
 use Rattle.state.specs.Relay.{Relay, Mission, Memory, with_group, with_path}
 use Rattle.refusals.specs.Lists.{clear_checks}
 use Rattle.state.specs.Seen.{Board, State}
-use Rattle.taking.specs.Taking.{take_outcome, taken_relay}
-use Rattle.taking.specs.declared.Taking.{Taking}
-use Rattle.taking.specs.declared.Taking.TheVariants.{Handed, Refused}
+use Rattle.taking.specs.Taking.{take_outcome, taken_relay, Taking}
 use Rattle.tally.specs.Tally.{Move, counted_all}
 use Rattle.judge.specs.declared.Ending.{Ending}
 use Rattle.relay.specs.Outgoing.{sent_output}
 use Rattle.relay.specs.Received.{heard_ending, heard_memory, received_state}
 use Rattle.lent_state.specs.View.{Lent, Held, lent_board, lent, by_lent, on_lent, told_board, changed_board, told, changed, told_both, changed_both, changed_relay, too_long}
-use Rattle.echo.specs.Message.{reading_of as echo_of}
-use Rattle.echo.specs.declared.Reading.{Reading as Message}
+use Rattle.echo.specs.Message.{reading_of as echo_of, Reading as Message}
 use Rattle.replies.specs.Replied.{replied_to, replied_output}
 use Rattle.replies.specs.declared.Answering.{Answering}
 use Rattle.replies.specs.declared.sending.Replied.{Replied}
@@ -123,8 +119,8 @@ own_of false a b = refl
 -- a refused reading leaves the words as they are lent, which are 0, as the words of no numbers are
 pub reading_left : (r : Read) → read_left (reading_of r) (replicate reading_count 0) ≡ reading_words (reading_of r)
 unfolding read_left read_answer reading_of reading_words numbers_words
-reading_left (read.Refused n) = either_way (eqb n 0) (replicate reading_count 0)
-reading_left (read.Good h) = refl
+reading_left (Refused n) = either_way (eqb n 0) (replicate reading_count 0)
+reading_left (Good h) = refl
 
 pub reading_answer : (r : Reading) → read_answer (length {A = ℕ} (replicate reading_count 0)) r ≡ r.refusal
 unfolding read_answer
@@ -149,7 +145,7 @@ message_answer r = refl
 
 -- ---- a take counts nothing
 pub quiet_taking : (p : ℕ) (t : Taking) → (of_taking p t).moves ≡ []
-quiet_taking p (Handed e) = refl
+quiet_taking p (Good e) = refl
 quiet_taking p (Refused n) = refl
 
 -- ---- a datagram: the counters are not looked at, and a long list is refused by 21

@@ -12,17 +12,14 @@ use Rattle.checks.specs.Order.{pick, first_of}
 use Rattle.checks.specs.Answer.{refusal_number}
 use Rattle.refusals.proofs.Chains.{Decided, decided}
 use Rattle.header.specs.Limits.{most_data}
-use Rattle.header.specs.Build.{output_by}
-use Rattle.header.specs.declared.Built.{Built}
-use Rattle.header.specs.declared.Built.TheVariants as built
-use Rattle.echo.specs.Message.{fixed_size, message_octets, echo_checks, message_of, reading_of, echoed_in}
+use Rattle.header.specs.Build.{output_by, Built}
+use Rattle.checks.specs.Told.{Good, Refused}
+use Rattle.echo.specs.Message.{fixed_size, message_octets, echo_checks, message_of, reading_of, echoed_in, Reading}
 use Rattle.echo.specs.Built.{size_with, build_checks, built_of, built_output}
 use Rattle.echo.specs.declared.Seen.{Seen}
 use Rattle.echo.specs.declared.Kind.{Kind}
 use Rattle.echo.specs.declared.Kind.TheVariants.{Request, Reply}
 use Rattle.echo.specs.declared.Message.{Message}
-use Rattle.echo.specs.declared.Reading.{Reading}
-use Rattle.echo.specs.declared.Reading.TheVariants.{Good, Refused}
 use Rattle.echo.proofs.Refusals.{reads_good, builds_exactly}
 use Rattle.echo.proofs.Trip.{SeenFits, KindFits, Fits, written_length, written_data, read_written, written_read}
 use Rattle.harpjuniper_messages.specs.Face.{message_count, message_words, refusal_in, read_answer, left_by, read_left, built_answer}
@@ -142,7 +139,7 @@ module _ (m : Message) (echoed lent : List ℕ) where
     output_is : built_output m echoed lent ≡ message_octets m echoed ++ drop size lent
     unfolding built_output built_of
     output_is =
-        ap (λ (t : Bool). output_by (pick t (built.Done size) (built.Refused first)) (message_octets m echoed) lent) (eq-eqb first 0 none)
+        ap (λ (t : Bool). output_by (pick t (Good size) (Refused first)) (message_octets m echoed) lent) (eq-eqb first 0 none)
         ∙ ap (λ (n : ℕ). message_octets m echoed ++ drop n lent) (written_length m echoed)
 
   module _ (answer : ℕ) (left : List ℕ) (h : BuildsEcho m echoed lent answer left) where
@@ -221,7 +218,7 @@ again s lent m octets is few room =
     let echoed = echoed_in m s in
     let same = written_read s octets m is in
     let long : length s ≡ size_with m (length echoed) = ap length (sym same) ∙ written_length m echoed in
-    let made : built_of m (length echoed) (length lent) ≡ built.Done (size_with m (length echoed)) =
+    let made : built_of m (length echoed) (length lent) ≡ Good (size_with m (length echoed)) =
     (builds_exactly m (length echoed) (length lent)).made.1 (omega (arith, long, room), omega (arith, long, few)) in
     let a = each_call_answers (built_by m.kind m.identifier m.sequence echoed lent) (built_passes m.kind m.identifier m.sequence echoed lent) in
     let row = built_row m.kind m.identifier m.sequence echoed lent a.0 a.1 in (

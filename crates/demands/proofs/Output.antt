@@ -16,7 +16,7 @@ use Rattle.sets.specs.Sets.{in_set}
 use Rattle.address.specs.declared.Slot.{Slot}
 use Rattle.header.specs.Form.{places_of}
 use Rattle.header.specs.Read.{read_of, header_of}
-use Rattle.header.specs.declared.Read.TheVariants.{Good}
+use Rattle.checks.specs.Told.{Good}
 use Rattle.header.proofs.Passed.{passed}
 use Rattle.header.proofs.Refusals.{read_good}
 use Rattle.networks.proofs.Bits.{high_bit}

@@ -17,7 +17,7 @@ use Rattle.echo.specs.Message.{echo_checks, message_of, reading_of as echo_of}
 use Rattle.echo.specs.Built.{size_with, build_checks, built_of}
 use Rattle.echo.specs.declared.Kind.TheVariants.{Reply}
 use Rattle.echo.specs.declared.Message.{Message}
-use Rattle.echo.specs.declared.Reading.TheVariants as reading
+use Rattle.checks.specs.Told.{Good, Refused}
 use Rattle.numbers.specs.Fields.{fields_from}
 use Rattle.numbers.specs.Words.{Words}
 use Rattle.numbers.specs.declared.Numbers.{Numbers}
@@ -163,7 +163,7 @@ pub message_refusal : (s : List ℕ) → read_refusal (echo_of s) ≡ first_of (
 unfolding echo_of
 message_refusal s = let n = first_of (echo_checks s) in by n (message_of s) (eqb n 0) refl
   where
-    by : (n : ℕ) (k : Message) (t : Bool) → eqb n 0 ≡ t → read_refusal (pick t (reading.Good k) (reading.Refused n)) ≡ n
+    by : (n : ℕ) (k : Message) (t : Bool) → eqb n 0 ≡ t → read_refusal (pick t (Good k) (Refused n)) ≡ n
     by n k true e = sym (eqb-true n 0 e)
     by n k false e = refl
 

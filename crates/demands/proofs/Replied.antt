@@ -1,4 +1,5 @@
 -- What C is told of an echo request, and the reply that it finds at the front of the output: page 02, W-203. Assumes nothing.
+use Rattle.std.specs.Prelude.{Option, Some, None}
 use native.Mathlib.Omega.{arith}
 use Prim.Native.Nat.{ℕ, ◌<◌}
 use mathlib.Core.Path.{◌≡◌, refl, sym, ap₂, subst, ◌∙◌}
@@ -21,7 +22,6 @@ use Rattle.verdict.specs.Numbers.{onward_number}
 use Rattle.verdict.specs.declared.Ruling.{Ruling}
 use Rattle.verdict.specs.declared.Target.TheVariants.{Route}
 use Rattle.verdict.specs.declared.Way.{Way}
-use Rattle.verdict.specs.declared.Way.TheVariants.{By, Lost}
 use Rattle.replies.specs.Replied.{answering_of, no_reply, replied_among, replied_via as by_way, replied_to, replied_of, wire_reply, replied_output}
 use Rattle.replies.specs.declared.Answering.{Answering}
 use Rattle.replies.specs.declared.sending.Replied.{Replied}
@@ -64,10 +64,10 @@ module _ (r : Relay) (number dropping at : ℕ) (octets output : List ℕ) where
   sent = replied_of r number dropping at octets (length output)
 
   -- a reply that no port took has no octets; one that a port took has those that C is told, under 8,192
-  untaken_way : (w : Way) → (by_way r made w (length output)).ruling.took ≡ 0 → (by_way r made w (length output)).octets ≡ 0
+  untaken_way : (w : Option Way) → (by_way r made w (length output)).ruling.took ≡ 0 → (by_way r made w (length output)).octets ≡ 0
   unfolding replied_among
-  untaken_way Lost z = refl
-  untaken_way (By set code) z = picks _ _ _ (eq-eqb _ 0 z)
+  untaken_way None z = refl
+  untaken_way (Some way) z = picks _ _ _ (eq-eqb _ 0 z)
 
   untaken_octets : sent.ruling.took ≡ 0 → sent.octets ≡ 0
   unfolding replied_of replied_to

@@ -6,6 +6,7 @@ use mathlib.Core.Path.{◌≡◌, refl, ap, ◌∙◌}
 use mathlib.Core.List.{List, [], ◌∷◌, ◌++◌, append_assoc, append-nil}
 use lib.ListN.{length, take, replicate, replicate-append-replicate}
 use lib.Seq.{take_all}
+use Rattle.std.specs.Prelude.{Option, Some, None}
 use Rattle.octets.specs.Octets.{number, octets}
 use Rattle.octets.proofs.Laws.{number_lt}
 use Rattle.header.specs.Form.{time_size}
@@ -36,15 +37,15 @@ before k (suc n) v low =
     let q : v / 256 < 256 ^ n = (div-lt_iff_lt-mul {k = 256} {x = v} {y = 256 ^ n} (omega arith)).1 (rw (pow-suc 256 n) at low) in
     rw (add-suc k n, before k n (v / 256) q) (append_assoc {A = ℕ} (replicate k 0) (octets n (v / 256)) (v % 256 ∷ []))
 
-stamp_small : (t : Timestamp) → Octets (stamp_octets t)
+stamp_small : (t : Option Timestamp) → Octets (stamp_octets t)
 unfolding stamp_octets
-stamp_small stamp.Absent = λ i. omega arith
-stamp_small (stamp.Implicit t) = octets_small 3 t
-stamp_small (stamp.Explicit p t) = append_small (octets 1 p) (octets (time_size p) t) (octets_small 1 p) (octets_small (time_size p) t)
-stamp_small (stamp.Binary t) = octets_small 4 t
+stamp_small None = λ i. omega arith
+stamp_small (Some (stamp.Implicit t)) = octets_small 3 t
+stamp_small (Some (stamp.Explicit p t)) = append_small (octets 1 p) (octets (time_size p) t) (octets_small 1 p) (octets_small (time_size p) t)
+stamp_small (Some (stamp.Binary t)) = octets_small 4 t
 
 -- Its octets are at most eight; so they stand at the end of the field.
-pub stamp_placed : (t : Timestamp) → octets 8 (stamp_number t) ≡ replicate (8 - length (stamp_octets t)) 0 ++ stamp_octets t
+pub stamp_placed : (t : Option Timestamp) → octets 8 (stamp_number t) ≡ replicate (8 - length (stamp_octets t)) 0 ++ stamp_octets t
 unfolding stamp_number
 stamp_placed t =
     let s = stamp_octets t in

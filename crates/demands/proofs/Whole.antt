@@ -12,26 +12,20 @@ use Rattle.checks.specs.Order.{pick, first_of}
 use Rattle.checks.specs.Answer.{refusal_number}
 use Rattle.checks.proofs.Bools.{true_false}
 use Rattle.address.specs.declared.Slot.{Slot}
-use Rattle.header.specs.Read.{read_of}
-use Rattle.header.specs.declared.Read.{Read}
-use Rattle.header.specs.declared.Read.TheVariants as read
+use Rattle.header.specs.Read.{read_of, Read}
+use Rattle.checks.specs.Told.{Good, Refused}
 use Rattle.header.specs.Build.{built_by, output_by}
-use Rattle.header.specs.declared.Built.TheVariants as built
-use Rattle.echo.specs.Message.{message_octets, reading_of as echo_of}
+use Rattle.echo.specs.Message.{message_octets, reading_of as echo_of, Reading}
 use Rattle.echo.specs.Built.{size_with, build_checks, built_of, built_output}
 use Rattle.echo.specs.declared.Kind.TheVariants.{Reply}
 use Rattle.echo.specs.declared.Message.{Message}
-use Rattle.echo.specs.declared.Reading.{Reading}
-use Rattle.echo.specs.declared.Reading.TheVariants as reading
 use Rattle.numbers.specs.InWords.{numbers_words}
 use Rattle.routes.specs.declared.Record.{Record}
 use Rattle.state.specs.Relay.{Relay, Memory}
 use Rattle.state.specs.Seen.{Board, State, seated}
 use Rattle.refusals.specs.Lists.{route_checks, clear_route_checks}
 use Rattle.adjust.specs.Settled.{new_record, settled_route, cleared_route}
-use Rattle.taking.specs.Taking.{take_outcome, taken_relay}
-use Rattle.taking.specs.declared.Taking.{Taking}
-use Rattle.taking.specs.declared.Taking.TheVariants.{Handed, Refused}
+use Rattle.taking.specs.Taking.{take_outcome, taken_relay, Taking}
 use Rattle.tally.specs.Tally.{counter_for, counted_at, counted_all}
 use Rattle.floods.specs.Sweep.{swept, sweep_checks, swept_memory}
 use Rattle.judge.specs.Ending.{refused_by}
@@ -153,13 +147,13 @@ settled_old : {A : Type 0} (n : ℕ) (new old : A) → not (eqb n 0) ≡ true �
 settled_old n new old h = settle_case n new old (eqb n 0) refl h
 
 taken_old : (r : Relay) (p : ℕ) (t : Taking) → take_outcome r p ≡ t → is_refusal (of_taking p t).answer ≡ true → taken_relay r p ≡ r
-taken_old r p (Handed e) is h = true_false (sym h)
+taken_old r p (Good e) is h = true_false (sym h)
 taken_old r p (Refused n) is h = refused_take_leaves r p n is
 
 -- of an echo message that is refused
 refused_message : (r : Reading) → not (eqb (read_refusal r) 0) ≡ true → left_by r (replicate message_count 0) ≡ replicate message_count 0
-refused_message (reading.Refused n) h = refl
-refused_message (reading.Good k) h = true_false (sym h)
+refused_message (Refused n) h = refl
+refused_message (Good k) h = true_false (sym h)
 
 -- and of one that is not built
 pub unbuilt : (k : Message) (echoed output : List ℕ) → not (eqb (first_of (build_checks k (length echoed) (length output))) 0) ≡ true
@@ -168,7 +162,7 @@ unfolding built_output built_of
 unbuilt k echoed output h = by (first_of (build_checks k (length echoed) (length output))) h
   where
     by : (n : ℕ) → not (eqb n 0) ≡ true → output_by (built_by n (size_with k (length echoed))) (message_octets k echoed) output ≡ output
-    by n some = ap (λ (t : Bool). output_by (pick t (built.Done (size_with k (length echoed))) (built.Refused n)) (message_octets k echoed) output) (not-true (eqb n 0) some)
+    by n some = ap (λ (t : Bool). output_by (pick t (Good (size_with k (length echoed))) (Refused n)) (message_octets k echoed) output) (not-true (eqb n 0) some)
 
 -- what is written of a reply that no port took
 pub reply_unwritten : (a : Answering) (e : Replied) (octets output : List ℕ) → e.ruling.took ≡ 0 → replied_output a e octets output ≡ output
@@ -177,8 +171,8 @@ reply_unwritten a e octets output none = rw (eq-eqb e.ruling.took 0 none)
 
 refused_reading : (r : Read) → not (eqb (reading_of r).refusal 0) ≡ true → reading_words (reading_of r) ≡ replicate reading_count 0
 unfolding reading_of reading_words numbers_words
-refused_reading (read.Refused n) h = refl
-refused_reading (read.Good k) h = true_false (sym h)
+refused_reading (Refused n) h = refl
+refused_reading (Good k) h = true_false (sym h)
 
 module _ (b m : List ℕ) (x : Seat) (l : List ℕ) (board : lent_board b ≡ Held x.board) (mission : lent m ≡ Held (state_of x l)) where
   abbrev LeftBy : Call → Type 0

@@ -7,7 +7,7 @@ use Rattle.checks.specs.Answer.{refusal_number}
 use Rattle.checks.specs.Order.{pick, first_of}
 use Rattle.header.specs.Read.{read_of}
 use Rattle.header.specs.declared.Header.{Header}
-use Rattle.header.specs.declared.Read.TheVariants.{Good}
+use Rattle.checks.specs.Told.{Good}
 use Rattle.address.specs.declared.Slot.{Slot}
 use Rattle.numbers.specs.InWords.{field_words}
 use Rattle.sets.specs.Limits.{pair_places, counter_count}

@@ -18,7 +18,7 @@ use Rattle.header.specs.Limits.{longest_header, most_data}
 use Rattle.header.specs.Read.{read_checks, length_of, read_of, header_of}
 use Rattle.header.specs.Shortest.{UnusedZero, NoneShorter}
 use Rattle.header.specs.declared.Header.{Header}
-use Rattle.header.specs.declared.Read.TheVariants.{Good}
+use Rattle.checks.specs.Told.{Good}
 use Rattle.numbers.specs.Words.{Words}
 use Rattle.numbers.specs.declared.Numbers.{Numbers}
 use Rattle.networks.specs.Networks.{domain_of}

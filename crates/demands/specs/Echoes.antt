@@ -2,7 +2,7 @@
 -- whatever the other customer does between them, hj_echo answers by the page's list of what gets a reply; the reply that goes is the one that 003 and the page
 -- lay out, and names on the wire whom it should; it counts as the page says; and no relay answers it. Proved in proofs/Echoes.antt.
 -- Assumes nothing.
-use Rattle.std.specs.Prelude.{ℕ, ◌+◌, ◌-◌, ◌%◌, ◌^◌, ◌<◌, ◌≤◌, ◌≡◌, ◌↔◌, ◌≢◌, true, false, ◌||◌, List, [], ◌∷◌, ◌++◌, length, replicate, take, drop, get_or}
+use Rattle.std.specs.Prelude.{ℕ, ◌+◌, ◌-◌, ◌%◌, ◌^◌, ◌<◌, ◌≤◌, ◌≡◌, ◌↔◌, ◌≢◌, true, false, ◌||◌, List, [], ◌∷◌, ◌++◌, length, replicate, take, drop, get_or, Some, Option, None}
 use Rattle.checks.specs.Order.{pick, NoneHolds, FirstHolds}
 use Rattle.checks.specs.Answer.{refusal_number}
 use Rattle.octets.specs.Octets.{octets as number_octets}
@@ -13,21 +13,16 @@ use Rattle.header.specs.Form.{control_of}
 use Rattle.header.specs.Read.{length_of, header_of, read_of}
 use Rattle.header.specs.Build.{stamp_octets, header_octets}
 use Rattle.header.specs.declared.Header.{Header}
-use Rattle.header.specs.declared.Octet.TheVariants as octet
-use Rattle.header.specs.declared.Qos.TheVariants as qos
 use Rattle.header.specs.declared.Timestamp.{Timestamp}
-use Rattle.header.specs.declared.Timestamp.TheVariants as stamp
-use Rattle.header.specs.declared.Read.TheVariants as read
+use Rattle.checks.specs.Told.{Good}
 use Rattle.echo.specs.Message.{fixed_size, message_octets, echo_checks, message_of, reading_of, echoed_in}
 use Rattle.echo.specs.Built.{build_checks}
 use Rattle.echo.specs.declared.Seen.{Seen}
 use Rattle.echo.specs.declared.Kind.{Kind}
 use Rattle.echo.specs.declared.Kind.TheVariants.{Request, Reply}
 use Rattle.echo.specs.declared.Message.{Message}
-use Rattle.echo.specs.declared.Reading.TheVariants as reading
 use Rattle.meaning.specs.Names.{aim_of, origin_of}
 use Rattle.meaning.specs.declared.Aim.TheVariants.{Node}
-use Rattle.meaning.specs.declared.Origin.TheVariants.{From}
 use Rattle.queue.specs.Order.{Each}
 use Rattle.next_leg.specs.Leg.{asks_checksum}
 use Rattle.queue.specs.Queue.{entry_places}
@@ -118,18 +113,18 @@ pub record AnsweredAs (r : Relay) (dropping at : ℕ) (octets output : List ℕ)
 -- ---- the reply as the system behind port p, which took it, reads it
 pub record ReplyOnTheWire (r : Relay) (at p : ℕ) (octets output : List ℕ) (a : Answering) (x : Result) : Type 0 where
   pub goes : Header
-  pub reads : read_of (reply_out x) ≡ read.Good goes
+  pub reads : read_of (reply_out x) ≡ Good goes
   -- its header is the reply's own, with W-214's changes for this port and no others
   pub fields : goes.fields ≡ wire_fields (lies_far r at p) (port_in r at).address.0 (reply_verdict r at a (length output)).code a.fields
   -- field by field: "has hop count 64"; SCMP's TP-ID; no timestamp, no expanded QOS and no intermediate delivery
-  pub hops : goes.fields.hops ≡ octet.Present 64
+  pub hops : goes.fields.hops ≡ Some 64
   pub control : goes.fields.tpid ≡ 1
-  pub unstamped : goes.fields.stamp ≡ stamp.Absent
-  pub unexpanded : goes.fields.expanded ≡ octet.Absent
+  pub unstamped : goes.fields.stamp ≡ None
+  pub unexpanded : goes.fields.expanded ≡ None
   pub not_between : goes.fields.intermediate ≡ 0
   -- "keeps the request's .. precedence": basic QOS exactly where the request has it, and nothing of it but the precedence
-  pub no_qos : (header_of octets).fields.qos ≡ qos.Absent → goes.fields.qos ≡ qos.Absent
-  pub qos_kept : (n routing program : ℕ) → (header_of octets).fields.qos ≡ qos.Present n routing program → goes.fields.qos ≡ qos.Present n 0 0
+  pub no_qos : (header_of octets).fields.qos ≡ None → goes.fields.qos ≡ None
+  pub qos_kept : (n routing program : ℕ) → (header_of octets).fields.qos ≡ Some (record { precedence = n; routing = routing; program = program }) → goes.fields.qos ≡ Some (record { precedence = n; routing = 0; program = 0 })
   -- a checksum exactly where the route asks for one
   pub summed : goes.fields.checksum ≡ pick (asks_checksum (reply_verdict r at a (length output)).code) 1 0
   -- the octets themselves: that header in the form that is built, and then the message
@@ -143,13 +138,13 @@ pub record ReplyOnTheWire (r : Relay) (at p : ℕ) (octets output : List ℕ) (a
   pub aim : aim_of (port_in r p).address.0 goes.fields.addresses ≡ Node a.destination
   -- and its source an address of ours: "the request's destination if a port has it, else the arrival port's address"
   pub from_own : (d : Address) → aim_at r at octets ≡ Node d → equals_port r (Node d) ≡ true
-      → origin_of (port_in r p).address.0 goes.fields.addresses ≡ From d
+      → origin_of (port_in r p).address.0 goes.fields.addresses ≡ Some d
   pub from_arrival : equals_port r (aim_at r at octets) ≡ false
-      → origin_of (port_in r p).address.0 goes.fields.addresses ≡ From (port_in r at).address
+      → origin_of (port_in r p).address.0 goes.fields.addresses ≡ Some (port_in r at).address
   -- an address of one octet goes out into no other domain
   pub domain : one_octet goes.fields.addresses ≡ true → lies_far r at p ≡ false
   -- its user data are the message, with the request's data as far as they are not cut
-  pub message : reading_of (user_data goes (reply_out x)) ≡ reading.Good a.message
+  pub message : reading_of (user_data goes (reply_out x)) ≡ Good a.message
   pub echoed : echoed_in a.message (user_data goes (reply_out x)) ≡ echoed_of a octets
 
 -- how often C was told that a reply was made
@@ -223,7 +218,7 @@ pub record Echoes : Type 0 where
       → Gives steps (operates (views drop_flag)) x → x.answer ≡ 0
   -- "placed in the least-significant octets of the field and the unused octets shall be set to all '0s'" (003, 3.3.4.7.5): the number that a reply has for
   -- the timestamp of a request, in eight octets
-  pub stamp_placed : (t : Timestamp) → number_octets 8 (stamp_number t) ≡ replicate (8 - length (stamp_octets t)) 0 ++ stamp_octets t
+  pub stamp_placed : (t : Option Timestamp) → number_octets 8 (stamp_number t) ≡ replicate (8 - length (stamp_octets t)) 0 ++ stamp_octets t
   -- what hj_echo answers, and the reply; a list over 512 records is refused by 21 (demand 1)
   pub answers : (who : Customer) (steps : List Step) (rs : List Record) (at : ℕ) (slot : Slot) (octets output : List ℕ) (x : Result)
       → Gives steps (flies who (echoes rs at slot octets output)) x → too_long rs ≡ false
@@ -287,4 +282,4 @@ pub record Echoes : Type 0 where
       → (b m : List ℕ) (ts : List Record) (q n : ℕ) (o : List ℕ) (y : Result) → Says (hj_echo b m ts q n (reply_out x) o) y → onward_in y ≡ 0
   -- nor, further on, to any datagram whose user data are a reply, whatever header it has by then
   pub replies_unanswered : (b m : List ℕ) (ts : List Record) (q n : ℕ) (s o : List ℕ) (h : Header) (k : Message) (z : Seen) (y : Result)
-      → read_of s ≡ read.Good h → reading_of (user_data h s) ≡ reading.Good k → k.kind ≡ Reply z → Says (hj_echo b m ts q n s o) y → onward_in y ≡ 0
+      → read_of s ≡ Good h → reading_of (user_data h s) ≡ Good k → k.kind ≡ Reply z → Says (hj_echo b m ts q n s o) y → onward_in y ≡ 0

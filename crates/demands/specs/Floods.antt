@@ -5,7 +5,7 @@ use Rattle.std.specs.Prelude.{ℕ, ◌+◌, ◌<◌, ◌≤◌, ◌≡◌, ◌�
 use Rattle.address.specs.declared.Slot.{Slot}
 use Rattle.header.specs.Read.{read_of, header_of}
 use Rattle.header.specs.declared.Header.{Header}
-use Rattle.header.specs.declared.Read.TheVariants.{Good}
+use Rattle.checks.specs.Told.{Good}
 use Rattle.sets.specs.Limits.{pair_places}
 use Rattle.meaning.specs.Names.{origin_of}
 use Rattle.meaning.specs.Flood.{is_flooded, source_in, pair_of}

@@ -1,7 +1,7 @@
 -- What the functions answer, said over plain variables: one law a return. Assumes nothing.
 use native.Mathlib.Omega.{arith}
 use Prim.Native.Nat.{ℕ, ◌+◌, ◌-◌, ◌≤◌, ◌<◌}
-use mathlib.Core.Path.{◌≡◌, refl, ap, sym, ◌∙◌}
+use mathlib.Core.Path.{◌≡◌, refl, sym, ◌∙◌}
 use mathlib.Core.List.{List, [], ◌++◌, append_assoc, append-nil}
 use mathlib.Core.Bool.{Bool, true, false, not, ◌&&◌, ◌||◌}
 use lib.ListN.{length, take, drop, length-append, length-drop}
@@ -14,18 +14,16 @@ use Rattle.checks.specs.declared.Check.{Check}
 use Rattle.checks.specs.declared.Check.TheVariants.{Passed, Failed}
 use Rattle.checks.proofs.Bools.{true_false}
 use Rattle.checks.proofs.Laws.{passed_false, failed_true}
-use Rattle.octets.specs.Octets.{number, octets, pasted, fronted}
+use Rattle.octets.specs.Octets.{octets, pasted, fronted}
 use Rattle.octets.proofs.Laws.{length_octets, pasted_front, pasted_on, take_front, Put, PutNumber, put_one, put_two, put_none}
 use Rattle.checksum.specs.Sum.{checksum_of}
 use Rattle.header.specs.Limits.{too_much_data}
-use Rattle.header.specs.declared.Built.TheVariants as built
-use Rattle.echo.specs.Message.{request_size, reply_size, fixed_size, type_of, seen_octets, kind_octets, fixed_octets, sum_of, message_octets, is_request_type, is_reply_type, kind_of, message_of, other_type, cut_reply, wrong_sum, echo_checks, reading_of}
+use Rattle.echo.specs.Message.{reply_size, fixed_size, type_of, seen_octets, kind_octets, fixed_octets, sum_of, message_octets, is_request_type, is_reply_type, other_type, cut_reply}
 use Rattle.echo.specs.Built.{size_with, build_checks, built_of, built_output}
 use Rattle.echo.specs.declared.Seen.{Seen}
 use Rattle.echo.specs.declared.Kind.{Kind}
 use Rattle.echo.specs.declared.Kind.TheVariants.{Request, Reply}
 use Rattle.echo.specs.declared.Message.{Message}
-use Rattle.echo.specs.declared.Reading.TheVariants.{Good, Refused}
 
 -- ---- the tests of type and code, a the type and b the code
 
@@ -58,37 +56,11 @@ reply_whole false w h e = true_false (sym e)
 
 -- ---- reading
 
-module _ (s : List ℕ) where
-  pub short : length s < request_size → Refused 1 ≡ reading_of s
-  unfolding reading_of echo_checks first_of
-  short h = simp (lt-ltb (length s) 8 h)
-
-  module _ (long : request_size ≤ length s) where
-    pub no_echo : check_of (other_type s) ≡ Failed → Refused 4 ≡ reading_of s
-    unfolding reading_of echo_checks first_of
-    no_echo h = simp (le-ltb (length s) 8 long, failed_true (other_type s) h)
-
-    module _ (type : check_of (other_type s) ≡ Passed) where
-      pub no_reply_lem : check_of (cut_reply s) ≡ Failed → Refused 1 ≡ reading_of s
-      unfolding reading_of echo_checks first_of
-      no_reply_lem h = simp (le-ltb (length s) 8 long, passed_false (other_type s) type, failed_true (cut_reply s) h)
-
-      module _ (whole : check_of (cut_reply s) ≡ Passed) where
-        -- what is no request has the fixed part of a reply
-        pub reply-room : is_request_type s ≡ false → reply_size ≤ length s
-        reply-room e =
-            let reply = no_request (is_request_type s) (is_reply_type s) _ (passed_false (other_type s) type) e in
-            ltb-false (length s) 26 (reply_whole (is_reply_type s) _ (passed_false (cut_reply s) whole) reply)
-
-        pub no-sum : check_of (wrong_sum s) ≡ Failed → Refused 5 ≡ reading_of s
-        unfolding reading_of echo_checks first_of
-        no-sum h = simp (le-ltb (length s) 8 long, passed_false (other_type s) type, passed_false (cut_reply s) whole, failed_true (wrong_sum s) h)
-
-        pub read : check_of (wrong_sum s) ≡ Passed → (i q : ℕ) (k : Kind) → i ≡ number s 4 2 → q ≡ number s 6 2 → k ≡ kind_of s
-            → Good (record { identifier = i; sequence = q; kind = k }) ≡ reading_of s
-        unfolding reading_of echo_checks first_of message_of
-        read h i q k ei eq ek =
-            simp (le-ltb (length s) 8 long, passed_false (other_type s) type, passed_false (cut_reply s) whole, passed_false (wrong_sum s) h) (rw (ei, eq, ek))
+-- what is no request has the fixed part of a reply
+pub reply-room : (s : List ℕ) → check_of (other_type s) ≡ Passed → check_of (cut_reply s) ≡ Passed → is_request_type s ≡ false → reply_size ≤ length s
+reply-room s type whole e =
+    let reply = no_request (is_request_type s) (is_reply_type s) _ (passed_false (other_type s) type) e in
+    ltb-false (length s) 26 (reply_whole (is_reply_type s) _ (passed_false (cut_reply s) whole) reply)
 
 -- ---- writing
 
@@ -206,9 +178,9 @@ module _ (m : Message) (echoed l : List ℕ) {from : ℕ} (is : from ≡ fixed_s
   room_told : c ≡ check_of (ltb (length l) size)
   room_told = rw is at told
 
-  pub no_room : c ≡ Failed → (built.Refused 17 ≡ built_of m (length echoed) (length l)) × (l ≡ built_output m echoed l)
+  pub no_room : c ≡ Failed → l ≡ built_output m echoed l
   unfolding built_of built_output build_checks first_of
-  no_room h = let e = failed_true (ltb (length l) size) (sym room_told ∙ h) in (simp e, simp e)
+  no_room h = let e = failed_true (ltb (length l) size) (sym room_told ∙ h) in simp e
 
   module _ (passed : c ≡ Passed) where
     roomed : ltb (length l) size ≡ false
@@ -221,13 +193,12 @@ module _ (m : Message) (echoed l : List ℕ) {from : ℕ} (is : from ≡ fixed_s
       data_told : d ≡ check_of (too_much_data size)
       data_told = rw is at told₂
 
-      pub too_long : d ≡ Failed → (built.Refused 20 ≡ built_of m (length echoed) (length l)) × (l ≡ built_output m echoed l)
+      pub too_long : d ≡ Failed → l ≡ built_output m echoed l
       unfolding built_of built_output build_checks first_of
-      too_long h = let e = failed_true (too_much_data size) (sym data_told ∙ h) in (simp (roomed, e), simp (roomed, e))
+      too_long h = let e = failed_true (too_much_data size) (sym data_told ∙ h) in simp (roomed, e)
 
-      pub done : d ≡ Passed → {r : ℕ} {out : List ℕ} → r ≡ size → out ≡ fronted (message_octets m echoed) l
-          → (built.Done r ≡ built_of m (length echoed) (length l)) × (out ≡ built_output m echoed l)
+      pub done : d ≡ Passed → {out : List ℕ} → out ≡ fronted (message_octets m echoed) l → out ≡ built_output m echoed l
       unfolding built_of built_output build_checks first_of
-      done h es eo =
+      done h eo =
           let e = passed_false (too_much_data size) (sym data_told ∙ h) in
-          (simp (roomed, e) (ap built.Done es), simp (roomed, e) eo)
+          simp (roomed, e) eo

@@ -1,7 +1,7 @@
 -- When the reader and the builder refuse: a number is given exactly where its condition holds and none before it (docs/DECISIONS.md: reading 1, 4, 1
 -- again, 5; building 17, 20), and a message exactly where none holds. Assumes nothing.
 use Prim.Native.Nat.{ℕ, ◌≤◌, ◌<◌}
-use mathlib.Core.Path.{◌≡◌, refl, sym}
+use mathlib.Core.Path.{◌≡◌, refl, sym, ap, ◌∙◌}
 use mathlib.Core.List.{List, [], ◌∷◌}
 use mathlib.Core.Bool.{Bool, true, false, ◌&&◌, ◌||◌}
 use mathlib.Core.Logic.{◌⊎◌, inl, inr, ◌↔◌}
@@ -9,19 +9,19 @@ use lib.ListN.{length}
 use lib.Dec.{eqb, ltb}
 use native.Mathlib.Omega.{arith}
 use borrow.Author.Tests.{eqb-true, eqb-false, ltb-true, ltb-false, lt-ltb, le-ltb, eq-eqb, ne_eqb}
-use Rattle.checks.specs.Order.{pick, first_of, FirstHolds, NoneHolds}
+use Rattle.std.specs.Prelude.{Result}
+use Rattle.checks.specs.Order.{pick, first_of, FirstHolds, NoneHolds, outcome}
 use Rattle.checks.proofs.Bools.{true_false, not-false, and_true, or_true}
-use Rattle.checks.proofs.Laws.{zero_none, none_zero, number_first, first_number}
+use Rattle.checks.proofs.Laws.{zero_none, none_zero, number_first, first_number, told_outcome}
 use Rattle.octets.specs.Octets.{octet, number}
 use Rattle.checksum.specs.Sum.{checksum_of}
 use Rattle.header.specs.Limits.{most_data}
-use Rattle.header.specs.Build.{built_by}
-use Rattle.header.specs.declared.Built.{Built}
-use Rattle.header.specs.declared.Built.TheVariants as built
-use Rattle.echo.specs.Message.{request_size, reply_size, request_type, reply_type, echo_code, is_reply_type, message_of, unsummed, other_type, cut_reply, wrong_sum, echo_checks, reading_of}
-use Rattle.echo.specs.Built.{size_with, build_checks, built_of}
+use Rattle.header.specs.Build.{Built, built_by}
+use Rattle.checks.specs.Told.{Good, Refused, told}
+use Rattle.checks.specs.declared.Refusal.{Refusal}
+use Rattle.echo.specs.Message.{request_size, reply_size, request_type, reply_type, echo_code, is_reply_type, message_of, unsummed, other_type, cut_reply, wrong_sum, echo_refusals, echo_checks, reading_of}
+use Rattle.echo.specs.Built.{size_with, build_refusals, build_checks, built_of}
 use Rattle.echo.specs.declared.Message.{Message}
-use Rattle.echo.specs.declared.Reading.TheVariants.{Good, Refused}
 
 -- ---- reading
 
@@ -121,33 +121,33 @@ passed_reads s m p =
 
 -- which of the two conditions an answer tells
 record Told (a b : Bool) (answer : Built) (size : ℕ) : Type 0 where
-  is_17 : answer ≡ built.Refused 17 → a ≡ true
-  is_20 : answer ≡ built.Refused 20 → (a ≡ false) × (b ≡ true)
-  is_done : answer ≡ built.Done size → (a ≡ false) × (b ≡ false)
+  is_17 : answer ≡ Refused 17 → a ≡ true
+  is_20 : answer ≡ Refused 20 → (a ≡ false) × (b ≡ true)
+  is_done : answer ≡ Good size → (a ≡ false) × (b ≡ false)
 
-other : {X : Type 0} (n m : ℕ) → (n ≡ m → ⊥) → built.Refused n ≡ built.Refused m → X
+other : {X : Type 0} (n m : ℕ) → (n ≡ m → ⊥) → ◌≡◌ {A = Built} (Refused n) (Refused m) → X
 other n m h e = absurd (h cc)
 
-done : {X : Type 0} (n m : ℕ) → built.Done n ≡ built.Refused m → X
+done : {X : Type 0} (n m : ℕ) → Good n ≡ Refused m → X
 done n m e = true_false cc
 
-told : (a b : Bool) (size : ℕ) → Told a b (built_by (first_of ((a, 17) ∷ (b, 20) ∷ [])) size) size
+tells : (a b : Bool) (size : ℕ) → Told a b (built_by (first_of ((a, 17) ∷ (b, 20) ∷ [])) size) size
 unfolding first_of
-told true b size = record { is_17 = λ e. refl; is_20 = other _ _ (omega arith); is_done = λ e. done _ _ (sym e) }
-told false true size = record { is_17 = other _ _ (omega arith); is_20 = λ e. (refl, refl); is_done = λ e. done _ _ (sym e) }
-told false false size = record { is_17 = done _ _; is_20 = done _ _; is_done = λ e. (refl, refl) }
+tells true b size = record { is_17 = λ e. refl; is_20 = other _ _ (omega arith); is_done = λ e. done _ _ (sym e) }
+tells false true size = record { is_17 = other _ _ (omega arith); is_20 = λ e. (refl, refl); is_done = λ e. done _ _ (sym e) }
+tells false false size = record { is_17 = done _ _; is_20 = done _ _; is_done = λ e. (refl, refl) }
 
 -- 17 exactly where the room is short of the message, 20 exactly where it is not and the message is over 8,141 octets; built exactly where neither is
 pub record Exactly (m : Message) (n room : ℕ) : Type 0 where
-  pub no_room : (built_of m n room ≡ built.Refused 17) ↔ (room < size_with m n)
-  pub too_long : (built_of m n room ≡ built.Refused 20) ↔ ((size_with m n ≤ room) × (most_data < size_with m n))
-  pub made : (built_of m n room ≡ built.Done (size_with m n)) ↔ ((size_with m n ≤ room) × (size_with m n ≤ most_data))
+  pub no_room : (built_of m n room ≡ Refused 17) ↔ (room < size_with m n)
+  pub too_long : (built_of m n room ≡ Refused 20) ↔ ((size_with m n ≤ room) × (most_data < size_with m n))
+  pub made : (built_of m n room ≡ Good (size_with m n)) ↔ ((size_with m n ≤ room) × (size_with m n ≤ most_data))
 
 pub builds_exactly : (m : Message) (n room : ℕ) → Exactly m n room
 unfolding built_of build_checks first_of
 builds_exactly m n room =
     let size = size_with m n in
-    let p = told (ltb room size) (ltb most_data size) size in
+    let p = tells (ltb room size) (ltb most_data size) size in
     record {
       no_room = (λ e. ltb-true room size (p.is_17 e), λ h. simp (lt-ltb room size h));
       too_long =
@@ -155,3 +155,13 @@ builds_exactly m n room =
       made =
           (λ e. (ltb-false room size (p.is_done e).0, ltb-false most_data size (p.is_done e).1), λ h. simp (le-ltb room size h.0, le-ltb most_data size h.1));
     }
+
+-- ---- what is told of the answers
+
+pub reading_told : (s : List ℕ) (x : Result Message Refusal) → x ≡ outcome (echo_refusals s) (message_of s) → told x ≡ reading_of s
+unfolding reading_of echo_checks
+reading_told s x e = ap told e ∙ told_outcome (echo_refusals s) (message_of s)
+
+pub built_told : (m : Message) (n room : ℕ) (x : Result ℕ Refusal) → x ≡ outcome (build_refusals m n room) (size_with m n) → told x ≡ built_of m n room
+unfolding built_of build_checks
+built_told m n room x e = ap told e ∙ told_outcome (build_refusals m n room) (size_with m n)

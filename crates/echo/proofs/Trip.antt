@@ -16,7 +16,7 @@ use Rattle.echo.specs.declared.Seen.{Seen}
 use Rattle.echo.specs.declared.Kind.{Kind}
 use Rattle.echo.specs.declared.Kind.TheVariants.{Request, Reply}
 use Rattle.echo.specs.declared.Message.{Message}
-use Rattle.echo.specs.declared.Reading.TheVariants.{Good}
+use Rattle.checks.specs.Told.{Good}
 use Rattle.echo.proofs.Laws.{fixed_length, message_length}
 use Rattle.echo.proofs.Refusals.{Passed, passed, passed_reads}
 

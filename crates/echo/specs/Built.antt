@@ -1,10 +1,10 @@
 -- What building an echo message answers and writes: 17 where the room is short of the message, then 20 where it has over 8,141 octets, the most user data that a
 -- datagram carries (page 01, "Numbers that hold everywhere"); every number of its width is taken (docs/DECISIONS.md). Assumes nothing.
 use Rattle.std.specs.Prelude.{ℕ, ◌+◌, List, [], ◌∷◌, length, ltb}
-use Rattle.checks.specs.Order.{Checks, first_of}
+use Rattle.checks.specs.Order.{Checks, first_of, Refusals, numbered}
+use Rattle.checks.specs.declared.Refusal.TheVariants.{NoOutputRoom, TooMuchData}
 use Rattle.header.specs.Limits.{too_much_data}
-use Rattle.header.specs.Build.{built_by, output_by}
-use Rattle.header.specs.declared.Built.{Built}
+use Rattle.header.specs.Build.{built_by, output_by, Built}
 use Rattle.echo.specs.Message.{fixed_size, message_octets}
 use Rattle.echo.specs.declared.Message.{Message}
 
@@ -12,8 +12,11 @@ use Rattle.echo.specs.declared.Message.{Message}
 abbrev pub size_with : Message → ℕ → ℕ
 size_with m n = fixed_size m.kind + n
 
+abbrev pub build_refusals : Message → ℕ → ℕ → Refusals
+build_refusals m n room = (ltb room (size_with m n), NoOutputRoom) ∷ (too_much_data (size_with m n), TooMuchData) ∷ []
+
 unfoldable pub build_checks : Message → ℕ → ℕ → Checks
-build_checks m n room = (ltb room (size_with m n), 17) ∷ (too_much_data (size_with m n), 20) ∷ []
+build_checks m n room = numbered (build_refusals m n room)
 
 unfoldable pub built_of : Message → ℕ → ℕ → Built
 built_of m n room = built_by (first_of (build_checks m n room)) (size_with m n)

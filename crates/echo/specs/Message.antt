@@ -1,15 +1,15 @@
 -- SCMP Echo Request and Echo Reply: 003, 3.3.2 (figure 3-4: type, code, checksum) and 3.3.4.7 (identifier, sequence number, and what a reply adds, in the order
 -- of 3.3.4.7.5). A message is the user data of a datagram. Assumes nothing.
 use Rattle.std.specs.Prelude.{ℕ, Bool, not, ◌&&◌, ◌||◌, List, [], ◌∷◌, ◌++◌, length, take, drop, eqb, ltb}
-use Rattle.checks.specs.Order.{pick, Checks, first_of}
+use Rattle.checks.specs.Order.{pick, Checks, first_of, Refusals, numbered}
+use Rattle.checks.specs.Told.{Told, told_by}
+use Rattle.checks.specs.declared.Refusal.TheVariants.{TooShort, WrongForm, WrongChecksum}
 use Rattle.octets.specs.Octets.{octet, number, octets}
 use Rattle.checksum.specs.Sum.{checksum_of}
 use Rattle.echo.specs.declared.Seen.{Seen}
 use Rattle.echo.specs.declared.Kind.{Kind}
 use Rattle.echo.specs.declared.Kind.TheVariants.{Request, Reply}
 use Rattle.echo.specs.declared.Message.{Message}
-use Rattle.echo.specs.declared.Reading.{Reading}
-use Rattle.echo.specs.declared.Reading.TheVariants.{Good, Refused}
 
 -- ---- the fixed part
 -- "The type value shall be 8 for the Echo Request message and 0 for the Echo Reply message" (3.3.4.7.3)
@@ -92,11 +92,18 @@ abbrev pub wrong_sum : List ℕ → Bool
 wrong_sum s = not (eqb (number s 2 2) (checksum_of (unsummed s)))
 
 -- the checks, in their order: under 8 octets 1; type or code 4; a reply under 26 octets 1; the checksum 5 (docs/DECISIONS.md)
+abbrev pub echo_refusals : List ℕ → Refusals
+echo_refusals s = (ltb (length s) request_size, TooShort) ∷ (other_type s, WrongForm) ∷ (cut_reply s, TooShort) ∷ (wrong_sum s, WrongChecksum) ∷ []
+
 unfoldable pub echo_checks : List ℕ → Checks
-echo_checks s = (ltb (length s) request_size, 1) ∷ (other_type s, 4) ∷ (cut_reply s, 1) ∷ (wrong_sum s, 5) ∷ []
+echo_checks s = numbered (echo_refusals s)
+
+-- what reading tells: the message, or the first check's number
+abbrev pub Reading : Type 0
+Reading = Told Message
 
 abbrev pub reading_by : ℕ → Message → Reading
-reading_by n m = pick (eqb n 0) (Good m) (Refused n)
+reading_by = told_by
 
 unfoldable pub reading_of : List ℕ → Reading
 reading_of s = reading_by (first_of (echo_checks s)) (message_of s)

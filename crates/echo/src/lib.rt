@@ -9,7 +9,7 @@
 #![tactic(auto)]
 
 ghost use Rattle.std.specs.Prelude.{◌≡◌, false, ◌+◌, ◌≤◌, ltb, length};
-ghost use Rattle.checks.specs.Order.{check_of};
+ghost use Rattle.checks.specs.Order.{check_of, outcome};
 ghost use Rattle.octets.specs.Octets.{number, pasted, fronted};
 ghost use Rattle.checksum.specs.Sum.{around, checksum_of};
 ghost use Rattle.echo.specs.Message.{
@@ -28,12 +28,12 @@ ghost use Rattle.echo.specs.Message.{
   other_type,
   cut_reply,
   wrong_sum,
-  reading_of,
+  echo_refusals,
+  message_of,
 };
-ghost use Rattle.echo.specs.Built.{built_of, built_output};
+ghost use Rattle.echo.specs.Built.{size_with, build_refusals, built_output};
 
-use checks::Check;
-use header::Built;
+use checks::{Check, Refusal};
 
 // The octets of the fixed part, behind which the data begin.
 pub const REQUEST_SIZE: usize = 8;
@@ -72,13 +72,6 @@ pub struct Message {
     pub identifier: u16,
     pub sequence: u16,
     pub kind: Kind,
-}
-
-// What reading answers: the message, or the number of the first check that failed.
-#[derive(Clone, Copy)]
-pub enum Reading {
-    Good(Message),
-    Refused(u8),
 }
 
 // Where the data begin.
@@ -182,22 +175,22 @@ fn kind_in(s: &[u8]) -> Kind
 }
 
 // Reads an echo message.
-pub fn read_message(s: &[u8]) -> Reading
-    ensures { result ≡ reading_of s.now }
+pub fn read_message(s: &[u8]) -> Result<Message, Refusal>
+    ensures { result ≡ outcome (echo_refusals s.now) (message_of s.now) }
 {
     if s.len() < REQUEST_SIZE {
-        return Reading::Refused(1);
+        return Err(Refusal::TooShort);
     }
     let Check::Passed = check_type(s) else {
-        return Reading::Refused(4);
+        return Err(Refusal::WrongForm);
     };
     let Check::Passed = check_whole(s) else {
-        return Reading::Refused(1);
+        return Err(Refusal::TooShort);
     };
     let Check::Passed = check_sum(s) else {
-        return Reading::Refused(5);
+        return Err(Refusal::WrongChecksum);
     };
-    Reading::Good(Message {
+    Ok(Message {
         identifier: pair_at(s, 4),
         sequence: pair_at(s, 6),
         kind: kind_in(s),
@@ -281,17 +274,17 @@ fn check_room(from: usize, echoed: usize, room: usize) -> Check
 }
 
 // Builds a message with these data at the front of the output.
-pub fn build_message(m: Message, echoed: &[u8], out: &mut [u8]) -> Built
-    ensures value { result ≡ built_of m (length echoed.now) (length out.old) }
+pub fn build_message(m: Message, echoed: &[u8], out: &mut [u8]) -> Result<usize, Refusal>
+    ensures value { result ≡ outcome (build_refusals m (length echoed.now) (length out.old)) (size_with m (length echoed.now)) }
     ensures out_after { out.new ≡ built_output m echoed.now out.old }
 {
     let kind = m.kind;
     let from = fixed_size(kind);
     let Check::Passed = check_room(from, echoed.len(), out.len()) else {
-        return Built::Refused(17);
+        return Err(Refusal::NoOutputRoom);
     };
     let Check::Passed = header::limits::check_data(from + echoed.len()) else {
-        return Built::Refused(20);
+        return Err(Refusal::TooMuchData);
     };
-    Built::Done(write_message(m, echoed, out))
+    Ok(write_message(m, echoed, out))
 }

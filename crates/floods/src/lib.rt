@@ -10,7 +10,7 @@
 #![tactic(auto)]
 
 ghost use Rattle.std.specs.Prelude.{◌≡◌, suc, ◌<◌, length, eqb};
-ghost use Rattle.checks.specs.Order.{pick, first_of};
+ghost use Rattle.checks.specs.Order.{pick, first_of, number_in};
 ghost use Rattle.sets.specs.Limits.{pair_places};
 ghost use Rattle.records.specs.Held.{is_free};
 ghost use Rattle.state.specs.Layout.{mission_words, decode};
@@ -20,9 +20,11 @@ ghost use Rattle.floods.specs.Memory.{sought_pair, unless_here, flood_of, kept, 
 ghost use Rattle.floods.specs.Sweep.{is_old, swept_at, swept_below, sweep_checks, swept_memory};
 
 use address::Address;
+use checks::Refusal;
 use header::Fields;
 use records::{Pair, PairPlace};
 use sets::indexes::PAIRS;
+use state::MissionWords;
 use verdict::{Flood, Target};
 
 // The lowest free place of the first i + 1, by that of the first i, which is i where there is none.
@@ -40,19 +42,16 @@ fn free_next(free: usize, i: usize, x: PairPlace) -> usize
 }
 
 // What the pairs say of one more: it is held, it gets the lowest free place, or there is none.
-fn seek(mission: &[u32], q: Pair) -> Flood
-    requires { length mission.now ≡ mission_words }
+fn seek(mission: &MissionWords, q: Pair) -> Flood
     ensures { result ≡ sought_pair (decode mission.now).memory q }
 {
     let mut free = 0;
-    let mut i = 0;
-    while i < PAIRS {
+    for i in 0..PAIRS {
         let x = state_pairs::place_of(mission, i);
         if records::holds_pair(x, q) {
             return Flood::Unsent;
         }
         free = free_next(free, i, x);
-        i += 1;
     }
     if PAIRS <= free {
         return Flood::Full;
@@ -61,8 +60,7 @@ fn seek(mission: &[u32], q: Pair) -> Flood
 }
 
 // The same of a datagram that came in by the port of this address, unless it is for this node alone.
-fn seek_for(mission: &[u32], t: Target, port: Address, f: Fields) -> Flood
-    requires { length mission.now ≡ mission_words }
+fn seek_for(mission: &MissionWords, t: Target, port: Address, f: Fields) -> Flood
     ensures { result ≡ unless_here t (sought_pair (decode mission.now).memory (pair_of port.0 f)) }
 {
     match t {
@@ -75,8 +73,7 @@ fn seek_for(mission: &[u32], t: Target, port: Address, f: Fields) -> Flood
 }
 
 // What the pairs say of a datagram, where it is flooded and this is a router.
-pub fn flood_of(mission: &[u32], router: u32, t: Target, port: Address, f: Fields) -> Flood
-    requires { length mission.now ≡ mission_words }
+pub fn flood_of(mission: &MissionWords, router: u32, t: Target, port: Address, f: Fields) -> Flood
     ensures { result ≡ flood_of router t (decode mission.now).memory port.0 f }
 {
     if !meaning::flood::is_flooded(f) {
@@ -89,8 +86,8 @@ pub fn flood_of(mission: &[u32], router: u32, t: Target, port: Address, f: Field
 }
 
 // The pair of a datagram kept in its place with its second, where it is new. No other datagram pays for making a pair.
-fn keep(mission: &mut [u32], f: Flood, port: Address, fields: Fields, second: u32)
-    requires { (length mission.old ≡ mission_words) × InPlaces f }
+fn keep(mission: &mut MissionWords, f: Flood, port: Address, fields: Fields, second: u32)
+    requires { InPlaces f }
     ensures { decode mission.new ≡ on_memory (kept f (pair_of port.0 fields) second) (decode mission.old) }
 {
     let Flood::New(place) = f else {
@@ -101,8 +98,8 @@ fn keep(mission: &mut [u32], f: Flood, port: Address, fields: Fields, second: u3
 }
 
 // The second accepted, and the pair of a datagram kept where it is new.
-pub fn remember(mission: &mut [u32], f: Flood, port: Address, fields: Fields, second: u32)
-    requires { (length mission.old ≡ mission_words) × InPlaces f }
+pub fn remember(mission: &mut MissionWords, f: Flood, port: Address, fields: Fields, second: u32)
+    requires { InPlaces f }
     ensures { decode mission.new ≡ on_memory (remembering f (pair_of port.0 fields) second) (decode mission.old) }
 {
     state_pairs::put_last(mission, second);
@@ -122,8 +119,8 @@ fn is_old(x: PairPlace, lifetime: u32, second: u32) -> bool
     lifetime < second - x.second
 }
 
-fn sweep_at(mission: &mut [u32], i: usize, lifetime: u32, second: u32)
-    requires { (length mission.old ≡ mission_words) × (i < pair_places) }
+fn sweep_at(mission: &mut MissionWords, i: usize, lifetime: u32, second: u32)
+    requires { i < pair_places }
     ensures { decode mission.new ≡ on_memory (λ k. swept_at lifetime second k i) (decode mission.old) }
 {
     let x = state_pairs::place_of(mission, i);
@@ -146,27 +143,23 @@ fn sweep_at(mission: &mut [u32], i: usize, lifetime: u32, second: u32)
 }
 
 // Each place in turn.
-fn sweep_all(mission: &mut [u32], lifetime: u32, second: u32)
-    requires { length mission.old ≡ mission_words }
+fn sweep_all(mission: &mut MissionWords, lifetime: u32, second: u32)
     ensures { decode mission.new ≡ on_memory (λ k. swept_below lifetime second k pair_places) (decode mission.old) }
 {
-    let mut i = 0;
-    while i < PAIRS {
+    for i in 0..PAIRS {
         sweep_at(mission, i, lifetime, second);
-        i += 1;
     }
 }
 
-// A sweep at a second: 29 where that is past, else the second is accepted, and what is too old is freed.
-pub fn sweep(mission: &mut [u32], lifetime: u32, second: u32) -> u32
-    requires { length mission.old ≡ mission_words }
-    ensures value { result ≡ first_of (sweep_checks (decode mission.old).memory second) }
+// A sweep at a second: refused where that is past, else the second is accepted, and what is too old is freed.
+pub fn sweep(mission: &mut MissionWords, lifetime: u32, second: u32) -> Result<(), Refusal>
+    ensures value { number_in result ≡ first_of (sweep_checks (decode mission.old).memory second) }
     ensures mission_after { decode mission.new ≡ on_memory (swept_memory lifetime second) (decode mission.old) }
 {
     if second < state_pairs::last_of(mission) {
-        return 29;
+        return Err(Refusal::SecondPast);
     }
     state_pairs::put_last(mission, second);
     sweep_all(mission, lifetime, second);
-    0
+    Ok(())
 }

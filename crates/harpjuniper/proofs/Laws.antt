@@ -12,12 +12,11 @@ use Rattle.checks.specs.declared.Check.TheVariants.{Passed, Failed}
 use Rattle.checks.proofs.Laws.{passed_false, failed_true}
 use Rattle.header.specs.Limits.{lacks_room, too_much_data}
 use Rattle.header.specs.Range.{out_of_range}
-use Rattle.header.specs.Build.{build_checks, built_of, built_output}
-use Rattle.header.specs.declared.Built.{Built}
+use Rattle.header.specs.Build.{build_checks, built_of, built_output, Built}
 use Rattle.header.specs.declared.Fields.{Fields}
 use Rattle.header.specs.Read.{read_of}
 use Rattle.header.specs.declared.Header.{Header}
-use Rattle.header.specs.declared.Read.TheVariants as read
+use Rattle.checks.specs.Told.{Good, Refused}
 use Rattle.header.proofs.Refusals.{never_zero}
 use Rattle.header.proofs.Answers.{read_bounds}
 use Rattle.numbers.specs.Numbers.{numbers_of}
@@ -57,7 +56,7 @@ module _ (n : Numbers) (dataSize : ℕ) (lent : List ℕ) where
 
 -- the fields' words behind the two lengths
 pub reading_written : (l : List ℕ) (h : Header) (n : Numbers) (ws : List ℕ) → length l ≡ reading_count → n ≡ numbers_of h.fields → ws ≡ numbers_words n
-    → set (set (take 2 l ++ (ws ++ drop (length l - 2) (drop 2 l))) 0 h.length) 1 h.size ≡ reading_words (reading_of (read.Good h))
+    → set (set (take 2 l ++ (ws ++ drop (length l - 2) (drop 2 l))) 0 h.length) 1 h.size ≡ reading_words (reading_of (Good h))
 unfolding reading_words reading_of
 reading_written [] h n ws count en ew = absurd (omega arith)
 reading_written (x ∷ []) h n ws count en ew = absurd (omega arith)
@@ -69,14 +68,14 @@ module _ (s lent : List ℕ) where
   unfolding read_answer read_left
   other_count h = let e = ne_eqb (length lent) reading_count h in (simp e, simp e)
 
-  pub refused_left : length lent ≡ reading_count → (n : ℕ) → read_of s ≡ read.Refused n
+  pub refused_left : length lent ≡ reading_count → (n : ℕ) → read_of s ≡ Refused n
       → (n ≡ read_answer (length lent) (reading_of (read_of s))) × (lent ≡ read_left (reading_of (read_of s)) lent)
   unfolding read_answer read_left reading_of
   refused_left count n e =
-      let some = ne_eqb n 0 (λ z. never_zero s (e ∙ ap read.Refused z)) in
+      let some = ne_eqb n 0 (λ z. never_zero s (e ∙ ap Refused z)) in
       (rw (e, count), rw (e, count) (simp some))
 
-  pub good_left : length lent ≡ reading_count → (h : Header) (out : List ℕ) → read_of s ≡ read.Good h → out ≡ reading_words (reading_of (read.Good h))
+  pub good_left : length lent ≡ reading_count → (h : Header) (out : List ℕ) → read_of s ≡ Good h → out ≡ reading_words (reading_of (Good h))
       → (0 ≡ read_answer (length lent) (reading_of (read_of s))) × (out ≡ read_left (reading_of (read_of s)) lent)
   unfolding read_answer read_left reading_of
   good_left count h out e o = (rw (e, count), o ∙ rw (e, count))
@@ -93,5 +92,5 @@ module _ (ws : List ℕ) (dataSize : ℕ) (lent : List ℕ) where
   words_built h n x out en ex eo = (rw (h, ← en) ex, rw (h, ← en) eo)
 
 -- what the reader answers fits 32 bits
-pub reading_fits : (s : List ℕ) (h : Header) → ((i : ℕ) → get_or s i 0 < 256) → read_of s ≡ read.Good h → (h.length < 4294967296) × (h.size < 4294967296)
+pub reading_fits : (s : List ℕ) (h : Header) → ((i : ℕ) → get_or s i 0 < 256) → read_of s ≡ Good h → (h.length < 4294967296) × (h.size < 4294967296)
 reading_fits s h small e = let b = read_bounds s h small e in (omega arith, omega arith)

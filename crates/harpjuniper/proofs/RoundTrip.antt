@@ -14,13 +14,12 @@ use Rattle.checks.specs.Order.{first_of}
 use Rattle.header.specs.Limits.{longest_header, most_data, lacks_room, too_much_data}
 use Rattle.header.specs.Form.{control_of}
 use Rattle.header.specs.Range.{InRange}
-use Rattle.header.specs.Read.{length_of, header_of, read_of}
+use Rattle.header.specs.Read.{length_of, header_of, read_of, Read}
 use Rattle.header.specs.Build.{size_of, header_octets}
 use Rattle.header.specs.Shortest.{Shortest, UnusedZero, NoneShorter}
 use Rattle.header.specs.declared.Fields.{Fields}
 use Rattle.header.specs.declared.Header.{Header}
-use Rattle.header.specs.declared.Read.{Read}
-use Rattle.header.specs.declared.Read.TheVariants as read
+use Rattle.checks.specs.Told.{Good, Refused}
 use Rattle.header.proofs.Refusals.{never_zero, read_good}
 use Rattle.header.proofs.Answers.{read_in_range}
 use Rattle.header.proofs.BuiltLaws.{range_typed, header_length, header_small, append_small, not_out}
@@ -79,10 +78,10 @@ built_none_shorter n words dataSize lent small done =
 -- ---- what was read
 
 -- the header that hj_read tells of, where it refuses nothing
-read_case : (s : List ℕ) (x : Read) → read_of s ≡ x → (reading_of x).refusal ≡ 0 → read_of s ≡ read.Good (header_of s)
+read_case : (s : List ℕ) (x : Read) → read_of s ≡ x → (reading_of x).refusal ≡ 0 → read_of s ≡ Good (header_of s)
 unfolding reading_of
-read_case s (read.Refused n) e none = absurd (never_zero s (e ∙ ap read.Refused none))
-read_case s (read.Good h) e none = e ∙ ap read.Good ((read_good s h).0 e).1
+read_case s (Refused n) e none = absurd (never_zero s (e ∙ ap Refused none))
+read_case s (Good h) e none = e ∙ ap Good ((read_good s h).0 e).1
 
 -- the numbers of fields, given to hj_build
 module _ (f : Fields) (range : InRange f) (dataSize : ℕ) (few : dataSize ≤ most_data) (lent : List ℕ) (room : longest_header ≤ length lent) where
@@ -103,14 +102,14 @@ record Rebuilt (s : List ℕ) (r : Reading) (lent : List ℕ) : Type 0 where
   same : (take (build_answer r.fields (data_read r) (length lent)) (build_output r.fields (data_read r) lent) ≡ take r.header s) ↔ (Shortest (control_of s) × UnusedZero (control_of s))
   whole : Shortest (control_of s) → build_output r.fields (data_read r) lent ≡ take r.header s ++ drop r.header lent
 
-module _ (s : List ℕ) (small : (i : ℕ) → get_or s i 0 < 256) (e : read_of s ≡ read.Good (header_of s)) where
+module _ (s : List ℕ) (small : (i : ℕ) → get_or s i 0 < 256) (e : read_of s ≡ Good (header_of s)) where
   abbrev h : Header
   h = header_of s
 
   range : InRange h.fields
   range = read_in_range s h small e
 
-  header_rebuilt : (lent : List ℕ) → longest_header ≤ length lent → h.length - h.size ≤ most_data → Rebuilt s (reading_of (read.Good h)) lent
+  header_rebuilt : (lent : List ℕ) → longest_header ≤ length lent → h.length - h.size ≤ most_data → Rebuilt s (reading_of (Good h)) lent
   unfolding reading_of
   header_rebuilt lent room few =
       let built = numbers_built h.fields range (h.length - h.size) few lent room in
@@ -126,7 +125,7 @@ rebuilt : (s : List ℕ) → ((i : ℕ) → get_or s i 0 < 256) → (r : Reading
 unfolding reading_of
 rebuilt s small r told none enough lent room =
     let e = read_case s (read_of s) refl (rw told at none) in
-    let is : r ≡ reading_of (read.Good (header_of s)) = told ∙ ap reading_of e in
+    let is : r ≡ reading_of (Good (header_of s)) = told ∙ ap reading_of e in
     rw is (header_rebuilt s small e lent room (rw is at enough))
 
 -- where hj_read refuses nothing, the control field was shortest and the data is at most 8,141 octets, hj_build makes of what was read the header's own
@@ -167,5 +166,5 @@ pub hj_read_whatever_follows : (s rest : List ℕ) (r : Reading) → r ≡ readi
 unfolding reading_of
 hj_read_whatever_follows s rest r told none =
     let e = read_case s (read_of s) refl (rw told at none) in
-    let is : r ≡ reading_of (read.Good (header_of s)) = told ∙ ap reading_of e in
+    let is : r ≡ reading_of (Good (header_of s)) = told ∙ ap reading_of e in
     rw is (ap reading_of (whatever_follows s rest (header_of s) e))

@@ -5,11 +5,9 @@ use Rattle.checks.specs.Answer.{refusal_number}
 use Rattle.octets.specs.Octets.{fronted}
 use Rattle.header.specs.Limits.{lacks_room, too_much_data}
 use Rattle.header.specs.Range.{out_of_range}
-use Rattle.header.specs.Build.{size_of, header_octets}
-use Rattle.header.specs.declared.Read.{Read}
-use Rattle.header.specs.declared.Read.TheVariants as read
-use Rattle.header.specs.declared.Built.{Built}
-use Rattle.header.specs.declared.Built.TheVariants as built
+use Rattle.header.specs.Build.{size_of, header_octets, Built}
+use Rattle.header.specs.Read.{Read}
+use Rattle.checks.specs.Told.{Good, Refused}
 use Rattle.numbers.specs.Numbers.{narrow, numbers_of}
 use Rattle.numbers.specs.declared.Numbers.{Numbers}
 use Rattle.numbers.specs.Fields.{fields_from}
@@ -51,8 +49,8 @@ pub record Reading : Type 0 where
   pub fields : Numbers
 
 unfoldable pub reading_of : Read → Reading
-reading_of (read.Refused n) = record { refusal = n; length = 0; header = 0; fields = nothing }
-reading_of (read.Good h) = record { refusal = 0; length = h.length; header = h.size; fields = numbers_of h.fields }
+reading_of (Refused n) = record { refusal = n; length = 0; header = 0; fields = nothing }
+reading_of (Good h) = record { refusal = 0; length = h.length; header = h.size; fields = numbers_of h.fields }
 
 -- the octets of user data: the length field less the header's own length
 abbrev pub data_read : Reading → ℕ
@@ -80,8 +78,8 @@ abbrev pub answer_by : ℕ → ℕ → ℕ
 answer_by refusal value = pick (eqb refusal 0) value (refusal_number refusal)
 
 abbrev pub built_answer : Built → ℕ
-built_answer (built.Done size) = size
-built_answer (built.Refused n) = refusal_number n
+built_answer (Good size) = size
+built_answer (Refused n) = refusal_number n
 
 -- the numbers stand for no fields, or for fields out of range (page 01, refusal 19)
 abbrev pub fields_out : Numbers → Bool

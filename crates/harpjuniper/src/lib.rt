@@ -9,7 +9,8 @@
 ghost use Rattle.std.specs.Prelude.{◌≡◌, ◌<◌, length};
 ghost use Rattle.checks.specs.Answer.{refusal_number};
 ghost use Rattle.header.specs.Read.{read_of};
-ghost use Rattle.header.specs.declared.Read.TheVariants.{Good};
+ghost use Rattle.checks.specs.Told.{Good, told};
+ghost use Rattle.checks.specs.Order.{number_of};
 ghost use Rattle.harpjuniper.specs.Face.{
   reading_of,
   reading_count,
@@ -23,8 +24,8 @@ ghost use Rattle.harpjuniper.specs.Face.{
   build_words_output,
 };
 
-use checks::Check;
-use header::{Built, Header, Read};
+use checks::{Check, Refusal};
+use header::{Fields, Header};
 use numbers::Numbers;
 
 // The words of what reading found: the two lengths and the fields.
@@ -35,9 +36,7 @@ fn write_reading(words: &mut [u32], h: Header)
     requires { (length words.old ≡ reading_count) × ((h.length < 4294967296) × (h.size < 4294967296)) }
     ensures { words.new ≡ reading_words (reading_of (Good h)) }
 {
-    let f = h.fields;
-    let n = numbers::numbers_of(f);
-    numbers::in_words::write_numbers(&mut words[2..], n);
+    numbers::in_words::write_numbers(&mut words[2..], Numbers::from(h.fields));
     words[0] = h.length as u32;
     words[1] = h.size as u32;
 }
@@ -49,11 +48,11 @@ pub extern "C" fn hj_read_words(octets: &[u8], words: &mut [u32]) -> u32
     ensures words_after { words.new ≡ read_left (reading_of (read_of octets.now)) words.old }
 {
     if words.len() != READING_WORDS {
-        return 21;
+        return Refusal::NoPlace.number();
     }
     match reader::read_header(octets) {
-        Read::Refused(number) => number as u32,
-        Read::Good(h) => {
+        Err(refusal) => refusal.number(),
+        Ok(h) => {
             write_reading(words, h);
             0
         }
@@ -61,19 +60,19 @@ pub extern "C" fn hj_read_words(octets: &[u8], words: &mut [u32]) -> u32
 }
 
 // A refusal, with no value below it.
-fn refusal(number: u8) -> u64
-    ensures { result ≡ refusal_number number }
+fn refusal(r: Refusal) -> u64
+    ensures { result ≡ refusal_number (number_of r) }
 {
-    checks::refusal_number(number as u32)
+    checks::refusal_number(r.number())
 }
 
 // What building answers, as one number.
-fn built_answer(b: Built) -> u64
-    ensures { result ≡ built_answer b }
+fn built_answer(b: Result<usize, Refusal>) -> u64
+    ensures { result ≡ built_answer (told b) }
 {
     match b {
-        Built::Done(size) => size as u64,
-        Built::Refused(number) => refusal(number),
+        Ok(size) => size as u64,
+        Err(r) => refusal(r),
     }
 }
 
@@ -83,13 +82,12 @@ fn build_numbers(fields: Numbers, data_size: usize, output: &mut [u8]) -> u64
     ensures output_after { output.new ≡ build_output fields data_size output.old }
 {
     let Check::Passed = header::limits::check_room(output.len()) else {
-        return refusal(17);
+        return refusal(Refusal::NoOutputRoom);
     };
     let Check::Passed = numbers::validity::check_numbers(fields) else {
-        return refusal(19);
+        return refusal(Refusal::FieldOutOfRange);
     };
-    let f = numbers::fields_from::fields_from(fields);
-    built_answer(builder::build_header(f, data_size, output))
+    built_answer(builder::build_header(Fields::from(fields), data_size, output))
 }
 
 // The same of the fields' words.
@@ -99,7 +97,7 @@ pub extern "C" fn hj_build_words(words: &[u32], data_size: usize, output: &mut [
     ensures output_after { output.new ≡ build_words_output words.now data_size output.old }
 {
     if words.len() != numbers::in_words::FIELD_WORDS {
-        return refusal(21);
+        return refusal(Refusal::NoPlace);
     }
     let fields = numbers::in_words::read_numbers(words);
     build_numbers(fields, data_size, output)

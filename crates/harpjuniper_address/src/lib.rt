@@ -16,7 +16,7 @@ use address::{Address, PathAddress};
 pub extern "C" fn hj_class(address: u32) -> u32
     ensures { result ≡ class_number (class_of address) }
 {
-    address::class_number(address::class_of(Address(address)))
+    address::class_of(Address(address)).into()
 }
 
 // Whether a path address is valid.
@@ -24,7 +24,7 @@ pub extern "C" fn hj_class(address: u32) -> u32
 pub extern "C" fn hj_path(path: u32) -> u32
     ensures { result ≡ path_number (path_form path) }
 {
-    address::path_number(address::path_form(PathAddress(path)))
+    address::path_form(PathAddress(path)).into()
 }
 
 // The checksum of RFC 1071.

@@ -93,6 +93,7 @@ pub extern "C" fn hj_receive_many(
     );
     let n = batch::items_of(p);
     let mut at = batch::start();
+    // A `while` and no `for`: the wrong program hj_receive_many_skips_every_other_item changes the step.
     let mut i = 0;
     while i < n {
         at = hear_item(

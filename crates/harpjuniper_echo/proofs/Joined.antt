@@ -1,8 +1,9 @@
 -- Made, scanned and sent: where the words hold a board and a mission's state, the reply is that of page 01's relay as the mission sees it with the list.
 -- Assumes nothing.
+use Rattle.std.specs.Prelude.{Option}
 use Prim.Native.Nat.{ℕ}
 use mathlib.Core.Path.{◌≡◌, refl, sym, ap, ◌∙◌}
-use mathlib.Core.Bool.{Bool, true, false}
+use mathlib.Core.Bool.{Bool, true, false, not}
 use mathlib.Core.List.{List}
 use lib.Dec.{eqb}
 use lib.ListN.{length}
@@ -17,17 +18,16 @@ use Rattle.lent_state.specs.View.{too_long}
 use Rattle.lent_state.proofs.Calls.{both_held_told}
 use Rattle.verdict.specs.declared.Target.TheVariants.{Route}
 use Rattle.verdict.specs.declared.Way.{Way}
-use Rattle.verdict.specs.declared.Way.TheVariants.{By, Lost}
 use Rattle.lookup.specs.ForTarget.{way_of, way_for}
 use Rattle.listing.specs.Scan.{scan_of}
 use Rattle.listing.specs.Listed.{routes_seen, seen}
-use Rattle.listing.proofs.Searched.{search_by}
+use Rattle.listing.proofs.Searched.{search_found}
 use Rattle.routes.specs.Search.{search_of}
 use Rattle.replies.specs.Reply.{no_answer}
 use Rattle.replies.specs.Replied.{answering_of, replied_to}
 use Rattle.replies.specs.declared.Answering.{Answering}
 use Rattle.replies.proofs.Routes.{answering_routes, ended_routes}
-use Rattle.relay.specs.Split.{way_in}
+use Rattle.relay.specs.Split.{best_if, way_in}
 use Rattle.answering.specs.Echoed.{echo_answering, echo_reply}
 use Rattle.answering.specs.Split.{answering_in, query_of, replied_after}
 use Rattle.answering.proofs.Searching.{searches, none_same}
@@ -36,7 +36,7 @@ module _ (x : Board) (s : State) (rs : List Record) (port : ℕ) (octets : List 
   abbrev asked : Answering
   asked = answering_of (seated x s) s.number x.drop port octets room
 
-  abbrev way_to : Answering → Way
+  abbrev way_to : Answering → Option Way
   way_to a = way_for (seen x s rs) Route a.destination
 
   -- the scan found what the search finds
@@ -44,7 +44,7 @@ module _ (x : Board) (s : State) (rs : List Record) (port : ℕ) (octets : List 
   way_is made =
       let asks = searches (seated x s) s.number x.drop port octets room made in
       let own : asked.ready ≡ ready_of (ports_seen asked.number x) = asks.1.1 ∙ ap (λ (n : ℕ). ready_of (ports_seen n x)) (sym asks.1.0) in
-      sym (search_by x (query_of asked) own asks.0 rs way_of Lost (λ (place ones to code : ℕ). By (only_port to) code) refl (λ place ones r. refl))
+      sym (search_found x (query_of asked) own (ap (λ (n : ℕ). best_if (not (eqb n 0))) asks.0) rs way_of (λ (place ones to code : ℕ). record { port = only_port to; code = code }) refl (λ place ones r. refl))
       ∙ ap (λ (n : ℕ). way_of (search_of asked.destination (routes_seen x n rs))) asks.1.0
 
   replied : replied_to (seated x s) asked (way_in (scan_of (query_of asked) rs)) room ≡ replied_to (seen x s rs) asked (way_to asked) room
@@ -55,7 +55,7 @@ module _ (x : Board) (s : State) (rs : List Record) (port : ℕ) (octets : List 
       by_made true e =
           none_same (seated x s) (seen x s rs) asked (way_in (scan_of (query_of asked) rs)) (way_to asked) room (eqb-true asked.made 0 e)
       by_made false e =
-          ap (λ (w : Way). replied_to (seated x s) asked w room) (way_is (eqb-false asked.made 0 e))
+          ap (λ (w : Option Way). replied_to (seated x s) asked w room) (way_is (eqb-false asked.made 0 e))
           ∙ sym (ended_routes (seated x s) (routes_seen x s.number rs) asked (way_to asked) room)
 
   -- unless the list is too long

@@ -1,4 +1,5 @@
 -- What the two halves of answering come to over the list, with the scan between them: the steps of the call give its promise. Assumes nothing.
+use Rattle.std.specs.Prelude.{Option}
 use Prim.Native.Nat.{ℕ}
 use mathlib.Core.Path.{◌≡◌, refl, sym, ap, subst, ◌∙◌}
 use mathlib.Core.Bool.{Bool, true, false}
@@ -99,7 +100,7 @@ module _ (b w : List ℕ) (rs : List Record) (port slot : ℕ) (octets output : 
   -- ---- they do not: nothing is asked, and nothing is written
   module _ (no_answer_lem : (A : Type 0) (f : Board → State → A) (d : A) → d ≡ told_both f d b w)
       (no_change : (f : Board → State → State) → lent w ≡ changed_both f b w) where
-    nobody : (r : Relay) (t : Bool) (way : Way) → replied_to r (pick t (no_answer 21) (no_answer 16)) way (length output) ≡ no_reply (pick t 21 16)
+    nobody : (r : Relay) (t : Bool) (way : Option Way) → replied_to r (pick t (no_answer 21) (no_answer 16)) way (length output) ≡ no_reply (pick t 21 16)
     unfolding replied_to
     nobody r true way = refl
     nobody r false way = refl

@@ -5,7 +5,7 @@ use mathlib.Core.Path.{◌≡◌, ◌∙◌}
 use mathlib.Core.List.{List, [], ◌∷◌}
 use lib.ListN.{length}
 use borrow.Author.Tests.{ne_eqb}
-use Rattle.header.specs.declared.Built.{Built}
+use Rattle.header.specs.Build.{Built}
 use lib.Seq.{sets}
 use Rattle.words.proofs.Parts.{all_stored}
 use Rattle.echo.specs.Message.{type_of, fixed_size, reading_of}
@@ -14,7 +14,7 @@ use Rattle.echo.specs.declared.Seen.{Seen}
 use Rattle.echo.specs.declared.Kind.{Kind}
 use Rattle.echo.specs.declared.Kind.TheVariants.{Request, Reply}
 use Rattle.echo.specs.declared.Message.{Message}
-use Rattle.echo.specs.declared.Reading.TheVariants.{Good, Refused}
+use Rattle.checks.specs.Told.{Good, Refused}
 use Rattle.harpjuniper_messages.specs.Face.{message_count, seen_in, message_words, read_answer, read_left, built_answer}
 
 -- ---- reading

@@ -14,7 +14,7 @@ use Rattle.checks.specs.Order.{first_of}
 use Rattle.checks.specs.Answer.{refusal_number}
 use Rattle.header.specs.Limits.{most_data}
 use Rattle.header.specs.Build.{built_by}
-use Rattle.header.specs.declared.Built.TheVariants.{Refused}
+use Rattle.checks.specs.Told.{Refused}
 use Rattle.echo.specs.Message.{message_octets, reading_of}
 use Rattle.echo.specs.Built.{size_with, build_checks, built_of, built_output}
 use Rattle.echo.specs.declared.Message.{Message}

@@ -2,15 +2,13 @@
 use Rattle.std.specs.Prelude.{ℕ, ◌/◌, ◌%◌, ◌^◌, List, [], ◌∷◌, length, eqb}
 use Rattle.checks.specs.Order.{pick}
 use Rattle.checks.specs.Answer.{refusal_number}
-use Rattle.header.specs.declared.Built.{Built}
-use Rattle.header.specs.declared.Built.TheVariants as built
-use Rattle.echo.specs.Message.{type_of, fixed_size}
+use Rattle.header.specs.Build.{Built}
+use Rattle.checks.specs.Told.{Good, Refused}
+use Rattle.echo.specs.Message.{type_of, fixed_size, Reading}
 use Rattle.echo.specs.declared.Seen.{Seen}
 use Rattle.echo.specs.declared.Kind.{Kind}
 use Rattle.echo.specs.declared.Kind.TheVariants.{Request, Reply}
 use Rattle.echo.specs.declared.Message.{Message}
-use Rattle.echo.specs.declared.Reading.{Reading}
-use Rattle.echo.specs.declared.Reading.TheVariants.{Good, Refused}
 
 -- ---- reading
 
@@ -58,5 +56,5 @@ reply_of identifier sequence hops format stamp mtu rate =
 
 -- the octets of the message, or the refusal above a value of 32 bits
 abbrev pub built_answer : Built → ℕ
-built_answer (built.Done size) = size
-built_answer (built.Refused n) = refusal_number n
+built_answer (Good size) = size
+built_answer (Refused n) = refusal_number n

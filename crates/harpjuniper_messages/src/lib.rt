@@ -8,6 +8,7 @@
 #![tactic(auto)]
 
 ghost use Rattle.std.specs.Prelude.{◌≡◌, length};
+ghost use Rattle.checks.specs.Told.{told};
 ghost use Rattle.echo.specs.Message.{reading_of};
 ghost use Rattle.echo.specs.Built.{built_of, built_output};
 ghost use Rattle.harpjuniper_messages.specs.Face.{
@@ -22,8 +23,8 @@ ghost use Rattle.harpjuniper_messages.specs.Face.{
   built_answer,
 };
 
-use echo::{Kind, Message, Reading, Seen};
-use header::Built;
+use checks::Refusal;
+use echo::{Kind, Message, Seen};
 
 // The words of a message: type, identifier, sequence, where its data begin, and what was seen.
 const MESSAGE_WORDS: usize = 10;
@@ -73,11 +74,11 @@ pub extern "C" fn hj_read_echo_words(message: &[u8], words: &mut [u32]) -> u32
     ensures words_after { words.new ≡ read_left (reading_of message.now) words.old }
 {
     if words.len() != MESSAGE_WORDS {
-        return 21;
+        return Refusal::NoPlace.number();
     }
     match echo::read_message(message) {
-        Reading::Refused(number) => number as u32,
-        Reading::Good(m) => {
+        Err(refusal) => refusal.number(),
+        Ok(m) => {
             write_words(words, m);
             0
         }
@@ -85,12 +86,12 @@ pub extern "C" fn hj_read_echo_words(message: &[u8], words: &mut [u32]) -> u32
 }
 
 // What building answers, as one number.
-fn built_answer(b: Built) -> u64
-    ensures { result ≡ built_answer b }
+fn built_answer(b: Result<usize, Refusal>) -> u64
+    ensures { result ≡ built_answer (told b) }
 {
     match b {
-        Built::Done(size) => size as u64,
-        Built::Refused(number) => checks::refusal_number(number as u32),
+        Ok(size) => size as u64,
+        Err(refusal) => checks::refusal_number(refusal.number()),
     }
 }
 

@@ -6,6 +6,7 @@
 // is not set up: it is read like any other, and its first word says so; a pair's first word is its format, and 0 where the place is free. A port is read
 // whosever it is. The routes are lent as a list of records, and
 // are read in the crate `harpjuniper_routes`.
+// A refusal of words is written as its number here, and not by `Refusal`: C is told numbers.
 #![tactic(auto)]
 
 ghost use Rattle.std.specs.Prelude.{◌≡◌};
@@ -17,15 +18,16 @@ ghost use Rattle.lent_state.specs.Read.{word_answer};
 ghost use Rattle.harpjuniper_reads.specs.Back.{port_answer, group_answer, path_answer, pair_answer};
 
 use records::{Group, OwnedPort, PairPlace, PathPlace};
+use state::{BoardWords, MissionWords};
 
 // 1 for a router, 0 for a host.
 #[unsafe(no_mangle)]
 pub extern "C" fn hj_get_router(board: &[u32]) -> u64
     ensures { result ≡ told_board (λ (x : Board). x.router) (refusal_number 21) board.now }
 {
-    if board.len() != state_board::BOARD_WORDS {
+    let Ok(board) = <&BoardWords>::try_from(board) else {
         return checks::refusal_number(21);
-    }
+    };
     state_board::router_of(board) as u64
 }
 
@@ -34,9 +36,9 @@ pub extern "C" fn hj_get_router(board: &[u32]) -> u64
 pub extern "C" fn hj_get_lifetime(board: &[u32]) -> u64
     ensures { result ≡ told_board (λ (x : Board). x.lifetime) (refusal_number 21) board.now }
 {
-    if board.len() != state_board::BOARD_WORDS {
+    let Ok(board) = <&BoardWords>::try_from(board) else {
         return checks::refusal_number(21);
-    }
+    };
     state_board::lifetime_of(board) as u64
 }
 
@@ -45,31 +47,25 @@ pub extern "C" fn hj_get_lifetime(board: &[u32]) -> u64
 pub extern "C" fn hj_get_echo_drop(board: &[u32]) -> u64
     ensures { result ≡ told_board (λ (x : Board). x.drop) (refusal_number 21) board.now }
 {
-    if board.len() != state_board::BOARD_WORDS {
+    let Ok(board) = <&BoardWords>::try_from(board) else {
         return checks::refusal_number(21);
-    }
+    };
     state_board::drop_of(board) as u64
 }
 
 fn owned_word(x: OwnedPort, word: u32) -> u64
     ensures { result ≡ word_answer (owned_words x) word }
 {
-    if word == 0 {
-        return x.port.ready as u64;
-    }
-    if word == 1 {
-        return x.port.address.0 as u64;
-    }
-    if word == 2 {
-        return x.port.mask.0 as u64;
-    }
-    if word == 3 {
-        return x.port.mtu as u64;
-    }
-    if word == 4 {
-        return x.mission as u64;
-    }
-    checks::refusal_number(21)
+    lent_state::word_of(
+        &[
+            x.port.ready,
+            x.port.address.0,
+            x.port.mask.0,
+            x.port.mtu,
+            x.mission,
+        ],
+        word,
+    )
 }
 
 // A port: 0 is whether it is set up, 1 the address, 2 the mask, 3 the MTU, 4 the mission.
@@ -77,9 +73,9 @@ fn owned_word(x: OwnedPort, word: u32) -> u64
 pub extern "C" fn hj_port_word(board: &[u32], port: u32, word: u32) -> u64
     ensures { result ≡ told_board (λ (x : Board). port_answer x port word) (refusal_number 21) board.now }
 {
-    if board.len() != state_board::BOARD_WORDS {
+    let Ok(board) = <&BoardWords>::try_from(board) else {
         return checks::refusal_number(21);
-    }
+    };
     if sets::PORTS <= port {
         return checks::refusal_number(21);
     }
@@ -89,19 +85,7 @@ pub extern "C" fn hj_port_word(board: &[u32], port: u32, word: u32) -> u64
 fn group_word(x: Group, word: u32) -> u64
     ensures { result ≡ word_answer (group_words x) word }
 {
-    if word == 0 {
-        return x.filled as u64;
-    }
-    if word == 1 {
-        return x.address.0 as u64;
-    }
-    if word == 2 {
-        return x.send as u64;
-    }
-    if word == 3 {
-        return x.subscribed as u64;
-    }
-    checks::refusal_number(21)
+    lent_state::word_of(&[x.filled, x.address.0, x.send, x.subscribed], word)
 }
 
 // A group: 0 is whether the place is filled, 1 the address, 2 the ports to send to, 3 those subscribed.
@@ -109,9 +93,9 @@ fn group_word(x: Group, word: u32) -> u64
 pub extern "C" fn hj_group_word(mission: &[u32], place: u32, word: u32) -> u64
     ensures { result ≡ told (λ (x : State). group_answer x.mission place word) (refusal_number 21) mission.now }
 {
-    if mission.len() != state_mission::MISSION_WORDS {
+    let Ok(mission) = <&MissionWords>::try_from(mission) else {
         return checks::refusal_number(21);
-    }
+    };
     if sets::GROUPS <= place {
         return checks::refusal_number(21);
     }
@@ -121,19 +105,7 @@ pub extern "C" fn hj_group_word(mission: &[u32], place: u32, word: u32) -> u64
 fn path_word(x: PathPlace, word: u32) -> u64
     ensures { result ≡ word_answer (path_words x) word }
 {
-    if word == 0 {
-        return x.filled as u64;
-    }
-    if word == 1 {
-        return x.path.0 as u64;
-    }
-    if word == 2 {
-        return x.send as u64;
-    }
-    if word == 3 {
-        return x.here as u64;
-    }
-    checks::refusal_number(21)
+    lent_state::word_of(&[x.filled, x.path.0, x.send, x.here], word)
 }
 
 // A path: 0 is whether the place is filled, 1 the path address, 2 the ports to send to, 3 whether it is delivered here.
@@ -141,9 +113,9 @@ fn path_word(x: PathPlace, word: u32) -> u64
 pub extern "C" fn hj_path_word(mission: &[u32], place: u32, word: u32) -> u64
     ensures { result ≡ told (λ (x : State). path_answer x.mission place word) (refusal_number 21) mission.now }
 {
-    if mission.len() != state_mission::MISSION_WORDS {
+    let Ok(mission) = <&MissionWords>::try_from(mission) else {
         return checks::refusal_number(21);
-    }
+    };
     if sets::PATHS <= place {
         return checks::refusal_number(21);
     }
@@ -155,31 +127,25 @@ pub extern "C" fn hj_path_word(mission: &[u32], place: u32, word: u32) -> u64
 pub extern "C" fn hj_last_second(mission: &[u32]) -> u64
     ensures { result ≡ told (λ (x : State). x.memory.last) (refusal_number 21) mission.now }
 {
-    if mission.len() != state_mission::MISSION_WORDS {
+    let Ok(mission) = <&MissionWords>::try_from(mission) else {
         return checks::refusal_number(21);
-    }
+    };
     state_pairs::last_of(mission) as u64
 }
 
 fn pair_word(x: PairPlace, word: u32) -> u64
     ensures { result ≡ word_answer (pair_words x) word }
 {
-    if word == 0 {
-        return x.pair.format as u64;
-    }
-    if word == 1 {
-        return x.pair.source.0 as u64;
-    }
-    if word == 2 {
-        return x.pair.upper as u64;
-    }
-    if word == 3 {
-        return x.pair.lower as u64;
-    }
-    if word == 4 {
-        return x.second as u64;
-    }
-    checks::refusal_number(21)
+    lent_state::word_of(
+        &[
+            x.pair.format,
+            x.pair.source.0,
+            x.pair.upper,
+            x.pair.lower,
+            x.second,
+        ],
+        word,
+    )
 }
 
 // A pair: 0 is the format of its timestamp, 0 where the place is free, 1 the source, 2 and 3 the timestamp's upper and lower octets, 4 the second in which
@@ -188,9 +154,9 @@ fn pair_word(x: PairPlace, word: u32) -> u64
 pub extern "C" fn hj_pair_word(mission: &[u32], place: u32, word: u32) -> u64
     ensures { result ≡ told (λ (x : State). pair_answer x.memory place word) (refusal_number 21) mission.now }
 {
-    if mission.len() != state_mission::MISSION_WORDS {
+    let Ok(mission) = <&MissionWords>::try_from(mission) else {
         return checks::refusal_number(21);
-    }
+    };
     if sets::PAIRS <= place {
         return checks::refusal_number(21);
     }

@@ -10,8 +10,7 @@ use Rattle.state.specs.Layout.{board_words, decode_board, mission_words, decode}
 use Rattle.checks.specs.Order.{first_of}
 use Rattle.checks.specs.Answer.{refusal_number}
 use Rattle.floods.specs.Sweep.{sweep_checks, swept_memory}
-use Rattle.taking.specs.Taking.{take_outcome, taken_relay}
-use Rattle.taking.specs.declared.Taking.{Taking}
+use Rattle.taking.specs.Taking.{take_outcome, taken_relay, Taking}
 use Rattle.answers.specs.Answers.{taking_number}
 use Rattle.lent_state.specs.View.{lent, told_both, changed_both, told_relay, changed_relay}
 use Rattle.lent_state.proofs.Calls.{both_held_call, relay_held_call}

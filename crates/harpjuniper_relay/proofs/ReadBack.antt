@@ -15,15 +15,15 @@ use Rattle.checks.proofs.Laws.{either}
 use Rattle.queue.specs.Queue.{taken_from, take_of}
 use Rattle.queue.specs.declared.Queue.{Queue}
 use Rattle.queue.specs.declared.Taken.{Taken}
-use Rattle.queue.specs.declared.Head.{Head}
-use Rattle.queue.specs.declared.Head.TheVariants.{First, Nothing}
+use Rattle.queue.specs.declared.Entry.{Entry}
+use Rattle.std.proofs.Common.{Option, Some, None}
 use Rattle.records.specs.declared.Port.{Port}
 use Rattle.state.specs.Relay.{Relay, among_ports, queue_at, counter_in}
 use Rattle.state.specs.Seen.{Board, State, ports_seen, seated}
 use Rattle.state.specs.Layout.{mission_words, decode, entry_of_word, queue_of}
 use Rattle.state.proofs.Reading.{taken, queue_read, counter_read}
 use Rattle.taking.specs.Taking.{hands_out, take_outcome}
-use Rattle.taking.specs.declared.Taking.TheVariants.{Refused}
+use Rattle.checks.specs.Told.{Refused}
 use Rattle.state_board.proofs.SetUp.{is_port}
 use Rattle.checks.specs.Answer.{refusal_number}
 use Rattle.answers.specs.Answers.{taking_number}
@@ -33,9 +33,9 @@ use Rattle.harpjuniper_relay.specs.Face.{take_answer, counter_answer, waiting_an
 use Rattle.harpjuniper_relay.specs.ReadBack.{FitWords, TakeRead}
 
 -- ---- an entry that waits fits
-abbrev Fits : Head → Type 0
-Fits (First e) = (e.slot.0 < 65536) × (e.precedence < 65536)
-Fits Nothing = Unit
+abbrev Fits : Option Entry → Type 0
+Fits (Some e) = (e.slot.0 < 65536) × (e.precedence < 65536)
+Fits None = Unit
 
 first_fits : (n : ℕ) (q : Queue) (l : List ℕ) → get_or l 0 0 < 2 ^ 32 → Fits (taken_from q (take n (map entry_of_word l))).head
 first_fits zero q l h = tt
@@ -50,11 +50,11 @@ queue_fits l h =
     either (λ (x : Taken). Fits x.head) (ltb 32 n) tt (first_fits n (queue_of l) (take 32 l) first)
 
 -- ---- so the parts are read back
-outcome_read : (s : Bool) (h : Head) → (s ≡ true → Fits h)
+outcome_read : (s : Bool) (h : Option Entry) → (s ≡ true → Fits h)
     → TakeRead (taking_number (pick (not s) (Refused 16) (hands_out h))) (pick (not s) (Refused 16) (hands_out h))
 outcome_read false h f = refusal_parts 16 (omega arith)
-outcome_read true (First e) f = entry_parts e.slot.0 e.precedence (f refl).0 (f refl).1
-outcome_read true Nothing f = refusal_parts 18 (omega arith)
+outcome_read true (Some e) f = entry_parts e.slot.0 e.precedence (f refl).0 (f refl).1
+outcome_read true None f = refusal_parts 18 (omega arith)
 
 -- a value below 2^32 where there is one to answer, else 21
 module _ (w : List ℕ) (value : State → ℕ) where

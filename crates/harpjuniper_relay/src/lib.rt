@@ -3,6 +3,7 @@
 // Each function tests the number of words lent and then calls the relay. None requires anything: whatever words or port come, the answer is
 // the one that the definitions state. Where the words are not as many as a board or a mission's state has, there is no port: taking answers
 // 16, reading and sweeping answer 21, and nothing is written. The board is lent to read: a sweep takes the lifetime from it.
+// A refusal of words is written as its number here, and not by `Refusal`: C is told numbers.
 #![tactic(auto)]
 
 ghost use Rattle.std.specs.Prelude.{◌≡◌};
@@ -19,18 +20,20 @@ ghost use Rattle.harpjuniper_relay.specs.Face.{
   waiting_answer,
 };
 
+use state::{BoardWords, MISSION_WORDS, MissionWords};
+
 // The first entry that waits on a port, removed.
 #[unsafe(no_mangle)]
 pub extern "C" fn hj_take(board: &[u32], mission: &mut [u32], port: u32) -> u64
     ensures value { result ≡ told_relay (λ (x : Relay). take_answer x port) (refusal_number 16) board.now mission.old }
     ensures mission_after { lent mission.new ≡ changed_relay (λ (x : Relay). taken_relay x port) board.now mission.old }
 {
-    if board.len() != state_board::BOARD_WORDS {
+    let Ok(board) = <&BoardWords>::try_from(board) else {
         return checks::refusal_number(16);
-    }
-    if mission.len() != state_mission::MISSION_WORDS {
+    };
+    let Some(mission) = mission.as_mut_array::<MISSION_WORDS>() else {
         return checks::refusal_number(16);
-    }
+    };
     answers::taking_number(taking::take(board, mission, port))
 }
 
@@ -39,9 +42,9 @@ pub extern "C" fn hj_take(board: &[u32], mission: &mut [u32], port: u32) -> u64
 pub extern "C" fn hj_counter(mission: &[u32], counter: u32) -> u64
     ensures { result ≡ told (λ (x : State). counter_answer x.counters counter) (refusal_number 21) mission.now }
 {
-    if mission.len() != state_mission::MISSION_WORDS {
+    let Ok(mission) = <&MissionWords>::try_from(mission) else {
         return checks::refusal_number(21);
-    }
+    };
     if sets::COUNTERS <= counter {
         return checks::refusal_number(21);
     }
@@ -53,9 +56,9 @@ pub extern "C" fn hj_counter(mission: &[u32], counter: u32) -> u64
 pub extern "C" fn hj_waiting(mission: &[u32], port: u32) -> u64
     ensures { result ≡ told (λ (x : State). waiting_answer x.mission port) (refusal_number 21) mission.now }
 {
-    if mission.len() != state_mission::MISSION_WORDS {
+    let Ok(mission) = <&MissionWords>::try_from(mission) else {
         return checks::refusal_number(21);
-    }
+    };
     if sets::PORTS <= port {
         return checks::refusal_number(21);
     }
@@ -69,11 +72,11 @@ pub extern "C" fn hj_sweep(board: &[u32], mission: &mut [u32], second: u32) -> u
     ensures mission_after { lent mission.new
         ≡ changed_both (λ (x : Board) (s : State). on_memory (swept_memory x.lifetime second) s) board.now mission.old }
 {
-    if board.len() != state_board::BOARD_WORDS {
+    let Ok(board) = <&BoardWords>::try_from(board) else {
         return 21;
-    }
-    if mission.len() != state_mission::MISSION_WORDS {
+    };
+    let Some(mission) = mission.as_mut_array::<MISSION_WORDS>() else {
         return 21;
-    }
-    floods::sweep(mission, state_board::lifetime_of(board), second)
+    };
+    checks::number_in(floods::sweep(mission, state_board::lifetime_of(board), second))
 }

@@ -2,7 +2,7 @@
 use Prim.Native.Nat.{ℕ}
 use mathlib.Core.Path.{◌≡◌, refl, sym, ap, ◌∙◌}
 use mathlib.Core.Logic.{◌≢◌}
-use mathlib.Core.Bool.{Bool, true, false, not, ◌&&◌}
+use mathlib.Core.Bool.{Bool, true, false}
 use mathlib.Core.List.{List, [], ◌∷◌, ◌++◌}
 use lib.Dec.{eqb}
 use lib.Seq.{set-get_or}
@@ -18,7 +18,7 @@ use Rattle.state.specs.Seen.{Board, State, ports_seen}
 use Rattle.lent_state.specs.View.{Lent, Held, Other, by_lent, lent_board, lent, told_board, told, too_long}
 use Rattle.listing.specs.declared.Query.{Query}
 use Rattle.listing.specs.declared.Scan.{Scan}
-use Rattle.listing.specs.Scan.{scan_of}
+use Rattle.listing.specs.Scan.{found_elsewhere, scan_of}
 use Rattle.listing.specs.Listed.{seen, elsewhere}
 use Rattle.listing.proofs.Searched.{search_by}
 use Rattle.listing.proofs.Same.{elsewhere_is}
@@ -147,7 +147,7 @@ module _ (rs : List Record) (i : ℕ) (x : Record) where
 
   -- the scan found the entry at another place
   abbrev other : Scan → Bool
-  other s = not (eqb s.found 0) && not (eqb s.place i)
+  other s = found_elsewhere s i
 
   module _ (y : Board) where
     abbrev asked : Query

@@ -49,9 +49,9 @@ pub extern "C" fn hj_set_route(
     );
     let q = route_calls::same_query(o);
     let s = list::scan(routes, q);
-    let old = list::record_at(routes, o.place);
+    let old = list::record_at(routes, route_calls::place_of(o));
     let x = route_calls::chosen(o, s, old);
-    list::set_at(routes, o.place, x);
+    list::set_at(routes, route_calls::place_of(o), x);
     route_calls::answer(o, s)
 }
 

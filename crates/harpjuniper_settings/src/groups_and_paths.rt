@@ -14,6 +14,8 @@ ghost use Rattle.refusals.specs.Lists.{group_checks, path_checks, clear_checks};
 ghost use Rattle.adjust.specs.Settled.{settled_group, settled_path, cleared_group, cleared_path};
 
 use address::{Address, PathAddress};
+use adjust::groups_and_paths::{clear_group, clear_path, set_group, set_path};
+use state::{BoardWords, MISSION_WORDS};
 
 // A group: its address, the ports to send to and those subscribed.
 #[unsafe(no_mangle)]
@@ -32,13 +34,13 @@ pub extern "C" fn hj_set_group(
         ≡ changed_relay
         (λ (x : Relay). settled_group x place (record { 0 = address }) send subscribed) board.now mission.old }
 {
-    if board.len() != state_board::BOARD_WORDS {
+    let Ok(board) = <&BoardWords>::try_from(board) else {
         return 21;
-    }
-    if mission.len() != state_mission::MISSION_WORDS {
+    };
+    let Some(mission) = mission.as_mut_array::<MISSION_WORDS>() else {
         return 21;
-    }
-    adjust::groups_and_paths::set_group(board, mission, place, Address(address), send, subscribed)
+    };
+    checks::number_in(set_group(board, mission, place, Address(address), send, subscribed))
 }
 
 // A path: its address, the ports to send to and whether it is delivered here.
@@ -56,13 +58,13 @@ pub extern "C" fn hj_set_path(
     ensures mission_after { lent mission.new
         ≡ changed_relay (λ (x : Relay). settled_path x place (record { 0 = path }) send here) board.now mission.old }
 {
-    if board.len() != state_board::BOARD_WORDS {
+    let Ok(board) = <&BoardWords>::try_from(board) else {
         return 21;
-    }
-    if mission.len() != state_mission::MISSION_WORDS {
+    };
+    let Some(mission) = mission.as_mut_array::<MISSION_WORDS>() else {
         return 21;
-    }
-    adjust::groups_and_paths::set_path(board, mission, place, PathAddress(path), send, here)
+    };
+    checks::number_in(set_path(board, mission, place, PathAddress(path), send, here))
 }
 
 // A group's place, emptied.
@@ -71,10 +73,10 @@ pub extern "C" fn hj_clear_group(mission: &mut [u32], place: u32) -> u32
     ensures value { result ≡ told (λ (x : State). first_of (clear_checks place group_places)) 21 mission.old }
     ensures mission_after { lent mission.new ≡ changed (λ (x : State). on_mission (λ (m : Mission). cleared_group m place) x) mission.old }
 {
-    if mission.len() != state_mission::MISSION_WORDS {
+    let Some(mission) = mission.as_mut_array::<MISSION_WORDS>() else {
         return 21;
-    }
-    adjust::groups_and_paths::clear_group(mission, place)
+    };
+    checks::number_in(clear_group(mission, place))
 }
 
 // A path's place, emptied.
@@ -83,8 +85,8 @@ pub extern "C" fn hj_clear_path(mission: &mut [u32], place: u32) -> u32
     ensures value { result ≡ told (λ (x : State). first_of (clear_checks place path_places)) 21 mission.old }
     ensures mission_after { lent mission.new ≡ changed (λ (x : State). on_mission (λ (m : Mission). cleared_path m place) x) mission.old }
 {
-    if mission.len() != state_mission::MISSION_WORDS {
+    let Some(mission) = mission.as_mut_array::<MISSION_WORDS>() else {
         return 21;
-    }
-    adjust::groups_and_paths::clear_path(mission, place)
+    };
+    checks::number_in(clear_path(mission, place))
 }

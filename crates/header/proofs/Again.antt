@@ -23,8 +23,7 @@ use Rattle.header.specs.declared.Control.{Control}
 use Rattle.header.specs.declared.Layout.{Layout}
 use Rattle.header.specs.declared.Fields.{Fields}
 use Rattle.header.specs.declared.Header.{Header}
-use Rattle.header.specs.declared.Read.TheVariants.{Good}
-use Rattle.header.specs.declared.Built.TheVariants.{Done}
+use Rattle.checks.specs.Told.{Good}
 use Rattle.header.proofs.Bounds.{gate, control_end, Placed, placed, Allowed, allowed}
 use Rattle.header.proofs.Passed.{Passed, passed}
 use Rattle.header.proofs.Pieces.{present_le}
@@ -239,7 +238,7 @@ module _ (s : List ℕ) (h : Header) (small : (i : ℕ) → get_or s i 0 < 256) 
     size_again = rw p.is size_is
 
     -- the builder refuses it for nothing but its data, and says the size that was read
-    pub done_again : (room : ℕ) → longest_header ≤ room → h.length - h.size ≤ most_data → built_of h.fields (h.length - h.size) room ≡ Done h.size
+    pub done_again : (room : ℕ) → longest_header ≤ room → h.length - h.size ≤ most_data → built_of h.fields (h.length - h.size) room ≡ Good h.size
     unfolding built_of build_checks first_of
     done_again room enough few =
         simp (le-ltb room longest_header enough, not_out h.fields (read_in_range s h small e), le-ltb most_data (h.length - h.size) few, size_again)

@@ -14,7 +14,7 @@ use Rattle.header.specs.Range.{SixFits, AddressesFit, QosFits, OctetFits, StampF
 use Rattle.header.specs.declared.Control.{Control}
 use Rattle.header.specs.declared.Layout.{Layout}
 use Rattle.header.specs.declared.Header.{Header}
-use Rattle.header.specs.declared.Read.TheVariants.{Good}
+use Rattle.checks.specs.Told.{Good}
 use Rattle.header.proofs.Bounds.{header_size}
 use Rattle.header.proofs.Passed.{passed}
 

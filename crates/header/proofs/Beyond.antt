@@ -19,7 +19,7 @@ use Rattle.header.specs.Read.{octet_of, length_of, fields_of, header_of, other_v
 use Rattle.header.specs.declared.Control.{Control}
 use Rattle.header.specs.declared.Layout.{Layout}
 use Rattle.header.specs.declared.Header.{Header}
-use Rattle.header.specs.declared.Read.TheVariants.{Good}
+use Rattle.checks.specs.Told.{Good}
 use Rattle.header.proofs.Bounds.{control_end, Placed, placed}
 use Rattle.header.proofs.Passed.{passed}
 use Rattle.header.proofs.Back.{zero_or_one}

@@ -3,16 +3,17 @@
 use native.Mathlib.Omega.{arith}
 use native.Mathlib.Nat.{pow-le-pow_right}
 use Prim.Native.Nat.{ℕ, zero, suc, ◌+◌, ◌*◌, ◌/◌, ◌%◌, ◌^◌, ◌≤◌, ◌<◌}
-use mathlib.Core.Path.{◌≡◌, refl}
+use mathlib.Core.Path.{◌≡◌, refl, ap, ◌∙◌}
 use mathlib.Core.List.{List, [], ◌∷◌, ◌++◌}
 use mathlib.Core.Logic.{◌↔◌}
 use mathlib.Core.Bool.{Bool, true, false}
 use lib.ListN.{get_or, length, length-append}
 use lib.Dec.{leb, ltb}
 use borrow.Author.Tests.{ltb-true, ltb-false, leb-false, lt-ltb, le-ltb, lt-leb}
-use Rattle.checks.specs.Order.{pick, first_of}
+use Rattle.std.specs.Prelude.{Option, Some, None, Result}
+use Rattle.checks.specs.Order.{pick, first_of, outcome}
 use Rattle.checks.proofs.Bools.{true_false, or_false}
-use Rattle.checks.proofs.Laws.{either}
+use Rattle.checks.proofs.Laws.{either, told_outcome}
 use Rattle.octets.specs.Octets.{octets}
 use Rattle.octets.proofs.Laws.{length_octets}
 use Rattle.checksum.specs.Sum.{ones_sum, checksum_of}
@@ -20,20 +21,17 @@ use Rattle.checksum.proofs.Words.{Octets}
 use Rattle.checksum.proofs.Laws.{zeros_of_sum}
 use Rattle.header.specs.Limits.{longest_header, most_data, length_limit}
 use Rattle.header.specs.Form.{address_size, time_size}
-use Rattle.header.specs.Build.{six_octets, addresses_octets, qos_octets, octet_octets, stamp_octets, front_octets, rest_octets, body_octets, checksum_octets, header_octets, size_of, build_checks, built_by, built_of, present, second_octet, third_octet}
+use Rattle.header.specs.Build.{six_octets, addresses_octets, qos_octets, octet_octets, stamp_octets, front_octets, rest_octets, body_octets, checksum_octets, header_octets, size_of, build_refusals, build_checks, built_by, built_of, present, second_octet, third_octet, Built}
 use Rattle.header.specs.Range.{qos_out_of_range, stamp_out_of_range, out_of_range, QosFits, StampFits, InRange, QosTyped, StampTyped, Typed}
 use Rattle.header.specs.declared.Fields.{Fields}
 use Rattle.header.specs.declared.Six.{Six}
 use Rattle.header.specs.declared.Addresses.{Addresses}
 use Rattle.header.specs.declared.Addresses.TheVariants.{BasicPath, ExtendedPath, BasicEndSystem, ExtendedEndSystem, Ipv6}
 use Rattle.header.specs.declared.Qos.{Qos}
-use Rattle.header.specs.declared.Qos.TheVariants as qos
-use Rattle.header.specs.declared.Octet.{Octet}
-use Rattle.header.specs.declared.Octet.TheVariants as octet
 use Rattle.header.specs.declared.Timestamp.{Timestamp}
 use Rattle.header.specs.declared.Timestamp.TheVariants as stamp
-use Rattle.header.specs.declared.Built.{Built}
-use Rattle.header.specs.declared.Built.TheVariants.{Done, Refused}
+use Rattle.checks.specs.Told.{Good, Refused, told}
+use Rattle.checks.specs.declared.Refusal.{Refusal}
 use Rattle.header.proofs.Bounds.{gate, address_size_le, address_size_ge}
 use Rattle.header.proofs.Pieces.{addresses_length, qos_length, octet_length, stamp_le, qos_flag_le, octet_flag_le, present_le}
 use Rattle.header.proofs.Bits.{built_control, bits}
@@ -97,22 +95,22 @@ addresses_small (BasicEndSystem d s) = search (append_small, octets_small)
 addresses_small (ExtendedEndSystem d s) = search (append_small, octets_small)
 addresses_small (Ipv6 d s) = search (append_small, six_small)
 
-qos_small : (m : Qos) → Octets (qos_octets m)
+qos_small : (m : Option Qos) → Octets (qos_octets m)
 unfolding qos_octets
-qos_small qos.Absent = omega arith
-qos_small (qos.Present a b c) = octets_small 1 (a * 16 + b * 4 + c)
+qos_small None = omega arith
+qos_small (Some q) = octets_small 1 (q.precedence * 16 + q.routing * 4 + q.program)
 
-octet_small : (m : Octet) → Octets (octet_octets m)
+octet_small : (m : Option ℕ) → Octets (octet_octets m)
 unfolding octet_octets
-octet_small octet.Absent = omega arith
-octet_small (octet.Present v) = octets_small 1 v
+octet_small None = omega arith
+octet_small (Some v) = octets_small 1 v
 
-stamp_small : (m : Timestamp) → Octets (stamp_octets m)
+stamp_small : (m : Option Timestamp) → Octets (stamp_octets m)
 unfolding stamp_octets
-stamp_small stamp.Absent = omega arith
-stamp_small (stamp.Implicit t) = octets_small 3 t
-stamp_small (stamp.Explicit p t) = search (append_small, octets_small)
-stamp_small (stamp.Binary t) = octets_small 4 t
+stamp_small None = omega arith
+stamp_small (Some (stamp.Implicit t)) = octets_small 3 t
+stamp_small (Some (stamp.Explicit p t)) = search (append_small, octets_small)
+stamp_small (Some (stamp.Binary t)) = octets_small 4 t
 
 pub pick_small : (t : Bool) (v : ℕ) → Octets (pick t (octets 2 v) [])
 pick_small t v = either Octets t (octets_small 2 v) (omega arith)
@@ -124,18 +122,18 @@ header_small f n = search (append_small, octets_small, addresses_small, qos_smal
 
 -- ---- the range of fields
 
-qos_in : (m : Qos) → qos_out_of_range m ≡ false → QosFits m
-qos_in qos.Absent h = tt
-qos_in (qos.Present a b c) h =
-    let p = or_false (leb 16 a) _ h in
-    let q = or_false (leb 4 b) (leb 4 c) p.1 in
-    (leb-false 16 a p.0, (leb-false 4 b q.0, leb-false 4 c q.1))
+qos_in : (m : Option Qos) → qos_out_of_range m ≡ false → QosFits m
+qos_in None h = tt
+qos_in (Some q) h =
+    let p = or_false (leb 16 q.precedence) _ h in
+    let r = or_false (leb 4 q.routing) (leb 4 q.program) p.1 in
+    (leb-false 16 q.precedence p.0, (leb-false 4 q.routing r.0, leb-false 4 q.program r.1))
 
-stamp_in : (m : Timestamp) → StampTyped m → stamp_out_of_range m ≡ false → StampFits m
-stamp_in stamp.Absent t h = tt
-stamp_in (stamp.Implicit v) t h = leb-false _ v h
-stamp_in (stamp.Explicit p v) t h = (t.0, leb-false _ v h)
-stamp_in (stamp.Binary v) t h = leb-false _ v h
+stamp_in : (m : Option Timestamp) → StampTyped m → stamp_out_of_range m ≡ false → StampFits m
+stamp_in None t h = tt
+stamp_in (Some (stamp.Implicit v)) t h = leb-false _ v h
+stamp_in (Some (stamp.Explicit p v)) t h = (t.0, leb-false _ v h)
+stamp_in (Some (stamp.Binary v)) t h = leb-false _ v h
 
 -- what the builder's test finds none of, apart
 pub record Tested (f : Fields) : Type 0 where
@@ -174,18 +172,18 @@ in_range f t h =
       intermediate = p.intermediate;
     }
 
-qos_typed : (m : Qos) → QosFits m → QosTyped m
-qos_typed qos.Absent h = tt
-qos_typed (qos.Present a b c) h = (omega arith, (omega arith, omega arith))
+qos_typed : (m : Option Qos) → QosFits m → QosTyped m
+qos_typed None h = tt
+qos_typed (Some q) h = (omega arith, (omega arith, omega arith))
 
-stamp_typed : (m : Timestamp) → StampFits m → StampTyped m
-stamp_typed stamp.Absent h = tt
-stamp_typed (stamp.Implicit t) h = omega arith
-stamp_typed (stamp.Explicit p t) h =
+stamp_typed : (m : Option Timestamp) → StampFits m → StampTyped m
+stamp_typed None h = tt
+stamp_typed (Some (stamp.Implicit t)) h = omega arith
+stamp_typed (Some (stamp.Explicit p t)) h =
     let few : time_size p ≤ 8 = omega arith in
     let most : 256 ^ time_size p ≤ 256 ^ 8 = pow-le-pow_right (omega arith) few in
     (h.0, omega (arith, h.1, most))
-stamp_typed (stamp.Binary t) h = omega arith
+stamp_typed (Some (stamp.Binary t)) h = omega arith
 
 -- fields that are in range are within their types
 pub range_typed : (f : Fields) → InRange f → Typed f
@@ -201,15 +199,15 @@ range_typed f r =
       intermediate = omega (arith, r.intermediate);
     }
 
-qos_not_out : (m : Qos) → QosFits m → qos_out_of_range m ≡ false
-qos_not_out qos.Absent h = refl
-qos_not_out (qos.Present a b c) h = simp (lt-leb 16 a h.0, lt-leb 4 b h.1.0, lt-leb 4 c h.1.1)
+qos_not_out : (m : Option Qos) → QosFits m → qos_out_of_range m ≡ false
+qos_not_out None h = refl
+qos_not_out (Some q) h = simp (lt-leb 16 q.precedence h.0, lt-leb 4 q.routing h.1.0, lt-leb 4 q.program h.1.1)
 
-stamp_not_out : (m : Timestamp) → StampFits m → stamp_out_of_range m ≡ false
-stamp_not_out stamp.Absent h = refl
-stamp_not_out (stamp.Implicit v) h = lt-leb _ v h
-stamp_not_out (stamp.Explicit p v) h = lt-leb _ v h.1
-stamp_not_out (stamp.Binary v) h = lt-leb _ v h
+stamp_not_out : (m : Option Timestamp) → StampFits m → stamp_out_of_range m ≡ false
+stamp_not_out None h = refl
+stamp_not_out (Some (stamp.Implicit v)) h = lt-leb _ v h
+stamp_not_out (Some (stamp.Explicit p v)) h = lt-leb _ v h.1
+stamp_not_out (Some (stamp.Binary v)) h = lt-leb _ v h
 
 pub not_out : (f : Fields) → InRange f → out_of_range f ≡ false
 unfolding out_of_range
@@ -219,7 +217,7 @@ not_out f r =
 
 -- ---- what the builder answers
 
-pub accepted : (f : Fields) (n room : ℕ) → InRange f → n ≤ most_data → longest_header ≤ room → built_of f n room ≡ Done (size_of f)
+pub accepted : (f : Fields) (n room : ℕ) → InRange f → n ≤ most_data → longest_header ≤ room → built_of f n room ≡ Good (size_of f)
 unfolding built_of build_checks first_of
 accepted f n room r short h = simp (le-ltb room longest_header h, not_out f r, le-ltb most_data n short)
 
@@ -229,10 +227,10 @@ record First (a b c : Bool) (built : Built) : Type 0 where
   is_19 : built ≡ Refused 19 → (a ≡ false) × (b ≡ true)
   is_20 : built ≡ Refused 20 → (a ≡ false) × ((b ≡ false) × (c ≡ true))
 
-other : {X : Type 0} (n m : ℕ) → (n ≡ m → ⊥) → Refused n ≡ Refused m → X
+other : {X : Type 0} (n m : ℕ) → (n ≡ m → ⊥) → ◌≡◌ {A = Built} (Refused n) (Refused m) → X
 other n m h e = absurd (h cc)
 
-done : {X : Type 0} (n m : ℕ) → Done n ≡ Refused m → X
+done : {X : Type 0} (n m : ℕ) → Good n ≡ Refused m → X
 done n m e = true_false cc
 
 first : (a b c : Bool) (n : ℕ) → First a b c (built_by (first_of ((a, 17) ∷ (b, 19) ∷ (c, 20) ∷ [])) n)
@@ -257,6 +255,11 @@ built_refused f n room =
       no_range = (λ e. (ltb-false room longest_header (p.is_19 e).0, (p.is_19 e).1), λ h. simp (le-ltb room longest_header h.0, h.1));
       too_long = (λ e. (ltb-false room longest_header (p.is_20 e).0, ((p.is_20 e).1.0, ltb-true most_data n (p.is_20 e).1.1)), λ h. simp (le-ltb room longest_header h.0, h.1.0, lt-ltb most_data n h.1.1));
     }
+
+-- what is told of the builder's answer
+pub built_told : (f : Fields) (n room : ℕ) (x : Result ℕ Refusal) → x ≡ outcome (build_refusals f n room) (size_of f) → told x ≡ built_of f n room
+unfolding built_of build_checks
+built_told f n room x e = ap told e ∙ told_outcome (build_refusals f n room) (size_of f)
 
 -- ---- the checksum
 

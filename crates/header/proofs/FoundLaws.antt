@@ -1,28 +1,26 @@
 -- What is found of a header that may be sent on is what reading it answers, and where it differs then. Assumes nothing.
 use Prim.Native.Nat.{ℕ}
-use mathlib.Core.Path.{◌≡◌, refl, sym}
+use mathlib.Core.Path.{◌≡◌, refl, sym, ap, ◌∙◌}
 use mathlib.Core.List.{List}
 use mathlib.Core.Bool.{Bool, true, false}
 use lib.Dec.{eqb}
-use borrow.Author.Tests.{ne_eqb}
-use Rattle.checks.specs.Order.{pick, first_of, FirstHolds, NoneHolds}
+use Rattle.std.specs.Prelude.{Result}
+use Rattle.checks.specs.Order.{pick, first_of, outcome}
 use Rattle.checks.proofs.Bools.{true_false}
-use Rattle.checks.proofs.Laws.{none_zero, first_number}
-use Rattle.header.specs.Read.{header_of, read_checks, read_of}
-use Rattle.header.specs.Onward.{renewal_of, found_of}
+use Rattle.checks.proofs.Laws.{told_outcome}
+use Rattle.header.specs.Read.{header_of, read_refusals, read_checks, read_of, Read}
+use Rattle.header.specs.Onward.{renewal_of, found_of, Found}
 use Rattle.header.specs.declared.Header.{Header}
 use Rattle.header.specs.declared.Renewal.{Renewal}
-use Rattle.header.specs.declared.Read.{Read}
-use Rattle.header.specs.declared.Read.TheVariants as read
-use Rattle.header.specs.declared.Found.{Found}
-use Rattle.header.specs.declared.Found.TheVariants as found
+use Rattle.checks.specs.Told.{Good, Refused, told}
+use Rattle.checks.specs.declared.Refusal.{Refusal}
 
 -- what was found, as an answer of reading
 abbrev pub read_in : Found → Read
-read_in (found.Good h r) = read.Good h
-read_in (found.Refused n) = read.Refused n
+read_in (Good (h, r)) = Good h
+read_in (Refused n) = Refused n
 
-found_case : (t : Bool) (n : ℕ) (h : Header) (r : Renewal) → read_in (pick t (found.Good h r) (found.Refused n)) ≡ pick t (read.Good h) (read.Refused n)
+found_case : (t : Bool) (n : ℕ) (h : Header) (r : Renewal) → read_in (pick {A = Found} t (Good (h, r)) (Refused n)) ≡ pick t (Good h) (Refused n)
 found_case true n h r = refl
 found_case false n h r = refl
 
@@ -30,28 +28,28 @@ pub found_read : (s : List ℕ) → read_in (found_of s) ≡ read_of s
 unfolding found_of read_of
 found_read s = found_case (eqb (first_of (read_checks s)) 0) (first_of (read_checks s)) (header_of s) (renewal_of s)
 
-pub found_refused : (s : List ℕ) (n : ℕ) → found_of s ≡ found.Refused n → read_of s ≡ read.Refused n
+pub found_refused : (s : List ℕ) (n : ℕ) → found_of s ≡ Refused n → read_of s ≡ Refused n
 found_refused s n e = rw e at (sym (found_read s))
 
-good_case : (t : Bool) (n : ℕ) (g h : Header) (q r : Renewal) → pick t (found.Good g q) (found.Refused n) ≡ found.Good h r → r ≡ q
-good_case true n g h q r e = cc
+abbrev renewal_in : Renewal → Found → Renewal
+renewal_in d (Good p) = p.1
+renewal_in d (Refused n) = d
+
+good_case : (t : Bool) (n : ℕ) (g h : Header) (q r : Renewal) → pick {A = Found} t (Good (g, q)) (Refused n) ≡ Good (h, r) → r ≡ q
+good_case true n g h q r e = ap (renewal_in r) (sym e)
 good_case false n g h q r e = true_false cc
 
-pub found_good : (s : List ℕ) (h : Header) (r : Renewal) → found_of s ≡ found.Good h r → (read_of s ≡ read.Good h) × (r ≡ renewal_of s)
+pub found_good : (s : List ℕ) (h : Header) (r : Renewal) → found_of s ≡ Good (h, r) → (read_of s ≡ Good h) × (r ≡ renewal_of s)
 unfolding found_of
 found_good s h r e =
     (rw e at (sym (found_read s)), good_case (eqb (first_of (read_checks s)) 0) (first_of (read_checks s)) (header_of s) h (renewal_of s) r e)
 
--- ---- what is found, by the checks
+-- ---- what is told of the reader's answers
 
-pub found_first : (s : List ℕ) (n : ℕ) → (n ≡ 0 → ⊥) → FirstHolds (read_checks s) n → found_of s ≡ found.Refused n
-unfolding found_of
-found_first s n some h =
-    let e : first_of (read_checks s) ≡ n = first_number (read_checks s) n h in
-    rw (e, ne_eqb n 0 some)
+pub found_told : (s : List ℕ) (x : Result (Header × Renewal) Refusal) → x ≡ outcome (read_refusals s) (header_of s, renewal_of s) → told x ≡ found_of s
+unfolding found_of read_checks
+found_told s x e = ap told e ∙ told_outcome (read_refusals s) (header_of s, renewal_of s)
 
-pub found_none : (s : List ℕ) → NoneHolds (read_checks s) → found_of s ≡ found.Good (header_of s) (renewal_of s)
-unfolding found_of
-found_none s h =
-    let e : first_of (read_checks s) ≡ 0 = none_zero (read_checks s) h in
-    rw e
+pub read_told : (s : List ℕ) (x : Result Header Refusal) → x ≡ outcome (read_refusals s) (header_of s) → told x ≡ read_of s
+unfolding read_of read_checks
+read_told s x e = ap told e ∙ told_outcome (read_refusals s) (header_of s)

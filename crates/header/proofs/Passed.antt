@@ -12,7 +12,7 @@ use Rattle.checksum.specs.Sum.{element_of}
 use Rattle.header.specs.Form.{control_of, places_of, forbidden, has_checksum}
 use Rattle.header.specs.Read.{length_of, header_of, read_checks, read_of, other_version, misfit, wrong_checksum}
 use Rattle.header.specs.declared.Header.{Header}
-use Rattle.header.specs.declared.Read.TheVariants.{Good}
+use Rattle.checks.specs.Told.{Good}
 use Rattle.header.proofs.Refusals.{read_good}
 
 pub record Passed (s : List ℕ) (h : Header) : Type 0 where

@@ -8,6 +8,7 @@ use lib.ListN.{length, drop, length-append}
 use lib.Seq.{get_or-drop, drop-drop, drop-append_seam}
 use lib.Dec.{eqb}
 use borrow.Author.Tests.{eqb-true}
+use Rattle.std.specs.Prelude.{Option, Some, None}
 use Rattle.checks.specs.Order.{pick}
 use Rattle.checks.proofs.Laws.{either}
 use Rattle.octets.specs.Octets.{octet, number, octets}
@@ -21,9 +22,6 @@ use Rattle.header.specs.declared.Addresses.{Addresses}
 use Rattle.header.specs.declared.Addresses.TheVariants.{BasicPath, ExtendedPath, BasicEndSystem, ExtendedEndSystem, Ipv6}
 use Rattle.header.specs.declared.Six.{Six}
 use Rattle.header.specs.declared.Qos.{Qos}
-use Rattle.header.specs.declared.Qos.TheVariants as qos
-use Rattle.header.specs.declared.Octet.{Octet}
-use Rattle.header.specs.declared.Octet.TheVariants as octet
 use Rattle.header.specs.declared.Timestamp.{Timestamp}
 use Rattle.header.specs.declared.Timestamp.TheVariants as stamp
 
@@ -111,38 +109,38 @@ module _ {s rest : List ℕ} {at : ℕ} where
   octet_there : (v : ℕ) → Stands s at (octets 1 v) rest → v < 256 → octet s at ≡ v
   octet_there v h fits = octet_number_lem s at ∙ number_there 1 v h fits
 
-  pub qos_read : (m : Qos) → Stands s at (qos_octets m) rest → QosFits m → qos_of s (qos_flag m) at ≡ m
+  pub qos_read : (m : Option Qos) → Stands s at (qos_octets m) rest → QosFits m → qos_of s (qos_flag m) at ≡ m
   unfolding qos_of qos_octets
-  qos_read qos.Absent h fits = refl
-  qos_read (qos.Present a b c) h fits =
-      let o : octet s at ≡ a * 16 + b * 4 + c = octet_there _ h (omega arith) in
-      let first : octet s at / 16 ≡ a = omega arith in
-      let second : octet s at / 4 % 4 ≡ b = omega arith in
-      let third : octet s at % 4 ≡ c = omega arith in
+  qos_read None h fits = refl
+  qos_read (Some q) h fits =
+      let o : octet s at ≡ q.precedence * 16 + q.routing * 4 + q.program = octet_there _ h (omega arith) in
+      let first : octet s at / 16 ≡ q.precedence = omega arith in
+      let second : octet s at / 4 % 4 ≡ q.routing = omega arith in
+      let third : octet s at % 4 ≡ q.program = omega arith in
       rw (first, second, third)
 
-  pub octet_read : (m : Octet) → Stands s at (octet_octets m) rest → OctetFits m → octet_of s (octet_flag m) at ≡ m
+  pub octet_read : (m : Option ℕ) → Stands s at (octet_octets m) rest → OctetFits m → octet_of s (octet_flag m) at ≡ m
   unfolding octet_of octet_octets
-  octet_read octet.Absent h fits = refl
-  octet_read (octet.Present v) h fits = ap octet.Present (octet_there v h fits)
+  octet_read None h fits = refl
+  octet_read (Some v) h fits = ap Some (octet_there v h fits)
 
-  pub stamp_read : (m : Timestamp) → Stands s at (stamp_octets m) rest → StampFits m → stamp_of s (format_of m) at ≡ m
+  pub stamp_read : (m : Option Timestamp) → Stands s at (stamp_octets m) rest → StampFits m → stamp_of s (format_of m) at ≡ m
   unfolding stamp_of stamp_octets
-  stamp_read stamp.Absent h fits = refl
-  stamp_read (stamp.Implicit t) h fits = ap stamp.Implicit (number_there 3 t h fits)
-  stamp_read (stamp.Explicit p t) h fits =
+  stamp_read None h fits = refl
+  stamp_read (Some (stamp.Implicit t)) h fits = ap (λ t. Some (stamp.Implicit t)) (number_there 3 t h fits)
+  stamp_read (Some (stamp.Explicit p t)) h fits =
       let both = two_there 1 p (time_size p) t h fits.0 fits.1 in
       rw (octet_number_lem s at, both.0, both.1)
-  stamp_read (stamp.Binary t) h fits = ap stamp.Binary (number_there 4 t h fits)
+  stamp_read (Some (stamp.Binary t)) h fits = ap (λ t. Some (stamp.Binary t)) (number_there 4 t h fits)
 
-  pub stamp_size_lem : (m : Timestamp) → Stands s at (stamp_octets m) rest → StampFits m → stamp_size (format_of m) (octet s at) ≡ length (stamp_octets m)
+  pub stamp_size_lem : (m : Option Timestamp) → Stands s at (stamp_octets m) rest → StampFits m → stamp_size (format_of m) (octet s at) ≡ length (stamp_octets m)
   unfolding stamp_size stamp_octets
-  stamp_size_lem stamp.Absent h fits = refl
-  stamp_size_lem (stamp.Implicit t) h fits = sym (length_octets 3 t)
-  stamp_size_lem (stamp.Explicit p t) h fits =
+  stamp_size_lem None h fits = refl
+  stamp_size_lem (Some (stamp.Implicit t)) h fits = sym (length_octets 3 t)
+  stamp_size_lem (Some (stamp.Explicit p t)) h fits =
       let o : octet s at ≡ p = octet_number_lem s at ∙ (two_there 1 p (time_size p) t h fits.0 fits.1).0 in
       rw o (simp (length-append, length_octets) (omega arith))
-  stamp_size_lem (stamp.Binary t) h fits = sym (length_octets 4 t)
+  stamp_size_lem (Some (stamp.Binary t)) h fits = sym (length_octets 4 t)
 
   -- a control octet that is there only where it is not 0
   present_case : (t : Bool) (v : ℕ) → eqb v 0 ≡ t → Stands s at (octets (pick t 0 1) v) rest → v < 256 → pick t 0 1 * octet s at ≡ v
@@ -154,22 +152,22 @@ module _ {s rest : List ℕ} {at : ℕ} where
 
 -- ---- sizes and flags
 
-pub qos_length : (m : Qos) → length (qos_octets m) ≡ qos_flag m
+pub qos_length : (m : Option Qos) → length (qos_octets m) ≡ qos_flag m
 unfolding qos_octets
-qos_length qos.Absent = refl
-qos_length (qos.Present a b c) = length_octets 1 (a * 16 + b * 4 + c)
+qos_length None = refl
+qos_length (Some q) = length_octets 1 (q.precedence * 16 + q.routing * 4 + q.program)
 
-pub octet_length : (m : Octet) → length (octet_octets m) ≡ octet_flag m
+pub octet_length : (m : Option ℕ) → length (octet_octets m) ≡ octet_flag m
 unfolding octet_octets
-octet_length octet.Absent = refl
-octet_length (octet.Present v) = length_octets 1 v
+octet_length None = refl
+octet_length (Some v) = length_octets 1 v
 
-pub stamp_le : (m : Timestamp) → length (stamp_octets m) ≤ 8
+pub stamp_le : (m : Option Timestamp) → length (stamp_octets m) ≤ 8
 unfolding stamp_octets
-stamp_le stamp.Absent = omega arith
-stamp_le (stamp.Implicit t) = omega (arith, length_octets 3 t)
-stamp_le (stamp.Explicit p t) = simp (length-append, length_octets) (omega arith)
-stamp_le (stamp.Binary t) = omega (arith, length_octets 4 t)
+stamp_le None = omega arith
+stamp_le (Some (stamp.Implicit t)) = omega (arith, length_octets 3 t)
+stamp_le (Some (stamp.Explicit p t)) = simp (length-append, length_octets) (omega arith)
+stamp_le (Some (stamp.Binary t)) = omega (arith, length_octets 4 t)
 
 pub address_flags : (a : Addresses) → (source_flag a ≤ 1) × ((ipv6_flag a ≤ source_flag a) × (ipv6_flag a + extended_flag a ≤ 1))
 address_flags (BasicPath d) = omega arith
@@ -178,19 +176,19 @@ address_flags (BasicEndSystem d s) = omega arith
 address_flags (ExtendedEndSystem d s) = omega arith
 address_flags (Ipv6 d s) = omega arith
 
-pub qos_flag_le : (m : Qos) → qos_flag m ≤ 1
-qos_flag_le qos.Absent = omega arith
-qos_flag_le (qos.Present a b c) = omega arith
+pub qos_flag_le : (m : Option Qos) → qos_flag m ≤ 1
+qos_flag_le None = omega arith
+qos_flag_le (Some q) = omega arith
 
-pub octet_flag_le : (m : Octet) → octet_flag m ≤ 1
-octet_flag_le octet.Absent = omega arith
-octet_flag_le (octet.Present v) = omega arith
+pub octet_flag_le : (m : Option ℕ) → octet_flag m ≤ 1
+octet_flag_le None = omega arith
+octet_flag_le (Some v) = omega arith
 
-pub format_le : (m : Timestamp) → format_of m ≤ 3
-format_le stamp.Absent = omega arith
-format_le (stamp.Implicit t) = omega arith
-format_le (stamp.Explicit p t) = omega arith
-format_le (stamp.Binary t) = omega arith
+pub format_le : (m : Option Timestamp) → format_of m ≤ 3
+format_le None = omega arith
+format_le (Some (stamp.Implicit t)) = omega arith
+format_le (Some (stamp.Explicit p t)) = omega arith
+format_le (Some (stamp.Binary t)) = omega arith
 
 pub present_le : (v : ℕ) → present v ≤ 1
 present_le v = either (λ n. n ≤ 1) (eqb v 0) (omega arith) (omega arith)

@@ -13,7 +13,7 @@ use Rattle.checks.proofs.Bools.{true_false}
 use Rattle.checks.proofs.Laws.{zero_none, none_zero, number_first, first_number}
 use Rattle.header.specs.Read.{header_of, read_checks, read_by, read_of}
 use Rattle.header.specs.declared.Header.{Header}
-use Rattle.header.specs.declared.Read.TheVariants.{Good, Refused}
+use Rattle.checks.specs.Told.{Good, Refused}
 
 refused_case : (t : Bool) (m n : ℕ) (h : Header) → eqb m 0 ≡ t → pick t (Good h) (Refused m) ≡ Refused n → (m ≡ n) × (m ≡ 0 → ⊥)
 refused_case true m n h t e = true_false cc

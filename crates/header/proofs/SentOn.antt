@@ -11,6 +11,7 @@ use lib.ListN.{get_or, set, length, take, drop, length-append, length-drop, leng
 use lib.Seq.{length-take-le, get_or-take, set-append_left, get_or-set_same, get_or-set_other, set-get_or}
 use lib.Dec.{eqb}
 use borrow.Author.Tests.{eqb-true}
+use Rattle.std.specs.Prelude.{Some}
 use Rattle.checks.specs.Order.{pick}
 use Rattle.octets.specs.Octets.{octet, number}
 use Rattle.checksum.specs.Sum.{element_of}
@@ -22,9 +23,8 @@ use Rattle.header.specs.Onward.{lessened, sent_body, header_sent_on, one_less, w
 use Rattle.header.specs.declared.Control.{Control}
 use Rattle.header.specs.declared.Layout.{Layout}
 use Rattle.header.specs.declared.Header.{Header}
-use Rattle.header.specs.declared.Octet.TheVariants as octet
-use Rattle.header.specs.declared.Read.TheVariants.{Good}
-use Rattle.header.proofs.Bounds.{control_end, Placed, placed, allowed}
+use Rattle.header.proofs.Bounds.{control_end, Placed, placed}
+use Rattle.checks.specs.Told.{Good}
 use Rattle.header.proofs.Passed.{Passed, passed, read_passed}
 use Rattle.header.proofs.Alike.{Agree, header_alike}
 use Rattle.header.proofs.BuiltLaws.{checksum_length, append_small, pick_small}
@@ -183,7 +183,7 @@ kept_case : (s l : List ℕ) (on at : ℕ) → (on ≡ 0) ⊎ (on ≡ 1) → one
 unfolding octet_of lessened
 kept_case s l on at (inl none) e same = rw none
 kept_case s l on at (inr one) e same =
-    let read : octet.Present (octet s at - 1) ≡ octet.Present (octet s at) = rw one at e in
+    let read : Some (octet s at - 1) ≡ Some (octet s at) = rw one at e in
     let stays : octet s at - 1 ≡ octet s at = cc in
     rw (one, same one, stays, ← same one) (set-get_or l at 0)
 

@@ -18,7 +18,7 @@ use Rattle.header.specs.Shortest.{Shortest, UnusedZero, NoneShorter}
 use Rattle.header.specs.Range.{InRange}
 use Rattle.header.specs.declared.Fields.{Fields}
 use Rattle.header.specs.declared.Header.{Header}
-use Rattle.header.specs.declared.Read.TheVariants.{Good}
+use Rattle.checks.specs.Told.{Good}
 use Rattle.header.proofs.Bounds.{allowed}
 use Rattle.header.proofs.Passed.{passed}
 use Rattle.header.proofs.Answers.{read_in_range, read_bounds}

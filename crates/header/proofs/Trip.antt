@@ -20,7 +20,7 @@ use Rattle.header.specs.Build.{addresses_octets, qos_octets, octet_octets, stamp
 use Rattle.header.specs.Range.{InRange}
 use Rattle.header.specs.declared.Control.{Control}
 use Rattle.header.specs.declared.Fields.{Fields}
-use Rattle.header.specs.declared.Read.TheVariants.{Good}
+use Rattle.checks.specs.Told.{Good}
 use Rattle.header.proofs.Passed.{read_passed}
 use Rattle.header.proofs.Pieces.{Stands, stands_after, number_there, addresses_length, addresses_read, qos_length, qos_read, octet_length, octet_read, stamp_size_lem, stamp_read, present_read}
 use Rattle.header.proofs.Bits.{built_control, Bits, bits, not_forbidden}

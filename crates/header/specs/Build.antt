@@ -1,7 +1,7 @@
 -- The octets of a header (003, 3.2.2.1: the elements in their order; page 01: the shortest control field, unused bits zero).
 -- Assumes nothing.
-use Rattle.std.specs.Prelude.{ℕ, ◌+◌, ◌*◌, List, [], ◌∷◌, ◌++◌, length, eqb}
-use Rattle.checks.specs.Order.{pick, Checks, first_of}
+use Rattle.std.specs.Prelude.{ℕ, ◌+◌, ◌*◌, List, [], ◌∷◌, ◌++◌, length, eqb, Option, Some, None}
+use Rattle.checks.specs.Order.{pick, Checks, first_of, Refusals, numbered}
 use Rattle.octets.specs.Octets.{octets, fronted}
 use Rattle.checksum.specs.Sum.{checksum_of}
 use Rattle.header.specs.Limits.{length_limit, lacks_room, too_much_data}
@@ -11,14 +11,11 @@ use Rattle.header.specs.declared.Six.{Six}
 use Rattle.header.specs.declared.Addresses.{Addresses}
 use Rattle.header.specs.declared.Addresses.TheVariants.{BasicPath, ExtendedPath, BasicEndSystem, ExtendedEndSystem, Ipv6}
 use Rattle.header.specs.declared.Qos.{Qos}
-use Rattle.header.specs.declared.Qos.TheVariants as qos
-use Rattle.header.specs.declared.Octet.{Octet}
-use Rattle.header.specs.declared.Octet.TheVariants as octet
 use Rattle.header.specs.declared.Timestamp.{Timestamp}
 use Rattle.header.specs.declared.Timestamp.TheVariants as stamp
 use Rattle.header.specs.declared.Fields.{Fields}
-use Rattle.header.specs.declared.Built.{Built}
-use Rattle.header.specs.declared.Built.TheVariants.{Done, Refused}
+use Rattle.checks.specs.Told.{Told, Good, Refused, told_by}
+use Rattle.checks.specs.declared.Refusal.TheVariants.{NoOutputRoom, FieldOutOfRange, TooMuchData}
 
 -- ---- the octets of each element
 
@@ -32,19 +29,19 @@ addresses_octets (BasicEndSystem d s) = octets 1 d ++ octets 1 s
 addresses_octets (ExtendedEndSystem d s) = octets 4 d.0 ++ octets 4 s.0
 addresses_octets (Ipv6 d s) = six_octets d ++ six_octets s
 
-unfoldable pub qos_octets : Qos → List ℕ
-qos_octets qos.Absent = []
-qos_octets (qos.Present precedence routing program) = octets 1 (precedence * 16 + routing * 4 + program)
+unfoldable pub qos_octets : Option Qos → List ℕ
+qos_octets None = []
+qos_octets (Some q) = octets 1 (q.precedence * 16 + q.routing * 4 + q.program)
 
-unfoldable pub octet_octets : Octet → List ℕ
-octet_octets octet.Absent = []
-octet_octets (octet.Present v) = octets 1 v
+unfoldable pub octet_octets : Option ℕ → List ℕ
+octet_octets None = []
+octet_octets (Some v) = octets 1 v
 
-unfoldable pub stamp_octets : Timestamp → List ℕ
-stamp_octets stamp.Absent = []
-stamp_octets (stamp.Implicit t) = octets 3 t
-stamp_octets (stamp.Explicit p t) = octets 1 p ++ octets (time_size p) t
-stamp_octets (stamp.Binary t) = octets 4 t
+unfoldable pub stamp_octets : Option Timestamp → List ℕ
+stamp_octets None = []
+stamp_octets (Some (stamp.Implicit t)) = octets 3 t
+stamp_octets (Some (stamp.Explicit p t)) = octets 1 p ++ octets (time_size p) t
+stamp_octets (Some (stamp.Binary t)) = octets 4 t
 
 -- ---- the control field
 
@@ -70,20 +67,20 @@ ipv6_flag (BasicEndSystem d s) = 0
 ipv6_flag (ExtendedEndSystem d s) = 0
 ipv6_flag (Ipv6 d s) = 1
 
-abbrev pub qos_flag : Qos → ℕ
-qos_flag qos.Absent = 0
-qos_flag (qos.Present precedence routing program) = 1
+abbrev pub qos_flag : Option Qos → ℕ
+qos_flag None = 0
+qos_flag (Some q) = 1
 
-abbrev pub octet_flag : Octet → ℕ
-octet_flag octet.Absent = 0
-octet_flag (octet.Present v) = 1
+abbrev pub octet_flag : Option ℕ → ℕ
+octet_flag None = 0
+octet_flag (Some v) = 1
 
 -- the timestamp's format (003, table 3-4, bits 27 and 28)
-abbrev pub format_of : Timestamp → ℕ
-format_of stamp.Absent = 0
-format_of (stamp.Implicit t) = 1
-format_of (stamp.Explicit p t) = 2
-format_of (stamp.Binary t) = 3
+abbrev pub format_of : Option Timestamp → ℕ
+format_of None = 0
+format_of (Some (stamp.Implicit t)) = 1
+format_of (Some (stamp.Explicit p t)) = 2
+format_of (Some (stamp.Binary t)) = 3
 
 -- a control octet is there only where it says something: the shortest control field
 abbrev pub present : ℕ → ℕ
@@ -130,11 +127,18 @@ header_octets f n = body_octets f (size_of f + n) ++ checksum_octets f.checksum 
 -- ---- the builder (page 01, "Refusal numbers")
 
 -- no room; a field out of range; too much data
+abbrev pub build_refusals : Fields → ℕ → ℕ → Refusals
+build_refusals f n room = (lacks_room room, NoOutputRoom) ∷ (out_of_range f, FieldOutOfRange) ∷ (too_much_data n, TooMuchData) ∷ []
+
 unfoldable pub build_checks : Fields → ℕ → ℕ → Checks
-build_checks f n room = (lacks_room room, 17) ∷ (out_of_range f, 19) ∷ (too_much_data n, 20) ∷ []
+build_checks f n room = numbered (build_refusals f n room)
+
+-- what building tells: the octets of the header that was written, or the first check's number
+abbrev pub Built : Type 0
+Built = Told ℕ
 
 abbrev pub built_by : ℕ → ℕ → Built
-built_by n size = pick (eqb n 0) (Done size) (Refused n)
+built_by = told_by
 
 unfoldable pub built_of : Fields → ℕ → ℕ → Built
 built_of f n room = built_by (first_of (build_checks f n room)) (size_of f)
@@ -142,7 +146,7 @@ built_of f n room = built_by (first_of (build_checks f n room)) (size_of f)
 -- what the output then holds
 abbrev pub output_by : Built → List ℕ → List ℕ → List ℕ
 output_by (Refused n) header lent = lent
-output_by (Done size) header lent = fronted header lent
+output_by (Good size) header lent = fronted header lent
 
 unfoldable pub built_output : Fields → ℕ → List ℕ → List ℕ
 built_output f n lent = output_by (built_of f n (length lent)) (header_octets f n) lent

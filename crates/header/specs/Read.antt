@@ -1,22 +1,19 @@
 -- What reading octets finds (003, 3.2.3; page 01, steps 2 and 3). Assumes nothing.
-use Rattle.std.specs.Prelude.{ℕ, ◌+◌, ◌*◌, ◌/◌, ◌%◌, List, [], ◌∷◌, Bool, not, ◌&&◌, ◌||◌, length, eqb, ltb}
-use Rattle.checks.specs.Order.{pick, Checks, first_of}
+use Rattle.std.specs.Prelude.{ℕ, ◌+◌, ◌*◌, ◌/◌, ◌%◌, List, [], ◌∷◌, Bool, not, ◌&&◌, ◌||◌, length, eqb, ltb, Option, Some, None}
+use Rattle.checks.specs.Order.{pick, Checks, first_of, Refusals, numbered}
 use Rattle.octets.specs.Octets.{octet, number}
 use Rattle.checksum.specs.Sum.{element_of}
 use Rattle.header.specs.Form.{control_of, places_of, forbidden, time_size, has_checksum, has_source, has_hops, has_qos, has_expanded, stamp_format, is_extended, is_ipv6, is_intermediate}
+use Rattle.checks.specs.Told.{Told, told_by}
+use Rattle.checks.specs.declared.Refusal.TheVariants.{TooShort, OtherVersion, WrongForm, WrongLength, WrongChecksum}
 use Rattle.header.specs.declared.Control.{Control}
 use Rattle.header.specs.declared.Layout.{Layout}
 use Rattle.header.specs.declared.Header.{Header}
 use Rattle.header.specs.declared.Fields.{Fields}
-use Rattle.header.specs.declared.Read.{Read}
-use Rattle.header.specs.declared.Read.TheVariants.{Good, Refused}
 use Rattle.header.specs.declared.Six.{Six}
 use Rattle.header.specs.declared.Addresses.{Addresses}
 use Rattle.header.specs.declared.Addresses.TheVariants.{BasicPath, ExtendedPath, BasicEndSystem, ExtendedEndSystem, Ipv6}
 use Rattle.header.specs.declared.Qos.{Qos}
-use Rattle.header.specs.declared.Qos.TheVariants as qos
-use Rattle.header.specs.declared.Octet.{Octet}
-use Rattle.header.specs.declared.Octet.TheVariants as octet
 use Rattle.header.specs.declared.Timestamp.{Timestamp}
 use Rattle.header.specs.declared.Timestamp.TheVariants as stamp
 
@@ -35,20 +32,20 @@ addresses_of s k =
     (pick (eqb (has_source k) 1) (BasicEndSystem (octet s k.end) (octet s (k.end + 1))) (BasicPath (octet s k.end))))
 
 -- basic QOS: four bits of precedence, two of routing requirements, two program specific (003, 3.2.3.6.2)
-unfoldable pub qos_of : List ℕ → ℕ → ℕ → Qos
-qos_of s on at = pick (eqb on 0) qos.Absent (qos.Present (octet s at / 16) (octet s at / 4 % 4) (octet s at % 4))
+unfoldable pub qos_of : List ℕ → ℕ → ℕ → Option Qos
+qos_of s on at = pick (eqb on 0) None (Some (record { precedence = octet s at / 16; routing = octet s at / 4 % 4; program = octet s at % 4 }))
 
 -- an element of one octet
-unfoldable pub octet_of : List ℕ → ℕ → ℕ → Octet
-octet_of s on at = pick (eqb on 0) octet.Absent (octet.Present (octet s at))
+unfoldable pub octet_of : List ℕ → ℕ → ℕ → Option ℕ
+octet_of s on at = pick (eqb on 0) None (Some (octet s at))
 
 -- the timestamp, by its format (003, 3.2.3.8.3)
-unfoldable pub stamp_of : List ℕ → ℕ → ℕ → Timestamp
+unfoldable pub stamp_of : List ℕ → ℕ → ℕ → Option Timestamp
 stamp_of s f at =
-    pick (eqb f 0) stamp.Absent
-    (pick (eqb f 1) (stamp.Implicit (number s at 3))
-    (pick (eqb f 2) (stamp.Explicit (octet s at) (number s (at + 1) (time_size (octet s at))))
-    (stamp.Binary (number s at 4))))
+    pick (eqb f 0) None
+    (pick (eqb f 1) (Some (stamp.Implicit (number s at 3)))
+    (pick (eqb f 2) (Some (stamp.Explicit (octet s at) (number s (at + 1) (time_size (octet s at)))))
+    (Some (stamp.Binary (number s at 4)))))
 
 -- ---- the header whole
 
@@ -90,14 +87,20 @@ misfit s l = ltb (length s) (length_of s) || ltb (length_of s) l.size
 abbrev pub wrong_checksum : List ℕ → Control → Layout → Bool
 wrong_checksum s k l = eqb (has_checksum k) 1 && not (eqb (number s l.checksum 2) (element_of s l.checksum))
 
-unfoldable pub read_checks : List ℕ → Checks
-read_checks s =
-    (ltb (length s) 3, 1) ∷ (other_version s, 2) ∷ (cut s (control_of s), 1) ∷ (forbidden (control_of s), 4) ∷ (misfit s (places_of s), 3)
-    ∷ (wrong_checksum s (control_of s) (places_of s), 5) ∷ []
+abbrev pub read_refusals : List ℕ → Refusals
+read_refusals s =
+    (ltb (length s) 3, TooShort) ∷ (other_version s, OtherVersion) ∷ (cut s (control_of s), TooShort) ∷ (forbidden (control_of s), WrongForm)
+    ∷ (misfit s (places_of s), WrongLength) ∷ (wrong_checksum s (control_of s) (places_of s), WrongChecksum) ∷ []
 
--- the header, or the first check's number
+unfoldable pub read_checks : List ℕ → Checks
+read_checks s = numbered (read_refusals s)
+
+-- what reading tells: the header, or the first check's number
+abbrev pub Read : Type 0
+Read = Told Header
+
 abbrev pub read_by : ℕ → Header → Read
-read_by n h = pick (eqb n 0) (Good h) (Refused n)
+read_by = told_by
 
 unfoldable pub read_of : List ℕ → Read
 read_of s = read_by (first_of (read_checks s)) (header_of s)

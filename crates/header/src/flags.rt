@@ -12,7 +12,7 @@ ghost use Rattle.header.specs.Build.{
   format_of,
 };
 
-use crate::{Addresses, Octet, Qos, Timestamp};
+use crate::{Addresses, Qos, Timestamp};
 
 // The address flags of table 3-6.
 pub fn source_flag(a: Addresses) -> u8
@@ -51,32 +51,32 @@ pub fn ipv6_flag(a: Addresses) -> u8
     }
 }
 
-pub fn qos_flag(q: Qos) -> u8
+pub fn qos_flag(q: Option<Qos>) -> u8
     ensures { result ≡ qos_flag q }
 {
     match q {
-        Qos::Absent => 0,
-        Qos::Present(_, _, _) => 1,
+        None => 0,
+        Some(_) => 1,
     }
 }
 
-pub fn octet_flag(o: Octet) -> u8
+pub fn octet_flag(o: Option<u8>) -> u8
     ensures { result ≡ octet_flag o }
 {
     match o {
-        Octet::Absent => 0,
-        Octet::Present(_) => 1,
+        None => 0,
+        Some(_) => 1,
     }
 }
 
 // The timestamp's format, bits 27 and 28.
-pub fn stamp_format(t: Timestamp) -> u8
+pub fn stamp_format(t: Option<Timestamp>) -> u8
     ensures { result ≡ format_of t }
 {
     match t {
-        Timestamp::Absent => 0,
-        Timestamp::Implicit(_) => 1,
-        Timestamp::Explicit(_, _) => 2,
-        Timestamp::Binary(_) => 3,
+        None => 0,
+        Some(Timestamp::Implicit(_)) => 1,
+        Some(Timestamp::Explicit(_, _)) => 2,
+        Some(Timestamp::Binary(_)) => 3,
     }
 }

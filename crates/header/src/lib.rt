@@ -7,7 +7,7 @@
 //
 // Two lengths are told apart by their names: `length` is the datagram's, which the length field says, and `size` is the header's own.
 //
-// An element that is absent is a variant without data, so that a number for it cannot be written down; the five address types of
+// An element that is absent is `None`, so that a number for it cannot be written down; the five address types of
 // table 3-5 are the five variants of `Addresses`, so that neither can a combination that table 3-6 forbids. What is left for refusal
 // 19 are numbers that are too large for their element. The awkward element is the timestamp with an explicit P-field: its length
 // stands in its own first octet.
@@ -39,36 +39,29 @@ pub enum Addresses {
 
 // Basic QOS: precedence, routing requirements and program specific.
 #[derive(Clone, Copy)]
-pub enum Qos {
-    Absent,
-    Present(u8, u8, u8),
-}
-
-// An element of one octet: hop count and expanded QOS.
-#[derive(Clone, Copy)]
-pub enum Octet {
-    Absent,
-    Present(u8),
+pub struct Qos {
+    pub precedence: u8,
+    pub routing: u8,
+    pub program: u8,
 }
 
 // A timestamp: three octets of time; a P-field and the octets of time that it gives; four octets of time.
 #[derive(Clone, Copy)]
 pub enum Timestamp {
-    Absent,
     Implicit(u64),
     Explicit(u8, u64),
     Binary(u64),
 }
 
-// What the elements of a header say. `checksum` and `intermediate` are flags, 0 or 1.
+// What the elements of a header say; `None` is an element that is not there. `checksum` and `intermediate` are flags, 0 or 1.
 #[derive(Clone, Copy)]
 pub struct Fields {
     pub tpid: u8,
     pub addresses: Addresses,
-    pub qos: Qos,
-    pub hops: Octet,
-    pub stamp: Timestamp,
-    pub expanded: Octet,
+    pub qos: Option<Qos>,
+    pub hops: Option<u8>,
+    pub stamp: Option<Timestamp>,
+    pub expanded: Option<u8>,
     pub checksum: u8,
     pub intermediate: u8,
 }
@@ -101,13 +94,6 @@ pub struct Layout {
     pub size: usize,
 }
 
-// What reading answers: the header, or the number of the first check that failed.
-#[derive(Clone, Copy)]
-pub enum Read {
-    Good(Header),
-    Refused(u8),
-}
-
 // Where a header that is sent on differs from the one that came: the place of the hop count and whether it is there, the place of the
 // checksum and whether it is there. `counted` and `summed` are flags, 0 or 1.
 #[derive(Clone, Copy)]
@@ -116,18 +102,4 @@ pub struct Renewal {
     pub counted: u8,
     pub checksum: usize,
     pub summed: u8,
-}
-
-// What reading answers where the header may be sent on.
-#[derive(Clone, Copy)]
-pub enum Found {
-    Good(Header, Renewal),
-    Refused(u8),
-}
-
-// What building answers: the octets of the header that was written, or the number of the first check that failed.
-#[derive(Clone, Copy)]
-pub enum Built {
-    Done(usize),
-    Refused(u8),
 }

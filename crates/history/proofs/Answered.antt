@@ -7,6 +7,7 @@ use mathlib.Core.List.{List, [], ◌∷◌}
 use lib.ListN.{length}
 use lib.Dec.{eqb, ltb}
 use borrow.Author.Tests.{lt-ltb}
+use Rattle.std.proofs.Common.{Option, Some, None}
 use Rattle.checks.specs.Order.{pick, first_of}
 use Rattle.address.specs.Class.{class_of}
 use Rattle.address.specs.Path.{path_form}
@@ -19,13 +20,11 @@ use Rattle.address.specs.Path as pathed
 use Rattle.checksum.specs.Sum.{ones_sum, checksum_of}
 use Rattle.header.specs.Read.{read_checks, header_of, read_of}
 use Rattle.header.specs.declared.Header.{Header}
-use Rattle.header.specs.declared.Read.TheVariants as reader
+use Rattle.checks.specs.Told.{Good, Refused}
 use Rattle.echo.specs.Message.{echo_checks}
 use Rattle.echo.specs.Built.{build_checks}
 use Rattle.echo.specs.declared.Kind.TheVariants.{Request, Reply}
-use Rattle.routes.specs.Search.{search_of}
-use Rattle.routes.specs.declared.Found.{Found}
-use Rattle.routes.specs.declared.Found.TheVariants as found
+use Rattle.routes.specs.Search.{Found, search_of}
 use Rattle.lent_state.specs.View.{too_long}
 use Rattle.harpjuniper.specs.Face.{reading_of, numbers_checks}
 use Rattle.route_calls.specs.Search.{search_parts, found_number, search_answer}
@@ -85,7 +84,7 @@ record_row true u = refl
 record_row false u = place_row u
 
 read_row : (t : Bool) (n : ℕ) (h : Header) → stands (numbers (0 ∷ 1 ∷ 2 ∷ 4 ∷ 3 ∷ 5 ∷ []) ∷ []) (number n) ≡ true
-    → stands (numbers (0 ∷ 1 ∷ 2 ∷ 4 ∷ 3 ∷ 5 ∷ []) ∷ []) (number (reading_of (pick t (reader.Good h) (reader.Refused n))).refusal) ≡ true
+    → stands (numbers (0 ∷ 1 ∷ 2 ∷ 4 ∷ 3 ∷ 5 ∷ []) ∷ []) (number (reading_of (pick t (Good h) (Refused n))).refusal) ≡ true
 unfolding reading_of
 read_row true n h k = refl
 read_row false n h k = k
@@ -103,12 +102,12 @@ form_row : (f : PathForm) → stands (numbers (0 ∷ 1 ∷ []) ∷ []) (number (
 form_row shape.Invalid = refl
 form_row shape.Valid = refl
 
-found_row : (f : Found) → stands (numbers (21 ∷ 0 ∷ 256 ∷ []) ∷ []) (number (found_number f % 2 ^ 16)) ≡ true
+found_row : (f : Option Found) → stands (numbers (21 ∷ 0 ∷ 256 ∷ []) ∷ []) (number (found_number f % 2 ^ 16)) ≡ true
 unfolding search_parts
-found_row (found.At place ones r) = let e : search_parts 1 place ones r.port % 2 ^ 16 ≡ 256 = omega arith in rw e refl
-found_row found.No = refl
+found_row (Some top) = let e : search_parts 1 top.place top.ones top.route.port % 2 ^ 16 ≡ 256 = omega arith in rw e refl
+found_row None = refl
 
-search_row : (t : Bool) (f : Found) → stands (numbers (21 ∷ 0 ∷ 256 ∷ []) ∷ []) (number (pick t 21 (found_number f % 2 ^ 16))) ≡ true
+search_row : (t : Bool) (f : Option Found) → stands (numbers (21 ∷ 0 ∷ 256 ∷ []) ∷ []) (number (pick t 21 (found_number f % 2 ^ 16))) ≡ true
 search_row true f = refl
 search_row false f = found_row f
 

@@ -1,5 +1,6 @@
 -- Demand 3: after any history every counter is what the rules give over that history, modulo 2^32. One theorem for all counters, `counters`,
 -- at the end. Assumes nothing.
+use Rattle.std.specs.Prelude.{Option, Some, None}
 use native.Mathlib.Omega.{arith}
 use native.Mathlib.Nat.{add-zero, add_assoc, mod-add-mod, mod-eq_of_lt, mod-lt}
 use Prim.Native.Nat.{ℕ, ◌+◌, ◌%◌, ◌^◌, ◌<◌}
@@ -15,8 +16,6 @@ use Rattle.checks.specs.Order.{pick}
 use Rattle.state.specs.Relay.{counter_in, added}
 use Rattle.state.specs.Seen.{fresh_state}
 use Rattle.tally.specs.Tally.{Move, counted_at, counted_all}
-use Rattle.tally.specs.declared.Counter.{Counter}
-use Rattle.tally.specs.declared.Counter.TheVariants as counter
 use Rattle.history.specs.Seat.{Seat, fresh_seat}
 use Rattle.history.specs.Calls.{Call}
 use Rattle.history.specs.Outcome.{Outcome, outcome, next, sum_from}
@@ -46,17 +45,17 @@ module _ (i : ℕ) (inside : i < 18) where
   move_case l place n f false h =
       get_or-set_other l place i _ 0 (λ z. eqb-false place i h (sym z)) ∙ none_more (counter_in l i) f.small
 
-  move_one : (l : List ℕ) (c : Counter) (n : ℕ) → Fit l → counter_in (counted_at l c n) i ≡ (counter_in l i + pick (is_at c i) n 0) % 2 ^ 32
+  move_one : (l : List ℕ) (c : Option ℕ) (n : ℕ) → Fit l → counter_in (counted_at l c n) i ≡ (counter_in l i + pick (is_at c i) n 0) % 2 ^ 32
   unfolding counted_at
-  move_one l (counter.At place) n f = move_case l place n f (eqb place i) refl
-  move_one l counter.Nothing n f = none_more (counter_in l i) f.small
+  move_one l (Some place) n f = move_case l place n f (eqb place i) refl
+  move_one l None n f = none_more (counter_in l i) f.small
 
-  move_eighteen : (l : List ℕ) (c : Counter) (n : ℕ) → length l ≡ 18 → length (counted_at l c n) ≡ 18
+  move_eighteen : (l : List ℕ) (c : Option ℕ) (n : ℕ) → length l ≡ 18 → length (counted_at l c n) ≡ 18
   unfolding counted_at
-  move_eighteen l (counter.At place) n long = length-set l place _ ∙ long
-  move_eighteen l counter.Nothing n long = long
+  move_eighteen l (Some place) n long = length-set l place _ ∙ long
+  move_eighteen l None n long = long
 
-  move_fit : (l : List ℕ) (c : Counter) (n : ℕ) → Fit l → Fit (counted_at l c n)
+  move_fit : (l : List ℕ) (c : Option ℕ) (n : ℕ) → Fit l → Fit (counted_at l c n)
   move_fit l c n f = fit (counted_at l c n) _ (move_eighteen l c n f.eighteen) (move_one l c n f)
 
   -- all moves of a call counted

@@ -22,11 +22,10 @@ use Rattle.address.specs.declared.Class.TheVariants.{Unicast}
 use Rattle.address.specs.declared.Family.TheVariants.{Invalid}
 use Rattle.address.specs.declared.Slot.{Slot}
 use Rattle.header.specs.Build.{size_of, header_octets}
-use Rattle.header.specs.Read.{read_of}
+use Rattle.header.specs.Read.{read_of, Read}
 use Rattle.header.specs.declared.Fields.{Fields}
 use Rattle.header.specs.declared.Header.{Header}
-use Rattle.header.specs.declared.Read.{Read}
-use Rattle.header.specs.declared.Read.TheVariants.{Good, Refused}
+use Rattle.checks.specs.Told.{Good, Refused}
 use Rattle.header.proofs.Answers.{read_bounds}
 use Rattle.header.proofs.BuiltLaws.{header_length}
 use Rattle.networks.specs.Networks.{domain_of}
@@ -303,7 +302,7 @@ module _ (p : ℕ) (inside : p < 8) where
             fields = inr refl;
             aim = names.0 ∙ sym (ap (λ (x : Address). aim_of x.0 a.fields.addresses) told.arrival ∙ told.names);
             origin = names.1 ∙ ap (λ (x : Address). origin_of x.0 a.fields.addresses) (sym told.arrival);
-            domain = λ one. home (stays_home a.arrival.0 e.code far a.fields (λ b. absurd (omega (arith, b, free))) (eqb-true _ 1 one));
+            domain = λ one. home (stays_home a.arrival.0 e.code far a.fields (λ b. absurd (omega (arith, b, free))) one);
           })
 
     new_reply : in_set p (replied_by seat rs port octets room).ruling.took ≡ true

@@ -2,6 +2,7 @@
 -- the last second is the greatest that was accepted, and accepted seconds never fall (`last_is_greatest`, `seconds_never_fall`); a pair is flooded on at most
 -- once until a sweep frees it (`flooded_once`, `held_not_flooded`); a held pair goes to nobody, whatever port it comes by (`held_never_sent`); and "no" with
 -- "not asked" is said of a held pair alone (`unsaid_is_held`). Assumes nothing.
+use Rattle.std.specs.Prelude.{Option, None}
 use native.Mathlib.Omega.{arith}
 use native.Mathlib.Nat.{le_trans, le-max_left, max-zero, zero-max, max-eq_right}
 use native.Mathlib.Decide.{dec_le}
@@ -43,9 +44,7 @@ use Rattle.verdict.specs.Rule.{target_of, local_of, except_by, line_of, granted_
 use Rattle.verdict.specs.declared.Target.{Target}
 use Rattle.verdict.specs.declared.Target.TheVariants.{Path, Route}
 use Rattle.verdict.specs.declared.Place.{Place}
-use Rattle.verdict.specs.declared.Place.TheVariants.{Missing}
 use Rattle.verdict.specs.declared.Way.{Way}
-use Rattle.verdict.specs.declared.Way.TheVariants.{Lost}
 use Rattle.verdict.specs.declared.Flood.TheVariants.{Plain, Unsent}
 use Rattle.verdict.specs.declared.Case.{Case}
 use Rattle.verdict.specs.declared.Survey.{Survey}
@@ -546,7 +545,7 @@ line_not (wish.Refused o) never = absurd (never refl)
 line_not (wish.Wanted set) never = absurd (never refl)
 
 -- a ruling that says both is that of a flood which the pairs, or the destination, keep here
-ruled_unsaid : (t : Target) (p : Place) (w : Way) (c : Case) (s : Survey) → (ruled_by t p w c s).local ≡ No → (ruled_by t p w c s).onward ≡ NotAsked
+ruled_unsaid : (t : Target) (p : Option Place) (w : Option Way) (c : Case) (s : Survey) → (ruled_by t p w c s).local ≡ No → (ruled_by t p w c s).onward ≡ NotAsked
     → c.flood ≡ Unsent
 unfolding ruled_by
 ruled_unsaid t p w c s l o =
@@ -560,8 +559,8 @@ unfolding rule_target
 aim_unsaid r (aim.Node a) c s l o =
     let t = target_of (class_of a.0) s in
     ruled_unsaid t (place_for r t a c.arrival) (way_for r t a) c s l o
-aim_unsaid r (aim.Path y) c s l o = ruled_unsaid Path (path_place r y) Lost c s l o
-aim_unsaid r aim.Uncarried c s l o = ruled_unsaid Route Missing Lost c s l o
+aim_unsaid r (aim.Path y) c s l o = ruled_unsaid Path (path_place r y) None c s l o
+aim_unsaid r aim.Uncarried c s l o = ruled_unsaid Route None None c s l o
 
 rule_unsaid : (r : Relay) (at : Arrival) (x : Aim) (h : Header) → (rule_of r at x h).local ≡ No → (rule_of r at x h).onward ≡ NotAsked
     → flood_for r at x h ≡ Unsent

@@ -41,9 +41,8 @@ use Rattle.records.specs.Owned.{seen_port}
 use Rattle.state.specs.Relay.{queue_at, among_ports, port_set_up}
 use Rattle.state.specs.Seen.{fresh_board, fresh_mission, fresh_memory, ports_seen}
 use Rattle.survey.specs.Survey.{named_below, own_broadcast, survey_below}
-use Rattle.taking.specs.Taking.{take_outcome, taken_relay}
-use Rattle.taking.specs.declared.Taking.{Taking}
-use Rattle.taking.specs.declared.Taking.TheVariants.{Handed, Refused}
+use Rattle.taking.specs.Taking.{take_outcome, taken_relay, Taking}
+use Rattle.checks.specs.Told.{Good, Refused}
 use Rattle.floods.specs.Memory.{flood_of, remembering}
 use Rattle.judge.specs.Ruling.{ruled_by, rule_target, rule_of, legs_for}
 use Rattle.next_leg.specs.Leg.{rewrites, next_length, next_header, legs_of}
@@ -410,7 +409,7 @@ module _ (p m : ℕ) where
   other_take_idle cs q other = (refl, by (take_outcome (relay_in (seat_after m cs)) q))
     where
       by : (t : Taking) → out_by p (of_taking q t).out ≡ 0
-      by (Handed e) = rw (ne_eqb q p other) refl
+      by (Good e) = rw (ne_eqb q p other) refl
       by (Refused n) = refl
 
   -- and whatever is refused.
@@ -424,7 +423,7 @@ module _ (p m : ℕ) where
   refused_idle cs (own (takes q)) refused = (refl, by (take_outcome (relay_in (seat_after m cs)) q) refused)
     where
       by : (t : Taking) → is_refusal (of_taking q t).answer ≡ true → out_by p (of_taking q t).out ≡ 0
-      by (Handed e) h = true_false (sym h)
+      by (Good e) h = true_false (sym h)
       by (Refused n) h = refl
   refused_idle cs (own (sweeps second)) refused = sweep_idle cs second
   refused_idle cs (own (looks l)) refused = look_idle cs l

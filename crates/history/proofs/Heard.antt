@@ -9,10 +9,9 @@ use lib.Dec.{eqb}
 use borrow.Author.Tests.{eqb-true, eqb-false}
 use Rattle.checks.specs.Order.{pick, Checks, first_of, NoneHolds}
 use Rattle.checks.proofs.Laws.{either, zero_none, first_number}
-use Rattle.header.specs.Read.{read_checks, read_of}
+use Rattle.header.specs.Read.{read_checks, read_of, Read}
 use Rattle.header.specs.declared.Header.{Header}
-use Rattle.header.specs.declared.Read.{Read}
-use Rattle.header.specs.declared.Read.TheVariants as read
+use Rattle.checks.specs.Told.{Good, Refused}
 use Rattle.header.proofs.Refusals.{read_refused, never_zero}
 use Rattle.meaning.specs.Arrival.{arrival_checks}
 use Rattle.meaning.specs.Flood.{pair_of}
@@ -47,10 +46,10 @@ module _ (seat : Seat) (rs : List Record) (port second : ℕ) (octets : List ℕ
 
 -- ---- which numbers accept no second
 -- the reader's are none of 21, 16, 17 and 29
-read_heard : (s : List ℕ) (n : ℕ) → read_of s ≡ read.Refused n → is_unheard n ≡ false
+read_heard : (s : List ℕ) (n : ℕ) → read_of s ≡ Refused n → is_unheard n ≡ false
 unfolding read_checks
 read_heard s n e =
-    let is = first_number (read_checks s) n ((read_refused s n (λ z. never_zero s (e ∙ ap read.Refused z))).0 e) in
+    let is = first_number (read_checks s) n ((read_refused s n (λ z. never_zero s (e ∙ ap Refused z))).0 e) in
     ap is_unheard (sym is) ∙ every_check (λ (m : ℕ). is_unheard m ≡ false) (read_checks s) (refl, (refl, (refl, (refl, (refl, (refl, tt)))))) refl
 
 -- ---- the ending and what is remembered, together. What holds where the second is not accepted, of every refusal after it, and of every header that is
@@ -64,7 +63,7 @@ module _ (seat : Seat) (rs : List Record) (port second : ℕ) (octets : List ℕ
 
   -- the header is good, and the pairs are asked of it
   abbrev pub Ruled : Type 0
-  Ruled = is_past seat.memory second ≡ false → (h : Header) → read_of octets ≡ read.Good h → NoneHolds (arrival_checks at.address h.fields)
+  Ruled = is_past seat.memory second ≡ false → (h : Header) → read_of octets ≡ Good h → NoneHolds (arrival_checks at.address h.fields)
       → P (ruled_ending r at h)
       (remembering (flood_for r at (aim_of at.address.0 h.fields.addresses) h) (pair_of at.address.0 h.fields) second seat.memory)
 
@@ -72,7 +71,7 @@ module _ (seat : Seat) (rs : List Record) (port second : ℕ) (octets : List ℕ
       (refused : is_past seat.memory second ≡ false → (n : ℕ) → (n ≡ 0 → ⊥) → is_unheard n ≡ false → P (refused_by n) (put_last seat.memory second))
       (ruled : Ruled) where
     module _ (now : is_past seat.memory second ≡ false) where
-      by_header : (h : Header) → read_of octets ≡ read.Good h → P (header_ending r at h) (header_memory r at second h)
+      by_header : (h : Header) → read_of octets ≡ Good h → P (header_ending r at h) (header_memory r at second h)
       unfolding header_ending header_memory remembering
       by_header h is = by_number (eqb (first_of cs) 0) refl
         where
@@ -90,8 +89,8 @@ module _ (seat : Seat) (rs : List Record) (port second : ℕ) (octets : List ℕ
               (every_check (λ (n : ℕ). is_unheard n ≡ false) cs (refl, (refl, (refl, (refl, (refl, tt))))) refl)
 
       by_read : (x : Read) → read_of octets ≡ x → P (octets_ending r at x) (octets_memory r at second x)
-      by_read (read.Good h) is = by_header h is
-      by_read (read.Refused n) is = refused now n (λ z. never_zero octets (is ∙ ap read.Refused z)) (read_heard octets n is)
+      by_read (Good h) is = by_header h is
+      by_read (Refused n) is = refused now n (λ z. never_zero octets (is ∙ ap Refused z)) (read_heard octets n is)
 
     by_call : (room : ℕ) → P (ending_of r port second octets room) (memory_of r port second octets room)
     unfolding ending_of memory_of call_checks

@@ -15,14 +15,12 @@ use Rattle.sets.specs.Sets.{in_set}
 use Rattle.address.specs.declared.Slot.{Slot}
 use Rattle.queue.specs.Queue.{fresh as fresh_queue, put_of, take_of}
 use Rattle.queue.specs.declared.Entry.{Entry}
-use Rattle.queue.specs.declared.Head.{Head}
-use Rattle.queue.specs.declared.Head.TheVariants.{First, Nothing}
+use Rattle.std.proofs.Common.{Option, Some, None}
 use Rattle.queue.specs.declared.Queue.{Queue}
 use Rattle.state.specs.Relay.{Relay, queue_at, queue_in, port_set_up}
 use Rattle.state.specs.Seen.{fresh_mission}
-use Rattle.taking.specs.Taking.{hands_out, without, take_outcome, taken_relay}
-use Rattle.taking.specs.declared.Taking.{Taking}
-use Rattle.taking.specs.declared.Taking.TheVariants.{Handed, Refused}
+use Rattle.taking.specs.Taking.{hands_out, without, take_outcome, taken_relay, Taking}
+use Rattle.checks.specs.Told.{Good, Refused}
 use Rattle.judge.specs.declared.Ending.{Ending}
 use Rattle.relay.specs.Received.{new_entry, received_relay}
 use Rattle.answering.specs.Echoed.{as_ending}
@@ -37,9 +35,9 @@ use Rattle.history.proofs.Queues.{Eight, eight_entered, entered_queue, put_count
 use Rattle.history.proofs.Settled.{queues_of, settle_queues}
 
 -- ---- eight queues stay
-without_eight : (r : Relay) (port : ℕ) (q : Queue) (h : Head) → Eight r → Eight (without r port q h)
-without_eight r port q (First e) l = length-set (queues_of r) port q ∙ l
-without_eight r port q Nothing l = l
+without_eight : (r : Relay) (port : ℕ) (q : Queue) (h : Option Entry) → Eight r → Eight (without r port q h)
+without_eight r port q (Some e) l = length-set (queues_of r) port q ∙ l
+without_eight r port q None l = l
 
 taken_eight : (r : Relay) (port : ℕ) → Eight r → Eight (taken_relay r port)
 unfolding taken_relay
@@ -91,12 +89,12 @@ module _ (p : ℕ) (inside : p < 8) where
   received_closes seat slot e l f = omega (arith, received_count seat slot e l f, f.split)
 
   -- ---- taking
-  take_closes : (r : Relay) (port : ℕ) → Eight r → (t : Bool) (h : Head) → (take_of (queue_in r port)).head ≡ h → (u : Bool) → eqb port p ≡ u
+  take_closes : (r : Relay) (port : ℕ) → Eight r → (t : Bool) (h : Option Entry) → (take_of (queue_in r port)).head ≡ h → (u : Bool) → eqb port p ≡ u
       → (queue_in r p).count
       ≡ handed_out p (of_taking port (pick t (Refused 16) (hands_out h))) + (queue_in (pick t r (without r port (take_of (queue_in r port)).queue h)) p).count
   take_closes r port l true h e u z = omega arith
-  take_closes r port l false Nothing e u z = omega arith
-  take_closes r port l false (First x) e true z =
+  take_closes r port l false None e u z = omega arith
+  take_closes r port l false (Some x) e true z =
       let same = eqb-true port p z in
       let left : get_or (set (queues_of r) port (take_of (queue_in r port)).queue) p fresh_queue ≡ (take_of (queue_in r port)).queue =
       ap (λ (n : ℕ). get_or (set (queues_of r) port (take_of (queue_in r port)).queue) n fresh_queue) (sym same)
@@ -104,7 +102,7 @@ module _ (p : ℕ) (inside : p < 8) where
       ap (λ (n : ℕ). (queue_in r n).count) (sym same)
       ∙ take_count (queue_in r port) x e
       ∙ omega (arith, ap one z, ap (λ (q : Queue). q.count) left)
-  take_closes r port l false (First x) e false z =
+  take_closes r port l false (Some x) e false z =
       let other = get_or-set_other (queues_of r) port p (take_of (queue_in r port)).queue fresh_queue (λ w. eqb-false port p z (sym w)) in
       omega (arith, ap one z, ap (λ (q : Queue). q.count) other)
 
@@ -114,7 +112,7 @@ module _ (p : ℕ) (inside : p < 8) where
   taken_closes r port l = take_closes r port l (not (port_set_up r port)) (take_of (queue_in r port)).head refl (eqb port p) refl
 
   grants_none : (port : ℕ) (x : Taking) → (granted p (of_taking port x) ≡ 0) × (dropped p (of_taking port x) ≡ 0)
-  grants_none port (Handed e) = (ap one (in_none p), ap one (in_none p))
+  grants_none port (Good e) = (ap one (in_none p), ap one (in_none p))
   grants_none port (Refused n) = (ap one (in_none p), ap one (in_none p))
 
   -- ---- each call, and then all

@@ -19,8 +19,8 @@ use Rattle.queue.specs.Queue.{fresh as new_queue, put_of, take_of}
 use Rattle.queue.specs.Waits.{Chosen, nobody, one, chosen, rank_by, Highest, Waits}
 use Rattle.queue.specs.Foretold.{how_many}
 use Rattle.queue.proofs.Foretold.{many_append}
-use Rattle.queue.specs.declared.Head.{Head}
-use Rattle.queue.specs.declared.Head.TheVariants.{First, Nothing}
+use Rattle.queue.specs.declared.Entry.{Entry}
+use Rattle.std.proofs.Common.{Option, Some, None}
 use Rattle.queue.specs.declared.Queue.{Queue}
 use Rattle.queue.proofs.Each.{each_so, each_append, order_append, order_without}
 use Rattle.queue.proofs.Waits.{EachOf, chosen_each, chosen_asked, waits_fresh, waits_count, waits_put, waits_take, waits_nothing}
@@ -29,7 +29,7 @@ use Rattle.address.specs.declared.Slot.{Slot}
 use Rattle.state.specs.Relay.{Relay, queue_at, queue_in, port_set_up}
 use Rattle.state.specs.Seen.{fresh_mission}
 use Rattle.taking.specs.Taking.{hands_out, without, take_outcome, taken_relay}
-use Rattle.taking.specs.declared.Taking.TheVariants.{Refused}
+use Rattle.checks.specs.Told.{Refused}
 use Rattle.relay.specs.Received.{received_relay}
 use Rattle.history.specs.Seat.{Seat, fresh_seat, relay_in, heard_by, answering_by, replied_by}
 use Rattle.history.specs.Calls.{orders, views, sets, hears, echoes, takes, sweeps, looks, Call, operator, own, settle}
@@ -92,20 +92,20 @@ module _ (p : ℕ) (inside : p < 8) where
 
   -- ---- a take
   take_case : (r : Relay) (n port : ℕ) (line : List Copy) → Eight r → Held r line
-      → (t : Bool) (h : Head) → (take_of (queue_in r port)).head ≡ h → (u : Bool) → eqb port p ≡ u → (c : Chosen Copy) → chosen (rank_by entry_of) line ≡ c
+      → (t : Bool) (h : Option Entry) → (take_of (queue_in r port)).head ≡ h → (u : Bool) → eqb port p ≡ u → (c : Chosen Copy) → chosen (rank_by entry_of) line ≡ c
       → Waits entry_of (queue_in (pick t r (without r port (take_of (queue_in r port)).queue h)) p)
       (left_by p (of_taking port (pick t (Refused 16) (hands_out h))).out line c)
   take_case r n port line l w true h e u z c is = w
-  take_case r n port line l w false Nothing e u z c is = w
-  take_case r n port line l w false (First x) e false z nobody is =
+  take_case r n port line l w false None e u z c is = w
+  take_case r n port line l w false (Some x) e false z nobody is =
       rw (get_or-set_other (queues_of r) port p (take_of (queue_in r port)).queue new_queue (λ y. eqb-false port p z (sym y))) w
-  take_case r n port line l w false (First x) e false z (one y others) is =
+  take_case r n port line l w false (Some x) e false z (one y others) is =
       rw (z, get_or-set_other (queues_of r) port p (take_of (queue_in r port)).queue new_queue (λ y. eqb-false port p z (sym y))) w
-  take_case r n port line l w false (First x) e true z nobody is =
+  take_case r n port line l w false (Some x) e true z nobody is =
       let empty : line ≡ [] = rw is at (chosen_asked (rank_by entry_of) line) in
       let none = (waits_nothing entry_of w).1 empty in
       true_false (cc (none, e, eqb-true port p z))
-  take_case r n port line l w false (First x) e true z (one y others) is =
+  take_case r n port line l w false (Some x) e true z (one y others) is =
       let same = eqb-true port p z in
       let left : get_or (set (queues_of r) port (take_of (queue_in r port)).queue) p new_queue ≡ (take_of (queue_in r p)).queue =
       ap (λ (n : ℕ). get_or (set (queues_of r) port (take_of (queue_in r port)).queue) n new_queue) (sym same)

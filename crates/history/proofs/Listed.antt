@@ -1,5 +1,6 @@
 -- Demand 1: every call's answer is one of the numbers and values that page 01 lists for it. The table is written out in specs/Answers.antt; that an
 -- answer stands in it is one computed test. Assumes nothing.
+use Rattle.std.specs.Prelude.{Option, Some, None}
 use Prim.Native.Nat.{ℕ}
 use mathlib.Core.Path.{◌≡◌, refl, sym, ap, ◌∙◌}
 use mathlib.Core.Bool.{Bool, true, false, not, ◌&&◌, ◌||◌, or-true}
@@ -11,21 +12,18 @@ use Rattle.checks.specs.Order.{pick, Checks, first_of}
 use Rattle.checks.proofs.Bools.{true_false, and_true}
 use Rattle.checks.proofs.Laws.{either}
 use Rattle.address.specs.Class.{class_of}
-use Rattle.header.specs.Read.{read_checks, header_of, read_of}
+use Rattle.header.specs.Read.{read_checks, header_of, read_of, Read}
 use Rattle.header.specs.declared.Header.{Header}
-use Rattle.header.specs.declared.Read.{Read}
-use Rattle.header.specs.declared.Read.TheVariants as read
+use Rattle.checks.specs.Told as told
 use Rattle.state.specs.Relay.{Relay, queue_in, port_set_up}
 use Rattle.queue.specs.Queue.{take_of}
-use Rattle.queue.specs.declared.Head.{Head}
-use Rattle.queue.specs.declared.Head.TheVariants.{First, Nothing}
+use Rattle.queue.specs.declared.Entry.{Entry}
+use Rattle.std.proofs.Common.{Option, Some, None}
 use Rattle.verdict.specs.Rule.{target_of, local_of, except_by, alone_by, group_line, path_line, route_line, router_line, unheard_by, host_line, plain_line, flood_line, line_of, after_hops, after_domain, after_size, granted_of, copies_of, ruling_of}
 use Rattle.verdict.specs.declared.Target.{Target}
 use Rattle.verdict.specs.declared.Target.TheVariants as target
 use Rattle.verdict.specs.declared.Place.{Place}
-use Rattle.verdict.specs.declared.Place.TheVariants.{Held, Missing}
 use Rattle.verdict.specs.declared.Way.{Way}
-use Rattle.verdict.specs.declared.Way.TheVariants.{By, Lost}
 use Rattle.verdict.specs.Numbers.{local_number, obstacle_number, onward_number}
 use Rattle.verdict.specs.declared.Flood.{Flood}
 use Rattle.verdict.specs.declared.Flood.TheVariants.{Plain, Unsent, Full, New}
@@ -54,7 +52,6 @@ use Rattle.meaning.specs.Arrival.{arrival_checks}
 use Rattle.taking.specs.Taking.{hands_out, take_outcome}
 use Rattle.judge.specs.Ending.{no_ruling, refused_by, ruled_ending, call_checks, header_ending, octets_ending, arrival_at, ending_of}
 use Rattle.judge.specs.declared.Ending.{Ending}
-use Rattle.taking.specs.declared.Taking.TheVariants as taking
 use Rattle.routes.specs.declared.Record.{Record}
 use Rattle.state.specs.Seen.{Board}
 use Rattle.refusals.specs.Lists.{port_checks, route_checks, clear_route_checks, group_checks, path_checks, flag_checks, clear_checks}
@@ -111,7 +108,7 @@ abbrev EndListed : Ending → Type 0
 EndListed e = listed end_numbers e.refusal ≡ true
 
 read_case : (r : Relay) (at : Arrival) (t : Bool) (n : ℕ) (h : Header) → listed end_numbers n ≡ true
-    → EndListed (octets_ending r at (pick t (read.Good h) (read.Refused n)))
+    → EndListed (octets_ending r at (pick t (told.Good h) (told.Refused n)))
 unfolding header_ending
 read_case r at true n h k =
     let m = first_of (arrival_checks at.address h.fields) in
@@ -162,24 +159,24 @@ module _ (bare : Bool) where
   other : (o : Obstacle) → is_ours o ≡ true → numbered bare (Refused o) ≡ true
   other o h = rw h (or-true bare)
 
-  group_numbered : (p : Place) (arrival others : ℕ) → Numbered (group_line p arrival others)
+  group_numbered : (p : Option Place) (arrival others : ℕ) → Numbered (group_line p arrival others)
   unfolding group_line
-  group_numbered Missing arrival others = other NoRoute refl
-  group_numbered (Held send word) arrival others =
-      either Numbered (eqb (alone_by word others) 1) refl (either Numbered (eqb (except_by send arrival) 0) (other NoRoute refl) refl)
+  group_numbered None arrival others = other NoRoute refl
+  group_numbered (Some place) arrival others =
+      either Numbered (alone_by place.here others) refl (either Numbered (eqb (except_by place.send arrival) 0) (other NoRoute refl) refl)
 
-  path_numbered : (p : Place) (arrival : ℕ) → Numbered (path_line p arrival)
+  path_numbered : (p : Option Place) (arrival : ℕ) → Numbered (path_line p arrival)
   unfolding path_line
-  path_numbered Missing arrival = other NoRoute refl
-  path_numbered (Held send here) arrival =
-      either Numbered (not (eqb (except_by send arrival) 0)) refl (either Numbered (not (eqb here 0)) refl (other NoRoute refl))
+  path_numbered None arrival = other NoRoute refl
+  path_numbered (Some place) arrival =
+      either Numbered (not (eqb (except_by place.send arrival) 0)) refl (either Numbered (not (eqb place.here 0)) refl (other NoRoute refl))
 
-  route_numbered : (w : Way) → Numbered (route_line w)
+  route_numbered : (w : Option Way) → Numbered (route_line w)
   unfolding route_line
-  route_numbered Lost = other NoRoute refl
-  route_numbered (By port code) = refl
+  route_numbered None = other NoRoute refl
+  route_numbered (Some way) = refl
 
-  router_numbered : (t : Target) (p : Place) (w : Way) (arrival ready : ℕ) → Numbered (router_line t p w arrival ready)
+  router_numbered : (t : Target) (p : Option Place) (w : Option Way) (arrival ready : ℕ) → Numbered (router_line t p w arrival ready)
   router_numbered target.Here p w arrival ready = refl
   router_numbered target.Broadcast p w arrival ready = either Numbered (eqb (except_by ready arrival) 0) refl refl
   router_numbered target.Group p w arrival ready = group_numbered p arrival (except_by ready arrival)
@@ -205,7 +202,7 @@ flood_numbered bare Unsent others l h = refl
 flood_numbered bare Full others l h = other bare PairsHeld refl
 flood_numbered bare (New place) others l h = either (Numbered bare) (eqb others 0) (other bare NoRoute refl) refl
 
-line_numbered : (t : Target) (p : Place) (w : Way) (c : Case) (ready : ℕ) (local : Local)
+line_numbered : (t : Target) (p : Option Place) (w : Option Way) (c : Case) (ready : ℕ) (local : Local)
     → numbered (is_no local) (line_of t p w c ready local) ≡ true
 unfolding line_of plain_line
 line_numbered t p w c ready local =
@@ -294,7 +291,7 @@ local_case No l full k = not_delivered l full
 local_case Delivered l full k = delivered Delivered refl refl l full k
 local_case Unknown l full k = delivered Unknown refl refl l full k
 
-judged : (t : Target) (p : Place) (w : Way) (c : Case) (s : Survey) → Judged (ruled_by t p w c s)
+judged : (t : Target) (p : Option Place) (w : Option Way) (c : Case) (s : Survey) → Judged (ruled_by t p w c s)
 unfolding ruled_by
 judged t p w c s =
     let local = local_of t p c in
@@ -305,14 +302,14 @@ judged t p w c s =
 
 -- a law of every ruling, and of none, is one of every ending
 module _ (P : Ruling → Type 0)
-    (every : (r : Relay) (x : Aim) (q : Sought) (t : Target) (p : Place) (w : Way) (c : Case) → P (ruled_by t p w c (survey_of r (destination_asked x) q))) where
+    (every : (r : Relay) (x : Aim) (q : Sought) (t : Target) (p : Option Place) (w : Option Way) (c : Case) → P (ruled_by t p w c (survey_of r (destination_asked x) q))) where
   every_aim : (r : Relay) (q : Sought) (x : Aim) (c : Case) → P (rule_aim r x c (survey_of r (destination_asked x) q))
   unfolding rule_target
   every_aim r q (Node a) c =
       let t = target_of (class_of a.0) (survey_of r (destination_asked (Node a)) q) in
       every r (Node a) q t (place_for r t a c.arrival) (way_for r t a) c
-  every_aim r q (Path x) c = every r (Path x) q target.Path (path_place r x) Lost c
-  every_aim r q Uncarried c = every r Uncarried q target.Route Missing Lost c
+  every_aim r q (Path x) c = every r (Path x) q target.Path (path_place r x) None c
+  every_aim r q Uncarried c = every r Uncarried q target.Route None None c
 
   every_rule : (r : Relay) (at : Arrival) (x : Aim) (h : Header) → P (rule_of r at x h)
   unfolding rule_of
@@ -324,10 +321,10 @@ module _ (P : Ruling → Type 0)
 
   ended_read : (r : Relay) (at : Arrival) (s : List ℕ) (x : Read) → read_of s ≡ x → (octets_ending r at x).refusal ≡ 0 → P (octets_ending r at x).ruling
   unfolding header_ending
-  ended_read r at s (read.Good h) e z =
+  ended_read r at s (told.Good h) e z =
       let n = first_of (arrival_checks at.address h.fields) in
       ended_or (eqb n 0) n (ruled_ending r at h) refl (λ k. every_rule r at (aim_of at.address.0 h.fields.addresses) h) z
-  ended_read r at s (read.Refused n) e z = absurd (never_zero s (e ∙ ap read.Refused z))
+  ended_read r at s (told.Refused n) e z = absurd (never_zero s (e ∙ ap told.Refused z))
 
   -- of every call that no refusal ended
   pub of_every_ending : (r : Relay) (port second : ℕ) (octets : List ℕ) (room : ℕ)
@@ -391,10 +388,10 @@ never_twelve seat rs port second octets room =
     )
 
 -- ---- taking
-taken_case : (port : ℕ) (t : Bool) (h : Head) → stands (numbers (16 ∷ 18 ∷ []) ∷ entries ∷ []) (of_taking port (pick t (taking.Refused 16) (hands_out h))).answer ≡ true
+taken_case : (port : ℕ) (t : Bool) (h : Option Entry) → stands (numbers (16 ∷ 18 ∷ []) ∷ entries ∷ []) (of_taking port (pick t (told.Refused 16) (hands_out h))).answer ≡ true
 taken_case port true h = refl
-taken_case port false (First x) = refl
-taken_case port false Nothing = refl
+taken_case port false (Some x) = refl
+taken_case port false None = refl
 
 -- ---- settings
 pub number_row : (ns : List ℕ) (cs : Checks) → listed ns 0 ≡ true → all_listed ns cs ≡ true → stands (numbers ns ∷ []) (number (first_of cs)) ≡ true

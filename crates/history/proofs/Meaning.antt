@@ -9,10 +9,10 @@ use Rattle.checks.proofs.Bools.{not-false}
 use Rattle.sets.specs.Sets.{in_set}
 use Rattle.header.specs.Read.{read_of}
 use Rattle.header.specs.declared.Header.{Header}
-use Rattle.header.specs.declared.Read.TheVariants.{Good}
+use Rattle.checks.specs.Told.{Good}
 use Rattle.header.proofs.Refusals.{read_good}
 use Rattle.networks.specs.Networks.{domain_of}
-use Rattle.meaning.specs.Names.{aim_of, origin_of, is_basic, is_bound}
+use Rattle.meaning.specs.Names.{aim_of, origin_of, is_bound}
 use Rattle.next_leg.specs.Leg.{next_fields}
 use Rattle.next_leg.proofs.Names.{same_aim, same_origin, stays_home}
 use Rattle.routes.specs.declared.Route.{Route}
@@ -55,7 +55,7 @@ module _ (more : Route → Route → Bool) (r : Relay) (chooses : Chooses more r
 
   -- A one-octet address goes out into no other domain.
   pub stays_near : one_octet (next_fields far arrival code h.fields).addresses ≡ true → far ≡ false
-  stays_near one = stays_home arrival code far h.fields bound (eqb-true (is_basic (next_fields far arrival code h.fields).addresses) 1 one)
+  stays_near one = stays_home arrival code far h.fields bound one
 
   pub stays_in_its_domain : one_octet (next_fields far arrival code h.fields).addresses ≡ true → domain_of (port_in r p).address ≡ domain_of (port_in r port).address
   stays_in_its_domain one = home (stays_near one)

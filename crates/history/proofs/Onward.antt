@@ -1,5 +1,6 @@
 -- Demand 1, the last sentence: an unknown transport number refuses local delivery alone. Two cases that differ in whether the TP-ID is assigned have
 -- the same onward half: the same number, copies granted, taken and dropped. Assumes nothing.
+use Rattle.std.specs.Prelude.{Option}
 use Prim.Native.Nat.{ℕ}
 use mathlib.Core.Path.{◌≡◌, refl, ap, ◌∙◌}
 use Rattle.verdict.specs.Rule.{local_of, line_of, after_hops, after_domain, after_size, granted_of, copies_of, ruling_of}
@@ -39,7 +40,7 @@ with_assigned c n =
       flood = c.flood;
     }
 
-pub onward_free_of_tpid : (t : Target) (p : Place) (w : Way) (c : Case) (n : ℕ) (s : Survey)
+pub onward_free_of_tpid : (t : Target) (p : Option Place) (w : Option Way) (c : Case) (n : ℕ) (s : Survey)
     → onward_half (ruled_by t p w c s) ≡ onward_half (ruled_by t p w (with_assigned c n) s)
 unfolding ruled_by granted_of
 onward_free_of_tpid t p w c n s =

@@ -16,7 +16,7 @@ use Rattle.checks.proofs.Laws.{either}
 use Rattle.sets.specs.Sets.{in_set, only_port}
 use Rattle.queue.specs.Queue.{put_of, take_of, taken_from, waiting}
 use Rattle.queue.specs.declared.Entry.{Entry}
-use Rattle.queue.specs.declared.Head.TheVariants.{First, Nothing}
+use Rattle.std.proofs.Common.{Some, None}
 use Rattle.queue.specs.declared.Queue.{Queue}
 use Rattle.state.specs.Relay.{Relay, queue_in}
 use Rattle.relay.specs.Outgoing.{entered, entered_if, entered_all}
@@ -75,23 +75,23 @@ pub put_count : (q : Queue) (e : Entry) → ltb q.count 32 ≡ true → (put_of 
 unfolding put_of
 put_count q e h = simp (h)
 
-nothing_first : {X : Type 0} (e : Entry) → Nothing ≡ First e → X
+nothing_first : {X : Type 0} (e : Entry) → None ≡ Some e → X
 nothing_first e h = true_false cc
 
-one_waits : (q : Queue) (l : List Entry) (e : Entry) (n : ℕ) → (taken_from q (take n l)).head ≡ First e → 0 < n
+one_waits : (q : Queue) (l : List Entry) (e : Entry) (n : ℕ) → (taken_from q (take n l)).head ≡ Some e → 0 < n
 one_waits q l e zero h = nothing_first e h
 one_waits q l e (suc n) h = omega arith
 
-one_less : (q : Queue) (w : List Entry) (e : Entry) → 0 < q.count → (taken_from q w).head ≡ First e → q.count ≡ 1 + (taken_from q w).queue.count
+one_less : (q : Queue) (w : List Entry) (e : Entry) → 0 < q.count → (taken_from q w).head ≡ Some e → q.count ≡ 1 + (taken_from q w).queue.count
 one_less q [] e h k = nothing_first e k
 one_less q (x ∷ xs) e h k = omega arith
 
 take_case : (t : Bool) (q : Queue) (e : Entry)
-    → (pick t (record { queue = q; head = Nothing }) (taken_from q (waiting q))).head ≡ First e
-    → q.count ≡ 1 + (pick t (record { queue = q; head = Nothing }) (taken_from q (waiting q))).queue.count
+    → (pick t (record { queue = q; head = None }) (taken_from q (waiting q))).head ≡ Some e
+    → q.count ≡ 1 + (pick t (record { queue = q; head = None }) (taken_from q (waiting q))).queue.count
 take_case true q e h = nothing_first e h
 take_case false q e h = one_less q (waiting q) e (one_waits q q.entries e q.count h) h
 
-pub take_count : (q : Queue) (e : Entry) → (take_of q).head ≡ First e → q.count ≡ 1 + (take_of q).queue.count
+pub take_count : (q : Queue) (e : Entry) → (take_of q).head ≡ Some e → q.count ≡ 1 + (take_of q).queue.count
 unfolding take_of
 take_count q e h = take_case (ltb 32 q.count) q e h

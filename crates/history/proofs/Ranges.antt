@@ -13,18 +13,17 @@ use native.Mathlib.Decide.{dec_le}
 use mathlib.Core.Logic.{by_cases}
 use lib.Pow.{pow_mono}
 use borrow.Author.Tests.{ltb-true, ltb-false}
+use Rattle.std.specs.Prelude.{Option, Some, None}
 use Rattle.checks.specs.Order.{pick, first_of}
 use Rattle.checks.proofs.Bools.{true_false, refuted, and_true, not-false}
 use Rattle.checks.proofs.Laws.{either}
 use Rattle.sets.specs.Sets.{in_set}
 use Rattle.header.specs.Build.{header_octets}
 use Rattle.header.specs.Range.{QosFits}
-use Rattle.header.specs.Read.{header_of, read_of}
+use Rattle.header.specs.Read.{header_of, read_of, Read}
 use Rattle.header.specs.declared.Header.{Header}
 use Rattle.header.specs.declared.Qos.{Qos}
-use Rattle.header.specs.declared.Qos.TheVariants as qos
-use Rattle.header.specs.declared.Read.{Read}
-use Rattle.header.specs.declared.Read.TheVariants as read
+use Rattle.checks.specs.Told.{Good, Refused}
 use Rattle.header.proofs.Answers.{read_in_range}
 use Rattle.header.proofs.BuiltLaws.{append_small, header_small}
 use Rattle.echo.specs.Message.{message_octets}
@@ -49,7 +48,6 @@ use Rattle.refusals.specs.Lists.{port_checks, path_checks}
 use Rattle.refusals.proofs.Chains.{decided}
 use Rattle.adjust.specs.Settled.{new_port}
 use Rattle.taking.specs.Taking.{take_outcome}
-use Rattle.taking.specs.declared.Taking.TheVariants.{Handed}
 use Rattle.floods.specs.Sweep.{is_old, is_past, swept, sweep_checks, swept_memory}
 use Rattle.floods.proofs.Swept.{place_swept}
 use Rattle.judge.specs.Ending.{refused_by, call_checks, ruled_ending, header_ending, octets_ending, arrival_at, ending_of}
@@ -276,13 +274,13 @@ fresh_memory_lem =
 
 -- ---- what holds of every refusal, and of the ending of every header that is read, holds of the ending
 module _ (P : Ending → Type 0) (none : (n : ℕ) → P (refused_by n)) (r : Relay) (port second : ℕ) (octets : List ℕ)
-    (ruled : (h : Header) → read_of octets ≡ read.Good h → P (ruled_ending r (arrival_at r port) h)) where
+    (ruled : (h : Header) → read_of octets ≡ Good h → P (ruled_ending r (arrival_at r port) h)) where
   octets_so : (x : Read) → read_of octets ≡ x → P (octets_ending r (arrival_at r port) x)
   unfolding header_ending
-  octets_so (read.Good h) is =
+  octets_so (Good h) is =
       let n = first_of (arrival_checks (port_in r port).address h.fields) in
       either P (eqb n 0) (ruled h is) (none n)
-  octets_so (read.Refused n) is = none n
+  octets_so (Refused n) is = none n
 
   ending_so : (room : ℕ) → P (ending_of r port second octets room)
   unfolding ending_of
@@ -380,9 +378,9 @@ in_range m cs =
     }
 
 -- ---- what waits fits
-asked_fits : (q : Qos) → QosFits q → precedence_asked q < 16
-asked_fits qos.Absent h = omega arith
-asked_fits (qos.Present precedence routing program) h = h.0
+asked_fits : (q : Option Qos) → QosFits q → precedence_asked q < 16
+asked_fits None h = omega arith
+asked_fits (Some q) h = h.0
 
 ending_fits : (seat : Seat) (rs : List Record) (port second : ℕ) (octets : List ℕ) (room : ℕ) → Octets octets → (heard_by seat rs port second octets room).precedence < 16
 ending_fits seat rs port second octets room small =
@@ -430,13 +428,13 @@ module _ (p : ℕ) where
   pub waiting_fits : (m : ℕ) (cs : List Call) → Each Passed cs → Each CopyFits (line_at p m cs)
   waiting_fits m cs passed = all_fit cs 0 (fresh_seat m) [] passed tt
 
-  handed_case : (t : Bool) (c : Chosen Copy) (e : Entry) → EachOf (rank_by entry_of) CopyFits c → taking_of t c ≡ Handed e → EntryFits e
+  handed_case : (t : Bool) (c : Chosen Copy) (e : Entry) → EachOf (rank_by entry_of) CopyFits c → taking_of t c ≡ Good e → EntryFits e
   handed_case false c e some h = true_false cc
   handed_case true nobody e some h = true_false cc
   handed_case true (one x others) e some h = rw (let same : e ≡ x.entry = cc in same) some.0.0
 
   -- .. and so has what a take hands out.
-  pub taken_fits : (m : ℕ) (cs : List Call) → Each Passed cs → (e : Entry) → take_outcome (relay_in (seat_after m cs)) p ≡ Handed e → EntryFits e
+  pub taken_fits : (m : ℕ) (cs : List Call) → Each Passed cs → (e : Entry) → take_outcome (relay_in (seat_after m cs)) p ≡ Good e → EntryFits e
   taken_fits m cs passed e h =
       handed_case (port_set_up (relay_in (seat_after m cs)) p) (chosen (rank_by entry_of) (line_at p m cs)) e
       (chosen_each (rank_by entry_of) CopyFits (line_at p m cs) (waiting_fits m cs passed)) (sym (take_is m cs p) ∙ h)

@@ -34,8 +34,7 @@ use Rattle.refusals.proofs.Chains.{decided}
 use Rattle.adjust.specs.Settled.{new_port, new_group, new_path}
 use Rattle.queue.specs.Queue.{take_of}
 use Rattle.queue.specs.declared.Entry.{Entry}
-use Rattle.queue.specs.declared.Head.{Head}
-use Rattle.queue.specs.declared.Head.TheVariants.{First, Nothing}
+use Rattle.std.proofs.Common.{Option, Some, None}
 use Rattle.queue.specs.declared.Queue.{Queue}
 use Rattle.taking.specs.Taking.{without, taken_relay}
 use Rattle.judge.specs.declared.Ending.{Ending}
@@ -233,9 +232,9 @@ pub received_settings : (r : Relay) (slot : Slot) (e : Ending) → settings_of (
 unfolding received_relay
 received_settings r slot e = entered_settings e.ruling.took (new_entry slot e) 8 r
 
-without_settings : (r : Relay) (port : ℕ) (q : Queue) (h : Head) → settings_of (without r port q h).mission ≡ settings_of r.mission
-without_settings r port q (First e) = refl
-without_settings r port q Nothing = refl
+without_settings : (r : Relay) (port : ℕ) (q : Queue) (h : Option Entry) → settings_of (without r port q h).mission ≡ settings_of r.mission
+without_settings r port q (Some e) = refl
+without_settings r port q None = refl
 
 pub taken_settings : (r : Relay) (port : ℕ) → settings_of (taken_relay r port).mission ≡ settings_of r.mission
 unfolding taken_relay

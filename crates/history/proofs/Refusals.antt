@@ -13,13 +13,11 @@ use Rattle.checks.specs.Order.{pick, first_of}
 use Rattle.checks.proofs.Bools.{true_false}
 use Rattle.sets.specs.Sets.{only_port}
 use Rattle.address.specs.declared.Slot.{Slot}
-use Rattle.header.specs.Read.{read_of}
-use Rattle.header.specs.declared.Read.{Read}
-use Rattle.header.specs.declared.Read.TheVariants as read
+use Rattle.header.specs.Read.{read_of, Read}
+use Rattle.checks.specs.Told.{Refused, Good}
 use Rattle.queue.specs.Queue.{take_of}
 use Rattle.queue.specs.declared.Entry.{Entry}
-use Rattle.queue.specs.declared.Head.{Head}
-use Rattle.queue.specs.declared.Head.TheVariants.{First, Nothing}
+use Rattle.std.proofs.Common.{Option, Some, None}
 use Rattle.queue.specs.declared.Queue.{Queue}
 use Rattle.state.specs.Relay.{Memory, put_last, Relay, queue_in, port_set_up}
 use Rattle.next_leg.specs.declared.Legs.{Legs}
@@ -31,7 +29,6 @@ use Rattle.judge.specs.declared.Ending.{Ending}
 use Rattle.tally.specs.Tally.{moves_of, counter_for}
 use Rattle.relay.specs.Outgoing.{entered, entered_if, entered_all, sent_if, sent_below, sent_output}
 use Rattle.relay.specs.Received.{new_entry, received_relay}
-use Rattle.taking.specs.declared.Taking.TheVariants.{Refused}
 use Rattle.routes.specs.declared.Record.{Record}
 use Rattle.survey.proofs.Bits.{in_none}
 use Rattle.history.specs.Seat.{Seat, relay_in, relay_with, heard_by, memory_by}
@@ -53,10 +50,10 @@ bare_ruled e z h = absurd (h z)
 
 bare_octets : (r : Relay) (at : Arrival) (x : Read) → Bare (octets_ending r at x)
 unfolding header_ending
-bare_octets r at (read.Good h) =
+bare_octets r at (Good h) =
     let n = first_of (arrival_checks at.address h.fields) in
     bare_or (eqb n 0) n (ruled_ending r at h) (bare_ruled (ruled_ending r at h) refl)
-bare_octets r at (read.Refused n) = λ h. refl
+bare_octets r at (Refused n) = λ h. refl
 
 bare_ending : (r : Relay) (port second : ℕ) (octets : List ℕ) (room : ℕ) → Bare (ending_of r port second octets room)
 unfolding ending_of
@@ -142,11 +139,11 @@ module _ (seat : Seat) (rs : List Record) (port second : ℕ) (octets : List ℕ
       room
 
 -- A refused take leaves the whole relay.
-take_case : (t : Bool) (r : Relay) (port : ℕ) (q : Queue) (h : Head) (n : ℕ)
+take_case : (t : Bool) (r : Relay) (port : ℕ) (q : Queue) (h : Option Entry) (n : ℕ)
     → pick t (Refused 16) (hands_out h) ≡ Refused n → pick t r (without r port q h) ≡ r
 take_case true r port q h n e = refl
-take_case false r port q (First x) n e = true_false cc
-take_case false r port q Nothing n e = refl
+take_case false r port q (Some x) n e = true_false cc
+take_case false r port q None n e = refl
 
 pub refused_take_leaves : (r : Relay) (port n : ℕ) → take_outcome r port ≡ Refused n → taken_relay r port ≡ r
 unfolding take_outcome taken_relay

@@ -7,6 +7,7 @@ use mathlib.Core.Bool.{Bool, true, false, not, ◌&&◌, ◌||◌}
 use lib.Dec.{eqb}
 use lib.ListN.{length}
 use borrow.Author.Tests.{eqb-false}
+use Rattle.std.specs.Prelude.{Option, Some, None}
 use Rattle.checks.specs.Order.{pick, first_of}
 use Rattle.checks.proofs.Bools.{true_false, and_true, or_false}
 use Rattle.header.specs.Build.{source_flag, format_of}
@@ -38,11 +39,11 @@ pub record Keeping (k : Memory) (place : ℕ) (q : Pair) : Type 0 where
   pub dated : q.format ≡ 0 → ⊥
   pub format : q.format < 4
 
-format_small : (m : Timestamp) → format_of m < 4
-format_small stamp.Absent = omega arith
-format_small (stamp.Implicit time) = omega arith
-format_small (stamp.Explicit field time) = omega arith
-format_small (stamp.Binary time) = omega arith
+format_small : (m : Option Timestamp) → format_of m < 4
+format_small None = omega arith
+format_small (Some (stamp.Implicit time)) = omega arith
+format_small (Some (stamp.Explicit field time)) = omega arith
+format_small (Some (stamp.Binary time)) = omega arith
 
 -- 28 is not given: a flooded datagram has a timestamp
 marked_dated : (f : Fields) → unmarked f ≡ false → is_flooded f ≡ true → format_of f.stamp ≡ 0 → ⊥

@@ -1,5 +1,6 @@
 -- What a reply is, over whatever seat: none by 21 where the list lent is too long, else what page 02's relay gives (crate page). So it is none, by 21, 16 or 17 or
 -- without a number; or it is made, and then lost, by 11, or too big, by 14, or its copies are taken and dropped (`reply_so`). Assumes nothing.
+use Rattle.std.specs.Prelude.{Option, Some, None}
 use native.Mathlib.Omega.{arith}
 use Prim.Native.Nat.{ℕ, ◌<◌}
 use mathlib.Core.Path.{◌≡◌, refl, sym, ap, ◌∙◌}
@@ -29,7 +30,6 @@ use Rattle.verdict.specs.declared.Onward.TheVariants as onward
 use Rattle.verdict.specs.declared.Ruling.{Ruling}
 use Rattle.verdict.specs.declared.Target.TheVariants.{Route}
 use Rattle.verdict.specs.declared.Way.{Way}
-use Rattle.verdict.specs.declared.Way.TheVariants.{By, Lost}
 use Rattle.verdict.specs.declared.Wish.TheVariants as wish
 use Rattle.judge.specs.Ending.{no_ruling}
 use Rattle.replies.specs.Reply.{no_answer}
@@ -81,17 +81,17 @@ module _ (seat : Seat) (rs : List Record) (port : ℕ) (octets : List ℕ) (room
   -- ---- the cases
   module _ (Q : ℕ → Ruling → Type 0) (none : (n : ℕ) → listed reply_numbers n ≡ true → Q n no_ruling) (no_route : Q 0 (unsent NoRoute))
       (too-big : Q 0 (unsent TooBig)) (copies : (granted full : ℕ) → Q 0 (copies_of No granted full)) where
-    way_so : (w : Way) → Q (replied_via r answer w room).refusal (replied_via r answer w room).ruling
+    way_so : (w : Option Way) → Q (replied_via r answer w room).refusal (replied_via r answer w room).ruling
     unfolding replied_among ruling_of
-    way_so (By set code) = by (eqb fits 0)
+    way_so (Some way) = by (eqb fits 0)
       where
         fits : ℕ
-        fits = bit_and set (wanted_of r set (sought_for answer code room)).fitting
+        fits = bit_and way.port (wanted_of r way.port (sought_for answer way.code room)).fitting
 
-        by : (t : Bool) → Q 0 (ruling_of No (pick t (wish.Refused TooBig) (wish.Wanted fits)) (wanted_of r set (sought_for answer code room)).full)
+        by : (t : Bool) → Q 0 (ruling_of No (pick t (wish.Refused TooBig) (wish.Wanted fits)) (wanted_of r way.port (sought_for answer way.code room)).full)
         by true = too-big
-        by false = copies fits (wanted_of r set (sought_for answer code room)).full
-    way_so Lost = no_route
+        by false = copies fits (wanted_of r way.port (sought_for answer way.code room)).full
+    way_so None = no_route
 
     refused_so : Q answer.refusal no_ruling
     unfolding call_checks
@@ -120,9 +120,9 @@ module _ (seat : Seat) (rs : List Record) (port : ℕ) (octets : List ℕ) (room
   reply_precedence_so P none made =
       both_so (λ (x : Answering) (e : Replied). P e.precedence) (λ long. none) (λ short. by (eqb answer.made 0) refl)
     where
-      way : answer.made ≡ 1 → (w : Way) → P (replied_via r answer w room).precedence
-      way is (By set code) = made is
-      way is Lost = made is
+      way : answer.made ≡ 1 → (w : Option Way) → P (replied_via r answer w room).precedence
+      way is (Some w) = made is
+      way is None = made is
 
       by : (t : Bool) → eqb answer.made 0 ≡ t
           → P (pick t (no_reply answer.refusal) (replied_via r answer (way_for r Route answer.destination) room)).precedence

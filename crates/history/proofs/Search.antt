@@ -5,16 +5,15 @@ use mathlib.Core.Path.{◌≡◌}
 use mathlib.Core.List.{List}
 use Rattle.address.specs.Mask.{ones_of}
 use Rattle.address.specs.declared.Address.{Address}
-use Rattle.routes.specs.Search.{search_of}
+use Rattle.routes.specs.Search.{found_route, search_of}
 use Rattle.routes.specs.declared.Record.{Record}
 use Rattle.routes.specs.declared.Route.{Route}
-use Rattle.routes.specs.declared.Found.TheVariants.{At}
 use Rattle.routes.proofs.Longest.{mask_at, CandidateAt, search_most_ones, search_only}
 use Rattle.state.specs.Seen.{Board}
 use Rattle.listing.specs.Listed.{routes_seen}
 use Rattle.listing.proofs.Counting.{seen_contiguous, seen_distinct}
 
-module _ (b : Board) (rs : List Record) (n : ℕ) (a : Address) {p k : ℕ} {r : Route} (found : search_of a (routes_seen b n rs) ≡ At p k r) where
+module _ (b : Board) (rs : List Record) (n : ℕ) (a : Address) {p k : ℕ} {r : Route} (found : search_of a (routes_seen b n rs) ≡ found_route p k r) where
   -- No matching entry that is up has more mask ones than the route taken.
   pub taken_has_most_ones : (q : ℕ) → CandidateAt a (routes_seen b n rs) q → ones_of (mask_at (routes_seen b n rs) q) ≤ k
   taken_has_most_ones = search_most_ones a (routes_seen b n rs) (seen_contiguous b rs n) found

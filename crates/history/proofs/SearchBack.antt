@@ -13,17 +13,16 @@ use mathlib.Core.List.{List}
 use lib.Bits.{bit_and, and_zero_r}
 use lib.ListN.{length}
 use borrow.Author.Tests.{ltb-true, ltb-false}
+use Rattle.std.proofs.Common.{Option, Some, None}
 use Rattle.checks.proofs.Bools.{true_false, and_true}
 use Rattle.address.specs.Mask.{ones_of}
 use Rattle.address.proofs.Ones.{ones_at_most}
 use Rattle.address.proofs.Masks.{mask_ones}
 use Rattle.address.specs.declared.Address.{Address}
 use Rattle.routes.specs.Routes.{route_at, is_filled, candidate}
-use Rattle.routes.specs.Search.{search_of}
+use Rattle.routes.specs.Search.{Found, found_route, search_of}
 use Rattle.routes.specs.declared.Record.{Record}
 use Rattle.routes.specs.declared.Route.{Route}
-use Rattle.routes.specs.declared.Found.{Found}
-use Rattle.routes.specs.declared.Found.TheVariants.{At, No}
 use Rattle.routes.proofs.Candidates.{candidate_is}
 use Rattle.routes.proofs.Prefixes.{prefix_form}
 use Rattle.routes.proofs.Longest.{CandidateAt, mask_at, search_found, search_no, search_is}
@@ -73,17 +72,17 @@ named_whole place ones port p-low k-low x-low =
     }
 
 -- ---- found or no, of any relay
-found_case : (f : Found) → (is_found (found_number f) ≡ 0) ↔ (f ≡ No)
-found_case (At p n r) = (λ e. absurd (omega (arith, (named_cut p n r.port).found)), λ e. true_false cc)
-found_case No = (λ e. refl, λ e. refl)
+found_case : (f : Option Found) → (is_found (found_number f) ≡ 0) ↔ (f ≡ None)
+found_case (Some top) = (λ e. absurd (omega (arith, (named_cut top.place top.ones top.route.port).found)), λ e. true_false cc)
+found_case None = (λ e. refl, λ e. refl)
 
 -- Found is 0 exactly where the search says no.
-pub found_is_no : (r : Relay) (a : Address) → (is_found (search_answer r a) ≡ 0) ↔ (search_of a r.routes ≡ No)
+pub found_is_no : (r : Relay) (a : Address) → (is_found (search_answer r a) ≡ 0) ↔ (search_of a r.routes ≡ None)
 unfolding search_answer
 found_is_no r a = found_case (search_of a r.routes)
 
 -- And no is 0 whole: the refusal and all parts.
-pub no_is_zero : (r : Relay) (a : Address) → search_of a r.routes ≡ No → search_answer r a ≡ 0
+pub no_is_zero : (r : Relay) (a : Address) → search_of a r.routes ≡ None → search_answer r a ≡ 0
 unfolding search_answer
 no_is_zero r a e = ap found_number e
 
@@ -112,7 +111,7 @@ module _ (seat : Seat) (rs : List Record) (short : too_long rs ≡ false) (a : A
   routes = routes_seen seat.board seat.number rs
 
   -- What is read is the place, the ones and the port of the entry taken: a place below 512, at most 32 ones and a port below 8, so that nothing is cut.
-  pub search_read_back : {p n : ℕ} {r : Route} → search_of a routes ≡ At p n r
+  pub search_read_back : {p n : ℕ} {r : Route} → search_of a routes ≡ found_route p n r
       → Named (search_answer sees a) p n r.port × ((p < 512) × ((n ≤ 32) × (r.port < 8)))
   unfolding search_answer
   search_read_back {p} {n} {r} e =
@@ -130,9 +129,9 @@ module _ (seat : Seat) (rs : List Record) (short : too_long rs ≡ false) (a : A
   pub names_the_longest : is_found (search_answer sees a) ≡ 1 → Longest a routes (search_answer sees a)
   names_the_longest h = by_answer (search_of a routes) refl
     where
-      by_answer : (f : Found) → search_of a routes ≡ f → Longest a routes (search_answer sees a)
-      by_answer No e = absurd (omega (arith, h, (found_is_no sees a).1 e))
-      by_answer (At p n r) e =
+      by_answer : (f : Option Found) → search_of a routes ≡ f → Longest a routes (search_answer sees a)
+      by_answer None e = absurd (omega (arith, h, (found_is_no sees a).1 e))
+      by_answer (Some top) e =
           let taken = search_found a routes e in
           let back = (search_read_back e).0 in
           let place = back.place_read in
@@ -172,10 +171,10 @@ module _ (seat : Seat) (rs : List Record) (short : too_long rs ≡ false) (a : A
   pub search_names_the_longest : LongestOrNo sees a (search_answer sees a)
   search_names_the_longest = record { no = zero_is_no sees a; named = told; longest = λ h. names_the_longest (told h).found }
     where
-      by_answer : (f : Found) → search_of a routes ≡ f → (search_answer sees a ≡ 0 → ⊥)
+      by_answer : (f : Option Found) → search_of a routes ≡ f → (search_answer sees a ≡ 0 → ⊥)
           → Told (search_answer sees a)
-      by_answer No e h = absurd (h (no_is_zero sees a e))
-      by_answer (At p n r) e h =
+      by_answer None e h = absurd (h (no_is_zero sees a e))
+      by_answer (Some top) e h =
           let back = (search_read_back e).0 in
           record { refusal = back.refusal; found = back.found; place_read = refl; ones_read = refl; port_read = refl; above = back.above }
 

@@ -1,5 +1,6 @@
 -- Demand 3 for every counter in the customer's words, over whole histories: each is a count of the history's datagrams or copies. The refusal, the two
 -- halves and the dropped copies of an ending give to different counters, so each is compared with the page's table by itself. Assumes nothing.
+use Rattle.std.specs.Prelude.{Some, None}
 use native.Mathlib.Omega.{arith}
 use native.Mathlib.Nat.{add-zero, zero-add, div-eq_of_lt, mod-lt}
 use Prim.Native.Nat.{ℕ, zero, suc, ◌+◌, ◌/◌, ◌%◌, ◌^◌, ◌<◌, ◌≤◌}
@@ -20,10 +21,8 @@ use Rattle.verdict.specs.declared.Local.{Local}
 use Rattle.verdict.specs.declared.Local.TheVariants.{No, Delivered, Unknown}
 use Rattle.verdict.specs.declared.Onward.{Onward}
 use Rattle.verdict.specs.declared.Onward.TheVariants as onward
-use Rattle.taking.specs.Taking.{take_outcome}
-use Rattle.taking.specs.declared.Taking.{Taking}
-use Rattle.taking.specs.declared.Taking.TheVariants.{Handed, Refused}
-use Rattle.tally.specs.declared.Counter.TheVariants.{At, Nothing}
+use Rattle.taking.specs.Taking.{take_outcome, Taking}
+use Rattle.checks.specs.Told.{Good, Refused}
 use Rattle.tally.specs.Tally.{Move, receipt_counter, counter_for, local_counter, onward_counter, discard_counter, moves_of, made_counter, unsent_counter, reply_moves}
 use Rattle.history.specs.Seat.{Seat, fresh_seat, relay_in, heard_by, replied_by}
 use Rattle.history.specs.Calls.{orders, views, sets, hears, echoes, takes, sweeps, looks, Call, operator, own}
@@ -157,7 +156,7 @@ module _ (set : ℕ) (small : set < 256) where
   unfolding ones_of
   ones_eight = all_more 24 8 (omega arith) (ones_ports 8 set)
 
-discard_case : (t : Bool) (n : ℕ) → (t ≡ true → n ≡ 0) → given ((pick t Nothing (At 12), n) ∷ []) ≡ of_dropped n
+discard_case : (t : Bool) (n : ℕ) → (t ≡ true → n ≡ 0) → given ((pick t None (Some 12), n) ∷ []) ≡ of_dropped n
 discard_case true n z = rw (z refl) refl
 discard_case false n z = simp (add-zero)
 
@@ -178,7 +177,7 @@ unfolding counter_for
 reply_part onward.NotAsked h = refl
 reply_part onward.SentOn h = refl
 reply_part (onward.Refused o) h =
-    each_obstacle (λ (n : ℕ). listed (0 ∷ 1 ∷ 11 ∷ 14 ∷ 15 ∷ []) n ≡ true → given ((At 17, 1) ∷ (counter_for n, 1) ∷ []) ≡ of_made n)
+    each_obstacle (λ (n : ℕ). listed (0 ∷ 1 ∷ 11 ∷ 14 ∷ 15 ∷ []) n ≡ true → given ((Some 17, 1) ∷ (counter_for n, 1) ∷ []) ≡ of_made n)
     ((λ k. true_false (sym k)), ((λ k. true_false (sym k)), ((λ k. refl), ((λ k. true_false (sym k)), ((λ k. refl), ((λ k. refl), (λ k. true_false (sym k)))))))) o h
 
 -- ---- one call
@@ -228,7 +227,7 @@ module _ (i : ℕ) (inside : i < 18) where
       )
 
   taking_gives : (p : ℕ) (x : Taking) → sum_at (of_taking p x).moves i ≡ given_by i (of_taking p x)
-  taking_gives p (Handed e) = refl
+  taking_gives p (Good e) = refl
   taking_gives p (Refused n) = refl
 
   one_call : (seat : Seat) (c : Call) → sum_at (outcome seat c).moves i ≡ given_by i (outcome seat c)

@@ -15,7 +15,7 @@ use Rattle.queue.proofs.Waits.{chosen_asked, waits_take, waits_nothing}
 use Rattle.records.specs.SetUp.{is_set_up}
 use Rattle.state.specs.Relay.{Relay, port_in, queue_at, among_ports, port_set_up}
 use Rattle.taking.specs.Taking.{hands_out, take_outcome}
-use Rattle.taking.specs.declared.Taking.TheVariants.{Refused}
+use Rattle.checks.specs.Told.{Refused}
 use Rattle.history.specs.Seat.{Seat, relay_in}
 use Rattle.history.specs.Calls.{Call}
 use Rattle.history.specs.Outcome.{seat_after}

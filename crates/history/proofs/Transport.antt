@@ -1,8 +1,9 @@
 -- Demand 1, the last sentence, of two datagrams: an unknown transport number refuses local delivery alone. The theorem is `transport_alone`, and with it
 -- `leaves_the_same`. Assumes nothing.
+use Rattle.std.specs.Prelude.{Option, None}
 use Prim.Native.Nat.{ℕ}
 use mathlib.Core.Path.{◌≡◌, refl, ap, ap₂, ◌∙◌}
-use mathlib.Core.Bool.{Bool, true, false}
+use mathlib.Core.Bool.{Bool, true, false, not}
 use mathlib.Core.List.{List}
 use mathlib.Core.Logic.{◌⊎◌, inl, inr}
 use lib.Dec.{eqb}
@@ -13,7 +14,7 @@ use Rattle.address.specs.declared.Slot.{Slot}
 use Rattle.header.specs.Build.{third_octet, second_octet, rest_octets, size_of}
 use Rattle.header.specs.Read.{read_of}
 use Rattle.header.specs.declared.Header.{Header}
-use Rattle.header.specs.declared.Read.TheVariants.{Good}
+use Rattle.checks.specs.Told.{Good}
 use Rattle.meaning.specs.Arrival.{arrival_checks}
 use Rattle.meaning.specs.Asked.{is_assigned, assigned_of}
 use Rattle.meaning.specs.Names.{aim_of}
@@ -26,9 +27,7 @@ use Rattle.verdict.specs.Rule.{target_of, here_by, ours_by, wanted_here, local_o
 use Rattle.verdict.specs.declared.Target.{Target}
 use Rattle.verdict.specs.declared.Target.TheVariants as target
 use Rattle.verdict.specs.declared.Place.{Place}
-use Rattle.verdict.specs.declared.Place.TheVariants.{Missing}
 use Rattle.verdict.specs.declared.Way.{Way}
-use Rattle.verdict.specs.declared.Way.TheVariants.{Lost}
 use Rattle.verdict.specs.declared.Case.{Case}
 use Rattle.verdict.specs.declared.Local.{Local}
 use Rattle.verdict.specs.declared.Local.TheVariants.{No, Delivered, Unknown}
@@ -77,11 +76,11 @@ abbrev Alike : ℕ → ℕ → Ruling → Ruling → Type 0
 Alike a b x y = (onward_half x ≡ onward_half y) × Halves a b x.local y.local
 
 module _ (a b : ℕ) where
-  local_alike : (t : Target) (p : Place) (c : Case) → Halves a b (local_of t p (with_assigned c (assigned_of a))) (local_of t p (with_assigned c (assigned_of b)))
+  local_alike : (t : Target) (p : Option Place) (c : Case) → Halves a b (local_of t p (with_assigned c (assigned_of a))) (local_of t p (with_assigned c (assigned_of b)))
   unfolding local_of
-  local_alike t p c = halves_case (eqb (wanted_here (ours_by t (here_by p)) c.intermediate) 0) a b
+  local_alike t p c = halves_case (not (wanted_here (ours_by t (here_by p)) c.intermediate)) a b
 
-  ruled_alike : (t : Target) (p : Place) (w : Way) (c : Case) (s : Survey)
+  ruled_alike : (t : Target) (p : Option Place) (w : Option Way) (c : Case) (s : Survey)
       → Alike a b (ruled_by t p w (with_assigned c (assigned_of a)) s) (ruled_by t p w (with_assigned c (assigned_of b)) s)
   unfolding ruled_by
   ruled_alike t p w c s =
@@ -94,8 +93,8 @@ module _ (a b : ℕ) where
   aim_alike r (Node d) c s =
       let t = target_of (class_of d.0) s in
       ruled_alike t (place_for r t d c.arrival) (way_for r t d) c s
-  aim_alike r (Path x) c s = ruled_alike target.Path (path_place r x) Lost c s
-  aim_alike r Uncarried c s = ruled_alike target.Route Missing Lost c s
+  aim_alike r (Path x) c s = ruled_alike target.Path (path_place r x) None c s
+  aim_alike r Uncarried c s = ruled_alike target.Route None None c s
 
   -- ---- the endings
   refused_alike : (n : ℕ) → SameButLocal a b (refused_by n) (refused_by n)

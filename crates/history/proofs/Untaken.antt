@@ -16,9 +16,8 @@ use Rattle.state.specs.Relay.{Memory, Relay}
 use Rattle.state.specs.Seen.{Board}
 use Rattle.verdict.specs.Numbers.{onward_number}
 use Rattle.floods.specs.Sweep.{sweep_checks, swept_memory}
-use Rattle.taking.specs.Taking.{take_outcome, taken_relay}
-use Rattle.taking.specs.declared.Taking.{Taking}
-use Rattle.taking.specs.declared.Taking.TheVariants.{Handed, Refused}
+use Rattle.taking.specs.Taking.{take_outcome, taken_relay, Taking}
+use Rattle.checks.specs.Told.{Good, Refused}
 use Rattle.answering.specs.Echoed.{as_ending}
 use Rattle.history.specs.Seat.{Seat, relay_in, heard_by, replied_by}
 use Rattle.history.specs.Calls.{orders, views, sets, hears, echoes, takes, sweeps, looks, Call, operator, own, order_checks, checks_of}
@@ -47,7 +46,7 @@ refused_some : (n : ℕ) → not (eqb n 0) ≡ true → n ≡ 0 → ⊥
 refused_some n h = eqb-false n 0 (not-true (eqb n 0) h)
 
 take_left : (r : Relay) (p : ℕ) (t : Taking) → take_outcome r p ≡ t → is_refusal (of_taking p t).answer ≡ true → (taken_relay r p).mission ≡ r.mission
-take_left r p (Handed e) is h = true_false (sym h)
+take_left r p (Good e) is h = true_false (sym h)
 take_left r p (Refused n) is h = ap (λ (x : Relay). x.mission) (refused_take_leaves r p n is)
 
 sweep_left : (lifetime second : ℕ) (k : Memory) → not (eqb (first_of (sweep_checks k second)) 0) ≡ true → swept_memory lifetime second k ≡ k

@@ -1,4 +1,5 @@
 -- In every state that a history reaches, and whatever list is lent, the ports wanted for a datagram are set up and the mission's, and so those granted. Assumes nothing.
+use Rattle.std.specs.Prelude.{Option, Some, None}
 use native.Mathlib.Omega.{arith}
 use native.Mathlib.Nat.{eq-or-lt_of_le}
 use Prim.Native.Nat.{ℕ, zero, suc, ◌≤◌, ◌<◌}
@@ -8,6 +9,7 @@ use mathlib.Core.Logic.{⊎_elim}
 use mathlib.Core.List.{List}
 use lib.Dec.{eqb, ltb}
 use borrow.Author.Tests.{ltb-true}
+use Rattle.std.proofs.Common.{Option, Some, None}
 use Rattle.checks.specs.Order.{pick}
 use Rattle.checks.proofs.Bools.{true_false, and_true, or_false, and_not_false}
 use Rattle.sets.specs.Sets.{in_set}
@@ -19,9 +21,7 @@ use Rattle.records.specs.Held.{holds_group, holds_path}
 use Rattle.lookup.specs.Lookup.{group_found, path_found, group_says, path_says, group_place, path_place}
 use Rattle.routes.specs.Routes.{is_filled}
 use Rattle.routes.proofs.Candidates.{candidate_is}
-use Rattle.routes.specs.Search.{search_of}
-use Rattle.routes.specs.declared.Found.{Found}
-use Rattle.routes.specs.declared.Found.TheVariants.{At, No}
+use Rattle.routes.specs.Search.{Found, search_of}
 use Rattle.routes.specs.declared.Record.{Record}
 use Rattle.routes.specs.declared.Route.{Route}
 use Rattle.routes.proofs.Longest.{search_found}
@@ -31,7 +31,6 @@ use Rattle.refusals.specs.Ready.{ready_set}
 use Rattle.lookup.specs.ForTarget.{way_of, place_for, way_for}
 use Rattle.state.specs.Relay.{Relay, port_in, group_in, path_in}
 use Rattle.survey.specs.Survey.{survey_below, survey_of}
-use Rattle.survey.specs.declared.Destination.{Destination}
 use Rattle.survey.specs.declared.Sought.{Sought}
 use Rattle.verdict.specs.Rule.{except_by, alone_by, group_line, path_line, route_line, router_line, unheard_by, host_line, plain_line, flood_line, line_of}
 use Rattle.verdict.specs.declared.Target.{Target}
@@ -45,9 +44,7 @@ use Rattle.verdict.specs.declared.Obstacle.TheVariants.{NoRoute}
 use Rattle.verdict.specs.declared.Wish.{Wish}
 use Rattle.verdict.specs.declared.Wish.TheVariants.{NotAsked, Refused, Wanted}
 use Rattle.verdict.specs.declared.Place.{Place}
-use Rattle.verdict.specs.declared.Place.TheVariants.{Held, Missing}
 use Rattle.verdict.specs.declared.Way.{Way}
-use Rattle.verdict.specs.declared.Way.TheVariants.{By, Lost}
 use Rattle.history.specs.Seat.{Seat, relay_with}
 use Rattle.history.specs.Calls.{Call}
 use Rattle.history.specs.Outcome.{seat_after}
@@ -82,15 +79,15 @@ module _ (seat : Seat) (k : Kept seat) (rs : List Record) (p : ℕ) (inside : p 
   except_in g f h = (and_true (in_set p g) (not (in_set p f)) (sym (in_except p g f) ∙ h)).0
 
   -- what a place may send to
-  abbrev Good : Place → Type 0
-  Good Missing = Unit
-  Good (Held send word) = in_set p send ≡ true → is_set_up (port_in r p) ≡ true
+  abbrev Good : Option Place → Type 0
+  Good None = Unit
+  Good (Some place) = in_set p place.send ≡ true → is_set_up (port_in r p) ≡ true
 
-  abbrev GoodWay : Way → Type 0
-  GoodWay Lost = Unit
-  GoodWay (By port code) = in_set p port ≡ true → is_set_up (port_in r p) ≡ true
+  abbrev GoodWay : Option Way → Type 0
+  GoodWay None = Unit
+  GoodWay (Some way) = in_set p way.port ≡ true → is_set_up (port_in r p) ≡ true
 
-  pick_good : (t : Bool) (a b : Place) → (t ≡ true → Good a) → Good b → Good (pick t a b)
+  pick_good : (t : Bool) (a b : Option Place) → (t ≡ true → Good a) → Good b → Good (pick t a b)
   pick_good true a b f g = f refl
   pick_good false a b f g = g
 
@@ -98,7 +95,7 @@ module _ (seat : Seat) (k : Kept seat) (rs : List Record) (p : ℕ) (inside : p 
   unfolding group_place
   group_good a arrival =
       let i = group_found r a in
-      pick_good (ltb i 16) (group_says (group_in r i) arrival) Missing
+      pick_good (ltb i 16) (group_says (group_in r i) arrival) None
       (λ t m.
       let l = ltb-true i 16 t in
       let filled = (and_true (not (eqb (group_in r i).filled 0)) (eqb (group_in r i).address.0 a.0) (first_holds (λ (j : ℕ). holds_group (group_in r j) a) 16 l)).0 in
@@ -109,24 +106,24 @@ module _ (seat : Seat) (k : Kept seat) (rs : List Record) (p : ℕ) (inside : p 
   unfolding path_place
   path_good x =
       let i = path_found r x in
-      pick_good (ltb i 16) (path_says (path_in r i)) Missing
+      pick_good (ltb i 16) (path_says (path_in r i)) None
       (λ t m.
       let l = ltb-true i 16 t in
       let filled = (and_true (not (eqb (path_in r i).filled 0)) (eqb (path_in r i).path.0 x.0) (first_holds (λ (j : ℕ). holds_path (path_in r j) x) 16 l)).0 in
       ready_set_up (set_ready (path_in r i).send (ready_set r) p (k.mission.paths_good i l filled).1 inside m))
       tt
 
-  found_good : (a : Address) (f : Found) → search_of a r.routes ≡ f → GoodWay (way_of f)
-  found_good a No e = tt
-  found_good a (At place ones x) e =
+  found_good : (a : Address) (f : Option Found) → search_of a r.routes ≡ f → GoodWay (way_of f)
+  found_good a None e = tt
+  found_good a (Some top) e =
       λ m.
       let found = search_found a r.routes e in
       let held = found.1 in
-      let filled = ((candidate_is x a).0 found.2).0 in
-      let good = seen_taken seat.board rs seat.number place (sym (ap is_filled held) ∙ filled) in
-      let ready : is_ready x.port (ready_set r) ≡ true = ap (λ (y : Route). is_ready y.port (ready_set r)) held ∙ good.0 in
-      let port = ltb-true x.port 8 (and_true (ltb x.port 8) (in_set x.port (ready_set r)) ready).0 in
-      ready_set_up (ap (λ (q : ℕ). is_ready q (ready_set r)) (only_that p x.port port m) ∙ ready)
+      let filled = ((candidate_is top.route a).0 found.2).0 in
+      let good = seen_taken seat.board rs seat.number top.place (sym (ap is_filled held) ∙ filled) in
+      let ready : is_ready top.route.port (ready_set r) ≡ true = ap (λ (y : Route). is_ready y.port (ready_set r)) held ∙ good.0 in
+      let port = ltb-true top.route.port 8 (and_true (ltb top.route.port 8) (in_set top.route.port (ready_set r)) ready).0 in
+      ready_set_up (ap (λ (q : ℕ). is_ready q (ready_set r)) (only_that p top.route.port port m) ∙ ready)
 
   -- the lines
   abbrev GoodLine : Wish → Type 0
@@ -138,24 +135,24 @@ module _ (seat : Seat) (k : Kept seat) (rs : List Record) (p : ℕ) (inside : p 
   pick_line true a b f g = f
   pick_line false a b f g = g
 
-  group_line_lem : (x : Place) (arrival others : ℕ) → Good x → GoodLine (group_line x arrival others)
+  group_line_lem : (x : Option Place) (arrival others : ℕ) → Good x → GoodLine (group_line x arrival others)
   unfolding group_line
-  group_line_lem Missing arrival others g = tt
-  group_line_lem (Held send word) arrival others g =
-      pick_line (eqb (alone_by word others) 1) NotAsked _ tt
-      (pick_line (eqb (except_by send arrival) 0) (Refused NoRoute) (Wanted (except_by send arrival)) tt (λ m. g (except_in send arrival m)))
+  group_line_lem None arrival others g = tt
+  group_line_lem (Some place) arrival others g =
+      pick_line (alone_by place.here others) NotAsked _ tt
+      (pick_line (eqb (except_by place.send arrival) 0) (Refused NoRoute) (Wanted (except_by place.send arrival)) tt (λ m. g (except_in place.send arrival m)))
 
-  path_line_lem : (x : Place) (arrival : ℕ) → Good x → GoodLine (path_line x arrival)
+  path_line_lem : (x : Option Place) (arrival : ℕ) → Good x → GoodLine (path_line x arrival)
   unfolding path_line
-  path_line_lem Missing arrival g = tt
-  path_line_lem (Held send here) arrival g =
-      pick_line (not (eqb (except_by send arrival) 0)) (Wanted (except_by send arrival)) _ (λ m. g (except_in send arrival m))
-      (pick_line (not (eqb here 0)) NotAsked (Refused NoRoute) tt tt)
+  path_line_lem None arrival g = tt
+  path_line_lem (Some place) arrival g =
+      pick_line (not (eqb (except_by place.send arrival) 0)) (Wanted (except_by place.send arrival)) _ (λ m. g (except_in place.send arrival m))
+      (pick_line (not (eqb place.here 0)) NotAsked (Refused NoRoute) tt tt)
 
-  route_line_lem : (w : Way) → GoodWay w → GoodLine (route_line w)
+  route_line_lem : (w : Option Way) → GoodWay w → GoodLine (route_line w)
   unfolding route_line
-  route_line_lem Lost g = tt
-  route_line_lem (By port code) g = g
+  route_line_lem None g = tt
+  route_line_lem (Some way) g = g
 
   unheard_line : (local : Local) → GoodLine (unheard_by local)
   unheard_line No = tt
@@ -169,12 +166,12 @@ module _ (seat : Seat) (k : Kept seat) (rs : List Record) (p : ℕ) (inside : p 
   host_line_lem target.Path local = unheard_line local
   host_line_lem target.Route local = unheard_line local
 
-  survey_ready : (d : Destination) (q : Sought) → in_set p (survey_of r d q).ready ≡ true → is_set_up (port_in r p) ≡ true
+  survey_ready : (d : Option Address) (q : Sought) → in_set p (survey_of r d q).ready ≡ true → is_set_up (port_in r p) ≡ true
   unfolding survey_below
   survey_ready d q h =
       (and_true (is_set_up (port_in r p)) true (sym (in_gathered (λ (i : ℕ). is_set_up (port_in r i) && true) p 8 inside) ∙ h)).0
 
-  router_line_lem : (t : Target) (x : Place) (w : Way) (arrival : ℕ) (d : Destination) (q : Sought) → Good x → GoodWay w → GoodLine (router_line t x w arrival (survey_of r d q).ready)
+  router_line_lem : (t : Target) (x : Option Place) (w : Option Way) (arrival : ℕ) (d : Option Address) (q : Sought) → Good x → GoodWay w → GoodLine (router_line t x w arrival (survey_of r d q).ready)
   router_line_lem target.Here x w arrival d q g h = tt
   router_line_lem target.Broadcast x w arrival d q g h =
       let ready = (survey_of r d q).ready in
@@ -184,7 +181,7 @@ module _ (seat : Seat) (k : Kept seat) (rs : List Record) (p : ℕ) (inside : p 
   router_line_lem target.Route x w arrival d q g h = route_line_lem w h
 
   -- a flood wants ports that are set up, or what the line wants
-  flood_line_lem : (f : Flood) (arrival : ℕ) (d : Destination) (q : Sought) (l : Wish) → GoodLine l → GoodLine (flood_line f (except_by (survey_of r d q).ready arrival) l)
+  flood_line_lem : (f : Flood) (arrival : ℕ) (d : Option Address) (q : Sought) (l : Wish) → GoodLine l → GoodLine (flood_line f (except_by (survey_of r d q).ready arrival) l)
   flood_line_lem Plain arrival d q l g = g
   flood_line_lem Unsent arrival d q l g = tt
   flood_line_lem Full arrival d q l g = tt
@@ -192,7 +189,7 @@ module _ (seat : Seat) (k : Kept seat) (rs : List Record) (p : ℕ) (inside : p 
       let ready = (survey_of r d q).ready in
       pick_line (eqb (except_by ready arrival) 0) (Refused NoRoute) (Wanted (except_by ready arrival)) tt (λ m. survey_ready d q (except_in ready arrival m))
 
-  line_good : (t : Target) (x : Place) (w : Way) (c : Case) (d : Destination) (q : Sought) (local : Local) → Good x → GoodWay w → GoodLine (line_of t x w c (survey_of r d q).ready local)
+  line_good : (t : Target) (x : Option Place) (w : Option Way) (c : Case) (d : Option Address) (q : Sought) (local : Local) → Good x → GoodWay w → GoodLine (line_of t x w c (survey_of r d q).ready local)
   unfolding line_of plain_line
   line_good t x w c d q local g h =
       flood_line_lem c.flood c.arrival d q _ (pick_line (eqb c.router 0) _ _ (host_line_lem t local) (router_line_lem t x w c.arrival d q g h))
@@ -221,7 +218,7 @@ module _ (m : ℕ) (cs : List Call) (rs : List Record) where
   abbrev sees : Relay
   sees = relay_with (seat_after m cs) rs
 
-  pub wanted_is_set_up : (p : ℕ) → p < 8 → (t : Target) (a : Address) (c : Case) (d : Destination) (q : Sought) (local : Local) (g : ℕ)
+  pub wanted_is_set_up : (p : ℕ) → p < 8 → (t : Target) (a : Address) (c : Case) (d : Option Address) (q : Sought) (local : Local) (g : ℕ)
       → line_of t (place_for sees t a c.arrival) (way_for sees t a) c (survey_of sees d q).ready local ≡ Wanted g
       → in_set p g ≡ true
       → is_set_up (port_in sees p) ≡ true
@@ -233,11 +230,11 @@ module _ (m : ℕ) (cs : List Call) (rs : List Record) where
       (way_good seat k rs p inside t a))
 
   -- .. and each that is wanted for one on a path.
-  pub wanted_on_path_is_set_up : (p : ℕ) → p < 8 → (x : PathAddress) (c : Case) (d : Destination) (q : Sought) (local : Local) (g : ℕ)
-      → line_of target.Path (path_place sees x) Lost c (survey_of sees d q).ready local ≡ Wanted g
+  pub wanted_on_path_is_set_up : (p : ℕ) → p < 8 → (x : PathAddress) (c : Case) (d : Option Address) (q : Sought) (local : Local) (g : ℕ)
+      → line_of target.Path (path_place sees x) None c (survey_of sees d q).ready local ≡ Wanted g
       → in_set p g ≡ true
       → is_set_up (port_in sees p) ≡ true
   wanted_on_path_is_set_up p inside x c d q local g =
       let seat = seat_after m cs in
       let k = kept_after m cs in
-      wanted_is seat k rs p inside _ g (line_good seat k rs p inside target.Path (path_place sees x) Lost c d q local (path_good seat k rs p inside x) tt)
+      wanted_is seat k rs p inside _ g (line_good seat k rs p inside target.Path (path_place sees x) None c d q local (path_good seat k rs p inside x) tt)

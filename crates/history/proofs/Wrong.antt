@@ -1,5 +1,6 @@
 -- Page 01's tempting slips and a few wrong rules more, each shown to be wrong at the definition that the code is proved against: what it would have to
 -- answer is not what the definition gives. (Where one changed expression can make the slip, a must-fail edit tries that such code is refused.) Assumes nothing.
+use Rattle.std.specs.Prelude.{Option, Some, None}
 use native.Mathlib.Omega.{arith}
 use Prim.Native.Nat.{ℕ, ◌<◌}
 use mathlib.Core.Path.{◌≡◌, refl, sym, ap}
@@ -7,6 +8,8 @@ use mathlib.Core.Bool.{Bool, true, false, not}
 use mathlib.Core.List.{List, [], ◌∷◌}
 use lib.Dec.{eqb, ltb}
 use borrow.Author.Tests.{le-ltb, lt-ltb}
+use Rattle.std.proofs.Common.{None}
+use Rattle.std.specs.Prelude.{Some}
 use Rattle.checks.specs.Order.{pick, first_of}
 use Rattle.checks.proofs.Bools.{true_false}
 use Rattle.address.specs.Octets.{dotted}
@@ -14,12 +17,10 @@ use Rattle.address.specs.Class.{family_of, scps_class, net_class, class_in, clas
 use Rattle.address.specs.Mask.{ones_below, ones_of}
 use Rattle.address.specs.declared.Class.TheVariants as class
 use Rattle.header.specs.Limits.{length_limit}
-use Rattle.header.specs.declared.Octet.TheVariants as octet
 use Rattle.meaning.specs.Asked.{spent_of}
 use Rattle.routes.specs.Refusals.{codes_refused}
 use Rattle.routes.specs.Routes.{matched, candidate}
-use Rattle.routes.specs.Search.{beaten, better_of, search_from, search_of}
-use Rattle.routes.specs.declared.Found.TheVariants.{At, No}
+use Rattle.routes.specs.Search.{found_route, beaten, better_of, search_from, search_of}
 use Rattle.routes.specs.declared.Route.{Route}
 use Rattle.routes.proofs.Marked as marked
 use Rattle.state.specs.Relay.{Relay, port_set_up}
@@ -43,8 +44,6 @@ use Rattle.routes.specs.declared.Record.{Record}
 use Rattle.state.specs.Seen.{Board}
 use Rattle.refusals.specs.Lists.{port_checks}
 use Rattle.tally.specs.Tally.{counter_for, receipt_counter}
-use Rattle.tally.specs.declared.Counter.{Counter}
-use Rattle.tally.specs.declared.Counter.TheVariants as counter
 use Rattle.history.specs.Seat.{Seat, heard_by}
 use Rattle.history.proofs.Heard.{heard_is}
 
@@ -54,7 +53,7 @@ unfolding class_of class_in family_of scps_class net_class
 flag_is_low = (refl, refl)
 
 -- the first match kept: in case b the default route of place 0 matches, and place 2 is taken
-pub not_the_first_match : search_of (record { 0 = dotted 10 4 9 16 }) marked.all ≡ At 2 24 marked.C
+pub not_the_first_match : search_of (record { 0 = dotted 10 4 9 16 }) marked.all ≡ found_route 2 24 marked.C
 unfolding search_of search_from better_of beaten candidate matched ones_of ones_below
 not_the_first_match = refl
 
@@ -71,8 +70,8 @@ not_up =
     }
 
 pub passed_over_if_not_up :
-    (search_of (record { 0 = dotted 10 4 9 14 }) (marked.A ∷ marked.B ∷ marked.C ∷ not_up ∷ []) ≡ At 2 24 marked.C)
-    × (search_of (record { 0 = dotted 10 4 9 14 }) (not_up ∷ []) ≡ No)
+    (search_of (record { 0 = dotted 10 4 9 14 }) (marked.A ∷ marked.B ∷ marked.C ∷ not_up ∷ []) ≡ found_route 2 24 marked.C)
+    × (search_of (record { 0 = dotted 10 4 9 14 }) (not_up ∷ []) ≡ None)
 unfolding search_of search_from better_of beaten candidate matched ones_of ones_below
 passed_over_if_not_up = (refl, refl)
 
@@ -82,11 +81,11 @@ unfolding codes_refused
 three_is_refused = (refl, refl)
 
 -- the hop test off by one: 2 goes on, 1 does not
-pub hops_of_two : (spent_of (octet.Present 2) ≡ 0) × (spent_of (octet.Present 1) ≡ 1)
+pub hops_of_two : (spent_of (Some 2) ≡ 0) × (spent_of (Some 1) ≡ 1)
 hops_of_two = (refl, refl)
 
 -- a number counted by the wrong counter: 9 is npInAddrErrors, 13 left domain, and 15 has none
-pub numbers_counted : (counter_for 9 ≡ counter.At 6) × ((counter_for 13 ≡ counter.At 13) × (counter_for 15 ≡ counter.Nothing))
+pub numbers_counted : (counter_for 9 ≡ Some 6) × ((counter_for 13 ≡ Some 13) × (counter_for 15 ≡ None))
 unfolding counter_for
 numbers_counted = (refl, (refl, refl))
 
@@ -126,11 +125,11 @@ unfolding granted_of
 domain_is_tested same = true_false (let e : Refused LeavesDomain ≡ Wanted 2 = same (Wanted 2) one_octet_path port0_in_domain in cc)
 
 -- 17 counted as a receipt: it counts nothing
-abbrev pub receipt_unless16 : ℕ → Counter
-receipt_unless16 refusal = pick (eqb refusal 16) counter.Nothing (counter.At 0)
+abbrev pub receipt_unless16 : ℕ → Option ℕ
+receipt_unless16 refusal = pick (eqb refusal 16) None (Some 0)
 
 pub no_receipt_at_17 : ((refusal : ℕ) → receipt_counter refusal ≡ receipt_unless16 refusal) → ⊥
-no_receipt_at_17 same = true_false (let e : counter.Nothing ≡ counter.At 0 = same 17 in cc)
+no_receipt_at_17 same = true_false (let e : None ≡ Some 0 = same 17 in cc)
 
 -- 17 before 16: a port that is not set up is 16, whatever the room
 pub sixteen_comes_first : (r : Relay) (port second : ℕ) (octets : List ℕ) (room : ℕ)

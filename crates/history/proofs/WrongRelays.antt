@@ -21,8 +21,7 @@ use Rattle.header.specs.Build.{addresses_octets, qos_octets, octet_octets, stamp
 use Rattle.header.specs.Onward.{found_of}
 use Rattle.echo.specs.Message.{message_of, echo_checks, reading_of}
 use Rattle.routes.specs.Routes.{is_up}
-use Rattle.routes.specs.Search.{search_of}
-use Rattle.routes.specs.declared.Found.TheVariants.{At}
+use Rattle.routes.specs.Search.{found_route, search_of}
 use Rattle.routes.specs.declared.Record.{Record}
 use Rattle.routes.specs.declared.Route.{Route}
 use Rattle.routes.proofs.Longest.{CandidateAt}
@@ -45,9 +44,8 @@ use Rattle.verdict.specs.declared.Ruling.{Ruling}
 use Rattle.judge.specs.Asked.{node_asked, aim_asked, carried_asked}
 use Rattle.judge.specs.Ending.{no_ruling, output_room}
 use Rattle.judge.specs.declared.Ending.{Ending}
-use Rattle.taking.specs.Taking.{take_outcome}
-use Rattle.taking.specs.declared.Taking.{Taking}
-use Rattle.taking.specs.declared.Taking.TheVariants.{Handed, Refused}
+use Rattle.taking.specs.Taking.{take_outcome, Taking}
+use Rattle.checks.specs.Told.{Good, Refused}
 use Rattle.tally.specs.Tally.{receipt_counter, ruling_moves, moves_of, counter_for, counted_at}
 use Rattle.replies.specs.Request.{asks_in_header, asking_of}
 use Rattle.replies.specs.Reply.{reply_fields, echoed_count, is_asked, answer_to}
@@ -170,7 +168,7 @@ pub record Cases : Type 0 where
   pub host : (outcome (seat_after 0 (begun ++ for_a (all_routes 0) ∷ operator (orders (set_router 0)) ∷ [])) (for_a (all_routes 0))).answer ≡ not_sent 9
   -- with D down, its datagram goes to C's port, though D would be the longest
   pub down : (outcome (seat_after 0 begun) (for_d d_down)).answer ≡ sent_by 2
-  pub longest : search_of (record { 0 = dotted 10 4 9 14 }) (map as_if_up (relay_with (seat_after 0 begun) d_down).routes) ≡ At 3 32 marked.D
+  pub longest : search_of (record { 0 = dotted 10 4 9 14 }) (map as_if_up (relay_with (seat_after 0 begun) d_down).routes) ≡ found_route 3 32 marked.D
   pub routes : CandidateAt (record { 0 = dotted 10 4 9 14 }) (relay_with (seat_after 0 begun) d_down).routes 2
       × (is_up (route_in (relay_with (seat_after 0 begun) d_down) 3) ≡ false)
   -- with D given to the other mission too
@@ -242,7 +240,7 @@ unmoved_by n e i is bare none =
     ∙ none
 
 unmoved_taking : (p : ℕ) (t : Taking) (i : ℕ) → sum_at (of_taking p t).moves i ≡ 0
-unmoved_taking p (Handed e) i = refl
+unmoved_taking p (Good e) i = refl
 unmoved_taking p (Refused n) i = refl
 
 module _ (n : ℕ) (refuses : n ≡ 0 → ⊥) (i : ℕ) (none : sum_at ((receipt_counter n, 1) ∷ (counter_for n, 1) ∷ ruling_moves no_ruling) i ≡ 0) where
@@ -265,7 +263,7 @@ module _ (seat : Seat) (p : ℕ) (inside : p < 8) (room : (queue_at seat.mission
   none_dropped drops = true_false (sym drops ∙ in_none p)
 
   no_taking_drops : (q : ℕ) (t : Taking) → in_set p (of_taking q t).dropped ≡ true → ⊥
-  no_taking_drops q (Handed e) drops = none_dropped drops
+  no_taking_drops q (Good e) drops = none_dropped drops
   no_taking_drops q (Refused n) drops = none_dropped drops
 
   not_dropped : (c : Call) → in_set p (outcome seat c).dropped ≡ true → ⊥
@@ -341,7 +339,7 @@ module _ (does : List Call → Call → Outcome) (kept : (cs : List Call) (c : C
   -- It does not keep back a datagram for which a route is there that is up, where the longest of all that match is not up.
   pub hiding_a_live_route :
       ((cs : List Call) (rs : List Record) (w x y z place ones live took : ℕ) (r : Route)
-      → search_of (record { 0 = dotted w x y z }) (map as_if_up (relay_with (seat_after 0 cs) rs).routes) ≡ At place ones r
+      → search_of (record { 0 = dotted w x y z }) (map as_if_up (relay_with (seat_after 0 cs) rs).routes) ≡ found_route place ones r
       → is_up (route_in (relay_with (seat_after 0 cs) rs) place) ≡ false
       → CandidateAt (record { 0 = dotted w x y z }) (relay_with (seat_after 0 cs) rs).routes live
       → (does cs (heard rs 1 (datagram w x y z 0))).answer ≡ ended 0 0 1 took

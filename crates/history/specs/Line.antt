@@ -15,8 +15,8 @@ use Rattle.queue.specs.Foretold.{how_many}
 use Rattle.queue.specs.declared.Entry.{Entry}
 use Rattle.state.specs.Relay.{port_in}
 use Rattle.judge.specs.declared.Ending.{Ending}
-use Rattle.taking.specs.declared.Taking.{Taking}
-use Rattle.taking.specs.declared.Taking.TheVariants.{Handed, Refused}
+use Rattle.taking.specs.Taking.{Taking}
+use Rattle.checks.specs.Told.{Good, Refused}
 use Rattle.relay.specs.Received.{new_entry}
 use Rattle.replies.specs.Replied.{own_reply, wire_header}
 use Rattle.replies.specs.declared.Answering.{Answering}
@@ -127,7 +127,7 @@ module _ (p : ℕ) where
 abbrev pub taking_of : Bool → Chosen Copy → Taking
 taking_of false c = Refused 16
 taking_of true nobody = Refused 18
-taking_of true (one x others) = Handed x.entry
+taking_of true (one x others) = Good x.entry
 
 -- how often the copy of turn n is in a list
 abbrev pub times : ℕ → List Copy → ℕ

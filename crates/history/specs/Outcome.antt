@@ -7,9 +7,8 @@ use Rattle.state.specs.Relay.{Mission, Memory}
 use Rattle.state.specs.Seen.{Board}
 use Rattle.verdict.specs.Numbers.{local_number, onward_number}
 use Rattle.judge.specs.declared.Ending.{Ending}
-use Rattle.taking.specs.Taking.{take_outcome, taken_relay}
-use Rattle.taking.specs.declared.Taking.{Taking}
-use Rattle.taking.specs.declared.Taking.TheVariants.{Handed, Refused}
+use Rattle.taking.specs.Taking.{take_outcome, taken_relay, Taking}
+use Rattle.checks.specs.Told.{Good, Refused}
 use Rattle.tally.specs.Tally.{Move, moves_of, reply_moves}
 use Rattle.floods.specs.Sweep.{sweep_checks, swept_memory}
 use Rattle.relay.specs.Received.{received_relay}
@@ -97,7 +96,7 @@ of_reply e =
     }
 
 abbrev pub of_taking : ℕ → Taking → Outcome
-of_taking p (Handed e) = record { answer = entry e; moves = []; granted = 0; took = 0; dropped = 0; out = from p e }
+of_taking p (Good e) = record { answer = entry e; moves = []; granted = 0; took = 0; dropped = 0; out = from p e }
 of_taking p (Refused n) = quiet (number n)
 
 -- the operator's call: by the board and the list lent alone

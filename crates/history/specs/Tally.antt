@@ -1,19 +1,17 @@
 -- What the rules give each counter over a history: page 01, demand 3 and "Refusal numbers"; page 02, W-208 ("Demand 3 holds for each mission by itself").
 -- No counter of any state is read here. Assumes nothing.
-use Rattle.std.specs.Prelude.{ℕ, ◌+◌, Bool, false, List, [], ◌∷◌, eqb}
+use Rattle.std.specs.Prelude.{ℕ, ◌+◌, Bool, false, List, [], ◌∷◌, eqb, Option, Some, None}
 use Rattle.checks.specs.Order.{pick}
 use Rattle.tally.specs.Tally.{Move, counted_all}
-use Rattle.tally.specs.declared.Counter.{Counter}
-use Rattle.tally.specs.declared.Counter.TheVariants.{At, Nothing}
 use Rattle.state.specs.Seen.{State, fresh_state}
 use Rattle.history.specs.Seat.{Seat, fresh_seat, state_of}
 use Rattle.history.specs.Calls.{Call}
 use Rattle.history.specs.Outcome.{Outcome, outcome, next, seat_after, sum_over}
 
 -- whether a move is of counter i
-abbrev pub is_at : Counter → ℕ → Bool
-is_at (At place) i = eqb place i
-is_at Nothing i = false
+abbrev pub is_at : Option ℕ → ℕ → Bool
+is_at (Some place) i = eqb place i
+is_at None i = false
 
 -- how much the moves give counter i
 abbrev pub sum_at : List Move → ℕ → ℕ

@@ -1,11 +1,13 @@
 -- Judging, searching and finishing give the ending: what is looked up by itself, and in parts, is what the definition of the whole looks up. Assumes
 -- nothing.
+use Rattle.std.specs.Prelude.{Option, None}
 use native.Mathlib.Omega.{arith}
 use Prim.Native.Nat.{ℕ}
 use mathlib.Core.Path.{◌≡◌, refl, sym, ap, ◌∙◌}
 use mathlib.Core.Bool.{Bool, true, false, not, ◌&&◌}
 use mathlib.Core.List.{List}
 use lib.Dec.{eqb}
+use Rattle.std.proofs.Common.{Option, Some, None}
 use Rattle.checks.specs.Order.{pick, first_of}
 use Rattle.address.specs.Class.{class_of}
 use borrow.Author.Tests.{eq-eqb, ne_eqb, eqb-true}
@@ -16,12 +18,10 @@ use Rattle.address.specs.declared.PathAddress.{PathAddress}
 use Rattle.header.specs.Read.{read_of}
 use Rattle.header.specs.declared.Fields.{Fields}
 use Rattle.header.specs.declared.Header.{Header}
-use Rattle.header.specs.Onward.{found_of}
+use Rattle.header.specs.Onward.{found_of, Found}
 use Rattle.header.specs.declared.Renewal.{Renewal}
-use Rattle.header.specs.declared.Found.{Found}
-use Rattle.header.specs.declared.Found.TheVariants as found
+use Rattle.checks.specs.Told.{Good, Refused}
 use Rattle.header.proofs.FoundLaws.{found_good, found_refused}
-use Rattle.header.specs.declared.Read.TheVariants as read
 use Rattle.header.proofs.Refusals.{never_zero}
 use Rattle.meaning.specs.Names.{aim_of, bad_aim}
 use Rattle.meaning.specs.Flood.{is_flooded}
@@ -34,8 +34,6 @@ use Rattle.routes.specs.declared.Route.{Route}
 use Rattle.state.specs.Relay.{Memory, Relay, all_routes}
 use Rattle.floods.specs.Memory.{flood_of}
 use Rattle.survey.specs.Survey.{named_below, named_of, survey_below, survey_of}
-use Rattle.survey.specs.declared.Destination.{Destination}
-use Rattle.survey.specs.declared.Destination.TheVariants as destination
 use Rattle.survey.specs.declared.Sought.{Sought}
 use Rattle.next_leg.specs.Leg.{legs_of}
 use Rattle.next_leg.specs.declared.Leg.{Leg}
@@ -46,7 +44,6 @@ use Rattle.verdict.specs.declared.Target.{Target}
 use Rattle.verdict.specs.declared.Target.TheVariants as target
 use Rattle.verdict.specs.declared.Place.{Place}
 use Rattle.verdict.specs.declared.Way.{Way}
-use Rattle.verdict.specs.declared.Way.TheVariants.{Lost}
 use Rattle.verdict.specs.declared.Wish.{Wish}
 use Rattle.verdict.specs.declared.Flood.{Flood}
 use Rattle.verdict.specs.declared.Flood.TheVariants.{Plain, Unsent, Full, New}
@@ -63,18 +60,18 @@ use Rattle.judge.specs.declared.finishing.Ruled.{Ruled}
 use Rattle.judge.specs.declared.Ending.{Ending}
 
 -- ---- a line that does not ask for the route, or for the ports set up
-route_line_lem : (c : Case) (p : Place) (w v : Way) (ready : ℕ) (local : Local)
-    → (route_sought target.Route c.router ≡ 1 → w ≡ v) → plain_line target.Route p w c ready local ≡ plain_line target.Route p v c ready local
+route_line_lem : (c : Case) (p : Option Place) (w v : Option Way) (ready : ℕ) (local : Local)
+    → (route_sought target.Route c.router ≡ true → w ≡ v) → plain_line target.Route p w c ready local ≡ plain_line target.Route p v c ready local
 unfolding plain_line
 route_line_lem c p w v ready local same = by_router (eqb c.router 0) same
   where
-    by_router : (host : Bool) → (◌≡◌ {A = ℕ} (pick host 0 1) 1 → w ≡ v)
+    by_router : (host : Bool) → (not host ≡ true → w ≡ v)
         → pick host (host_line target.Route local) (router_line target.Route p w c.arrival ready) ≡ pick host (host_line target.Route local) (router_line target.Route p v c.arrival ready)
     by_router true h = refl
     by_router false h = rw (h refl)
 
-plain_way : (t : Target) (c : Case) (p : Place) (w v : Way) (ready : ℕ) (local : Local)
-    → (route_sought t c.router ≡ 1 → w ≡ v) → plain_line t p w c ready local ≡ plain_line t p v c ready local
+plain_way : (t : Target) (c : Case) (p : Option Place) (w v : Option Way) (ready : ℕ) (local : Local)
+    → (route_sought t c.router ≡ true → w ≡ v) → plain_line t p w c ready local ≡ plain_line t p v c ready local
 unfolding plain_line
 plain_way target.Here c p w v ready local same = refl
 plain_way target.Broadcast c p w v ready local same = refl
@@ -83,12 +80,12 @@ plain_way target.Path c p w v ready local same = refl
 plain_way target.Route c p w v ready local same = route_line_lem c p w v ready local same
 
 -- and a flood asks for no route
-line_way : (t : Target) (c : Case) (p : Place) (w v : Way) (ready : ℕ) (local : Local)
-    → (unless_flood c.flood (route_sought t c.router) ≡ 1 → w ≡ v) → line_of t p w c ready local ≡ line_of t p v c ready local
+line_way : (t : Target) (c : Case) (p : Option Place) (w v : Option Way) (ready : ℕ) (local : Local)
+    → (unless_flood c.flood (route_sought t c.router) ≡ true → w ≡ v) → line_of t p w c ready local ≡ line_of t p v c ready local
 unfolding line_of
 line_way t c p w v ready local same = by_flood c.flood same
   where
-    by_flood : (f : Flood) → (unless_flood f (route_sought t c.router) ≡ 1 → w ≡ v)
+    by_flood : (f : Flood) → (unless_flood f (route_sought t c.router) ≡ true → w ≡ v)
         → flood_line f (except_by ready c.arrival) (plain_line t p w c ready local) ≡ flood_line f (except_by ready c.arrival) (plain_line t p v c ready local)
     by_flood Plain h = plain_way t c p w v ready local h
     by_flood Unsent h = refl
@@ -105,8 +102,8 @@ path_plain router k port f = by_flood (is_flooded f && not (eqb router 0))
     by_flood false = refl
 
 -- the ruling and the headers, by what was looked up and by what the definition of the whole looks up
-wished_ruled : (r : Relay) (d : Destination) (l : Leg) (c : Case) (t : Target) (p : Place) (w v : Way) (ready : ℕ) (s : Survey)
-    → s ≡ survey_of r d (sought_of l) → ready ≡ s.ready → (unless_flood c.flood (route_sought t c.router) ≡ 1 → w ≡ v)
+wished_ruled : (r : Relay) (d : Option Address) (l : Leg) (c : Case) (t : Target) (p : Option Place) (w v : Option Way) (ready : ℕ) (s : Survey)
+    → s ≡ survey_of r d (sought_of l) → ready ≡ s.ready → (unless_flood c.flood (route_sought t c.router) ≡ true → w ≡ v)
     → wished_of r d (local_of t p c) (line_of t p w c ready (local_of t p c)) c l
     ≡ record { ruling = ruled_by t p v c s; legs = legs_of (ruled_by t p v c s).took s.domain l }
 unfolding wished_of ruled_by
@@ -117,32 +114,32 @@ either_zero true = refl
 either_zero false = refl
 
 -- a number that refuses is not 0
-refused_some : (s : List ℕ) (n : ℕ) → read_of s ≡ read.Refused n → eqb n 0 ≡ false
-refused_some s n e = ne_eqb n 0 (λ z. never_zero s (e ∙ ap read.Refused z))
+refused_some : (s : List ℕ) (n : ℕ) → read_of s ≡ Refused n → eqb n 0 ≡ false
+refused_some s n e = ne_eqb n 0 (λ z. never_zero s (e ∙ ap Refused z))
 
 -- an ending that is no refusal
 abbrev ended : ℕ → ℕ → Ruled → Ending
 ended size precedence x = record { refusal = 0; ruling = x.ruling; precedence = precedence; size = size; legs = x.legs }
 
-pub finish_told : (r : Relay) (a : Asked) (w : Way) {local : Local} {wish : Wish} {code : ℕ} {x : Ruled}
+pub finish_told : (r : Relay) (a : Asked) (w : Option Way) {local : Local} {wish : Wish} {code : ℕ} {x : Ruled}
     → a.refusal ≡ 0
     → local ≡ local_of a.target a.place a.case
     → wish ≡ line_of a.target a.place w a.case a.ready local
     → code ≡ code_of w
-    → ((d : Destination) → x ≡ wished_of r d local wish a.case (record { arrival = a.arrival; code = code; header = a.header }))
+    → ((d : Option Address) → x ≡ wished_of r d local wish a.case (record { arrival = a.arrival; code = code; header = a.header }))
     → ◌≡◌ {A = Ending} (ended a.header.size a.precedence x) (finished_of r a w)
 unfolding finished_of ruled_asked
 finish_told r a w zero e1 e2 e3 e4 = let e = e4 a.destination in simp (eq-eqb a.refusal 0 zero) cc
 
 -- ---- one datagram
-module _ (r : Relay) (rs : List Route) (number : ℕ) (w : Way) where
+module _ (r : Relay) (rs : List Route) (number : ℕ) (w : Option Way) where
   abbrev full : Relay
   full = all_routes r rs
 
   -- what the search has to have answered for what is asked, and that nothing was found where nothing was asked
   abbrev Searched : Asked → Type 0
   Searched a =
-      (searched_in a ≡ 1 → w ≡ way_of (search_of (record { 0 = address_in a.destination }) rs)) × (searched_in a ≡ 0 → w ≡ Lost)
+      (searched_in a ≡ true → w ≡ way_of (search_of (record { 0 = address_in a.destination }) rs)) × (searched_in a ≡ false → w ≡ None)
 
   -- the routes are no part of what else is looked up
   place_same : (t : Target) (a : Address) (arrival : ℕ) → place_for full t a arrival ≡ place_for r t a arrival
@@ -153,25 +150,22 @@ module _ (r : Relay) (rs : List Route) (number : ℕ) (w : Way) where
   place_same target.Path a arrival = refl
   place_same target.Route a arrival = refl
 
-  survey_same : (d : Destination) (q : Sought) → survey_of full d q ≡ survey_of r d q
+  survey_same : (d : Option Address) (q : Sought) → survey_of full d q ≡ survey_of r d q
   unfolding survey_below
   survey_same d q = refl
 
   -- what is not sought without a flood is not sought with one
-  none_sought : (f : Flood) → unless_flood f 0 ≡ 0
+  none_sought : (f : Flood) → unless_flood f false ≡ false
   none_sought Plain = refl
   none_sought Unsent = refl
   none_sought Full = refl
   none_sought (New place) = refl
 
-  unsought : (f : Flood) {X : Type 0} → unless_flood f 0 ≡ 1 → X
-  unsought Plain e = absurd (omega (arith, e))
-  unsought Unsent e = absurd (omega (arith, e))
-  unsought Full e = absurd (omega (arith, e))
-  unsought (New place) e = absurd (omega (arith, e))
+  unsought : (f : Flood) {X : Type 0} → unless_flood f false ≡ true → X
+  unsought f e = true_false (sym e ∙ none_sought f)
 
-  way_sought : (f : Flood) (t : Target) (a : Address) (router : ℕ) → (unless_flood f (route_sought t router) ≡ 1 → w ≡ way_of (search_of a rs))
-      → unless_flood f (route_sought t router) ≡ 1 → w ≡ way_for full t a
+  way_sought : (f : Flood) (t : Target) (a : Address) (router : ℕ) → (unless_flood f (route_sought t router) ≡ true → w ≡ way_of (search_of a rs))
+      → unless_flood f (route_sought t router) ≡ true → w ≡ way_for full t a
   way_sought f target.Here a router h is = unsought f is
   way_sought f target.Broadcast a router h is = unsought f is
   way_sought f target.Group a router h is = unsought f is
@@ -179,7 +173,7 @@ module _ (r : Relay) (rs : List Route) (number : ℕ) (w : Way) where
   way_sought f target.Route a router h is = h is
 
   -- and what it asks for: on a host, and by a line that asks for no route, nothing
-  plain_code : (t : Target) (a : Address) (router : ℕ) → (route_sought t router ≡ 1 → w ≡ way_of (search_of a rs)) → (route_sought t router ≡ 0 → w ≡ Lost)
+  plain_code : (t : Target) (a : Address) (router : ℕ) → (route_sought t router ≡ true → w ≡ way_of (search_of a rs)) → (route_sought t router ≡ false → w ≡ None)
       → code_of w ≡ pick (eqb router 0) 0 (code_of (way_for full t a))
   plain_code target.Here a router h none = ap code_of (none refl) ∙ sym (either_zero (eqb router 0))
   plain_code target.Broadcast a router h none = ap code_of (none refl) ∙ sym (either_zero (eqb router 0))
@@ -187,13 +181,13 @@ module _ (r : Relay) (rs : List Route) (number : ℕ) (w : Way) where
   plain_code target.Path a router h none = ap code_of (none refl) ∙ sym (either_zero (eqb router 0))
   plain_code target.Route a router h none = by_router (eqb router 0) h none
     where
-      by_router : (host : Bool) → (◌≡◌ {A = ℕ} (pick host 0 1) 1 → w ≡ way_of (search_of a rs)) → (◌≡◌ {A = ℕ} (pick host 0 1) 0 → w ≡ Lost)
+      by_router : (host : Bool) → (not host ≡ true → w ≡ way_of (search_of a rs)) → (not host ≡ false → w ≡ None)
           → code_of w ≡ pick host 0 (code_of (way_of (search_of a rs)))
       by_router true h none = ap code_of (none refl)
       by_router false h none = ap code_of (h refl)
 
-  code_sought : (f : Flood) (t : Target) (a : Address) (router : ℕ) → (unless_flood f (route_sought t router) ≡ 1 → w ≡ way_of (search_of a rs))
-      → (unless_flood f (route_sought t router) ≡ 0 → w ≡ Lost) → code_of w ≡ pick (eqb router 0) 0 (code_of (way_under f (way_for full t a)))
+  code_sought : (f : Flood) (t : Target) (a : Address) (router : ℕ) → (unless_flood f (route_sought t router) ≡ true → w ≡ way_of (search_of a rs))
+      → (unless_flood f (route_sought t router) ≡ false → w ≡ None) → code_of w ≡ pick (eqb router 0) 0 (code_of (way_under f (way_for full t a)))
   code_sought Plain t a router h none = plain_code t a router h none
   code_sought Unsent t a router h none = ap code_of (none refl) ∙ sym (either_zero (eqb router 0))
   code_sought Full t a router h none = ap code_of (none refl) ∙ sym (either_zero (eqb router 0))
@@ -241,30 +235,30 @@ module _ (r : Relay) (rs : List Route) (number : ℕ) (w : Way) where
         let s = surveyed (aim.Node a) in
         let u = target_of (class_of a.0) s in
         ap
-        (λ (x : Leg). wished_of r (destination.Node a) (local_of t (place_for r t a at.set) c)
+        (λ (x : Leg). wished_of r (Some a) (local_of t (place_for r t a at.set) c)
         (line_of t (place_for r t a at.set) w c (named_of r.ports a).ready (local_of t (place_for r t a at.set) c)) c x)
         (leg_same a k)
-        ∙ wished_ruled r (destination.Node a) l c t (place_for r t a at.set) w (way_for full t a) (named_of r.ports a).ready s
-        (survey_same (destination.Node a) (sought_of l)) (ready_same a) (way_sought (flood_for r at (aim.Node a) h) t a r.router k.0)
+        ∙ wished_ruled r (Some a) l c t (place_for r t a at.set) w (way_for full t a) (named_of r.ports a).ready s
+        (survey_same (Some a) (sought_of l)) (ready_same a) (way_sought (flood_for r at (aim.Node a) h) t a r.router k.0)
         ∙ ap (λ (x : Ruling). record { ruling = x; legs = legs_of x.took s.domain l })
         (ap (λ (x : Target). ruled_by x (place_for r x a at.set) (way_for full x a) c s) (target_same a)
-        ∙ ap (λ (x : Place). ruled_by u x (way_for full u a) c s) (sym (place_same u a at.set)))
+        ∙ ap (λ (x : Option Place). ruled_by u x (way_for full u a) c s) (sym (place_same u a at.set)))
 
     path_ruled : (p : PathAddress) → Searched (path_asked r number at h n p)
         → ruled_asked r (path_asked r number at h n p) w ≡ record { ruling = rule_of full at (aim.Path p) h; legs = legs_for full at (aim.Path p) h }
     unfolding ruled_asked wished_of path_asked rule_of legs_for ruled_by line_of plain_line path_place survey_below
     path_ruled p k =
-        ap (λ (x : Way). ruled_asked r (path_asked r number at h n p) x) (k.1 (none_sought (flood_for r at (aim.Path p) h)))
+        ap (λ (x : Option Way). ruled_asked r (path_asked r number at h n p) x) (k.1 (none_sought (flood_for r at (aim.Path p) h)))
         ∙ path-by (flood_for r at (aim.Path p) h) (path_plain r.router r.memory at.address.0 h.fields)
       where
         -- by what the pairs say, which of a path is nothing
         path-by : (f : Flood) → f ≡ Plain
-            → wished_of r destination.Other (local_of target.Path (path_place r p) (case_of r.router at.set h.fields f))
-            (line_of target.Path (path_place r p) Lost (case_of r.router at.set h.fields f) 0 (local_of target.Path (path_place r p) (case_of r.router at.set h.fields f)))
+            → wished_of r None (local_of target.Path (path_place r p) (case_of r.router at.set h.fields f))
+            (line_of target.Path (path_place r p) None (case_of r.router at.set h.fields f) 0 (local_of target.Path (path_place r p) (case_of r.router at.set h.fields f)))
             (case_of r.router at.set h.fields f) (record { arrival = at.address; code = 0; header = h })
             ≡ record {
-              ruling = ruled_by target.Path (path_place full p) Lost (case_of r.router at.set h.fields f) (surveyed (aim.Path p));
-              legs = legs_of (ruled_by target.Path (path_place full p) Lost (case_of r.router at.set h.fields f) (surveyed (aim.Path p))).took
+              ruling = ruled_by target.Path (path_place full p) None (case_of r.router at.set h.fields f) (surveyed (aim.Path p));
+              legs = legs_of (ruled_by target.Path (path_place full p) None (case_of r.router at.set h.fields f) (surveyed (aim.Path p))).took
                   (surveyed (aim.Path p)).domain (leg_for full at (aim.Path p) h);
             }
         path-by f plain = rw plain
@@ -289,8 +283,8 @@ module _ (r : Relay) (rs : List Route) (number : ℕ) (w : Way) where
 
   octets_is : (at : Arrival) (s : List ℕ) (x : Found) → found_of s ≡ x → Searched (octets_asked r number at x)
       → finished_of r (octets_asked r number at x) w ≡ octets_ending full at (read_of s)
-  octets_is at s (found.Good h n) e k = rw (found_good s h n e).0 (header_is at h n k)
-  octets_is at s (found.Refused n) e k = rw (found_refused s n e) (refused_is n (refused_some s n (found_refused s n e)))
+  octets_is at s (Good (h, n)) e k = rw (found_good s h n e).0 (header_is at h n k)
+  octets_is at s (Refused n) e k = rw (found_refused s n e) (refused_is n (refused_some s n (found_refused s n e)))
 
   -- judged, searched and finished: the ending of the relay with these routes
   pub finished_is : (port second : ℕ) (octets : List ℕ) (room : ℕ) → Searched (datagram_asked r number port second octets room)

@@ -9,13 +9,11 @@ use borrow.Author.Tests.{ne_eqb, eqb-true, eqb-false}
 use Rattle.checks.specs.Order.{pick, Checks, first_of}
 use Rattle.checks.proofs.Bools.{true_false}
 use Rattle.checks.proofs.Laws.{zero_none}
-use Rattle.header.specs.Onward.{found_of}
+use Rattle.header.specs.Onward.{found_of, Found}
 use Rattle.header.specs.Read.{read_of, read_checks, header_of}
 use Rattle.header.specs.declared.Header.{Header}
 use Rattle.header.specs.declared.Renewal.{Renewal}
-use Rattle.header.specs.declared.Found.{Found}
-use Rattle.header.specs.declared.Found.TheVariants as found
-use Rattle.header.specs.declared.Read.TheVariants as read
+use Rattle.checks.specs.Told.{Good, Refused}
 use Rattle.header.proofs.FoundLaws.{found_good, found_refused}
 use Rattle.header.proofs.Refusals.{never_zero}
 use Rattle.meaning.specs.Names.{aim_of, bad_aim}
@@ -57,11 +55,11 @@ unfolding remembered_by
 refused_kept second k n is some e = rw (ne_eqb n 0 some, e)
 
 -- the reader's numbers are none of these
-read_heard : (s : List ℕ) (n : ℕ) → read_of s ≡ read.Refused n → is_unheard n ≡ false
+read_heard : (s : List ℕ) (n : ℕ) → read_of s ≡ Refused n → is_unheard n ≡ false
 unfolding read_of read_checks
 read_heard s n e = by_number (eqb (first_of (read_checks s)) 0) refl e
   where
-    by_number : (t : Bool) → eqb (first_of (read_checks s)) 0 ≡ t → pick t (read.Good (header_of s)) (read.Refused (first_of (read_checks s))) ≡ read.Refused n
+    by_number : (t : Bool) → eqb (first_of (read_checks s)) 0 ≡ t → pick t (Good (header_of s)) (Refused (first_of (read_checks s))) ≡ Refused n
         → is_unheard n ≡ false
     by_number true z is = true_false cc
     by_number false z is =
@@ -102,10 +100,10 @@ module _ (r : Relay) (number second : ℕ) where
             refused_kept second r.memory (first_of cs) false some (first_of_lem is_unheard false cs (refl, (refl, (refl, (refl, (refl, tt))))) some)
 
   octets_kept : (at : Arrival) (s : List ℕ) (x : Found) → found_of s ≡ x → by (octets_asked r number at x) ≡ octets_memory r at second (read_of s)
-  octets_kept at s (found.Good h n) e = rw (found_good s h n e).0 (header_kept at h n)
-  octets_kept at s (found.Refused n) e =
+  octets_kept at s (Good (h, n)) e = rw (found_good s h n e).0 (header_kept at h n)
+  octets_kept at s (Refused n) e =
       rw (found_refused s n e)
-      (refused_kept second r.memory n false (λ z. never_zero s (found_refused s n e ∙ ap read.Refused z)) (read_heard s n (found_refused s n e)))
+      (refused_kept second r.memory n false (λ z. never_zero s (found_refused s n e ∙ ap Refused z)) (read_heard s n (found_refused s n e)))
 
   -- by what was asked, what the definition of the whole says
   pub remembered_is : (port : ℕ) (octets : List ℕ) (room : ℕ) → by (datagram_asked r number port second octets room) ≡ memory_of r port second octets room
@@ -140,10 +138,10 @@ module _ (r : Relay) (number : ℕ) where
 
   found_placed : (at : Arrival) (x : Found) → InPlaces (octets_asked r number at x).case.flood
   unfolding carried_asked
-  found_placed at (found.Good h n) =
+  found_placed at (Good (h, n)) =
       else_placed (first_of (arrival_checks at.address h.fields)) (aim_asked r number at h n (aim_of at.address.0 h.fields.addresses))
       (aim_placed at h n (aim_of at.address.0 h.fields.addresses))
-  found_placed at (found.Refused n) = tt
+  found_placed at (Refused n) = tt
 
   pub asked_placed : (port second : ℕ) (octets : List ℕ) (room : ℕ) → InPlaces (datagram_asked r number port second octets room).case.flood
   unfolding datagram_asked

@@ -1,18 +1,17 @@
 -- Where a route is sought, what is asked has the mission's number and the set of its ports that are set up: what a search of the list asks for.
 -- Assumes nothing.
-use native.Mathlib.Omega.{arith}
 use Prim.Native.Nat.{ℕ, zero, suc, ◌+◌, ◌^◌}
-use mathlib.Core.Path.{◌≡◌, refl, ap₂}
+use mathlib.Core.Path.{◌≡◌, refl, sym, ap₂}
 use mathlib.Core.Bool.{Bool, true, false, ◌&&◌}
 use mathlib.Core.List.{List}
 use lib.Dec.{eqb}
 use lib.ListN.{get_or}
 use Rattle.checks.specs.Order.{pick, first_of}
-use Rattle.header.specs.Onward.{found_of}
+use Rattle.checks.proofs.Bools.{true_false}
+use Rattle.header.specs.Onward.{found_of, Found}
 use Rattle.header.specs.declared.Header.{Header}
 use Rattle.header.specs.declared.Renewal.{Renewal}
-use Rattle.header.specs.declared.Found.{Found}
-use Rattle.header.specs.declared.Found.TheVariants as found
+use Rattle.checks.specs.Told.{Good, Refused}
 use Rattle.meaning.specs.Names.{aim_of}
 use Rattle.meaning.specs.Arrival.{arrival_checks}
 use Rattle.meaning.specs.declared.Aim.{Aim}
@@ -49,11 +48,11 @@ unfolding named_below ready_of
 named_ready ports a = all_ready ports 8
 
 -- whatever the pairs say, nothing is sought where nothing would be
-none_sought : (f : Flood) → unless_flood f 0 ≡ 1 → ⊥
-none_sought Plain e = omega (arith, e)
-none_sought Unsent e = omega (arith, e)
-none_sought Full e = omega (arith, e)
-none_sought (New place) e = omega (arith, e)
+none_sought : (f : Flood) → unless_flood f false ≡ true → ⊥
+none_sought Plain e = true_false (sym e)
+none_sought Unsent e = true_false (sym e)
+none_sought Full e = true_false (sym e)
+none_sought (New place) e = true_false (sym e)
 
 -- ---- what is asked
 module _ (r : Relay) (number : ℕ) where
@@ -61,38 +60,38 @@ module _ (r : Relay) (number : ℕ) where
   Asks a = (a.number ≡ number) × (a.ready ≡ ready_of r.ports)
 
   -- a refusal seeks nothing
-  refused_asks : (n : ℕ) → searched_in (refused_asked n) ≡ 1 → Asks (refused_asked n)
-  refused_asks n h = absurd (by_number (eqb n 0) h)
+  refused_asks : (n : ℕ) → searched_in (refused_asked n) ≡ true → Asks (refused_asked n)
+  refused_asks n h = by_number (eqb n 0) h
     where
-      by_number : (t : Bool) → ◌≡◌ {A = ℕ} (pick t 0 0) 1 → ⊥
-      by_number true e = omega (arith, e)
-      by_number false e = omega (arith, e)
+      by_number : (t : Bool) {X : Type 0} → (t && false) ≡ true → X
+      by_number true e = true_false (sym e)
+      by_number false e = true_false (sym e)
 
-  else_asks : (n : ℕ) (a : Asked) → (searched_in a ≡ 1 → Asks a) → searched_in (else_asked n a) ≡ 1 → Asks (else_asked n a)
+  else_asks : (n : ℕ) (a : Asked) → (searched_in a ≡ true → Asks a) → searched_in (else_asked n a) ≡ true → Asks (else_asked n a)
   else_asks n a k h = by_number (eqb n 0) h
     where
-      by_number : (t : Bool) → searched_in (pick t a (refused_asked n)) ≡ 1 → Asks (pick t a (refused_asked n))
+      by_number : (t : Bool) → searched_in (pick t a (refused_asked n)) ≡ true → Asks (pick t a (refused_asked n))
       by_number true e = k e
       by_number false e = refused_asks n e
 
-  aim_asks : (at : Arrival) (h : Header) (c : Renewal) (x : Aim) → searched_in (aim_asked r number at h c x) ≡ 1 → Asks (aim_asked r number at h c x)
+  aim_asks : (at : Arrival) (h : Header) (c : Renewal) (x : Aim) → searched_in (aim_asked r number at h c x) ≡ true → Asks (aim_asked r number at h c x)
   unfolding aim_asked node_asked path_asked
   aim_asks at h c (aim.Node a) e = (refl, named_ready r.ports a)
   aim_asks at h c (aim.Path p) e = absurd (none_sought (flood_of r.router target.Path r.memory at.address.0 h.fields) e)
   aim_asks at h c aim.Uncarried e = refused_asks 6 e
 
-  header_asks : (at : Arrival) (h : Header) (c : Renewal) → searched_in (carried_asked r number at h c) ≡ 1 → Asks (carried_asked r number at h c)
+  header_asks : (at : Arrival) (h : Header) (c : Renewal) → searched_in (carried_asked r number at h c) ≡ true → Asks (carried_asked r number at h c)
   unfolding carried_asked
   header_asks at h c e =
       let x = aim_of at.address.0 h.fields.addresses in
       else_asks (first_of (arrival_checks at.address h.fields)) (aim_asked r number at h c x) (aim_asks at h c x) e
 
-  octets_asks : (at : Arrival) (x : Found) → searched_in (octets_asked r number at x) ≡ 1 → Asks (octets_asked r number at x)
-  octets_asks at (found.Good h c) e = header_asks at h c e
-  octets_asks at (found.Refused n) e = refused_asks n e
+  octets_asks : (at : Arrival) (x : Found) → searched_in (octets_asked r number at x) ≡ true → Asks (octets_asked r number at x)
+  octets_asks at (Good (h, c)) e = header_asks at h c e
+  octets_asks at (Refused n) e = refused_asks n e
 
   pub search_asks : (port second : ℕ) (octets : List ℕ) (room : ℕ)
-      → searched_in (datagram_asked r number port second octets room) ≡ 1 → Asks (datagram_asked r number port second octets room)
+      → searched_in (datagram_asked r number port second octets room) ≡ true → Asks (datagram_asked r number port second octets room)
   unfolding datagram_asked
   search_asks port second octets room e =
       else_asks (first_of (call_checks r port second room)) (octets_asked r number (arrival_at r port) (found_of octets))

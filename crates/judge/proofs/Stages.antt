@@ -1,4 +1,5 @@
 -- The stages before the search, over plain variables. Assumes nothing.
+use Rattle.std.specs.Prelude.{Option}
 use native.Mathlib.Omega.{arith}
 use Prim.Native.Nat.{ℕ, ◌≤◌, ◌<◌}
 use mathlib.Core.Path.{◌≡◌, refl, sym, ap, ◌∙◌}
@@ -6,6 +7,8 @@ use mathlib.Core.Bool.{Bool, true, false, not}
 use mathlib.Core.List.{List, [], ◌∷◌}
 use lib.ListN.{get_or}
 use borrow.Author.Tests.{eq-eqb, ne_eqb, lt-ltb, le-ltb}
+use lib.Dec.{eqb}
+use Rattle.std.proofs.Common.{Option}
 use Rattle.checks.specs.Order.{pick, check_of, first_of}
 use Rattle.checks.specs.declared.Check.TheVariants.{Passed, Failed}
 use Rattle.checks.specs.declared.Check.{Check}
@@ -17,7 +20,9 @@ use Rattle.address.specs.Path.{path_form, path_number}
 use Rattle.address.specs.declared.Address.{Address}
 use Rattle.address.specs.declared.PathAddress.{PathAddress}
 use Rattle.address.specs.declared.Class.{Class}
+use Rattle.address.specs.declared.Class.TheVariants.{Invalid, Unicast, Multicast, NetBroadcast, DomainBroadcast, ScpsBroadcast, LimitedBroadcast}
 use Rattle.address.specs.declared.PathForm.{PathForm}
+use Rattle.address.specs.declared.PathForm.TheVariants as form
 use Rattle.header.specs.Onward.{found_of}
 use Rattle.header.specs.declared.Renewal.{Renewal}
 use Rattle.header.specs.declared.Header.{Header}
@@ -27,13 +32,11 @@ use Rattle.meaning.specs.Arrival.{arrival_checks}
 use Rattle.meaning.specs.Asked.{precedence_asked}
 use Rattle.meaning.specs.declared.Aim.{Aim}
 use Rattle.meaning.specs.declared.Aim.TheVariants as aim
-use Rattle.meaning.specs.declared.Origin.{Origin}
 use Rattle.records.specs.Fresh.{fresh_port}
 use Rattle.records.specs.declared.Port.{Port}
 use Rattle.state.specs.Relay.{Relay, among_ports}
 use Rattle.state.specs.Seen.{Board, State, ports_seen, seated}
 use Rattle.survey.specs.Survey.{named_of}
-use Rattle.survey.specs.declared.Destination.{Destination}
 use Rattle.lookup.specs.Lookup.{path_place}
 use Rattle.lookup.specs.ForTarget.{place_for}
 use Rattle.verdict.specs.Rule.{target_of}
@@ -59,15 +62,21 @@ pub by_rest : {n : ℕ} {e : Asked} (m : ℕ) (rest : Asked) → n ≡ m → n �
 by_rest m rest same h is = rw (← same) (simp (eq-eqb _ 0 h) is)
 
 -- ---- an end system's address or a group's
-module _ (a : Address) {class : Class} {n : ℕ} (is : class ≡ class_of a.0) (number : n ≡ class_number class) where
-  class_told : n ≡ class_number (class_of a.0)
-  class_told = number ∙ ap class_number is
+class_bad : (c : Class) → (c ≡ Invalid → ⊥) → eqb (class_number c) 0 ≡ false
+class_bad Invalid other = absurd (other refl)
+class_bad Unicast other = refl
+class_bad Multicast other = refl
+class_bad NetBroadcast other = refl
+class_bad DomainBroadcast other = refl
+class_bad ScpsBroadcast other = refl
+class_bad LimitedBroadcast other = refl
 
-  pub node_refused : {e : Looked} (rest : Looked) → n ≡ 0 → e ≡ refused_looked 6 → e ≡ pick (bad_class a.0) (refused_looked 6) rest
-  node_refused rest h told = rw (eq-eqb _ 0 (sym class_told ∙ h)) told
+module _ (a : Address) {class : Class} (is : class ≡ class_of a.0) where
+  pub node_refused : {e : Looked} (rest : Looked) → class ≡ Invalid → e ≡ refused_looked 6 → e ≡ pick (bad_class a.0) (refused_looked 6) rest
+  node_refused rest h told = rw (sym is ∙ h) told
 
-  pub node_looked_lem : (b : Board) (s : State) (arrival : ℕ) {m : ℕ} {v : Survey} {t : Target} {p : Place}
-      → (n ≡ 0 → ⊥)
+  pub node_looked_lem : (b : Board) (s : State) (arrival : ℕ) {m : ℕ} {v : Survey} {t : Target} {p : Option Place}
+      → (class ≡ Invalid → ⊥)
       → m ≡ s.number
       → v ≡ named_of (ports_seen m b) a
       → t ≡ target_of class v
@@ -75,20 +84,21 @@ module _ (a : Address) {class : Class} {n : ℕ} (is : class ≡ class_of a.0) (
       → ◌≡◌ {A = Looked} (record { refusal = 0; target = t; place = p; ready = v.ready })
       (pick (bad_class a.0) (refused_looked 6) (node_looked (seated b s) arrival a))
   unfolding node_looked
-  node_looked_lem b s arrival some e1 e2 e3 e4 = rw (ne_eqb _ 0 (λ z. some (class_told ∙ z))) cc
+  node_looked_lem b s arrival some e1 e2 e3 e4 = rw (class_bad (class_of a.0) (λ e. some (is ∙ e))) cc
 
 -- ---- a path
-module _ (p : PathAddress) {form : PathForm} {n : ℕ} (is : form ≡ path_form p.0) (number : n ≡ path_number form) where
-  form_told : n ≡ path_number (path_form p.0)
-  form_told = number ∙ ap path_number is
+form_bad : (f : PathForm) → (f ≡ form.Invalid → ⊥) → eqb (path_number f) 0 ≡ false
+form_bad form.Invalid other = absurd (other refl)
+form_bad form.Valid other = refl
 
-  pub path_refused : {e : Looked} (rest : Looked) → n ≡ 0 → e ≡ refused_looked 6 → e ≡ pick (bad_path p.0) (refused_looked 6) rest
-  path_refused rest h told = rw (eq-eqb _ 0 (sym form_told ∙ h)) told
+module _ (p : PathAddress) {found : PathForm} (is : found ≡ path_form p.0) where
+  pub path_refused : {e : Looked} (rest : Looked) → found ≡ form.Invalid → e ≡ refused_looked 6 → e ≡ pick (bad_path p.0) (refused_looked 6) rest
+  path_refused rest h told = rw (sym is ∙ h) told
 
-  pub path_looked_lem : (r : Relay) {x : Place} → (n ≡ 0 → ⊥) → x ≡ path_place r p
+  pub path_looked_lem : (r : Relay) {x : Option Place} → (found ≡ form.Invalid → ⊥) → x ≡ path_place r p
       → ◌≡◌ {A = Looked} (record { refusal = 0; target = target.Path; place = x; ready = 0 }) (pick (bad_path p.0) (refused_looked 6) (path_looked r p))
   unfolding path_looked
-  path_looked_lem r some e = rw (ne_eqb _ 0 (λ z. some (form_told ∙ z))) cc
+  path_looked_lem r some e = rw (form_bad (path_form p.0) (λ e. some (is ∙ e))) cc
 
 -- what was looked up is no refusal
 node_free : (r : Relay) (arrival : ℕ) (a : Address) → (node_looked r arrival a).refusal ≡ 0
@@ -151,7 +161,7 @@ module _ (r : Relay) (number : ℕ) (at : Arrival) (h : Header) (k : Renewal) wh
       by_aim (aim.Path p) z = by_bad (bad_path p.0) (path_looked r p) _ z
       by_aim aim.Uncarried z = absurd (omega (arith, z))
 
-  pub good_asked : (x : Aim) {l : Looked} {router m : ℕ} {f : Flood} {c : Case} {d : Destination} {precedence : ℕ}
+  pub good_asked : (x : Aim) {l : Looked} {router m : ℕ} {f : Flood} {c : Case} {d : Option Address} {precedence : ℕ}
       → l ≡ aim_looked r at.set x
       → l.refusal ≡ 0
       → unmarked h.fields ≡ false
@@ -181,9 +191,9 @@ unfolding first_of
 first_6 true u v h = refl
 first_6 false u v h = rw h
 
-source_told : (at : Arrival) (h : Header) {o : Origin} {c : Check} → o ≡ origin_of at.address.0 h.fields.addresses → c ≡ check_of (bad_source o)
+source_told : (at : Arrival) (h : Header) {o : Option Address} {c : Check} → o ≡ origin_of at.address.0 h.fields.addresses → c ≡ check_of (bad_source o)
     → c ≡ check_of (bad_source (origin_of at.address.0 h.fields.addresses))
-source_told at h from told = told ∙ ap (λ (x : Origin). check_of (bad_source x)) from
+source_told at h from told = told ∙ ap (λ (x : Option Address). check_of (bad_source x)) from
 
 module _ (r : Relay) (number : ℕ) (at : Arrival) (h : Header) (k : Renewal) {e : Asked} where
   pub header_refused : {n : ℕ} → n ≡ first_of (arrival_checks at.address h.fields) → (n ≡ 0 → ⊥) → e ≡ refused_asked n → e ≡ carried_asked r number at h k
@@ -192,7 +202,7 @@ module _ (r : Relay) (number : ℕ) (at : Arrival) (h : Header) (k : Renewal) {e
 
   module _ {carried domain : Check} (told : carried ≡ check_of (not_carried h.fields)) (carries : carried ≡ Passed)
       (told' : domain ≡ check_of (no_domain at.address h.fields.addresses)) (has : domain ≡ Passed)
-      {o : Origin} {origin : Check} (from : o ≡ origin_of at.address.0 h.fields.addresses) (told'' : origin ≡ check_of (bad_source o)) where
+      {o : Option Address} {origin : Check} (from : o ≡ origin_of at.address.0 h.fields.addresses) (told'' : origin ≡ check_of (bad_source o)) where
     pub source_refused : origin ≡ Failed → e ≡ refused_asked 6 → e ≡ carried_asked r number at h k
     source_refused fails is =
         header_refused (passes _ _ _ told carries (passes _ _ _ told' has (either_6 _ _ _ (failed_true _ (sym (source_told at h from told'') ∙ fails))))) (λ z. omega arith) is

@@ -11,12 +11,10 @@ use Rattle.checks.specs.Order.{pick, first_of}
 use Rattle.checks.proofs.Laws.{zero_none}
 use Rattle.header.specs.Form.{places_of}
 use Rattle.header.specs.Read.{header_of, read_of}
-use Rattle.header.specs.Onward.{renewal_of, found_of}
+use Rattle.header.specs.Onward.{renewal_of, found_of, Found}
 use Rattle.header.specs.declared.Header.{Header}
-use Rattle.header.specs.declared.Read.TheVariants as read
+use Rattle.checks.specs.Told.{Good, Refused}
 use Rattle.header.specs.declared.Renewal.{Renewal}
-use Rattle.header.specs.declared.Found.{Found}
-use Rattle.header.specs.declared.Found.TheVariants as found
 use Rattle.header.proofs.Answers.{read_in_range, read_bounds}
 use Rattle.header.proofs.FoundLaws.{found_good, found_refused}
 use Rattle.header.proofs.Passed.{passed}
@@ -59,24 +57,24 @@ module _ (h : Header) (c : Renewal) where
 
 -- the octets were read, and what was found is handed on
 pub record WasRead (s : List ℕ) (a : Asked) : Type 0 where
-  pub read : read_of s ≡ read.Good a.header
+  pub read : read_of s ≡ Good a.header
   pub is : a.header ≡ header_of s
   pub inside : (places_of s).size ≤ length s
   pub renewal : a.renewal ≡ renewal_of s
 
 pub octets_read : (r : Relay) (number : ℕ) (at : Arrival) (s : List ℕ) (x : Found) → found_of s ≡ x → (octets_asked r number at x).refusal ≡ 0
     → WasRead s (octets_asked r number at x)
-octets_read r number at s (found.Good h c) e k =
+octets_read r number at s (Good (h, c)) e k =
     let g = found_good s h c e in
     let p = passed s h g.0 in
     let on = carried_hands h c r number at k in
     record {
-      read = g.0 ∙ ap read.Good (sym on.0);
+      read = g.0 ∙ ap Good (sym on.0);
       is = on.0 ∙ p.is;
       inside = omega (arith, p.fits, p.inside);
       renewal = on.1 ∙ g.1;
     }
-octets_read r number at s (found.Refused n) e k = absurd (never_zero s (found_refused s n e ∙ ap read.Refused k))
+octets_read r number at s (Refused n) e k = absurd (never_zero s (found_refused s n e ∙ ap Refused k))
 
 -- nothing refuses: there is room, and the octets were read
 pub asked_good : (r : Relay) (number port second : ℕ) (octets : List ℕ) (room : ℕ) → (datagram_asked r number port second octets room).refusal ≡ 0

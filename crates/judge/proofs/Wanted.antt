@@ -4,6 +4,8 @@ use mathlib.Core.Path.{◌≡◌, refl, sym, ap, subst, ◌∙◌}
 use mathlib.Core.Bool.{Bool, true, false, not, ◌&&◌}
 use lib.Bits.{bit_and}
 use lib.Dec.{eqb}
+use Rattle.std.proofs.Common.{Option}
+use Rattle.address.specs.declared.Address.{Address}
 use Rattle.checks.specs.Order.{pick}
 use Rattle.checks.proofs.Bools.{true_false, and_true}
 use Rattle.sets.specs.Sets.{in_set, port_set}
@@ -12,7 +14,6 @@ use Rattle.records.specs.SetUp.{is_set_up}
 use Rattle.state.specs.Relay.{Relay, port_in, queue_in}
 use Rattle.survey.specs.Survey.{in_domain, is_fitting, is_full, survey_below, survey_of, survey_within, wanted_of}
 use Rattle.survey.specs.declared.Sought.{Sought}
-use Rattle.survey.specs.declared.Destination.{Destination}
 use Rattle.survey.proofs.Within.{same_sets, within}
 use Rattle.survey.proofs.Bits.{in_except, in_none}
 use Rattle.next_leg.specs.Leg.{next_lengths, no_legs, legs_of}
@@ -179,7 +180,7 @@ module _ (r : Relay) (q : Sought) (set : ℕ) where
       (took_inside local (after_size (same_domain set bound (gathered (set_up near))) (gathered (set_up wide))) (gathered (set_up filled))
       (sized_inside (same_domain set bound (gathered (set_up near))) (near_inside bound))))
 
-module _ (r : Relay) (d : Destination) (l : Leg) where
+module _ (r : Relay) (d : Option Address) (l : Leg) where
   abbrev surveyed : Survey
   surveyed = survey_of r d (sought_of l)
 

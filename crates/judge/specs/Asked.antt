@@ -1,18 +1,14 @@
 -- What is known of a received datagram before a route is searched for it, and what becomes of it then: page 01, "One received datagram, step by
 -- step"; the search stands between the two (page 02, W-208: the routes are lent apart). Assumes nothing.
-use Rattle.std.specs.Prelude.{ℕ, List, ◌≡◌, eqb, length}
+use Rattle.std.specs.Prelude.{ℕ, List, ◌≡◌, eqb, length, Option, Some, None, Bool, false, not, ◌&&◌}
 use Rattle.checks.specs.Order.{pick, first_of}
 use Rattle.address.specs.declared.Address.{Address}
 use Rattle.address.specs.declared.PathAddress.{PathAddress}
-use Rattle.header.specs.Onward.{found_of}
+use Rattle.header.specs.Onward.{found_of, Found}
 use Rattle.header.specs.declared.Addresses.TheVariants as addresses
-use Rattle.header.specs.declared.Qos.TheVariants as qos
-use Rattle.header.specs.declared.Octet.TheVariants as octet
-use Rattle.header.specs.declared.Timestamp.TheVariants as stamp
 use Rattle.header.specs.declared.Header.{Header}
 use Rattle.header.specs.declared.Renewal.{Renewal}
-use Rattle.header.specs.declared.Found.{Found}
-use Rattle.header.specs.declared.Found.TheVariants as found
+use Rattle.checks.specs.Told.{Good, Refused}
 use Rattle.meaning.specs.Names.{aim_of, bad_class, bad_path}
 use Rattle.meaning.specs.Arrival.{arrival_checks}
 use Rattle.meaning.specs.Asked.{precedence_asked}
@@ -25,7 +21,6 @@ use Rattle.verdict.specs.Rule.{local_of, line_of, code_of, same_domain, after_si
 use Rattle.verdict.specs.declared.Target.{Target}
 use Rattle.verdict.specs.declared.Target.TheVariants.{Here, Broadcast, Group, Path, Route}
 use Rattle.verdict.specs.declared.Place.{Place}
-use Rattle.verdict.specs.declared.Place.TheVariants.{Missing}
 use Rattle.verdict.specs.declared.Way.{Way}
 use Rattle.verdict.specs.declared.Flood.{Flood}
 use Rattle.verdict.specs.declared.Flood.TheVariants.{Plain, Unsent, Full, New}
@@ -39,8 +34,6 @@ use Rattle.next_leg.specs.declared.Leg.{Leg}
 use Rattle.survey.specs.Names.{NamesFor}
 use Rattle.survey.specs.Survey.{named_of, wanted_of, survey_of}
 use Rattle.survey.specs.declared.names.Names.{Names}
-use Rattle.survey.specs.declared.Destination.{Destination}
-use Rattle.survey.specs.declared.Destination.TheVariants.{Node, Other}
 use Rattle.lookup.specs.Lookup.{path_place}
 use Rattle.lookup.specs.ForTarget.{place_for}
 use Rattle.floods.specs.Memory.{flood_of}
@@ -71,10 +64,10 @@ no_header =
       fields = record {
         tpid = 0;
         addresses = addresses.BasicPath 0;
-        qos = qos.Absent;
-        hops = octet.Absent;
-        stamp = stamp.Absent;
-        expanded = octet.Absent;
+        qos = None;
+        hops = None;
+        stamp = None;
+        expanded = None;
         checksum = 0;
         intermediate = 0;
       };
@@ -87,10 +80,10 @@ refused_asked n =
     record {
       refusal = n;
       target = Here;
-      place = Missing;
+      place = None;
       case = no_case;
       ready = 0;
-      destination = Other;
+      destination = None;
       number = 0;
       precedence = 0;
       arrival = record { 0 = 0 };
@@ -103,7 +96,7 @@ abbrev pub else_asked : ℕ → Asked → Asked
 else_asked n a = pick (eqb n 0) a (refused_asked n)
 
 -- a good header, where it differs when it is sent on, its target, what the place of a group or a path says, and the ports set up where the target's line asks for them
-abbrev pub header_asked : Relay → ℕ → Arrival → Header → Renewal → Aim → Target → Place → ℕ → Asked
+abbrev pub header_asked : Relay → ℕ → Arrival → Header → Renewal → Aim → Target → Option Place → ℕ → Asked
 header_asked r number at h n x t p ready =
     record {
       refusal = 0;
@@ -129,7 +122,7 @@ path_asked r number at h n p = header_asked r number at h n (aim.Path p) Path (p
 
 -- what is looked up of a destination alone, or its refusal (6); law `looked_asked`: with the header it is what is asked
 abbrev pub refused_looked : ℕ → Looked
-refused_looked n = record { refusal = n; target = Here; place = Missing; ready = 0 }
+refused_looked n = record { refusal = n; target = Here; place = None; ready = 0 }
 
 unfoldable pub node_looked : Relay → ℕ → Address → Looked
 node_looked r arrival a =
@@ -154,8 +147,8 @@ carried_asked r number at h n =
     else_asked (first_of (arrival_checks at.address h.fields)) (aim_asked r number at h n (aim_of at.address.0 h.fields.addresses))
 
 abbrev pub octets_asked : Relay → ℕ → Arrival → Found → Asked
-octets_asked r number at (found.Good h n) = carried_asked r number at h n
-octets_asked r number at (found.Refused n) = refused_asked n
+octets_asked r number at (Good (h, n)) = carried_asked r number at h n
+octets_asked r number at (Refused n) = refused_asked n
 
 unfoldable pub datagram_asked : Relay → ℕ → ℕ → ℕ → List ℕ → ℕ → Asked
 datagram_asked r number port second octets room =
@@ -170,7 +163,7 @@ legged x domain l = record { ruling = x; legs = legs_of x.took domain l }
 abbrev pub wished_by : Local → Wish → Case → Survey → Leg → Ruled
 wished_by local wish c s l = legged (ruling_of local (granted_of wish c s) s.full) s.domain l
 
-unfoldable pub wished_of : Relay → Destination → Local → Wish → Case → Leg → Ruled
+unfoldable pub wished_of : Relay → Option Address → Local → Wish → Case → Leg → Ruled
 wished_of r d local wish c l = wished_by local wish c (survey_of r d (sought_of l)) l
 
 -- the same by what the wanted ones say, hops left
@@ -180,10 +173,10 @@ among_of r local set bound l =
     legged (ruling_of local (after_size (same_domain set bound s.domain) s.fitting) s.full) s.domain l
 
 -- both halves, of what was looked up
-abbrev pub leg_asked : Asked → Way → Leg
+abbrev pub leg_asked : Asked → Option Way → Leg
 leg_asked a w = record { arrival = a.arrival; code = code_of w; header = a.header }
 
-unfoldable pub ruled_asked : Relay → Asked → Way → Ruled
+unfoldable pub ruled_asked : Relay → Asked → Option Way → Ruled
 ruled_asked r a w =
     wished_of r a.destination
     (local_of a.target a.place a.case)
@@ -191,7 +184,7 @@ ruled_asked r a w =
     a.case
     (leg_asked a w)
 
-unfoldable pub finished_of : Relay → Asked → Way → Ending
+unfoldable pub finished_of : Relay → Asked → Option Way → Ending
 finished_of r a w =
     or_else a.refusal
     (record {
@@ -203,23 +196,23 @@ finished_of r a w =
     })
 
 -- ---- between them: a route is searched where the route line decides, on a router, and no flood is on
-abbrev pub unless_flood : Flood → ℕ → ℕ
-unless_flood Plain n = n
-unless_flood Unsent n = 0
-unless_flood Full n = 0
-unless_flood (New place) n = 0
+abbrev pub unless_flood : Flood → Bool → Bool
+unless_flood Plain sought = sought
+unless_flood Unsent sought = false
+unless_flood Full sought = false
+unless_flood (New place) sought = false
 
-abbrev pub route_sought : Target → ℕ → ℕ
-route_sought Here router = 0
-route_sought Broadcast router = 0
-route_sought Group router = 0
-route_sought Path router = 0
-route_sought Route router = pick (eqb router 0) 0 1
+abbrev pub route_sought : Target → ℕ → Bool
+route_sought Here router = false
+route_sought Broadcast router = false
+route_sought Group router = false
+route_sought Path router = false
+route_sought Route router = not (eqb router 0)
 
-abbrev pub searched_in : Asked → ℕ
-searched_in a = pick (eqb a.refusal 0) (unless_flood a.case.flood (route_sought a.target a.case.router)) 0
+abbrev pub searched_in : Asked → Bool
+searched_in a = eqb a.refusal 0 && unless_flood a.case.flood (route_sought a.target a.case.router)
 
 -- the address that it is searched for
-abbrev pub address_in : Destination → ℕ
-address_in (Node a) = a.0
-address_in Other = 0
+abbrev pub address_in : Option Address → ℕ
+address_in (Some a) = a.0
+address_in None = 0

@@ -5,10 +5,9 @@ use Rattle.checks.specs.Order.{pick, Checks, first_of}
 use Rattle.sets.specs.Limits.{port_count}
 use Rattle.sets.specs.Sets.{only_port}
 use Rattle.header.specs.Limits.{longest_header}
-use Rattle.header.specs.Read.{read_of}
+use Rattle.header.specs.Read.{read_of, Read}
 use Rattle.header.specs.declared.Header.{Header}
-use Rattle.header.specs.declared.Read.{Read}
-use Rattle.header.specs.declared.Read.TheVariants as read
+use Rattle.checks.specs.Told.{Good, Refused}
 use Rattle.meaning.specs.Names.{aim_of}
 use Rattle.meaning.specs.Arrival.{arrival_checks}
 use Rattle.meaning.specs.Asked.{precedence_asked}
@@ -58,8 +57,8 @@ header_ending r at h = or_else (first_of (arrival_checks at.address h.fields)) (
 
 -- steps 2 and 3 are the reader's
 abbrev pub octets_ending : Relay → Arrival → Read → Ending
-octets_ending r at (read.Good h) = header_ending r at h
-octets_ending r at (read.Refused n) = refused_by n
+octets_ending r at (Good h) = header_ending r at h
+octets_ending r at (Refused n) = refused_by n
 
 abbrev pub arrival_at : Relay → ℕ → Arrival
 arrival_at r port = record { set = only_port port; address = (port_in r port).address }

@@ -2,10 +2,9 @@
 -- where it is flooded on, whatever follows. Assumes nothing.
 use Rattle.std.specs.Prelude.{ℕ, Bool, ◌||◌, List, eqb}
 use Rattle.checks.specs.Order.{pick, first_of}
-use Rattle.header.specs.Read.{read_of}
+use Rattle.header.specs.Read.{read_of, Read}
 use Rattle.header.specs.declared.Header.{Header}
-use Rattle.header.specs.declared.Read.{Read}
-use Rattle.header.specs.declared.Read.TheVariants as read
+use Rattle.checks.specs.Told.{Good, Refused}
 use Rattle.meaning.specs.Names.{aim_of}
 use Rattle.meaning.specs.Flood.{pair_of}
 use Rattle.meaning.specs.Arrival.{arrival_checks}
@@ -25,8 +24,8 @@ header_memory r at second h =
     (pair_of at.address.0 h.fields) second r.memory
 
 abbrev pub octets_memory : Relay → Arrival → ℕ → Read → Memory
-octets_memory r at second (read.Good h) = header_memory r at second h
-octets_memory r at second (read.Refused n) = put_last r.memory second
+octets_memory r at second (Good h) = header_memory r at second h
+octets_memory r at second (Refused n) = put_last r.memory second
 
 -- of these octets, come in by this port in this second, with so much room for output
 unfoldable pub memory_of : Relay → ℕ → ℕ → List ℕ → ℕ → Memory

@@ -1,5 +1,5 @@
 -- The ruling on a datagram whose header is good, over the relay that a mission sees: page 01, "Local half" and "Onward half". Assumes nothing.
-use Rattle.std.specs.Prelude.{ℕ, eqb}
+use Rattle.std.specs.Prelude.{ℕ, eqb, Option, Some, None}
 use Rattle.checks.specs.Order.{pick}
 use Rattle.address.specs.Class.{class_of}
 use Rattle.address.specs.declared.Address.{Address}
@@ -15,16 +15,12 @@ use Rattle.verdict.specs.Rule.{target_of, local_of, line_of, way_under, code_of,
 use Rattle.verdict.specs.declared.Target.{Target}
 use Rattle.verdict.specs.declared.Target.TheVariants.{Path, Route}
 use Rattle.verdict.specs.declared.Place.{Place}
-use Rattle.verdict.specs.declared.Place.TheVariants.{Missing}
 use Rattle.verdict.specs.declared.Way.{Way}
-use Rattle.verdict.specs.declared.Way.TheVariants.{Lost}
 use Rattle.verdict.specs.declared.Flood.{Flood}
 use Rattle.verdict.specs.declared.Case.{Case}
 use Rattle.verdict.specs.declared.Survey.{Survey}
 use Rattle.verdict.specs.declared.Ruling.{Ruling}
 use Rattle.survey.specs.Survey.{named_of, survey_of}
-use Rattle.survey.specs.declared.Destination.{Destination}
-use Rattle.survey.specs.declared.Destination.TheVariants as destination
 use Rattle.survey.specs.declared.Sought.{Sought}
 use Rattle.next_leg.specs.Leg.{next_lengths, legs_of}
 use Rattle.next_leg.specs.declared.Leg.{Leg}
@@ -49,10 +45,10 @@ case_of router arrival f flood =
     }
 
 -- a path is not compared with any port's address
-abbrev pub destination_asked : Aim → Destination
-destination_asked (aim.Node a) = destination.Node a
-destination_asked (aim.Path p) = destination.Other
-destination_asked aim.Uncarried = destination.Other
+abbrev pub destination_asked : Aim → Option Address
+destination_asked (aim.Node a) = Some a
+destination_asked (aim.Path p) = None
+destination_asked aim.Uncarried = None
 
 -- what is asked of the wanted ports: the octets of the copy after its rewrite, for a port of the arrival port's domain and for another
 abbrev pub sought_by : Address → Lengths → Sought
@@ -89,7 +85,7 @@ abbrev pub survey_for : Relay → Arrival → Aim → Header → Survey
 survey_for r at x h = survey_of r (destination_asked x) (sought_of (leg_for r at x h))
 
 -- ---- the ruling
-unfoldable pub ruled_by : Target → Place → Way → Case → Survey → Ruling
+unfoldable pub ruled_by : Target → Option Place → Option Way → Case → Survey → Ruling
 ruled_by t p w c s = ruling_of (local_of t p c) (granted_of (line_of t p w c s.ready (local_of t p c)) c s) s.full
 
 unfoldable pub rule_target : Relay → Target → Address → Case → Survey → Ruling
@@ -100,8 +96,8 @@ rule_node r a c s = rule_target r (target_of (class_of a.0) s) a c s
 
 abbrev pub rule_aim : Relay → Aim → Case → Survey → Ruling
 rule_aim r (aim.Node a) c s = rule_node r a c s
-rule_aim r (aim.Path p) c s = ruled_by Path (path_place r p) Lost c s
-rule_aim r aim.Uncarried c s = ruled_by Route Missing Lost c s
+rule_aim r (aim.Path p) c s = ruled_by Path (path_place r p) None c s
+rule_aim r aim.Uncarried c s = ruled_by Route None None c s
 
 unfoldable pub rule_of : Relay → Arrival → Aim → Header → Ruling
 rule_of r at x h = rule_aim r x (case_of r.router at.set h.fields (flood_for r at x h)) (survey_for r at x h)

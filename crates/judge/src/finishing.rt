@@ -6,15 +6,16 @@
 //
 // The awkward case is a place of a group or a path in a state that no history leaves: its set may have numbers that are no ports; no port of
 // these is surveyed, and none is granted a copy.
-ghost use Rattle.std.specs.Prelude.{◌≡◌, length};
+ghost use Rattle.std.specs.Prelude.{◌≡◌, length, Option};
 ghost use Rattle.state.specs.Seen.{seated};
 ghost use Rattle.state.specs.Layout.{board_words, decode_board, mission_words, decode};
 ghost use Rattle.next_leg.specs.Leg.{no_legs, Sound};
-ghost use Rattle.survey.specs.declared.Destination.{Destination};
+ghost use Rattle.address.specs.declared.Address.{Address};
 ghost use Rattle.judge.specs.Asked.{among_of, wished_of, finished_of};
 
 use crate::{Asked, Ending};
 use next_leg::{Leg, Legs};
+use state::{BoardWords, MissionWords};
 use verdict::{Case, Local, Onward, Ruling, Way, Wish};
 
 // A ruling, and the headers of the copies that ports took.
@@ -42,8 +43,15 @@ fn unsent(local: Local, onward: Onward) -> Ruled
 }
 
 // The ruling by the local half and the ports wanted, which are asked.
-fn rule_wanted(board: &[u32], mission: &[u32], local: Local, set: u32, bound: u32, l: Leg) -> Ruled
-    requires { (length board.now ≡ board_words) × ((length mission.now ≡ mission_words) × Sound l.header) }
+fn rule_wanted(
+    board: &BoardWords,
+    mission: &MissionWords,
+    local: Local,
+    set: u32,
+    bound: u32,
+    l: Leg,
+) -> Ruled
+    requires { Sound l.header }
     ensures { result ≡ among_of (seated (decode_board board.now) (decode mission.now)) local set bound l }
 {
     let arrival = l.arrival;
@@ -58,9 +66,16 @@ fn rule_wanted(board: &[u32], mission: &[u32], local: Local, set: u32, bound: u3
 }
 
 // The ruling by the local half and what the line wants.
-fn rule(board: &[u32], mission: &[u32], local: Local, wish: Wish, c: Case, l: Leg) -> Ruled
-    requires { (length board.now ≡ board_words) × ((length mission.now ≡ mission_words) × Sound l.header) }
-    ensures { (d : Destination) → result ≡ wished_of (seated (decode_board board.now) (decode mission.now)) d local wish c l }
+fn rule(
+    board: &BoardWords,
+    mission: &MissionWords,
+    local: Local,
+    wish: Wish,
+    c: Case,
+    l: Leg,
+) -> Ruled
+    requires { Sound l.header }
+    ensures { (d : Option Address) → result ≡ wished_of (seated (decode_board board.now) (decode mission.now)) d local wish c l }
 {
     match verdict::copies::after_hops(wish, c.spent) {
         Wish::NotAsked => unsent(local, Onward::NotAsked),
@@ -70,8 +85,8 @@ fn rule(board: &[u32], mission: &[u32], local: Local, wish: Wish, c: Case, l: Le
 }
 
 // What becomes of a datagram that is not refused, with the route that was found for it, if one was sought.
-pub fn finish(board: &[u32], mission: &[u32], a: Asked, way: Way) -> Ending
-    requires { (length board.now ≡ board_words) × ((length mission.now ≡ mission_words) × ((a.refusal ≡ 0) × Sound a.header)) }
+pub fn finish(board: &BoardWords, mission: &MissionWords, a: Asked, way: Option<Way>) -> Ending
+    requires { (a.refusal ≡ 0) × Sound a.header }
     ensures { result ≡ finished_of (seated (decode_board board.now) (decode mission.now)) a way }
 {
     let target = a.target;

@@ -23,7 +23,7 @@ ghost use Rattle.state.specs.Layout.{decode_board, mission_words, decode};
 ghost use Rattle.judge.specs.Ruling.{destination_asked};
 ghost use Rattle.judge.specs.Ending.{refused_by};
 ghost use Rattle.judge.specs.Asked.{
-  NamedWords,
+  NamesSeen,
   no_header,
   refused_asked,
   else_asked,
@@ -39,12 +39,12 @@ ghost use Rattle.judge.specs.Asked.{
 };
 
 use crate::ruling::Arrival;
-use address::{Address, PathAddress};
+use address::{Address, Class, PathAddress, PathForm};
 use checks::Check;
-use header::{Addresses, Fields, Found, Header, Octet, Qos, Renewal, Timestamp};
+use header::{Addresses, Fields, Header, Renewal};
 use meaning::Aim;
 use next_leg::Legs;
-use survey::Destination;
+use state::{BoardWords, MissionWords};
 use survey::names::Names;
 use verdict::{Case, Flood, Local, Onward, Place, Ruling, Target};
 
@@ -69,10 +69,10 @@ pub struct Ending {
 pub struct Asked {
     pub refusal: u32,
     pub target: Target,
-    pub place: Place,
+    pub place: Option<Place>,
     pub case: Case,
     pub ready: u32,
-    pub destination: Destination,
+    pub destination: Option<Address>,
     pub number: u32,
     pub precedence: u16,
     pub arrival: Address,
@@ -86,7 +86,7 @@ pub struct Asked {
 pub struct Looked {
     pub refusal: u32,
     pub target: Target,
-    pub place: Place,
+    pub place: Option<Place>,
     pub ready: u32,
 }
 
@@ -97,10 +97,10 @@ pub fn no_header() -> Header
     let fields = Fields {
         tpid: 0,
         addresses: Addresses::BasicPath(0),
-        qos: Qos::Absent,
-        hops: Octet::Absent,
-        stamp: Timestamp::Absent,
-        expanded: Octet::Absent,
+        qos: None,
+        hops: None,
+        stamp: None,
+        expanded: None,
         checksum: 0,
         intermediate: 0,
     };
@@ -133,10 +133,10 @@ pub fn refused(refusal: u32) -> Asked
     Asked {
         refusal,
         target: Target::Here,
-        place: Place::Missing,
+        place: None,
         case,
         ready: 0,
-        destination: Destination::Other,
+        destination: None,
         number: 0,
         precedence: 0,
         arrival: Address(0),
@@ -172,20 +172,26 @@ fn not_looked(refusal: u32) -> Looked
     Looked {
         refusal,
         target: Target::Here,
-        place: Place::Missing,
+        place: None,
         ready: 0,
     }
 }
 
 // An end system's address or a group's: its class (6), and by this and the ports its target.
-fn ask_node(board: &[u32], mission: &[u32], arrival: u32, a: Address, names: Names) -> Looked
-    requires { NamedWords board.now mission.now names }
+fn ask_node(
+    board: &BoardWords,
+    mission: &MissionWords,
+    arrival: u32,
+    a: Address,
+    names: Names,
+) -> Looked
+    requires { NamesSeen board.now mission.now names }
     ensures { result
         ≡ pick (bad_class a.0) (refused_looked 6)
         (node_looked (seated (decode_board board.now) (decode mission.now)) arrival a) }
 {
     let class = address::class_of(a);
-    if address::class_number(class) == 0 {
+    if class == Class::Invalid {
         return not_looked(6);
     }
     let number = state_mission::number_of(mission);
@@ -200,11 +206,10 @@ fn ask_node(board: &[u32], mission: &[u32], arrival: u32, a: Address, names: Nam
 }
 
 // A path: its form (6), and what its place says.
-fn ask_path(mission: &[u32], p: PathAddress) -> Looked
-    requires { length mission.now ≡ mission_words }
+fn ask_path(mission: &MissionWords, p: PathAddress) -> Looked
     ensures { (b : Board) → result ≡ pick (bad_path p.0) (refused_looked 6) (path_looked (seated b (decode mission.now)) p) }
 {
-    if address::path_number(address::path_form(p)) == 0 {
+    if address::path_form(p) == PathForm::Invalid {
         return not_looked(6);
     }
     Looked {
@@ -216,8 +221,8 @@ fn ask_path(mission: &[u32], p: PathAddress) -> Looked
 }
 
 // What is looked up of what the header aims at.
-fn ask_aim(board: &[u32], mission: &[u32], arrival: u32, x: Aim, names: Names) -> Looked
-    requires { NamedWords board.now mission.now names }
+fn ask_aim(board: &BoardWords, mission: &MissionWords, arrival: u32, x: Aim, names: Names) -> Looked
+    requires { NamesSeen board.now mission.now names }
     ensures { result ≡ aim_looked (seated (decode_board board.now) (decode mission.now)) arrival x }
 {
     match x {
@@ -228,37 +233,33 @@ fn ask_aim(board: &[u32], mission: &[u32], arrival: u32, x: Aim, names: Names) -
 }
 
 // What the ports are compared with.
-fn destination_of(x: Aim) -> Destination
+fn destination_of(x: Aim) -> Option<Address>
     ensures { result ≡ destination_asked x }
 {
     match x {
-        Aim::Node(a) => Destination::Node(a),
-        Aim::Path(_) => Destination::Other,
-        Aim::Uncarried => Destination::Other,
+        Aim::Node(a) => Some(a),
+        Aim::Path(_) | Aim::Uncarried => None,
     }
 }
 
-// The address that a route is searched for.
-pub fn address_in(d: Destination) -> u32
+// The address that a route is searched for, 0 where there is none.
+pub fn address_in(d: Option<Address>) -> u32
     ensures { result ≡ address_in d }
 {
-    match d {
-        Destination::Node(a) => a.0,
-        Destination::Other => 0,
-    }
+    d.map_or(0, |a| a.0)
 }
 
 // What is known before the search, of a header that is good so far: the rest of 6, then 28, and what the pairs say.
 fn ask_good(
-    board: &[u32],
-    mission: &[u32],
+    board: &BoardWords,
+    mission: &MissionWords,
     at: Arrival,
     h: Header,
     n: Renewal,
     x: Aim,
     names: Names,
 ) -> Asked
-    requires { NamedWords board.now mission.now names }
+    requires { NamesSeen board.now mission.now names }
     ensures { result
         ≡ else_asked (pick (bad_aim x) 6 (pick (unmarked h.fields) 28 0))
         (aim_asked (seated (decode_board board.now) (decode mission.now)) (decode mission.now).number at h n x) }
@@ -295,14 +296,14 @@ fn ask_good(
 // What the relay carries (8), a domain for addresses of one octet (7), the source and the destination that the header names by its arrival
 // port (6, by two checks), and what is asked for these.
 fn ask_header(
-    board: &[u32],
-    mission: &[u32],
+    board: &BoardWords,
+    mission: &MissionWords,
     at: Arrival,
     h: Header,
     n: Renewal,
     names: Names,
 ) -> Asked
-    requires { NamedWords board.now mission.now names }
+    requires { NamesSeen board.now mission.now names }
     ensures { result
         ≡ carried_asked (seated (decode_board board.now) (decode mission.now)) (decode mission.now).number at h n }
 {
@@ -330,30 +331,36 @@ fn ask_header(
 }
 
 // Steps 2 and 3, and what follows.
-pub fn ask_octets(board: &[u32], mission: &[u32], at: Arrival, octets: &[u8], names: Names) -> Asked
-    requires { NamedWords board.now mission.now names }
+pub fn ask_octets(
+    board: &BoardWords,
+    mission: &MissionWords,
+    at: Arrival,
+    octets: &[u8],
+    names: Names,
+) -> Asked
+    requires { NamesSeen board.now mission.now names }
     ensures { result
         ≡ octets_asked (seated (decode_board board.now) (decode mission.now)) (decode mission.now).number at
         (found_of octets.now) }
 {
     match reader::find_header(octets) {
-        Found::Good(h, n) => ask_header(board, mission, at, h, n, names),
-        Found::Refused(number) => refused(number as u32),
+        Ok((h, n)) => ask_header(board, mission, at, h, n, names),
+        Err(refusal) => refused(refusal.number()),
     }
 }
 
 // What is known before the search of the octets that came in by a port in a second, with so much room for output. The names of the ports are handed
 // down to the step that compares the destination with them.
 pub fn judge(
-    board: &[u32],
-    mission: &[u32],
+    board: &BoardWords,
+    mission: &MissionWords,
     port: u32,
     second: u32,
     octets: &[u8],
     room: usize,
     names: Names,
 ) -> Asked
-    requires { NamedWords board.now mission.now names }
+    requires { NamesSeen board.now mission.now names }
     ensures { result
         ≡ datagram_asked (seated (decode_board board.now) (decode mission.now)) (decode mission.now).number port
         second octets.now room }

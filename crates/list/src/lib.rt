@@ -42,12 +42,9 @@ pub fn set_at(list: &mut [Record], i: usize, r: Record)
 pub fn scan(list: &[Record], q: Query) -> Scan
     ensures { result ≡ scan_of q list.now }
 {
-    let mut s = listing::begun();
-    let mut i = listing::first_place(q, list.len());
-    while i < list.len() {
-        let r = record_at(list, i);
-        s = listing::step(s, i, r, q);
-        i = i + 1;
+    let mut found = listing::begun();
+    for i in listing::first_place(q, list.len())..list.len() {
+        found = listing::step(found, i, list[i], q);
     }
-    s
+    found
 }

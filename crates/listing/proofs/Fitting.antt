@@ -10,11 +10,10 @@ use mathlib.Core.List.{List}
 use lib.Dec.{eqb}
 use lib.Bits.{bit_and, and_le_r}
 use borrow.Author.Tests.{eq-eqb, eqb-true, not-true}
+use Rattle.std.proofs.Common.{Option, Some, None}
 use Rattle.checks.proofs.Bools.{true_false, and_true, or_false}
 use Rattle.networks.proofs.Bits.{and_bit, same_bits}
 use Rattle.address.specs.Mask.{mask_of, ones_of, mask_form}
-use Rattle.address.specs.declared.MaskForm.{MaskForm}
-use Rattle.address.specs.declared.MaskForm.TheVariants.{Ones, Mixed}
 use Rattle.address.proofs.Masks.{mask_fits, form_ones, form_count}
 use Rattle.sets.specs.Sets.{any_below}
 use Rattle.routes.specs.declared.Record.{Record}
@@ -54,9 +53,9 @@ hidden_by q rs n j = fits q (record_at rs j) && eqb (ones_of (record_at rs j).ma
 abbrev pub shown : Query → List Record → ℕ → Bool
 shown q rs i = fits q (record_at rs i) && not (any_below (hidden_by q rs (ones_of (record_at rs i).mask)) i)
 
-told_ones : (f : MaskForm) → is_mixed f ≡ false → (n : ℕ) × (f ≡ Ones n)
-told_ones (Ones n) e = (n, refl)
-told_ones Mixed e = true_false e
+told_ones : (f : Option ℕ) → is_mixed f ≡ false → (n : ℕ) × (f ≡ Some n)
+told_ones (Some n) e = (n, refl)
+told_ones None e = true_false e
 
 -- a mask that is not mixed is the mask of its number of ones
 mask_is : (m : ℕ) → is_mixed (mask_form m) ≡ false → m ≡ mask_of (ones_of m)

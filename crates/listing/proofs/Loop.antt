@@ -4,26 +4,30 @@ use native.Mathlib.Numerals.{add-one}
 use Prim.Native.Nat.{ℕ, zero, suc, ◌+◌, ◌≤◌, ◌<◌}
 use mathlib.Core.Path.{◌≡◌, refl, sym, ap, subst, ◌∙◌}
 use mathlib.Core.Logic.{◌≢◌}
-use mathlib.Core.Bool.{Bool, true, false}
 use mathlib.Core.List.{List}
-use lib.Dec.{eqb}
 use lib.ListN.{length, drop, drop_of_length-le}
 use lib.Seq.{drop-cons}
-use borrow.Author.Tests.{eq-eqb, ne_eqb}
-use Rattle.checks.specs.Order.{pick}
 use Rattle.routes.specs.declared.Record.{Record}
 use Rattle.routes.specs.Records.{empty_record, record_at}
+use Rattle.listing.specs.declared.Sought.{Sought}
+use Rattle.listing.specs.declared.Sought.TheVariants.{Nothing, Best, Same}
 use Rattle.listing.specs.declared.Query.{Query}
 use Rattle.listing.specs.declared.Scan.{Scan}
-use Rattle.listing.specs.Scan.{begun_scan, first_place, step_of, scan_from, scan_of}
+use Rattle.listing.specs.Scan.{begun_scan, first_by, first_place, step_of, scan_from, scan_of}
 
-within_end : (t : Bool) (n : ℕ) → pick t n 0 ≤ n
-within_end true n = omega arith
-within_end false n = omega arith
+within_end : (sought : Sought) (n : ℕ) → first_by sought n ≤ n
+within_end Nothing n = omega arith
+within_end Best n = omega arith
+within_end Same n = omega arith
+
+from_front : (sought : Sought) (n : ℕ) → sought ≢ Nothing → 0 ≡ first_by sought n
+from_front Nothing n some = absurd (some refl)
+from_front Best n some = refl
+from_front Same n some = refl
 
 module _ (ys : List Record) (q : Query) where
   pub starts_within : (i : ℕ) → i ≡ first_place q (length ys) → i ≤ length ys
-  starts_within i e = subst (λ (k : ℕ). k ≤ length ys) (sym e) (within_end (eqb q.sought 0) (length ys))
+  starts_within i e = subst (λ (k : ℕ). k ≤ length ys) (sym e) (within_end q.sought (length ys))
 
   pub starts : (s : Scan) → s ≡ begun_scan → (i : ℕ) → i ≡ first_place q (length ys) → scan_from q s i (drop i ys) ≡ scan_of q ys
   unfolding scan_of
@@ -42,17 +46,17 @@ module _ (ys : List Record) (q : Query) where
   ended s i l = sym (ap (scan_from q s i) (drop_of_length-le ys l))
 
   -- Where nothing is sought nothing is found.
-  pub scan_nothing : q.sought ≡ 0 → scan_of q ys ≡ begun_scan
-  scan_nothing e = sym (ended begun_scan (length ys) (omega arith) ∙ starts begun_scan refl (length ys) (simp (eq-eqb q.sought 0 e)))
+  pub scan_nothing : q.sought ≡ Nothing → scan_of q ys ≡ begun_scan
+  scan_nothing e = sym (ended begun_scan (length ys) (omega arith) ∙ starts begun_scan refl (length ys) (sym (ap (λ (s : Sought). first_by s (length ys)) e)))
 
   -- what is found of the first i places
   abbrev pub scan_to : ℕ → Scan
   scan_to zero = begun_scan
   scan_to (suc i) = step_of q (scan_to i) i (record_at ys i)
 
-  module _ (sought : q.sought ≢ 0) where
+  module _ (some : q.sought ≢ Nothing) where
     so_far : (i : ℕ) → i ≤ length ys → scan_from q (scan_to i) i (drop i ys) ≡ scan_of q ys
-    so_far zero l = starts begun_scan refl 0 (simp (ne_eqb q.sought 0 sought))
+    so_far zero l = starts begun_scan refl 0 (from_front q.sought (length ys) some)
     so_far (suc i) l =
         ap (λ (k : ℕ). scan_from q (scan_to (suc i)) k (drop k ys)) (sym (add-one i))
         ∙ turned (scan_to i) i (omega arith) (record_at ys i) refl (scan_to (suc i)) refl

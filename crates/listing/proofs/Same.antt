@@ -1,5 +1,6 @@
 -- What a scan for an entry finds is the place that counts with that entry, so that it tells whether the entry stands elsewhere: page 01, "Settings", 23;
 -- page 02, W-208 ("'same entry' (23) now means same prefix, mask and mission"). Assumes nothing.
+use Rattle.std.specs.Prelude.{Some, None}
 use native.Mathlib.Omega.{arith}
 use native.Mathlib.Decide.{dec_le}
 use native.Mathlib.Nat.{lt_of_not-le}
@@ -11,7 +12,7 @@ use mathlib.Core.List.{List}
 use lib.Dec.{eqb}
 use lib.Bits.{bit_and}
 use lib.ListN.{length}
-use borrow.Author.Tests.{eq-eqb, ne_eqb, eqb-true}
+use borrow.Author.Tests.{eq-eqb, eqb-true}
 use Rattle.checks.specs.Order.{pick}
 use Rattle.checks.proofs.Bools.{true_false, refuted, and_true}
 use Rattle.sets.specs.Sets.{any_below}
@@ -21,10 +22,12 @@ use Rattle.routes.specs.Records.{record_at, same_key}
 use Rattle.routes.specs.Refusals.{prefix_refused}
 use Rattle.routes.proofs.Prefixes.{prefix_form}
 use Rattle.state.specs.Seen.{Board}
+use Rattle.listing.specs.declared.Sought.TheVariants as sought
 use Rattle.listing.specs.declared.Query.{Query}
+use Rattle.listing.specs.declared.Match.{Match}
 use Rattle.listing.specs.declared.Scan.{Scan}
 use Rattle.listing.specs.Listed.{counts, elsewhere}
-use Rattle.listing.specs.Scan.{is_wanted, is_longer, taken_of, scan_of}
+use Rattle.listing.specs.Scan.{is_wanted, is_longer, match_of, taken_of, scan_of, found_elsewhere}
 use Rattle.listing.proofs.Standing.{own_of}
 use Rattle.listing.proofs.Counting.{same_key_is, counts_once, beyond_counts_not}
 use Rattle.listing.proofs.Fitting.{same_truth, shown, shown_is}
@@ -33,7 +36,7 @@ use Rattle.listing.proofs.Seeing.{entered, turn_is}
 
 -- the query for the entry of x, at a board
 pub record Seeks (b : Board) (x : Record) (q : Query) : Type 0 where
-  pub same : q.sought ≡ 2
+  pub same : q.sought ≡ sought.Same
   pub address : q.address ≡ x.prefix
   pub mask : q.mask ≡ x.mask
   pub mission : q.mission ≡ x.mission
@@ -66,7 +69,7 @@ module _ (b : Board) (rs : List Record) (x : Record) where
 
     wanted_is : (r : Record) → is_wanted q r ≡ eqb r.mask x.mask
     unfolding is_wanted
-    wanted_is r = rw (ne_eqb q.sought 1 (λ e. omega (arith, seeks.same)), seeks.mask)
+    wanted_is r = rw (seeks.same, seeks.mask)
 
     -- the prefix of x under its mask is itself
     under : bit_and x.prefix x.mask ≡ x.prefix
@@ -97,42 +100,38 @@ module _ (b : Board) (rs : List Record) (x : Record) where
     -- ---- one turn
     -- a place that does not hold the entry changes nothing that is found
     passed : (t : Bool) (s : Scan) (i : ℕ) (r : Record) → (t && is_wanted q r) ≡ false
-        → ((pick t (entered q s i r) s).found ≡ s.found) × ((pick t (entered q s i r) s).place ≡ s.place)
+        → (pick t (entered q s i r) s).found ≡ s.found
     unfolding taken_of
-    passed true s i r h = rw h (refl, refl)
-    passed false s i r h = (refl, refl)
+    passed true s i r h = rw h
+    passed false s i r h = refl
 
     -- the one that does is found, where nothing was
-    hit : (t : Bool) (s : Scan) (i : ℕ) (r : Record) → (t && is_wanted q r) ≡ true → s.found ≡ 0
-        → ((pick t (entered q s i r) s).found ≡ 1) × ((pick t (entered q s i r) s).place ≡ i)
+    hit : (t : Bool) (s : Scan) (i : ℕ) (r : Record) → (t && is_wanted q r) ≡ true → s.found ≡ None
+        → (pick t (entered q s i r) s).found ≡ Some (match_of i r)
     unfolding taken_of is_longer
-    hit true s i r h e = rw (h, e) (refl, refl)
+    hit true s i r h e = rw (h, e)
     hit false s i r h e = true_false (sym h)
 
     -- what is found of the first i places
     abbrev Held : ℕ → Scan → Type 0
     Held i s =
-        ((s.found ≡ 0) × (any_below holds i ≡ false)) ⊎ ((s.found ≡ 1) × (holds s.place ≡ true) × (s.place < i))
+        ((s.found ≡ None) × (any_below holds i ≡ false)) ⊎ ((found : Match) × ((s.found ≡ Some found) × (holds found.place ≡ true) × (found.place < i)))
 
     held_turn : (t : Bool) (i : ℕ) (s : Scan) → holds i ≡ t → Held i s → Held (suc i) (pick (shown q rs i) (entered q s i (record_at rs i)) s)
     held_turn true i s h (inl e) =
-        let found = hit (shown q rs i) s i (record_at rs i) (hit_is i ∙ h) e.0 in
-        inr (found.0, subst (λ (k : ℕ). holds k ≡ true) (sym found.1) h, omega (arith, found.1))
-    held_turn true i s h (inr e) = absurd (omega (arith, holds_once s.place i e.1 h, e.2))
-    held_turn false i s h (inl e) =
-        let kept = passed (shown q rs i) s i (record_at rs i) (hit_is i ∙ h) in
-        inl (kept.0 ∙ e.0, rw e.1 h)
+        inr (match_of i (record_at rs i), (hit (shown q rs i) s i (record_at rs i) (hit_is i ∙ h) e.0, h, omega arith))
+    held_turn true i s h (inr e) = absurd (omega (arith, holds_once e.0.place i e.1.1 h, e.1.2))
+    held_turn false i s h (inl e) = inl (passed (shown q rs i) s i (record_at rs i) (hit_is i ∙ h) ∙ e.0, rw e.1 h)
     held_turn false i s h (inr e) =
-        let kept = passed (shown q rs i) s i (record_at rs i) (hit_is i ∙ h) in
-        inr (kept.0 ∙ e.0, subst (λ (k : ℕ). holds k ≡ true) (sym kept.1) e.1, omega (arith, kept.1, e.2))
+        inr (e.0, (passed (shown q rs i) s i (record_at rs i) (hit_is i ∙ h) ∙ e.1.0, e.1.1, omega (arith, e.1.2)))
 
     held_to : (i : ℕ) → Held i (scan_to rs q i)
     held_to zero = inl (refl, refl)
     held_to (suc i) = subst (Held (suc i)) (sym (turn_is q rs i)) (held_turn (holds i) i (scan_to rs q i) refl (held_to i))
 
     -- ---- the whole list
-    something : q.sought ≢ 0
-    something e = omega (arith, seeks.same)
+    something : q.sought ≢ sought.Nothing
+    something e = true_false (let f : sought.Same ≡ sought.Nothing = sym seeks.same ∙ e in cc)
 
     abbrev scanned : Scan
     scanned = scan_of q rs
@@ -140,22 +139,27 @@ module _ (b : Board) (rs : List Record) (x : Record) where
     held : Held (length rs) scanned
     held = subst (Held (length rs)) (sym (scan_to_lem rs q something)) (held_to (length rs))
 
+    abbrev Nowhere : Type 0
+    Nowhere = (scanned.found ≡ None) × ((j : ℕ) → holds j ≡ false)
+
+    abbrev Somewhere : Type 0
+    Somewhere = (found : Match) × ((scanned.found ≡ Some found) × (holds found.place ≡ true) × ((j : ℕ) → holds j ≡ true → j ≡ found.place))
+
     -- Nothing is found, and no place counts with the entry; or the place that is found is the one that does.
-    pub scan_same : ((scanned.found ≡ 0) × ((j : ℕ) → holds j ≡ false))
-        ⊎ ((scanned.found ≡ 1) × (holds scanned.place ≡ true) × ((j : ℕ) → holds j ≡ true → j ≡ scanned.place))
+    pub scan_same : ((scanned.found ≡ None) × ((j : ℕ) → holds j ≡ false))
+        ⊎ ((found : Match) × ((scanned.found ≡ Some found) × (holds found.place ≡ true) × ((j : ℕ) → holds j ≡ true → j ≡ found.place)))
     scan_same =
         ⊎_elim
         (λ e. inl (e.0, λ j. refuted _ (λ h. true_false (sym (any_found holds j (length rs) (holds_within j h) h) ∙ e.1))))
-        (λ e. inr (e.0, e.1, λ j h. holds_once j scanned.place h e.1))
+        (λ e. inr (e.0, (e.1.0, e.1.1, λ j h. holds_once j e.0.place h e.1.1)))
         held
 
     -- So the scan tells whether another place holds the entry.
-    pub elsewhere_is : (i : ℕ) → elsewhere b rs i x ≡ (not (eqb scanned.found 0) && not (eqb scanned.place i))
+    pub elsewhere_is : (i : ℕ) → elsewhere b rs i x ≡ found_elsewhere scanned i
     unfolding elsewhere
     elsewhere_is i = ⊎_elim none one scan_same
       where
-        none : (scanned.found ≡ 0) × ((j : ℕ) → holds j ≡ false)
-            → any_below (λ (j : ℕ). not (eqb j i) && holds j) (length rs) ≡ (not (eqb scanned.found 0) && not (eqb scanned.place i))
+        none : Nowhere → any_below (λ (j : ℕ). not (eqb j i) && holds j) (length rs) ≡ found_elsewhere scanned i
         none e =
             refuted _
             (λ h.
@@ -163,15 +167,14 @@ module _ (b : Board) (rs : List Record) (x : Record) where
             true_false (sym (and_true (not (eqb at.0 i)) _ at.2).1 ∙ e.1 at.0))
             ∙ rw e.0
 
-        one : (scanned.found ≡ 1) × (holds scanned.place ≡ true) × ((j : ℕ) → holds j ≡ true → j ≡ scanned.place)
-            → any_below (λ (j : ℕ). not (eqb j i) && holds j) (length rs) ≡ (not (eqb scanned.found 0) && not (eqb scanned.place i))
+        one : Somewhere → any_below (λ (j : ℕ). not (eqb j i) && holds j) (length rs) ≡ found_elsewhere scanned i
         one e =
             same_truth _ _
             (λ h.
             let at = (any_is (λ (j : ℕ). not (eqb j i) && holds j) (length rs)).0 h in
             let both = and_true (not (eqb at.0 i)) _ at.2 in
-            let here = e.2 at.0 both.1 in
-            rw (e.0, ← here) both.0)
+            let here = e.1.2 at.0 both.1 in
+            rw (e.1.0, ← here) both.0)
             (λ h.
-            let other : not (eqb scanned.place i) ≡ true = rw e.0 at h in
-            any_found (λ (j : ℕ). not (eqb j i) && holds j) scanned.place (length rs) (holds_within scanned.place e.1) (rw other e.1))
+            let other : not (eqb e.0.place i) ≡ true = rw e.1.0 at h in
+            any_found (λ (j : ℕ). not (eqb j i) && holds j) e.0.place (length rs) (holds_within e.0.place e.1.1) (rw other e.1.1))

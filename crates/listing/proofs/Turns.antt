@@ -1,31 +1,28 @@
 -- What a scan's step gives, by the tests that the code asks. Assumes nothing.
+use Rattle.std.specs.Prelude.{Some, None}
 use Prim.Native.Nat.{ℕ, ◌*◌, ◌/◌, ◌%◌, ◌^◌, ◌≤◌, ◌<◌}
 use native.Mathlib.Omega.{arith}
 use native.Mathlib.Nat.{mod-eq_of_lt}
 use mathlib.Core.Path.{◌≡◌, refl, sym, ◌∙◌}
 use mathlib.Core.Logic.{◌≢◌}
-use mathlib.Core.Bool.{Bool, true, false, not, ◌||◌}
-use lib.Dec.{eqb}
+use mathlib.Core.Bool.{Bool, true, false, not}
 use lib.Pow.{pow_mono}
 use borrow.Author.Tests.{eq-eqb, ne_eqb, lt-ltb, le-ltb}
+use Rattle.std.proofs.Common.{Some, None}
 use Rattle.checks.specs.Order.{check_of}
 use Rattle.checks.specs.declared.Check.{Check}
 use Rattle.checks.specs.declared.Check.TheVariants.{Passed, Failed}
 use Rattle.checks.proofs.Laws.{passed_false, failed_true}
 use Rattle.checks.proofs.Bools.{not-false}
 use Rattle.address.specs.Mask.{mask_form}
-use Rattle.address.specs.declared.MaskForm.TheVariants.{Ones, Mixed}
 use Rattle.address.proofs.Masks.{form_ones, form_count}
 use Rattle.routes.specs.declared.Record.{Record}
 use Rattle.routes.specs.Refusals.{codes_refused}
 use Rattle.settings.specs.Sets.{is_ready}
 use Rattle.listing.specs.declared.Query.{Query}
+use Rattle.listing.specs.declared.Match.{Match}
 use Rattle.listing.specs.declared.Scan.{Scan}
 use Rattle.listing.specs.Scan.{unrefused, is_wanted, is_longer, noted, found_at, taken_of, judged_of}
-
-or_so : (t : Bool) → (t || true) ≡ true
-or_so true = refl
-or_so false = refl
 
 not_true_false : (t : Bool) → not t ≡ true → t ≡ false
 not_true_false true h = sym h
@@ -41,17 +38,17 @@ module _ (q : Query) (s : Scan) (place : ℕ) (r : Record) where
   unfolding taken_of
   unwanted e = rw e
 
-  pub not_longer : is_wanted q r ≡ true → s.found ≢ 0 → r.mask ≤ s.mask → s ≡ taken_of q s place r
+  pub not_longer : is_wanted q r ≡ true → (found : Match) → s.found ≡ Some found → r.mask ≤ found.mask → s ≡ taken_of q s place r
   unfolding taken_of is_longer
-  not_longer e n l = rw (e, ne_eqb _ _ n, le-ltb _ _ l)
+  not_longer e found is l = simp (e, is, le-ltb found.mask r.mask l)
 
-  pub longer : is_wanted q r ≡ true → s.mask < r.mask → found_at s place r ≡ taken_of q s place r
+  pub longer : is_wanted q r ≡ true → (found : Match) → s.found ≡ Some found → found.mask < r.mask → found_at s place r ≡ taken_of q s place r
   unfolding taken_of is_longer
-  longer e l = let t = lt-ltb _ _ l in simp (e, t, or_so (eqb s.found 0))
+  longer e found is l = simp (e, is, lt-ltb found.mask r.mask l)
 
-  pub first : is_wanted q r ≡ true → s.found ≡ 0 → found_at s place r ≡ taken_of q s place r
+  pub first : is_wanted q r ≡ true → s.found ≡ None → found_at s place r ≡ taken_of q s place r
   unfolding taken_of is_longer
-  first e l = rw (e, eq-eqb _ _ l)
+  first e is = simp (e, is)
 
   -- ---- a record that matches
   module _ {c : Check} (told : c ≡ check_of (not (is_ready r.port q.own))) where
@@ -72,11 +69,11 @@ module _ (q : Query) (s : Scan) (place : ℕ) (r : Record) where
         coded : codes_refused r.availability r.capabilities ≡ false
         coded = passed_false _ (sym codes ∙ is-coded)
 
-        pub mixed : mask_form r.mask ≡ Mixed → s ≡ judged_of q s place r
+        pub mixed : mask_form r.mask ≡ None → s ≡ judged_of q s place r
         unfolding judged_of unrefused
         mixed e = rw (ready, coded, e)
 
-        module _ (n : ℕ) (form : mask_form r.mask ≡ Ones n) where
+        module _ (n : ℕ) (form : mask_form r.mask ≡ Some n) where
           pub hidden : s.seen / 2 ^ n % 2 ≡ 1 → s ≡ judged_of q s place r
           unfolding judged_of unrefused
           hidden e = rw (ready, coded, form, form_count _ _ form, eq-eqb _ _ e)

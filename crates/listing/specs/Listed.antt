@@ -2,7 +2,8 @@
 -- refused by 24"). A list is lent at each call and may hold anything: a record that the rules refuse counts as empty, for every purpose, and of two
 -- records that hold the same entry the lower place holds (docs/DECISIONS.md). Assumes nothing.
 use Rattle.std.specs.Prelude.{ℕ, zero, suc, Bool, not, ◌&&◌, List, [], ◌∷◌, ◌++◌, eqb, length}
-use Rattle.checks.specs.Order.{pick, Checks, first_of}
+use Rattle.checks.specs.Order.{pick, Checks, first_of, Refusals, numbered}
+use Rattle.checks.specs.declared.Refusal.TheVariants.{NoPlace, WrongMask, CodeOutOfRange}
 use Rattle.sets.specs.Sets.{any_below}
 use Rattle.records.specs.Owned.{is_mission}
 use Rattle.routes.specs.declared.Record.{Record}
@@ -17,14 +18,17 @@ use Rattle.state.specs.Seen.{Board, State, ports_seen, all_ports, seated}
 -- ---- one record
 -- what refuses it, by the sets of the ports that are set up and of those that its mission has: "port number, or port not set up"; "mask or prefix
 -- bits"; "code out of range", a mission's number and the other mission's port among these
-abbrev pub checks_of : Record → ℕ → ℕ → Checks
-checks_of x ready own =
-    (not (is_ready x.port ready), 21)
-    ∷ (prefix_refused (record { 0 = x.prefix }) (record { 0 = x.mask }), 22)
-    ∷ (codes_refused x.availability x.capabilities, 24)
-    ∷ (not (is_mission x.mission), 24)
-    ∷ (not (is_ready x.port own), 24)
+abbrev pub refusals_of : Record → ℕ → ℕ → Refusals
+refusals_of x ready own =
+    (not (is_ready x.port ready), NoPlace)
+    ∷ (prefix_refused (record { 0 = x.prefix }) (record { 0 = x.mask }), WrongMask)
+    ∷ (codes_refused x.availability x.capabilities, CodeOutOfRange)
+    ∷ (not (is_mission x.mission), CodeOutOfRange)
+    ∷ (not (is_ready x.port own), CodeOutOfRange)
     ∷ []
+
+abbrev pub checks_of : Record → ℕ → ℕ → Checks
+checks_of x ready own = numbered (refusals_of x ready own)
 
 -- judged by the board's ports
 abbrev pub record_checks : Board → Record → Checks

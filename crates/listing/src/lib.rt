@@ -4,13 +4,14 @@
 // entry the lower place holds. So a scan carries, beside what it found, the set of the mask lengths that it saw: all records that an address
 // matches have their prefixes from it, and two of them with as many ones hold the same entry. A record that is not up is seen all the same, and
 // hides a later one of its entry.
-// The scan is a struct of numbers and comes back as it is where a record does not match, so that such a record costs nine instructions. The
+// The scan is a small struct and comes back as it is where a record does not match, so that such a record costs nine instructions. The
 // awkward case is a mask that is not ones and then zeros: it may match, but it is refused, and so seen by no count.
 #![tactic(auto)]
 
 ghost use Rattle.std.specs.Prelude.{◌≡◌};
-ghost use Rattle.checks.specs.Order.{first_of};
-ghost use Rattle.listing.specs.Listed.{checks_of};
+ghost use Rattle.std.specs.Option.{option_map_or};
+ghost use Rattle.checks.specs.Order.{outcome};
+ghost use Rattle.listing.specs.Listed.{refusals_of};
 ghost use Rattle.listing.specs.Scan.{
   begun_scan,
   first_place,
@@ -20,37 +21,43 @@ ghost use Rattle.listing.specs.Scan.{
   step_of,
 };
 
-use address::{Address, Mask, MaskForm};
-use checks::Check;
+use address::{Address, Mask};
+use checks::{Check, Refusal};
 use routes::Record;
 
-// What is sought, if anything: the refusal that stands before the search, 0 for none; nothing, the longest match that is up, or the record with
-// this very entry; the address that records are to match, the mask of the same entry, the mission, and the set of its ports.
+// What may be sought: nothing, the longest match that is up, or the record with this very entry.
+#[derive(Clone, Copy, PartialEq, Eq)]
+pub enum Sought {
+    Nothing,
+    Best,
+    Same,
+}
+
+// A question to the list: the refusal that stands before the search, 0 for none; what is sought; the address that records are to match, the mask of
+// the same entry, the mission, and the set of its ports.
 #[derive(Clone, Copy)]
 pub struct Query {
     pub refusal: u32,
-    pub sought: u32,
+    pub sought: Sought,
     pub address: u32,
     pub mask: u32,
     pub mission: u32,
     pub own: u32,
 }
 
-// What `sought` may be.
-pub const NOTHING: u32 = 0;
-
-pub const BEST: u32 = 1;
-
-pub const SAME: u32 = 2;
-
-// What a scan has found, 0 for nothing: its place, mask, port and capabilities. And the set of the counts of ones of the masks it saw.
+// A record that is found: its place, mask, port and capabilities.
 #[derive(Clone, Copy)]
-pub struct Scan {
-    pub found: u32,
+pub struct Match {
     pub place: usize,
     pub mask: u32,
     pub port: u32,
     pub capabilities: u32,
+}
+
+// What a scan has found, if anything, and the set of the counts of ones of the masks it saw.
+#[derive(Clone, Copy)]
+pub struct Scan {
+    pub found: Option<Match>,
     pub seen: u64,
 }
 
@@ -59,12 +66,18 @@ pub fn begun() -> Scan
     ensures { result ≡ begun_scan }
 {
     Scan {
-        found: 0,
-        place: 0,
-        mask: 0,
-        port: 0,
-        capabilities: 0,
+        found: None,
         seen: 0,
+    }
+}
+
+// The place that a scan found; the first where it found nothing.
+pub fn place_of(s: Scan) -> usize
+    ensures { result ≡ option_map_or (λ (found : Match). found.place) s.found 0 }
+{
+    match s.found {
+        Some(found) => found.place,
+        None => 0,
     }
 }
 
@@ -72,7 +85,7 @@ pub fn begun() -> Scan
 pub fn first_place(q: Query, len: usize) -> usize
     ensures { result ≡ first_place q len }
 {
-    if q.sought == NOTHING {
+    if q.sought == Sought::Nothing {
         return len;
     }
     0
@@ -82,10 +95,10 @@ pub fn first_place(q: Query, len: usize) -> usize
 fn is_wanted(r: Record, q: Query) -> bool
     ensures { result ≡ is_wanted q r }
 {
-    if q.sought == BEST {
-        return r.availability == 1;
+    match q.sought {
+        Sought::Best => r.availability == 1,
+        Sought::Same | Sought::Nothing => r.mask == q.mask,
     }
-    r.mask == q.mask
 }
 
 // A record that counts is found, where it is wanted and none of a longer mask was.
@@ -95,17 +108,18 @@ fn taken(s: Scan, place: usize, r: Record, q: Query) -> Scan
     if !is_wanted(r, q) {
         return s;
     }
-    if s.found != 0 {
-        if r.mask <= s.mask {
+    if let Some(found) = s.found {
+        if r.mask <= found.mask {
             return s;
         }
     }
     Scan {
-        found: 1,
-        place: place,
-        mask: r.mask,
-        port: r.port,
-        capabilities: r.capabilities,
+        found: Some(Match {
+            place,
+            mask: r.mask,
+            port: r.port,
+            capabilities: r.capabilities,
+        }),
         seen: s.seen,
     }
 }
@@ -120,7 +134,7 @@ fn judged(s: Scan, place: usize, r: Record, q: Query) -> Scan
     let Check::Passed = routes::check_codes(r.availability, r.capabilities) else {
         return s;
     };
-    let MaskForm::Ones(n) = address::mask_form(Mask(r.mask)) else {
+    let Some(n) = address::mask_form(Mask(r.mask)) else {
         return s;
     };
     if (s.seen >> n) % 2 == 1 {
@@ -128,10 +142,6 @@ fn judged(s: Scan, place: usize, r: Record, q: Query) -> Scan
     }
     let noted = Scan {
         found: s.found,
-        place: s.place,
-        mask: s.mask,
-        port: s.port,
-        capabilities: s.capabilities,
         seen: s.seen | (1u64 << n),
     };
     taken(noted, place, r, q)
@@ -153,24 +163,24 @@ pub fn step(s: Scan, place: usize, r: Record, q: Query) -> Scan
     judged(s, place, r, q)
 }
 
-// What refuses a record, by the set of the ports that are set up and the set of those that its mission has: 21, 22 or 24, and 0 for nothing.
-pub fn record_refusal(x: Record, ready: u32, own: u32) -> u32
-    ensures { result ≡ first_of (checks_of x ready own) }
+// Whether a record is refused, by the set of the ports that are set up and the set of those that its mission has.
+pub fn record_refusal(x: Record, ready: u32, own: u32) -> Result<(), Refusal>
+    ensures { result ≡ outcome (refusals_of x ready own) tt }
 {
     let Check::Passed = settings::check_ready(x.port, ready) else {
-        return 21;
+        return Err(Refusal::NoPlace);
     };
     let Check::Passed = routes::check_prefix(Address(x.prefix), Mask(x.mask)) else {
-        return 22;
+        return Err(Refusal::WrongMask);
     };
     let Check::Passed = routes::check_codes(x.availability, x.capabilities) else {
-        return 24;
+        return Err(Refusal::CodeOutOfRange);
     };
     if sets::MISSIONS <= x.mission {
-        return 24;
+        return Err(Refusal::CodeOutOfRange);
     }
     let Check::Passed = settings::check_ready(x.port, own) else {
-        return 24;
+        return Err(Refusal::CodeOutOfRange);
     };
-    0
+    Ok(())
 }

@@ -1,4 +1,5 @@
 -- What a place says where one is found, and where none is; groups and paths differ in their record only. Assumes nothing.
+use Rattle.std.specs.Prelude.{None}
 use Prim.Native.Nat.{ℕ, ◌≤◌, ◌<◌}
 use mathlib.Core.Path.{◌≡◌, sym, ap, ◌∙◌}
 use mathlib.Core.Bool.{Bool, true}
@@ -11,7 +12,6 @@ use Rattle.address.specs.declared.PathAddress.{PathAddress}
 use Rattle.records.specs.declared.Group.{Group}
 use Rattle.records.specs.declared.PathPlace.{PathPlace}
 use Rattle.state.specs.Relay.{Relay, group_in, path_in}
-use Rattle.verdict.specs.declared.Place.TheVariants.{Missing}
 use Rattle.lookup.specs.Lookup.{group_found, path_found, group_says, path_says, group_place, path_place}
 
 -- what is tested of a record that was read is what is tested of it in the state
@@ -26,7 +26,7 @@ module _ {i : ℕ} (r : Relay) (a : Address) (arrival : ℕ) (first : first_belo
       rw (first_below_found _ i 16 h first (test_read holds_group a told same is)) (simp (lt-ltb i 16 h) (ap (λ (x : Group). group_says x arrival) same))
 
   -- none at all
-  pub group_missing : 16 ≤ i → i ≤ 16 → Missing ≡ group_place r a arrival
+  pub group_missing : 16 ≤ i → i ≤ 16 → None ≡ group_place r a arrival
   unfolding group_place
   group_missing h most = let e : i ≡ group_found r a = first_below_end _ i h (most, first) in rw (← e) (simp (le-ltb i 16 h))
 
@@ -35,6 +35,6 @@ module _ {i : ℕ} (r : Relay) (p : PathAddress) (first : first_below (λ (j : �
   unfolding path_place
   path_there h same told is = rw (first_below_found _ i 16 h first (test_read holds_path p told same is)) (simp (lt-ltb i 16 h) (ap path_says same))
 
-  pub path_missing : 16 ≤ i → i ≤ 16 → Missing ≡ path_place r p
+  pub path_missing : 16 ≤ i → i ≤ 16 → None ≡ path_place r p
   unfolding path_place
   path_missing h most = let e : i ≡ path_found r p = first_below_end _ i h (most, first) in rw (← e) (simp (le-ltb i 16 h))

@@ -14,36 +14,37 @@ ghost use Rattle.lookup.specs.Lookup.{group_place, path_place};
 
 use address::{Address, PathAddress};
 use sets::indexes::{GROUPS, PATHS};
+use state::MissionWords;
 use verdict::Place;
 
 // What the place of a group says; `arrival` is the arrival port as a set.
-pub fn group_place(mission: &[u32], a: Address, arrival: u32) -> Place
-    requires { length mission.now ≡ mission_words }
+pub fn group_place(mission: &MissionWords, a: Address, arrival: u32) -> Option<Place>
     ensures { (b : Board) → result ≡ group_place (seated b (decode mission.now)) a arrival }
 {
-    let mut i = 0;
-    while i < GROUPS {
+    for i in 0..GROUPS {
         let g = state_places::group_of(mission, i);
         if records::holds_group(g, a) {
-            return Place::Held(g.send, g.subscribed & arrival);
+            return Some(Place {
+                send: g.send,
+                here: g.subscribed & arrival,
+            });
         }
-        i += 1;
     }
-    Place::Missing
+    None
 }
 
 // What the place of a path says.
-pub fn path_place(mission: &[u32], p: PathAddress) -> Place
-    requires { length mission.now ≡ mission_words }
+pub fn path_place(mission: &MissionWords, p: PathAddress) -> Option<Place>
     ensures { (b : Board) → result ≡ path_place (seated b (decode mission.now)) p }
 {
-    let mut i = 0;
-    while i < PATHS {
+    for i in 0..PATHS {
         let x = state_places::path_of(mission, i);
         if records::holds_path(x, p) {
-            return Place::Held(x.send, x.here);
+            return Some(Place {
+                send: x.send,
+                here: x.here,
+            });
         }
-        i += 1;
     }
-    Place::Missing
+    None
 }

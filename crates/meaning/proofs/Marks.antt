@@ -6,6 +6,7 @@ use mathlib.Core.Path.{◌≡◌, refl, sym, ap, ap₂, ◌∙◌}
 use mathlib.Core.Bool.{Bool, true, false, not, ◌&&◌, ◌||◌}
 use lib.Dec.{eqb}
 use borrow.Author.Tests.{eq-eqb, ne_eqb, not-true}
+use Rattle.std.specs.Prelude.{Option, Some, None}
 use Rattle.checks.proofs.Bools.{not-false}
 use Rattle.checks.specs.Order.{check_of}
 use Rattle.checks.specs.declared.Check.TheVariants.{Passed, Failed}
@@ -41,40 +42,40 @@ module _ (f : Fields) {flooded : Bool} (is : flooded ≡ is_flooded f) where
 
 -- ---- a pair has all octets of a timestamp, the P-field with them (page 02, W-207: "pairs of source and timestamp, format included"; ruling 25)
 -- what a reader can give at the most: 3 octets; a P-field and 7; 4
-abbrev pub StampHeld : Timestamp → Type 0
-StampHeld stamp.Absent = Unit
-StampHeld (stamp.Implicit time) = time < 2 ^ 24
-StampHeld (stamp.Explicit field time) = (field < 256) × (time < 2 ^ 56)
-StampHeld (stamp.Binary time) = time < 2 ^ 32
+abbrev pub StampHeld : Option Timestamp → Type 0
+StampHeld None = Unit
+StampHeld (Some (stamp.Implicit time)) = time < 2 ^ 24
+StampHeld (Some (stamp.Explicit field time)) = (field < 256) × (time < 2 ^ 56)
+StampHeld (Some (stamp.Binary time)) = time < 2 ^ 32
 
 -- and each that fits its octets is such a one
-pub stamp_held : (m : Timestamp) → StampFits m → StampHeld m
-stamp_held stamp.Absent h = tt
-stamp_held (stamp.Implicit time) h = h
-stamp_held (stamp.Explicit field time) h =
+pub stamp_held : (m : Option Timestamp) → StampFits m → StampHeld m
+stamp_held None h = tt
+stamp_held (Some (stamp.Implicit time)) h = h
+stamp_held (Some (stamp.Explicit field time)) h =
     let most : 256 ^ time_size field ≤ 256 ^ 7 = pow-le-pow_right {n = 256} (omega arith) {i = time_size field} {j = 7} (omega arith) in
     (h.0, omega (arith, h.1))
-stamp_held (stamp.Binary time) h = h
+stamp_held (Some (stamp.Binary time)) h = h
 
 time_told : (s t : ℕ) → s < 2 ^ 32 → t < 2 ^ 32 → s % 2 ^ 32 ≡ t % 2 ^ 32 → s ≡ t
 time_told s t h l e = omega arith
 
 -- equal format and equal words are equal timestamps
 pub stamp_told :
-    (m n : Timestamp) → StampHeld m → StampHeld n → format_of m ≡ format_of n → upper_of m ≡ upper_of n → lower_of m ≡ lower_of n → m ≡ n
-stamp_told stamp.Absent stamp.Absent h l f u w = refl
-stamp_told stamp.Absent (stamp.Implicit t) h l f u w = absurd (omega arith)
-stamp_told stamp.Absent (stamp.Explicit p t) h l f u w = absurd (omega arith)
-stamp_told stamp.Absent (stamp.Binary t) h l f u w = absurd (omega arith)
-stamp_told (stamp.Implicit s) stamp.Absent h l f u w = absurd (omega arith)
-stamp_told (stamp.Implicit s) (stamp.Implicit t) h l f u w = ap stamp.Implicit (time_told s t (omega arith) (omega arith) w)
-stamp_told (stamp.Implicit s) (stamp.Explicit p t) h l f u w = absurd (omega arith)
-stamp_told (stamp.Implicit s) (stamp.Binary t) h l f u w = absurd (omega arith)
-stamp_told (stamp.Explicit q s) stamp.Absent h l f u w = absurd (omega arith)
-stamp_told (stamp.Explicit q s) (stamp.Implicit t) h l f u w = absurd (omega arith)
-stamp_told (stamp.Explicit q s) (stamp.Explicit p t) h l f u w = ap₂ stamp.Explicit (omega arith) (omega arith)
-stamp_told (stamp.Explicit q s) (stamp.Binary t) h l f u w = absurd (omega arith)
-stamp_told (stamp.Binary s) stamp.Absent h l f u w = absurd (omega arith)
-stamp_told (stamp.Binary s) (stamp.Implicit t) h l f u w = absurd (omega arith)
-stamp_told (stamp.Binary s) (stamp.Explicit p t) h l f u w = absurd (omega arith)
-stamp_told (stamp.Binary s) (stamp.Binary t) h l f u w = ap stamp.Binary (time_told s t h l w)
+    (m n : Option Timestamp) → StampHeld m → StampHeld n → format_of m ≡ format_of n → upper_of m ≡ upper_of n → lower_of m ≡ lower_of n → m ≡ n
+stamp_told None None h l f u w = refl
+stamp_told None (Some (stamp.Implicit t)) h l f u w = absurd (omega arith)
+stamp_told None (Some (stamp.Explicit p t)) h l f u w = absurd (omega arith)
+stamp_told None (Some (stamp.Binary t)) h l f u w = absurd (omega arith)
+stamp_told (Some (stamp.Implicit s)) None h l f u w = absurd (omega arith)
+stamp_told (Some (stamp.Implicit s)) (Some (stamp.Implicit t)) h l f u w = ap (λ t. Some (stamp.Implicit t)) (time_told s t (omega arith) (omega arith) w)
+stamp_told (Some (stamp.Implicit s)) (Some (stamp.Explicit p t)) h l f u w = absurd (omega arith)
+stamp_told (Some (stamp.Implicit s)) (Some (stamp.Binary t)) h l f u w = absurd (omega arith)
+stamp_told (Some (stamp.Explicit q s)) None h l f u w = absurd (omega arith)
+stamp_told (Some (stamp.Explicit q s)) (Some (stamp.Implicit t)) h l f u w = absurd (omega arith)
+stamp_told (Some (stamp.Explicit q s)) (Some (stamp.Explicit p t)) h l f u w = ap₂ (λ s t. Some (stamp.Explicit s t)) (omega arith) (omega arith)
+stamp_told (Some (stamp.Explicit q s)) (Some (stamp.Binary t)) h l f u w = absurd (omega arith)
+stamp_told (Some (stamp.Binary s)) None h l f u w = absurd (omega arith)
+stamp_told (Some (stamp.Binary s)) (Some (stamp.Implicit t)) h l f u w = absurd (omega arith)
+stamp_told (Some (stamp.Binary s)) (Some (stamp.Explicit p t)) h l f u w = absurd (omega arith)
+stamp_told (Some (stamp.Binary s)) (Some (stamp.Binary t)) h l f u w = ap (λ t. Some (stamp.Binary t)) (time_told s t h l w)

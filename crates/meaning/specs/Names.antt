@@ -1,5 +1,5 @@
 -- What the addresses of a header name, by the address of the port that it came in by (page 01, steps 4 to 6). Assumes nothing.
-use Rattle.std.specs.Prelude.{ℕ, ◌+◌, ◌*◌, Bool, true, false, not, ◌&&◌, ◌||◌, eqb}
+use Rattle.std.specs.Prelude.{ℕ, ◌+◌, ◌*◌, Bool, true, false, not, ◌&&◌, ◌||◌, eqb, Option, Some, None}
 use Rattle.address.specs.Class.{class_of, class_number}
 use Rattle.address.specs.Path.{path_form, path_number}
 use Rattle.address.specs.declared.Address.{Address}
@@ -8,12 +8,9 @@ use Rattle.header.specs.declared.Fields.{Fields}
 use Rattle.header.specs.declared.Addresses.{Addresses}
 use Rattle.header.specs.declared.Addresses.TheVariants.{BasicPath, ExtendedPath, BasicEndSystem, ExtendedEndSystem, Ipv6}
 use Rattle.header.specs.declared.Qos.{Qos}
-use Rattle.header.specs.declared.Qos.TheVariants as qos
 use Rattle.networks.specs.Networks.{in_net10, domain_of}
 use Rattle.meaning.specs.declared.Aim.{Aim}
 use Rattle.meaning.specs.declared.Aim.TheVariants.{Node, Path, Uncarried}
-use Rattle.meaning.specs.declared.Origin.{Origin}
-use Rattle.meaning.specs.declared.Origin.TheVariants.{From, Unsaid}
 
 -- step 5: the first three octets of the arrival port's address, then the octet
 abbrev pub filled_in : ℕ → ℕ → ℕ
@@ -28,19 +25,20 @@ aim_of port (ExtendedEndSystem d s) = Node d
 aim_of port (Ipv6 d s) = Uncarried
 
 -- what the source names, where there is one
-unfoldable pub origin_of : ℕ → Addresses → Origin
-origin_of port (BasicPath z) = Unsaid
-origin_of port (ExtendedPath p) = Unsaid
-origin_of port (BasicEndSystem d z) = From (record { 0 = filled_in port z })
-origin_of port (ExtendedEndSystem d s) = From s
-origin_of port (Ipv6 d s) = Unsaid
+unfoldable pub origin_of : ℕ → Addresses → Option Address
+origin_of port (BasicPath z) = None
+origin_of port (ExtendedPath p) = None
+origin_of port (BasicEndSystem d z) = Some (record { 0 = filled_in port z })
+origin_of port (ExtendedEndSystem d s) = Some s
+origin_of port (Ipv6 d s) = None
 
-abbrev pub is_basic : Addresses → ℕ
-is_basic (BasicPath z) = 1
-is_basic (ExtendedPath p) = 0
-is_basic (BasicEndSystem d s) = 1
-is_basic (ExtendedEndSystem d s) = 0
-is_basic (Ipv6 d s) = 0
+-- the addresses are of one octet
+abbrev pub is_basic : Addresses → Bool
+is_basic (BasicPath z) = true
+is_basic (ExtendedPath p) = false
+is_basic (BasicEndSystem d s) = true
+is_basic (ExtendedEndSystem d s) = false
+is_basic (Ipv6 d s) = false
 
 -- a path of one octet: no other header can carry it, so that it is bound to its domain (page 02, W-214: "one-octet paths keep 13")
 abbrev pub is_bound : Addresses → ℕ
@@ -50,9 +48,9 @@ is_bound (BasicEndSystem d s) = 0
 is_bound (ExtendedEndSystem d s) = 0
 is_bound (Ipv6 d s) = 0
 
-abbrev pub routing_asked : Qos → ℕ
-routing_asked qos.Absent = 0
-routing_asked (qos.Present precedence routing program) = routing
+abbrev pub routing_asked : Option Qos → ℕ
+routing_asked None = 0
+routing_asked (Some q) = q.routing
 
 -- 003, table 3-7: the routing requirement of a flood
 abbrev pub flood_routing : ℕ
@@ -67,7 +65,7 @@ not_carried f = not (carried_routing (routing_asked f.qos)) || not (eqb (ipv6_fl
 
 -- 7: a one-octet address, and the arrival port's address does not begin with 10
 abbrev pub no_domain : Address → Addresses → Bool
-no_domain port a = not (eqb (is_basic a) 0) && not (in_net10 port)
+no_domain port a = is_basic a && not (in_net10 port)
 
 -- 6: an invalid destination or path, or a source present and not unicast
 abbrev pub bad_class : ℕ → Bool
@@ -84,6 +82,6 @@ bad_aim Uncarried = true
 abbrev pub not_unicast : ℕ → Bool
 not_unicast v = not (eqb (class_number (class_of v)) 1)
 
-abbrev pub bad_source : Origin → Bool
-bad_source (From a) = not_unicast a.0
-bad_source Unsaid = false
+abbrev pub bad_source : Option Address → Bool
+bad_source (Some a) = not_unicast a.0
+bad_source None = false

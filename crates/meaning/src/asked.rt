@@ -6,7 +6,7 @@
 ghost use Rattle.std.specs.Prelude.{◌≡◌};
 ghost use Rattle.meaning.specs.Asked.{assigned_of, spent_of, precedence_asked};
 
-use header::{Octet, Qos};
+use header::Qos;
 
 // 1 where the TP-ID is assigned. 0 is Reserved.
 pub fn assigned_of(tpid: u8) -> u32
@@ -25,24 +25,21 @@ pub fn assigned_of(tpid: u8) -> u32
 }
 
 // 1 where a hop count is present and 0 or 1: the datagram cannot go on.
-pub fn spent_of(hops: Octet) -> u32
+pub fn spent_of(hops: Option<u8>) -> u32
     ensures { result ≡ spent_of hops }
 {
-    let Octet::Present(count) = hops else {
-        return 0;
-    };
-    if count < 2 {
-        return 1;
+    match hops {
+        Some(count) if count < 2 => 1,
+        _ => 0,
     }
-    0
 }
 
 // The precedence, 0 where there is none.
-pub fn precedence_of(qos: Qos) -> u16
+pub fn precedence_of(qos: Option<Qos>) -> u16
     ensures { result ≡ precedence_asked qos }
 {
     match qos {
-        Qos::Absent => 0,
-        Qos::Present(precedence, _, _) => precedence as u16,
+        None => 0,
+        Some(q) => q.precedence as u16,
     }
 }

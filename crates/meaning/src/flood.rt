@@ -10,7 +10,6 @@ ghost use Rattle.std.specs.Prelude.{◌≡◌};
 ghost use Rattle.checks.specs.Order.{check_of};
 ghost use Rattle.meaning.specs.Flood.{is_flooded, unmarked, upper_of, lower_of, source_in, pair_of};
 
-use crate::Origin;
 use address::Address;
 use checks::Check;
 use header::{Fields, Timestamp};
@@ -25,72 +24,64 @@ const ABOVE: u32 = 0x100_0000;
 pub fn is_flooded(f: Fields) -> bool
     ensures { result ≡ is_flooded f }
 {
-    let qos = f.qos;
-    crate::routing_of(qos) == crate::FLOOD_ROUTING
+    crate::routing_of(f.qos) == crate::FLOOD_ROUTING
 }
 
 // A flooded datagram has a source and a timestamp, else 28.
 pub fn check_marked(f: Fields) -> Check
     ensures { result ≡ check_of (unmarked f) }
 {
-    let addresses = f.addresses;
-    let stamp = f.stamp;
     if !is_flooded(f) {
         return Check::Passed;
     }
-    if header::flags::source_flag(addresses) == 0 {
+    if header::flags::source_flag(f.addresses) == 0 {
         return Check::Failed;
     }
-    if header::flags::stamp_format(stamp) == 0 {
+    if header::flags::stamp_format(f.stamp) == 0 {
         return Check::Failed;
     }
     Check::Passed
 }
 
 // The P-field and the time's upper part.
-fn upper_of(stamp: Timestamp) -> u32
+fn upper_of(stamp: Option<Timestamp>) -> u32
     ensures { result ≡ upper_of stamp }
 {
     match stamp {
-        Timestamp::Absent => 0,
-        Timestamp::Implicit(_) => 0,
-        Timestamp::Explicit(field, time) => field as u32 * ABOVE + (time / WORD) as u32 % ABOVE,
-        Timestamp::Binary(_) => 0,
+        Some(Timestamp::Explicit(field, time)) => {
+            field as u32 * ABOVE + (time / WORD) as u32 % ABOVE
+        }
+        _ => 0,
     }
 }
 
 // The time's lower part.
-fn lower_of(stamp: Timestamp) -> u32
+fn lower_of(stamp: Option<Timestamp>) -> u32
     ensures { result ≡ lower_of stamp }
 {
     match stamp {
-        Timestamp::Absent => 0,
-        Timestamp::Implicit(time) => (time % WORD) as u32,
-        Timestamp::Explicit(_, time) => (time % WORD) as u32,
-        Timestamp::Binary(time) => (time % WORD) as u32,
+        None => 0,
+        Some(Timestamp::Implicit(time)) => (time % WORD) as u32,
+        Some(Timestamp::Explicit(_, time)) => (time % WORD) as u32,
+        Some(Timestamp::Binary(time)) => (time % WORD) as u32,
     }
 }
 
 // The source's number, 0 where there is none.
-pub fn source_in(o: Origin) -> u32
+pub fn source_in(o: Option<Address>) -> u32
     ensures { result ≡ source_in o }
 {
-    match o {
-        Origin::From(a) => a.0,
-        Origin::Unsaid => 0,
-    }
+    o.map_or(0, |a| a.0)
 }
 
 // The pair of a datagram that came in by the port of this address.
 pub fn pair_of(port: Address, f: Fields) -> Pair
     ensures { result ≡ pair_of port.0 f }
 {
-    let addresses = f.addresses;
-    let stamp = f.stamp;
     Pair {
-        format: header::flags::stamp_format(stamp) as u32,
-        source: Address(source_in(crate::origin_of(port, addresses))),
-        upper: upper_of(stamp),
-        lower: lower_of(stamp),
+        format: header::flags::stamp_format(f.stamp) as u32,
+        source: Address(source_in(crate::origin_of(port, f.addresses))),
+        upper: upper_of(f.stamp),
+        lower: lower_of(f.stamp),
     }
 }

@@ -26,7 +26,7 @@ ghost use Rattle.meaning.specs.Names.{
   bad_source,
 };
 
-use address::{Address, PathAddress};
+use address::{Address, Class, PathAddress};
 use checks::Check;
 use header::{Addresses, Fields, Qos};
 
@@ -39,13 +39,6 @@ pub enum Aim {
     Node(Address),
     Path(PathAddress),
     Uncarried,
-}
-
-// What a source names, where there is one.
-#[derive(Clone, Copy)]
-pub enum Origin {
-    From(Address),
-    Unsaid,
 }
 
 // An address of one octet with the first three of the port.
@@ -68,30 +61,23 @@ pub fn aim_of(port: Address, a: Addresses) -> Aim
     }
 }
 
-// What the source names at a port.
-pub fn origin_of(port: Address, a: Addresses) -> Origin
+// What the source names at a port, where there is one.
+#[tactic(auto, using(crate::proofs::Laws::from_filled), unfolding(crate::specs::Names::origin_of))]
+pub fn origin_of(port: Address, a: Addresses) -> Option<Address>
     ensures { result ≡ origin_of port.0 a }
 {
     match a {
-        Addresses::BasicPath(_) => Origin::Unsaid,
-        Addresses::ExtendedPath(_) => Origin::Unsaid,
-        Addresses::BasicEndSystem(_, s) => Origin::From(Address(filled_in(port, s))),
-        Addresses::ExtendedEndSystem(_, s) => Origin::From(s),
-        Addresses::Ipv6(_, _) => Origin::Unsaid,
+        Addresses::BasicEndSystem(_, s) => Some(Address(filled_in(port, s))),
+        Addresses::ExtendedEndSystem(_, s) => Some(s),
+        Addresses::BasicPath(_) | Addresses::ExtendedPath(_) | Addresses::Ipv6(_, _) => None,
     }
 }
 
-// 1 for addresses of one octet, else 0.
-pub fn is_basic(a: Addresses) -> u32
+// Whether the addresses are of one octet.
+pub fn is_basic(a: Addresses) -> bool
     ensures { result ≡ is_basic a }
 {
-    match a {
-        Addresses::BasicPath(_) => 1,
-        Addresses::ExtendedPath(_) => 0,
-        Addresses::BasicEndSystem(_, _) => 1,
-        Addresses::ExtendedEndSystem(_, _) => 0,
-        Addresses::Ipv6(_, _) => 0,
-    }
+    matches!(a, Addresses::BasicPath(_) | Addresses::BasicEndSystem(_, _))
 }
 
 // 1 for a path of one octet, which is bound to its domain, else 0.
@@ -108,12 +94,12 @@ pub fn is_bound(a: Addresses) -> u32
 }
 
 // The routing requirements, 0 where there is no basic QOS.
-pub fn routing_of(q: Qos) -> u8
+pub fn routing_of(q: Option<Qos>) -> u8
     ensures { result ≡ routing_asked q }
 {
     match q {
-        Qos::Absent => 0,
-        Qos::Present(_, routing, _) => routing,
+        None => 0,
+        Some(q) => q.routing,
     }
 }
 
@@ -131,12 +117,10 @@ fn is_carried(routing: u8) -> bool
 pub fn check_carried(f: Fields) -> Check
     ensures { result ≡ check_of (not_carried f) }
 {
-    let qos = f.qos;
-    let addresses = f.addresses;
-    if !is_carried(routing_of(qos)) {
+    if !is_carried(routing_of(f.qos)) {
         return Check::Failed;
     }
-    if header::flags::ipv6_flag(addresses) != 0 {
+    if header::flags::ipv6_flag(f.addresses) != 0 {
         return Check::Failed;
     }
     Check::Passed
@@ -146,10 +130,7 @@ pub fn check_carried(f: Fields) -> Check
 pub fn check_domain(port: Address, a: Addresses) -> Check
     ensures { result ≡ check_of (no_domain port a) }
 {
-    if is_basic(a) == 0 {
-        return Check::Passed;
-    }
-    if !networks::in_net_10(port) {
+    if is_basic(a) && !networks::in_net_10(port) {
         return Check::Failed;
     }
     Check::Passed
@@ -159,18 +140,18 @@ pub fn check_domain(port: Address, a: Addresses) -> Check
 fn check_unicast(a: Address) -> Check
     ensures { result ≡ check_of (not_unicast a.0) }
 {
-    if address::class_number(address::class_of(a)) != 1 {
+    if address::class_of(a) != Class::Unicast {
         return Check::Failed;
     }
     Check::Passed
 }
 
 // Step 6, second half: a source that is present is unicast.
-pub fn check_origin(o: Origin) -> Check
+pub fn check_origin(o: Option<Address>) -> Check
     ensures { result ≡ check_of (bad_source o) }
 {
     match o {
-        Origin::From(a) => check_unicast(a),
-        Origin::Unsaid => Check::Passed,
+        Some(a) => check_unicast(a),
+        None => Check::Passed,
     }
 }

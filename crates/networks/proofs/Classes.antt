@@ -7,6 +7,7 @@ use mathlib.Core.Logic.{◌≢◌}
 use lib.Dec.{eqb}
 use lib.Bits.{bit_or}
 use borrow.Author.Tests.{eq-eqb, ne_eqb}
+use Rattle.std.proofs.Common.{Option, Some}
 use Rattle.checks.specs.Order.{pick}
 use Rattle.address.specs.Octets.{dotted, Octet}
 use Rattle.address.specs.Class.{between, family_of, class_of}
@@ -21,8 +22,6 @@ use Rattle.address.proofs.Families
 use Rattle.address.specs.Row.{Row, even, class_a, class_b, class_c, all_scps, class_a_last, class_b_last, class_c_last}
 use Rattle.address.proofs.ClassTable.{class_one, class_row}
 use Rattle.networks.specs.Networks.{in_net10, last_of, subnet_broadcast, broadcast_in, class_broadcast}
-use Rattle.networks.specs.declared.Broadcast.{Broadcast}
-use Rattle.networks.specs.declared.Broadcast.TheVariants.{At}
 use Rattle.networks.proofs.Subnets.{or_ones, subnet_last}
 
 -- a network of a class has 2 ^ k addresses: by the tests on the way to it
@@ -44,8 +43,8 @@ net_power x n e = power_is (eqb x 10) (between 1 126 x) (between 128 191 x) (bet
 abbrev pub four_octets : ℕ → ℕ → ℕ → ℕ → Address
 four_octets a b c d = record { 0 = dotted a b c d }
 
-abbrev pub at : ℕ → Broadcast
-at v = At (record { 0 = v })
+abbrev pub at : ℕ → Option Address
+at v = Some (record { 0 = v })
 
 -- The last address of the net.
 pub in_net : (a : Address) (n : ℕ) → family_of (a.0 / 2 ^ 24) ≡ Net n → class_broadcast a ≡ at (last_of a.0 n)
@@ -60,7 +59,7 @@ in_net_or a n e =
 
 -- The broadcast of a class network of n bits is that of the subnet under the mask of n ones.
 pub class_mask : (a : Address) (m : Mask) (n : ℕ) → family_of (a.0 / 2 ^ 24) ≡ Net (2 ^ (32 - n)) → m.0 ≡ mask_of n
-    → class_broadcast a ≡ At (subnet_broadcast a m)
+    → class_broadcast a ≡ Some (subnet_broadcast a m)
 class_mask a m n net mask = in_net a _ net ∙ ap at (sym (subnet_last a m n mask))
 
 -- By octets: the last 3, 2 or 1 octets are 255, and all but the first in net 10.
@@ -68,16 +67,16 @@ module _ (a b c d : ℕ) (hb : Octet b) (hc : Octet c) (hd : Octet d) where
   first : dotted a b c d / 2 ^ 24 ≡ a
   first = omega arith
 
-  pub class_a_broadcast : 1 ≤ a → a ≤ 126 → a ≢ 10 → class_broadcast (four_octets a b c d) ≡ At (four_octets a 255 255 255)
+  pub class_a_broadcast : 1 ≤ a → a ≤ 126 → a ≢ 10 → class_broadcast (four_octets a b c d) ≡ Some (four_octets a 255 255 255)
   class_a_broadcast p q e = in_net _ _ (ap family_of first ∙ Families.class_a a p q e) ∙ ap at (omega arith)
 
-  pub class_b_broadcast : 128 ≤ a → a ≤ 191 → class_broadcast (four_octets a b c d) ≡ At (four_octets a b 255 255)
+  pub class_b_broadcast : 128 ≤ a → a ≤ 191 → class_broadcast (four_octets a b c d) ≡ Some (four_octets a b 255 255)
   class_b_broadcast p q = in_net _ _ (ap family_of first ∙ Families.class_b a p q) ∙ ap at (omega arith)
 
-  pub class_c_broadcast : 192 ≤ a → a ≤ 223 → class_broadcast (four_octets a b c d) ≡ At (four_octets a b c 255)
+  pub class_c_broadcast : 192 ≤ a → a ≤ 223 → class_broadcast (four_octets a b c d) ≡ Some (four_octets a b c 255)
   class_c_broadcast p q = in_net _ _ (ap family_of first ∙ Families.class_c a p q) ∙ ap at (omega arith)
 
-  pub net_10_broadcast : a ≡ 10 → class_broadcast (four_octets a b c d) ≡ At (four_octets 10 255 255 255)
+  pub net_10_broadcast : a ≡ 10 → class_broadcast (four_octets a b c d) ≡ Some (four_octets 10 255 255 255)
   unfolding class_broadcast broadcast_in
   net_10_broadcast e = rw (ap family_of (first ∙ e) ∙ Families.scps)
 
@@ -90,7 +89,7 @@ module _ (a b c d : ℕ) (hb : Octet b) (hc : Octet c) (hd : Octet d) where
 
 -- there is a broadcast, of the class "broadcast of all SCPS" in net 10 and "net broadcast" elsewhere
 abbrev pub Classed : Address → Type 0
-Classed a = (w : Address) × (class_broadcast a ≡ At w) × (class_of w.0 ≡ pick (in_net10 a) ScpsBroadcast NetBroadcast)
+Classed a = (w : Address) × (class_broadcast a ≡ Some w) × (class_of w.0 ≡ pick (in_net10 a) ScpsBroadcast NetBroadcast)
 
 by_row : {v : ℕ} → Row Unicast v → Classed (record { 0 = v })
 by_row (even x y z hx hy hz e) =

@@ -1,6 +1,6 @@
 -- The networks of an address and their broadcasts: page 01, "Local half" (a broadcast of ours), step 5 (the first octet, the first
 -- three octets) and refusal 13. Assumes nothing.
-use Rattle.std.specs.Prelude.{ℕ, ◌+◌, ◌-◌, ◌*◌, ◌/◌, ◌^◌, Bool, eqb}
+use Rattle.std.specs.Prelude.{ℕ, ◌+◌, ◌-◌, ◌*◌, ◌/◌, ◌^◌, Bool, eqb, Option, Some, None}
 use Rattle.std.specs.Int.Bits.{bit_or}
 use Rattle.address.specs.Octets.{dotted}
 use Rattle.address.specs.Class.{family_of}
@@ -8,8 +8,6 @@ use Rattle.address.specs.declared.Address.{Address}
 use Rattle.address.specs.declared.Mask.{Mask}
 use Rattle.address.specs.declared.Family.{Family}
 use Rattle.address.specs.declared.Family.TheVariants.{Net, Scps, Multicast, Invalid}
-use Rattle.networks.specs.declared.Broadcast.{Broadcast}
-use Rattle.networks.specs.declared.Broadcast.TheVariants.{At, None}
 
 -- the address begins with 10 (step 5)
 abbrev pub in_net10 : Address → Bool
@@ -28,11 +26,11 @@ unfoldable pub subnet_broadcast : Address → Mask → Address
 subnet_broadcast a m = record { 0 = bit_or a.0 (2 ^ 32 - 1 - m.0) }
 
 -- "net broadcast of a port's class network", or "10.255.255.255 with a port in 10", by what the first octet says
-unfoldable pub broadcast_in : Family → ℕ → Broadcast
-broadcast_in (Net hosts) v = At (record { 0 = last_of v hosts })
-broadcast_in Scps v = At (record { 0 = dotted 10 255 255 255 })
+unfoldable pub broadcast_in : Family → ℕ → Option Address
+broadcast_in (Net hosts) v = Some (record { 0 = last_of v hosts })
+broadcast_in Scps v = Some (record { 0 = dotted 10 255 255 255 })
 broadcast_in Multicast v = None
 broadcast_in Invalid v = None
 
-unfoldable pub class_broadcast : Address → Broadcast
+unfoldable pub class_broadcast : Address → Option Address
 class_broadcast a = broadcast_in (family_of (a.0 / 2 ^ 24)) a.0

@@ -33,28 +33,21 @@ pub fn domain_of(a: Address) -> u32
 }
 
 // The address with ones wherever the mask has none.
+#[tactic(auto, unfolding(crate::specs::Networks::subnet_broadcast))]
 pub fn subnet_broadcast(a: Address, m: Mask) -> Address
     ensures { result ≡ subnet_broadcast a m }
 {
     Address(a.0 | !m.0)
 }
 
-// The broadcast of a network, or that there is no such network.
-#[derive(Clone, Copy)]
-pub enum Broadcast {
-    At(Address),
-    None,
-}
-
-// The last address of the network that the class gives.
-pub fn class_broadcast(a: Address) -> Broadcast
+// The last address of the network that the class gives, where it gives one.
+#[tactic(auto, using(address::proofs::Families::net_pos, crate::proofs::Classes::in_net_or), unfolding(crate::specs::Networks::class_broadcast, crate::specs::Networks::broadcast_in))]
+pub fn class_broadcast(a: Address) -> Option<Address>
     ensures { result ≡ class_broadcast a }
 {
-    let v = a.0;
-    match address::family_of(v / THREE_OCTETS) {
-        Family::Net(hosts) => Broadcast::At(Address(v | (hosts - 1))),
-        Family::Scps => Broadcast::At(Address(0x0AFF_FFFF)),
-        Family::Multicast => Broadcast::None,
-        Family::Invalid => Broadcast::None,
+    match address::family_of(a.0 / THREE_OCTETS) {
+        Family::Net(hosts) => Some(Address(a.0 | (hosts - 1))),
+        Family::Scps => Some(Address(0x0AFF_FFFF)),
+        Family::Multicast | Family::Invalid => None,
     }
 }

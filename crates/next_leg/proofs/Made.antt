@@ -6,6 +6,7 @@ use mathlib.Core.Bool.{Bool, true, false, ◌&&◌, ◌||◌}
 use mathlib.Core.List.{List}
 use lib.ListN.{length}
 use borrow.Author.Tests.{eq-eqb, ne_eqb}
+use Rattle.std.specs.Prelude.{Option}
 use Rattle.checks.specs.Order.{pick}
 use Rattle.octets.specs.Octets.{fronted}
 use Rattle.header.specs.Limits.{longest_header, length_limit}
@@ -14,8 +15,6 @@ use Rattle.header.specs.Build.{size_of, header_octets, second_octet, third_octet
 use Rattle.header.specs.Onward.{header_sent_on}
 use Rattle.header.specs.declared.Addresses.{Addresses}
 use Rattle.header.specs.declared.Addresses.TheVariants.{BasicEndSystem, ExtendedEndSystem}
-use Rattle.header.specs.declared.Octet.{Octet}
-use Rattle.header.specs.declared.Octet.TheVariants as octet
 use Rattle.header.specs.declared.Fields.{Fields}
 use Rattle.header.specs.declared.Header.{Header}
 use Rattle.header.specs.Form.{places_of}
@@ -27,7 +26,7 @@ use Rattle.meaning.specs.Names.{filled_in}
 use Rattle.verdict.specs.Rule.{except_by}
 use Rattle.next_leg.specs.declared.Leg.{Leg}
 use Rattle.next_leg.specs.declared.Legs.{Legs}
-use Rattle.next_leg.specs.Leg.{asks_hops, asks_checksum, adds, widened, widens, rewrites, first_hops, hops_next, checksum_next, addresses_next, next_fields, next_length, next_header, Sound, no_legs, rewritten_among, rewritten_octets, legs_of}
+use Rattle.next_leg.specs.Leg.{asks_checksum, adds, widened, widens, rewrites, hops_next, checksum_next, addresses_next, next_fields, next_length, next_header, Sound, no_legs, rewritten_among, rewritten_octets, legs_of}
 
 -- ---- a test that another decides
 pub both_so : {t u : Bool} (v w : Bool) → t ≡ v → t ≡ true → u ≡ w → u ≡ (v && w)
@@ -58,22 +57,8 @@ pub widened_both : (arrival : ℕ) {a : Addresses} (d s : ℕ) {x y : ℕ} → a
     → ExtendedEndSystem (record { 0 = x }) (record { 0 = y }) ≡ widened arrival a
 widened_both arrival d s e ex ey = rw e cc
 
--- ---- the hop count
-module _ (code : ℕ) {h : Octet} where
-  pub hops_first : {t : Bool} → h ≡ octet.Absent → t ≡ asks_hops code → t ≡ true → octet.Present first_hops ≡ hops_next code h
-  hops_first e et ht = rw e (simp (sym et ∙ ht))
-
-  pub hops_none : {t : Bool} → h ≡ octet.Absent → t ≡ asks_hops code → t ≡ false → octet.Absent ≡ hops_next code h
-  hops_none e et ht = rw e (simp (sym et ∙ ht))
-
-  pub hops_less : (v : ℕ) → h ≡ octet.Present v → octet.Present (v - 1) ≡ hops_next code h
-  hops_less v e = rw e
-
-  pub hops_zero : (v : ℕ) → h ≡ octet.Present v → v ≡ 0 → octet.Present 0 ≡ hops_next code h
-  hops_zero v e z = rw (e, z)
-
 -- ---- the fields
-pub fields_made : (far : Bool) (arrival code : ℕ) (f : Fields) {a : Addresses} {h : Octet} {c : ℕ}
+pub fields_made : (far : Bool) (arrival code : ℕ) (f : Fields) {a : Addresses} {h : Option ℕ} {c : ℕ}
     → a ≡ addresses_next far arrival f.addresses → h ≡ hops_next code f.hops → c ≡ checksum_next code f.checksum
     → ◌≡◌ {A = Fields}
     (record { tpid = f.tpid; addresses = a; qos = f.qos; hops = h; stamp = f.stamp; expanded = f.expanded; checksum = c; intermediate = f.intermediate })

@@ -7,12 +7,11 @@ use mathlib.Core.Bool.{Bool, true, false, ◌&&◌}
 use mathlib.Core.Logic.{◌↔◌}
 use lib.Dec.{eqb}
 use borrow.Author.Tests.{eqb-true, eq-eqb}
+use Rattle.std.specs.Prelude.{Option, Some, None}
 use Rattle.checks.specs.Order.{pick}
 use Rattle.checks.proofs.Bools.{true_false, and_true}
 use Rattle.header.specs.declared.Addresses.{Addresses}
 use Rattle.header.specs.declared.Addresses.TheVariants.{BasicPath, ExtendedPath, BasicEndSystem, ExtendedEndSystem, Ipv6}
-use Rattle.header.specs.declared.Octet.{Octet}
-use Rattle.header.specs.declared.Octet.TheVariants as octet
 use Rattle.header.specs.declared.Fields.{Fields}
 use Rattle.meaning.specs.Names.{aim_of, origin_of, is_basic, is_bound}
 use Rattle.meaning.proofs.Laws.{same_domain_same_aim, same_domain_same_origin, extended_same_aim, extended_same_origin}
@@ -22,7 +21,7 @@ use Rattle.next_leg.specs.Leg.{asks_hops, asks_checksum, adds_hops, adds_checksu
 -- ---- addresses, widened or in one domain
 
 -- but for a path of one octet, widened addresses have more than one octet each
-widened_wide : (arrival : ℕ) (a : Addresses) → (is_bound a ≡ 1 → ⊥) → is_basic (widened arrival a) ≡ 0
+widened_wide : (arrival : ℕ) (a : Addresses) → (is_bound a ≡ 1 → ⊥) → is_basic (widened arrival a) ≡ false
 widened_wide arrival (BasicPath z) free = absurd (free refl)
 widened_wide arrival (ExtendedPath p) free = refl
 widened_wide arrival (BasicEndSystem d s) free = refl
@@ -52,7 +51,7 @@ widened_origin arrival (Ipv6 d s) = refl
 -- a name that ports of one domain share, that extended addresses have at any port, and that widening keeps
 module _ {X : Type 0} (named : ℕ → Addresses → X)
     (nearby : (port other : ℕ) (a : Addresses) → domain_of (record { 0 = port }) ≡ domain_of (record { 0 = other }) → named port a ≡ named other a)
-    (anywhere : (port other : ℕ) (a : Addresses) → is_basic a ≡ 0 → named port a ≡ named other a)
+    (anywhere : (port other : ℕ) (a : Addresses) → is_basic a ≡ false → named port a ≡ named other a)
     (kept : (arrival : ℕ) (a : Addresses) → named arrival (widened arrival a) ≡ named arrival a) where
   same_named : (out arrival code : ℕ) (far : Bool) (f : Fields) → (far ≡ false → domain_of (record { 0 = out }) ≡ domain_of (record { 0 = arrival }))
       → (is_bound f.addresses ≡ 1 → far ≡ false) → named out (next_fields far arrival code f).addresses ≡ named arrival f.addresses
@@ -74,29 +73,29 @@ same_origin = same_named origin_of same_domain_same_origin extended_same_origin 
 
 -- a one-octet address on the wire means that the port is in the same domain
 pub stays_home : (arrival code : ℕ) (far : Bool) (f : Fields) → (is_bound f.addresses ≡ 1 → far ≡ false)
-    → is_basic (next_fields far arrival code f).addresses ≡ 1 → far ≡ false
+    → is_basic (next_fields far arrival code f).addresses ≡ true → far ≡ false
 unfolding next_fields
-stays_home arrival code true f bound basic = absurd (omega (arith, widened_wide arrival f.addresses (λ b. true_false (bound b))))
+stays_home arrival code true f bound basic = true_false (sym basic ∙ widened_wide arrival f.addresses (λ b. true_false (bound b)))
 stays_home arrival code false f bound basic = refl
 
 -- ---- what is added
 
-first_asked : (asked : Bool) → pick asked (octet.Present first_hops) octet.Absent ≡ octet.Present first_hops → (asked && true) ≡ true
+first_asked : (asked : Bool) → pick asked (Some first_hops) None ≡ Some first_hops → (asked && true) ≡ true
 first_asked true e = refl
 first_asked false e = cc
 
-hops_exactly : (code : ℕ) (h : Octet) → ((h ≡ octet.Absent) × (hops_next code h ≡ octet.Present first_hops)) ↔ (adds_hops code h ≡ true)
-hops_exactly code octet.Absent = (λ h. first_asked (asks_hops code) h.1, λ e. (refl, simp (and_true (asks_hops code) true e).0))
-hops_exactly code (octet.Present v) = (λ h. cc, λ e. true_false (sym (and_true (asks_hops code) false e).1))
+hops_exactly : (code : ℕ) (h : Option ℕ) → ((h ≡ None) × (hops_next code h ≡ Some first_hops)) ↔ (adds_hops code h ≡ true)
+hops_exactly code None = (λ h. first_asked (asks_hops code) h.1, λ e. (refl, simp (and_true (asks_hops code) true e).0))
+hops_exactly code (Some v) = (λ h. cc, λ e. true_false (sym (and_true (asks_hops code) false e).1))
 
 -- a hop count exactly where it is asked for and lacking, and it is 64
 pub hops_added : (far : Bool) (arrival code : ℕ) (f : Fields)
-    → ((f.hops ≡ octet.Absent) × ((next_fields far arrival code f).hops ≡ octet.Present first_hops)) ↔ (adds_hops code f.hops ≡ true)
+    → ((f.hops ≡ None) × ((next_fields far arrival code f).hops ≡ Some first_hops)) ↔ (adds_hops code f.hops ≡ true)
 unfolding next_fields
 hops_added far arrival code f = hops_exactly code f.hops
 
 -- one that came goes out one less, whatever is asked for
-pub hops_lessened : (far : Bool) (arrival code : ℕ) (f : Fields) (v : ℕ) → f.hops ≡ octet.Present v → (next_fields far arrival code f).hops ≡ octet.Present (v - 1)
+pub hops_lessened : (far : Bool) (arrival code : ℕ) (f : Fields) (v : ℕ) → f.hops ≡ Some v → (next_fields far arrival code f).hops ≡ Some (v - 1)
 unfolding next_fields
 hops_lessened far arrival code f v e = rw e
 

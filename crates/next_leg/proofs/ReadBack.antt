@@ -8,6 +8,7 @@ use mathlib.Core.Bool.{Bool, true, false, ◌&&◌}
 use lib.Dec.{eqb}
 use lib.ListN.{get_or, length, drop, length-drop}
 use borrow.Author.Tests.{eqb-false}
+use Rattle.std.specs.Prelude.{Option, Some, None}
 use Rattle.checks.specs.Order.{pick}
 use Rattle.checks.proofs.Bools.{true_false, or_false}
 use Rattle.checks.proofs.Laws.{either}
@@ -20,11 +21,9 @@ use Rattle.header.specs.Onward.{one_less, with_hops}
 use Rattle.header.specs.Range.{AddressesFit, OctetFits, InRange}
 use Rattle.header.specs.declared.Addresses.{Addresses}
 use Rattle.header.specs.declared.Addresses.TheVariants.{BasicPath, ExtendedPath, BasicEndSystem, ExtendedEndSystem, Ipv6}
-use Rattle.header.specs.declared.Octet.{Octet}
-use Rattle.header.specs.declared.Octet.TheVariants as octet
 use Rattle.header.specs.declared.Fields.{Fields}
 use Rattle.header.specs.declared.Header.{Header}
-use Rattle.header.specs.declared.Read.TheVariants.{Good}
+use Rattle.checks.specs.Told.{Good}
 use Rattle.header.proofs.Passed.{passed}
 use Rattle.header.proofs.Answers.{read_in_range, read_bounds}
 use Rattle.header.proofs.BuiltLaws.{header_length, header_small}
@@ -47,9 +46,9 @@ widened_fits arrival (BasicEndSystem d s) h fits = (filled_fits arrival d h fits
 widened_fits arrival (ExtendedEndSystem d s) h fits = fits
 widened_fits arrival (Ipv6 d s) h fits = fits
 
-hops_fit : (code : ℕ) (h : Octet) → OctetFits h → OctetFits (hops_next code h)
-hops_fit code octet.Absent fits = either OctetFits (asks_hops code) (omega arith) tt
-hops_fit code (octet.Present v) fits = omega arith
+hops_fit : (code : ℕ) (h : Option ℕ) → OctetFits h → OctetFits (hops_next code h)
+hops_fit code None fits = either OctetFits (asks_hops code) (omega arith) tt
+hops_fit code (Some v) fits = omega arith
 
 next_in_range : (far : Bool) (arrival code : ℕ) (f : Fields) → arrival < 2 ^ 32 → InRange f → InRange (next_fields far arrival code f)
 unfolding next_fields
@@ -79,9 +78,9 @@ same_kept : {A : Type 0} (asked lacking : Bool) {a b : A} → (asked && lacking)
 same_kept true lacking e same = same e
 same_kept false lacking e same = refl
 
-hops_kept : (code : ℕ) (h : Octet) → adds_hops code h ≡ false → hops_next code h ≡ one_less h
-hops_kept code octet.Absent e = same_kept (asks_hops code) true e true_false
-hops_kept code (octet.Present v) e = refl
+hops_kept : (code : ℕ) (h : Option ℕ) → adds_hops code h ≡ false → hops_next code h ≡ one_less h
+hops_kept code None e = same_kept (asks_hops code) true e true_false
+hops_kept code (Some v) e = refl
 
 checksum_kept : (code on : ℕ) → on < 2 → adds_checksum code on ≡ false → checksum_next code on ≡ on
 checksum_kept code on fits e = same_kept (asks_checksum code) (eqb on 0) e (λ z. omega (arith, eqb-false on 0 z))

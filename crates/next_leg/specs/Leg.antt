@@ -1,6 +1,6 @@
 -- The header of a copy on its next leg: page 02, W-214. Each granted port has its own copy, and whether the port lies in another domain than the arrival
 -- port and what the route taken asks for decide its header; a copy without a route is asked for nothing. Assumes nothing.
-use Rattle.std.specs.Prelude.{ℕ, ◌+◌, ◌-◌, ◌≤◌, ◌<◌, Bool, true, false, not, ◌&&◌, ◌||◌, List, eqb}
+use Rattle.std.specs.Prelude.{ℕ, ◌+◌, ◌-◌, ◌≤◌, ◌<◌, Bool, true, false, not, ◌&&◌, ◌||◌, List, eqb, Option, Some, None}
 use Rattle.checks.specs.Order.{pick}
 use Rattle.header.specs.Limits.{length_limit}
 use Rattle.header.specs.Read.{header_of}
@@ -8,8 +8,6 @@ use Rattle.header.specs.Build.{size_of, header_octets}
 use Rattle.header.specs.Onward.{header_sent_on}
 use Rattle.header.specs.declared.Addresses.{Addresses}
 use Rattle.header.specs.declared.Addresses.TheVariants.{BasicPath, ExtendedPath, BasicEndSystem, ExtendedEndSystem, Ipv6}
-use Rattle.header.specs.declared.Octet.{Octet}
-use Rattle.header.specs.declared.Octet.TheVariants as octet
 use Rattle.header.specs.declared.Fields.{Fields}
 use Rattle.header.specs.declared.Header.{Header}
 use Rattle.meaning.specs.Names.{filled_in}
@@ -27,11 +25,11 @@ abbrev pub asks_hops : ℕ → Bool
 asks_hops code = eqb code 2 || eqb code 4
 
 -- ".. and the header lacks it"
-abbrev pub is_absent : Octet → Bool
-is_absent octet.Absent = true
-is_absent (octet.Present v) = false
+abbrev pub is_absent : Option ℕ → Bool
+is_absent None = true
+is_absent (Some v) = false
 
-abbrev pub adds_hops : ℕ → Octet → Bool
+abbrev pub adds_hops : ℕ → Option ℕ → Bool
 adds_hops code hops = asks_hops code && is_absent hops
 
 abbrev pub adds_checksum : ℕ → ℕ → Bool
@@ -76,9 +74,9 @@ rewrites far code f = widens far f.addresses || adds code f
 abbrev pub first_hops : ℕ
 first_hops = 64
 
-abbrev pub hops_next : ℕ → Octet → Octet
-hops_next code octet.Absent = pick (asks_hops code) (octet.Present first_hops) octet.Absent
-hops_next code (octet.Present v) = octet.Present (v - 1)
+abbrev pub hops_next : ℕ → Option ℕ → Option ℕ
+hops_next code None = pick (asks_hops code) (Some first_hops) None
+hops_next code (Some v) = Some (v - 1)
 
 abbrev pub checksum_next : ℕ → ℕ → ℕ
 checksum_next code on = pick (asks_checksum code) 1 on

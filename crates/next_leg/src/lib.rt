@@ -18,7 +18,6 @@ ghost use Rattle.header.specs.Onward.{renewal_of};
 ghost use Rattle.next_leg.specs.Leg.{
   asks_checksum,
   asks_hops,
-  is_absent,
   adds_hops,
   adds_checksum,
   adds,
@@ -43,7 +42,7 @@ ghost use Rattle.next_leg.specs.Leg.{
 };
 
 use address::Address;
-use header::{Addresses, Fields, Header, Octet, Renewal};
+use header::{Addresses, Fields, Header, Renewal};
 
 // The hop count that is added, and the one of a reply.
 pub const FIRST_HOPS: u8 = 64;
@@ -95,23 +94,11 @@ fn asks_hops(code: u32) -> bool
     code == 4
 }
 
-pub fn is_absent(o: Octet) -> bool
-    ensures { result ≡ is_absent o }
-{
-    match o {
-        Octet::Absent => true,
-        Octet::Present(_) => false,
-    }
-}
-
 // Whether a hop count is asked for that the header lacks.
-fn adds_hops(code: u32, hops: Octet) -> bool
+fn adds_hops(code: u32, hops: Option<u8>) -> bool
     ensures { result ≡ adds_hops code hops }
 {
-    if asks_hops(code) {
-        return is_absent(hops);
-    }
-    false
+    asks_hops(code) && hops.is_none()
 }
 
 // Whether a checksum is.
@@ -128,11 +115,7 @@ fn adds_checksum(code: u32, on: u8) -> bool
 fn adds_any(code: u32, f: Fields) -> bool
     ensures { result ≡ adds code f }
 {
-    let hops = f.hops;
-    if adds_hops(code, hops) {
-        return true;
-    }
-    adds_checksum(code, f.checksum)
+    adds_hops(code, f.hops) || adds_checksum(code, f.checksum)
 }
 
 // Whether the addresses are those of end systems, in one octet each.
@@ -196,19 +179,14 @@ pub fn addresses_next(far: bool, arrival: Address, a: Addresses) -> Addresses
 }
 
 // A hop count one less, which the verdict has left at 2 or more; or the first one, where it is asked for.
-fn hops_next(code: u32, hops: Octet) -> Octet
+fn hops_next(code: u32, hops: Option<u8>) -> Option<u8>
     ensures { result ≡ hops_next code hops }
 {
-    let Octet::Present(count) = hops else {
-        if asks_hops(code) {
-            return Octet::Present(FIRST_HOPS);
-        }
-        return Octet::Absent;
-    };
-    if count == 0 {
-        return Octet::Present(0);
+    match hops {
+        None if asks_hops(code) => Some(FIRST_HOPS),
+        None => None,
+        Some(count) => Some(count.saturating_sub(1)),
     }
-    Octet::Present(count - 1)
 }
 
 // Whether the header has a checksum then: where it had one, or the route asks for it.
@@ -225,18 +203,13 @@ pub fn checksum_next(code: u32, on: u8) -> u8
 fn fields_next(far: bool, arrival: Address, code: u32, f: Fields) -> Fields
     ensures { result ≡ next_fields far arrival.0 code f }
 {
-    let addresses = f.addresses;
-    let qos = f.qos;
-    let hops = f.hops;
-    let stamp = f.stamp;
-    let expanded = f.expanded;
     Fields {
         tpid: f.tpid,
-        addresses: addresses_next(far, arrival, addresses),
-        qos,
-        hops: hops_next(code, hops),
-        stamp,
-        expanded,
+        addresses: addresses_next(far, arrival, f.addresses),
+        qos: f.qos,
+        hops: hops_next(code, f.hops),
+        stamp: f.stamp,
+        expanded: f.expanded,
         checksum: checksum_next(code, f.checksum),
         intermediate: f.intermediate,
     }

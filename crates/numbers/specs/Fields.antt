@@ -1,12 +1,9 @@
 -- The fields that numbers stand for, by the lower bits of each number. Assumes nothing.
-use Rattle.std.specs.Prelude.{ℕ, ◌%◌, ◌^◌, eqb}
+use Rattle.std.specs.Prelude.{ℕ, ◌%◌, ◌^◌, eqb, Option, Some, None}
 use Rattle.checks.specs.Order.{pick}
 use Rattle.header.specs.declared.Addresses.{Addresses}
 use Rattle.header.specs.declared.Addresses.TheVariants.{BasicPath, ExtendedPath, BasicEndSystem, ExtendedEndSystem, Ipv6}
 use Rattle.header.specs.declared.Qos.{Qos}
-use Rattle.header.specs.declared.Qos.TheVariants as qos
-use Rattle.header.specs.declared.Octet.{Octet}
-use Rattle.header.specs.declared.Octet.TheVariants as octet
 use Rattle.header.specs.declared.Timestamp.{Timestamp}
 use Rattle.header.specs.declared.Timestamp.TheVariants as stamp
 use Rattle.header.specs.declared.Fields.{Fields}
@@ -21,17 +18,17 @@ addresses_from n =
     (ExtendedPath (record { 0 = n.destination.low % 256 ^ 4 })))
     (pick (eqb n.sourced 1) (BasicEndSystem (n.destination.low % 256) (n.source.low % 256)) (BasicPath (n.destination.low % 256))))
 
-unfoldable pub qos_from : Numbers → Qos
-qos_from n = pick (eqb n.qualified 0) qos.Absent (qos.Present (n.precedence % 256) (n.routing % 256) (n.program % 256))
+unfoldable pub qos_from : Numbers → Option Qos
+qos_from n = pick (eqb n.qualified 0) None (Some (record { precedence = n.precedence % 256; routing = n.routing % 256; program = n.program % 256 }))
 
-unfoldable pub octet_from : ℕ → ℕ → Octet
-octet_from on v = pick (eqb on 0) octet.Absent (octet.Present (v % 256))
+unfoldable pub octet_from : ℕ → ℕ → Option ℕ
+octet_from on v = pick (eqb on 0) None (Some (v % 256))
 
-unfoldable pub stamp_from : Numbers → Timestamp
+unfoldable pub stamp_from : Numbers → Option Timestamp
 stamp_from n =
-    pick (eqb n.format 0) stamp.Absent
-    (pick (eqb n.format 1) (stamp.Implicit n.time)
-    (pick (eqb n.format 2) (stamp.Explicit (n.pfield % 256) n.time) (stamp.Binary n.time)))
+    pick (eqb n.format 0) None
+    (pick (eqb n.format 1) (Some (stamp.Implicit n.time))
+    (pick (eqb n.format 2) (Some (stamp.Explicit (n.pfield % 256) n.time)) (Some (stamp.Binary n.time))))
 
 unfoldable pub fields_from : Numbers → Fields
 fields_from n =

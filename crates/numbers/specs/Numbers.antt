@@ -1,12 +1,9 @@
 -- The numbers of a header's fields, as C gets them (include/harpjuniper.h, hj_fields): 0 for what is absent. Assumes nothing.
-use Rattle.std.specs.Prelude.{ℕ}
+use Rattle.std.specs.Prelude.{ℕ, Option, Some, None}
 use Rattle.header.specs.Build.{source_flag, extended_flag, ipv6_flag, qos_flag, octet_flag, format_of}
 use Rattle.header.specs.declared.Addresses.{Addresses}
 use Rattle.header.specs.declared.Addresses.TheVariants.{BasicPath, ExtendedPath, BasicEndSystem, ExtendedEndSystem, Ipv6}
 use Rattle.header.specs.declared.Qos.{Qos}
-use Rattle.header.specs.declared.Qos.TheVariants as qos
-use Rattle.header.specs.declared.Octet.{Octet}
-use Rattle.header.specs.declared.Octet.TheVariants as octet
 use Rattle.header.specs.declared.Timestamp.{Timestamp}
 use Rattle.header.specs.declared.Timestamp.TheVariants as stamp
 use Rattle.header.specs.declared.Fields.{Fields}
@@ -31,33 +28,33 @@ source_number (BasicEndSystem d s) = narrow s
 source_number (ExtendedEndSystem d s) = narrow s.0
 source_number (Ipv6 d s) = record { high = s.high; low = s.low }
 
-abbrev pub precedence_number : Qos → ℕ
-precedence_number qos.Absent = 0
-precedence_number (qos.Present precedence routing program) = precedence
+abbrev pub precedence_number : Option Qos → ℕ
+precedence_number None = 0
+precedence_number (Some q) = q.precedence
 
-abbrev pub routing_number : Qos → ℕ
-routing_number qos.Absent = 0
-routing_number (qos.Present precedence routing program) = routing
+abbrev pub routing_number : Option Qos → ℕ
+routing_number None = 0
+routing_number (Some q) = q.routing
 
-abbrev pub program_number : Qos → ℕ
-program_number qos.Absent = 0
-program_number (qos.Present precedence routing program) = program
+abbrev pub program_number : Option Qos → ℕ
+program_number None = 0
+program_number (Some q) = q.program
 
-abbrev pub octet_number : Octet → ℕ
-octet_number octet.Absent = 0
-octet_number (octet.Present v) = v
+abbrev pub octet_number : Option ℕ → ℕ
+octet_number None = 0
+octet_number (Some v) = v
 
-abbrev pub time_number : Timestamp → ℕ
-time_number stamp.Absent = 0
-time_number (stamp.Implicit t) = t
-time_number (stamp.Explicit p t) = t
-time_number (stamp.Binary t) = t
+abbrev pub time_number : Option Timestamp → ℕ
+time_number None = 0
+time_number (Some (stamp.Implicit t)) = t
+time_number (Some (stamp.Explicit p t)) = t
+time_number (Some (stamp.Binary t)) = t
 
-abbrev pub pfield_number : Timestamp → ℕ
-pfield_number stamp.Absent = 0
-pfield_number (stamp.Implicit t) = 0
-pfield_number (stamp.Explicit p t) = p
-pfield_number (stamp.Binary t) = 0
+abbrev pub pfield_number : Option Timestamp → ℕ
+pfield_number None = 0
+pfield_number (Some (stamp.Implicit t)) = 0
+pfield_number (Some (stamp.Explicit p t)) = p
+pfield_number (Some (stamp.Binary t)) = 0
 
 unfoldable pub numbers_of : Fields → Numbers
 numbers_of f =

@@ -8,7 +8,7 @@ ghost use Rattle.numbers.specs.Fields.{addresses_from, qos_from, octet_from, sta
 
 use crate::{Numbers, Wide};
 use address::{Address, PathAddress};
-use header::{Addresses, Fields, Octet, Qos, Six, Timestamp};
+use header::{Addresses, Fields, Qos, Six, Timestamp};
 
 fn six_from(w: Wide) -> Six
     ensures { result ≡ record { high = w.high; low = w.low } }
@@ -41,57 +41,53 @@ fn addresses_from(n: Numbers) -> Addresses
     Addresses::BasicPath((d.low % 256) as u8)
 }
 
-fn qos_from(n: Numbers) -> Qos
+fn qos_from(n: Numbers) -> Option<Qos>
     ensures { result ≡ qos_from n }
 {
     if n.qualified == 0 {
-        return Qos::Absent;
+        return None;
     }
-    Qos::Present(
-        (n.precedence % 256) as u8,
-        (n.routing % 256) as u8,
-        (n.program % 256) as u8,
-    )
+    Some(Qos {
+        precedence: (n.precedence % 256) as u8,
+        routing: (n.routing % 256) as u8,
+        program: (n.program % 256) as u8,
+    })
 }
 
-fn octet_from(on: u32, v: u32) -> Octet
+fn octet_from(on: u32, v: u32) -> Option<u8>
     ensures { result ≡ octet_from on v }
 {
     if on == 0 {
-        return Octet::Absent;
+        return None;
     }
-    Octet::Present((v % 256) as u8)
+    Some((v % 256) as u8)
 }
 
-fn stamp_from(n: Numbers) -> Timestamp
+fn stamp_from(n: Numbers) -> Option<Timestamp>
     ensures { result ≡ stamp_from n }
 {
-    let format = n.format;
-    match format {
-        0 => Timestamp::Absent,
-        1 => Timestamp::Implicit(n.time),
-        2 => Timestamp::Explicit((n.pfield % 256) as u8, n.time),
-        _ => Timestamp::Binary(n.time),
+    match n.format {
+        0 => None,
+        1 => Some(Timestamp::Implicit(n.time)),
+        2 => Some(Timestamp::Explicit((n.pfield % 256) as u8, n.time)),
+        _ => Some(Timestamp::Binary(n.time)),
     }
 }
 
 // The fields that numbers stand for, by the lower bits of each number where it is too wide.
-pub fn fields_from(n: Numbers) -> Fields
-    ensures { result ≡ fields_from n }
-{
-    let addresses = addresses_from(n);
-    let qos = qos_from(n);
-    let hops = octet_from(n.counted, n.hops);
-    let stamp = stamp_from(n);
-    let expanded = octet_from(n.expands, n.expanded);
-    Fields {
-        tpid: (n.tpid % 256) as u8,
-        addresses,
-        qos,
-        hops,
-        stamp,
-        expanded,
-        checksum: (n.checksum % 256) as u8,
-        intermediate: (n.intermediate % 256) as u8,
+impl From<Numbers> for Fields {
+    ghost from_gives = { λ n f. f ≡ fields_from n };
+
+    fn from(n: Numbers) -> Fields {
+        Fields {
+            tpid: (n.tpid % 256) as u8,
+            addresses: addresses_from(n),
+            qos: qos_from(n),
+            hops: octet_from(n.counted, n.hops),
+            stamp: stamp_from(n),
+            expanded: octet_from(n.expands, n.expanded),
+            checksum: (n.checksum % 256) as u8,
+            intermediate: (n.intermediate % 256) as u8,
+        }
     }
 }

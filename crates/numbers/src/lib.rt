@@ -24,7 +24,7 @@ ghost use Rattle.numbers.specs.Numbers.{
   numbers_of,
 };
 
-use header::{Addresses, Fields, Octet, Qos, Timestamp};
+use header::{Addresses, Fields, Qos, Timestamp};
 
 // A number of up to sixteen octets.
 #[repr(C)]
@@ -35,7 +35,7 @@ pub struct Wide {
 }
 
 // The fields of a header. `sourced`, `qualified`, `counted` and `expands` are the flags of source, basic QOS, hop count and
-// expanded QOS.
+// expanded QOS: numbers beside their values and no options, since C has the struct.
 #[repr(C)]
 #[derive(Clone, Copy)]
 pub struct Numbers {
@@ -96,94 +96,84 @@ fn narrow(v: u64) -> Wide
     Wide { high: 0, low: v }
 }
 
-fn precedence_number(q: Qos) -> u32
+fn precedence_number(q: Option<Qos>) -> u32
     ensures { result ≡ precedence_number q }
 {
     match q {
-        Qos::Absent => 0,
-        Qos::Present(precedence, _, _) => precedence as u32,
+        None => 0,
+        Some(q) => q.precedence as u32,
     }
 }
 
-fn routing_number(q: Qos) -> u32
+fn routing_number(q: Option<Qos>) -> u32
     ensures { result ≡ routing_number q }
 {
     match q {
-        Qos::Absent => 0,
-        Qos::Present(_, routing, _) => routing as u32,
+        None => 0,
+        Some(q) => q.routing as u32,
     }
 }
 
-fn program_number(q: Qos) -> u32
+fn program_number(q: Option<Qos>) -> u32
     ensures { result ≡ program_number q }
 {
     match q {
-        Qos::Absent => 0,
-        Qos::Present(_, _, program) => program as u32,
+        None => 0,
+        Some(q) => q.program as u32,
     }
 }
 
-fn octet_number(o: Octet) -> u32
+fn octet_number(o: Option<u8>) -> u32
     ensures { result ≡ octet_number o }
 {
-    match o {
-        Octet::Absent => 0,
-        Octet::Present(v) => v as u32,
-    }
+    o.unwrap_or(0) as u32
 }
 
-fn time_number(t: Timestamp) -> u64
+fn time_number(t: Option<Timestamp>) -> u64
     ensures { result ≡ time_number t }
 {
     match t {
-        Timestamp::Absent => 0,
-        Timestamp::Implicit(time) => time,
-        Timestamp::Explicit(_, time) => time,
-        Timestamp::Binary(time) => time,
+        None => 0,
+        Some(Timestamp::Implicit(time)) => time,
+        Some(Timestamp::Explicit(_, time)) => time,
+        Some(Timestamp::Binary(time)) => time,
     }
 }
 
-fn pfield_number(t: Timestamp) -> u32
+fn pfield_number(t: Option<Timestamp>) -> u32
     ensures { result ≡ pfield_number t }
 {
     match t {
-        Timestamp::Absent => 0,
-        Timestamp::Implicit(_) => 0,
-        Timestamp::Explicit(p, _) => p as u32,
-        Timestamp::Binary(_) => 0,
+        Some(Timestamp::Explicit(p, _)) => p as u32,
+        _ => 0,
     }
 }
 
 // The numbers of a header's fields, 0 for what is absent.
-pub fn numbers_of(f: Fields) -> Numbers
-    ensures { result ≡ numbers_of f }
-{
-    let addresses = f.addresses;
-    let qos = f.qos;
-    let hops = f.hops;
-    let stamp = f.stamp;
-    let expanded = f.expanded;
-    let destination = destination_number(addresses);
-    let source = source_number(addresses);
-    Numbers {
-        destination,
-        source,
-        time: time_number(stamp),
-        tpid: f.tpid as u32,
-        sourced: header::flags::source_flag(addresses) as u32,
-        extended: header::flags::extended_flag(addresses) as u32,
-        ipv6: header::flags::ipv6_flag(addresses) as u32,
-        qualified: header::flags::qos_flag(qos) as u32,
-        precedence: precedence_number(qos),
-        routing: routing_number(qos),
-        program: program_number(qos),
-        counted: header::flags::octet_flag(hops) as u32,
-        hops: octet_number(hops),
-        format: header::flags::stamp_format(stamp) as u32,
-        pfield: pfield_number(stamp),
-        expands: header::flags::octet_flag(expanded) as u32,
-        expanded: octet_number(expanded),
-        checksum: f.checksum as u32,
-        intermediate: f.intermediate as u32,
+impl From<Fields> for Numbers {
+    ghost from_gives = { λ f n. n ≡ numbers_of f };
+
+    fn from(f: Fields) -> Numbers {
+        Numbers {
+            destination: destination_number(f.addresses),
+            source: source_number(f.addresses),
+            time: time_number(f.stamp),
+            tpid: f.tpid as u32,
+            sourced: header::flags::source_flag(f.addresses) as u32,
+            extended: header::flags::extended_flag(f.addresses) as u32,
+            ipv6: header::flags::ipv6_flag(f.addresses) as u32,
+            qualified: header::flags::qos_flag(f.qos) as u32,
+            precedence: precedence_number(f.qos),
+            routing: routing_number(f.qos),
+            program: program_number(f.qos),
+            counted: header::flags::octet_flag(f.hops) as u32,
+            hops: octet_number(f.hops),
+            format: header::flags::stamp_format(f.stamp) as u32,
+            pfield: pfield_number(f.stamp),
+            expands: header::flags::octet_flag(f.expanded) as u32,
+            expanded: octet_number(f.expanded),
+            checksum: f.checksum as u32,
+            intermediate: f.intermediate as u32,
+        }
     }
 }

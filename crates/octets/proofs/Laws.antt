@@ -1,30 +1,35 @@
 -- Numbers read from octets and octets made of numbers are each other's inverse, and pieces put one after the other join: the laws behind the
 -- reader, the builder and the header sent on. Assumes nothing.
-use Prim.Native.Nat.{ℕ, zero, suc, ◌+◌, ◌*◌, ◌/◌, ◌%◌, ◌^◌, ◌≤◌, ◌<◌}
+use Prim.Native.Nat.{ℕ, zero, suc, ◌+◌, ◌-◌, ◌*◌, ◌/◌, ◌%◌, ◌^◌, ◌≤◌, ◌<◌}
 use mathlib.Core.Path.{◌≡◌, refl, ap, sym, ◌∙◌}
 use mathlib.Core.List.{List, [], ◌∷◌, ◌++◌, append_assoc}
 use native.Mathlib.Nat.{pow-suc, div-add-mod', div-lt_iff_lt-mul, add-zero, add_assoc}
+use native.Mathlib.Numerals.{add-one}
 use native.Mathlib.Omega.{arith}
 use lib.Arith.{digits_lt}
 use lib.ListN.{get_or, set, length, take, drop, length-append, length-take, take-append-drop, get_or-append}
+use Rattle.std.specs.List.{slice_range}
+use Rattle.std.proofs.lemmas.List.{get_or-take, get_or-drop}
 use lib.Seq.{get_or-append_seam, take-set-le, set_split, drop-drop, take-append_seam, length-take-le, drop_at, take_at}
 use Rattle.octets.specs.Octets.{octet, number, octets, pasted, fronted}
 
 -- ---- numbers
 
--- one octet more
-pub number_more : (s : List ℕ) (at i v b : ℕ) → v ≡ number s at i → b ≡ octet s (at + i) → v * 256 + b ≡ number s at (suc i)
+-- one octet more, of those from a place on
+pub number_more : (s : List ℕ) (at n i v : ℕ) → i < n → v ≡ number s at i → v * 256 + octet (slice_range s at (at + n)) i ≡ number s at (i + 1)
 unfolding number
-number_more s at i v b p q = rw (p, q)
+number_more s at n i v h p =
+    let k : i < at + n - at = omega arith in
+    rw (add-one, p, get_or-take, get_or-drop)
 
-pub bound_more : (i v b : ℕ) → v < 256 ^ i → b < 256 → v * 256 + b < 256 ^ suc i
-bound_more i v b p q = rw (pow-suc 256 i) (digits_lt p q)
+pub bound_more : (i v b : ℕ) → v < 256 ^ i → b < 256 → v * 256 + b < 256 ^ (i + 1)
+bound_more i v b p q = rw (add-one, pow-suc 256 i) (digits_lt p q)
 
 -- octets that are octets make a number below 256 ^ n
 pub number_lt : (s : List ℕ) (at n : ℕ) → ((i : ℕ) → get_or s i 0 < 256) → number s at n < 256 ^ n
 unfolding number
 number_lt s at zero h = omega arith
-number_lt s at (suc n) h = bound_more n _ _ (number_lt s at n h) (h (at + n))
+number_lt s at (suc n) h = rw (sym (add-one n)) (bound_more n _ _ (number_lt s at n h) (h (at + n)))
 
 -- an octet is the number of one octet
 pub octet_number_lem : (s : List ℕ) (at : ℕ) → octet s at ≡ number s at 1

@@ -24,12 +24,6 @@ pub fn octet_within(s: &[u8], place: usize) -> u8
     s[place]
 }
 
-fn wide(x: u8) -> u64
-    ensures { result ≡ x }
-{
-    x as u64
-}
-
 // The number that some octets from a place on make.
 pub fn number_at(s: &[u8], place: usize, count: usize) -> u64
     requires { (count ≤ 8) × (place + count ≤ length s.now) }
@@ -37,10 +31,8 @@ pub fn number_at(s: &[u8], place: usize, count: usize) -> u64
     ensures upper_bound { result < 256 ^ count }
 {
     let mut value: u64 = 0;
-    let mut i: usize = 0;
-    while i < count {
-        value = value * 256 + wide(s[place + i]);
-        i += 1;
+    for x in &s[place..place + count] {
+        value = value * 256 + *x as u64;
     }
     value
 }
@@ -83,9 +75,7 @@ pub fn put_number(out: &mut [u8], place: usize, count: usize, value: u64) -> usi
     ensures out_after { out.new ≡ pasted out.old place (octets count value) }
 {
     let mut rest = value;
-    let mut i = count;
-    while 0 < i {
-        i -= 1;
+    for i in (0..count).rev() {
         out[place + i] = (rest % 256) as u8;
         rest /= 256;
     }

@@ -1,5 +1,6 @@
 -- Which datagrams are answered, and by what: a reply is made exactly to the requests that page 02, W-203, says (`RequestAnswered`), and it is made of what that
 -- says (`ReplyTo`). Assumes nothing.
+use Rattle.std.specs.Prelude.{Option, Some, None}
 use native.Mathlib.Omega.{arith}
 use Prim.Native.Nat.{ℕ, ◌+◌, ◌-◌, ◌*◌, ◌/◌, ◌%◌, ◌^◌, ◌≤◌, ◌<◌}
 use mathlib.Core.Path.{◌≡◌, refl, sym, ap, ap₂, subst, ◌∙◌}
@@ -8,6 +9,8 @@ use mathlib.Core.Bool.{Bool, true, false, not, ◌&&◌, ◌||◌, not-not}
 use mathlib.Core.List.{List}
 use lib.Dec.{eqb, ltb}
 use borrow.Author.Tests.{eqb-true, eqb-false, eq-eqb, ne_eqb, ltb-true, ltb-false, le-ltb, not-true}
+use Rattle.std.proofs.Common.{Some}
+use Rattle.std.specs.Prelude.{Option, None}
 use Rattle.checks.specs.Order.{pick, first_of, NoneHolds}
 use Rattle.checks.proofs.Bools.{true_false, not-false, and_true}
 use Rattle.checks.proofs.Laws.{either, zero_none, none_zero}
@@ -23,25 +26,20 @@ use Rattle.header.specs.Onward.{renewal_of, found_of}
 use Rattle.header.specs.declared.Addresses.{Addresses}
 use Rattle.header.specs.declared.Addresses.TheVariants.{BasicPath, ExtendedPath, BasicEndSystem, ExtendedEndSystem, Ipv6}
 use Rattle.header.specs.declared.Qos.{Qos}
-use Rattle.header.specs.declared.Qos.TheVariants as qos
 use Rattle.header.specs.declared.Fields.{Fields}
 use Rattle.header.specs.declared.Header.{Header}
-use Rattle.header.specs.declared.Read.TheVariants as read
+use Rattle.checks.specs.Told.{Good, Refused}
 use Rattle.header.specs.declared.Renewal.{Renewal}
-use Rattle.header.specs.declared.Found.TheVariants as found
-use Rattle.echo.specs.Message.{request_size, reply_size, reading_of}
+use Rattle.echo.specs.Message.{request_size, reply_size, reading_of, Reading}
 use Rattle.echo.specs.declared.Message.{Message}
 use Rattle.echo.specs.declared.Kind.{Kind}
 use Rattle.echo.specs.declared.Kind.TheVariants as kind
-use Rattle.echo.specs.declared.Reading.{Reading}
-use Rattle.echo.specs.declared.Reading.TheVariants as reading
 use Rattle.meaning.specs.Names.{aim_of, origin_of, is_basic, filled_in, routing_asked, bad_aim}
 use Rattle.meaning.specs.Flood.{is_flooded, source_in}
 use Rattle.meaning.specs.Arrival.{arrival_checks}
 use Rattle.meaning.specs.Asked.{precedence_asked}
 use Rattle.meaning.specs.declared.Aim.{Aim}
 use Rattle.meaning.specs.declared.Aim.TheVariants.{Node, Path, Uncarried}
-use Rattle.meaning.specs.declared.Origin.TheVariants.{From}
 use Rattle.next_leg.specs.Leg.{is_absent, data_of}
 use Rattle.routes.specs.Search.{longer_mask}
 use Rattle.state.specs.Relay.{Relay, port_in, among_ports, port_set_up}
@@ -59,8 +57,7 @@ use Rattle.judge.specs.Ending.{arrival_at}
 use Rattle.judge.specs.Asked.{address_in, refused_asked, node_asked, path_asked, aim_asked, carried_asked, octets_asked}
 use Rattle.judge.specs.declared.Asked.{Asked}
 use Rattle.replies.specs.Request.{is_delivered, scmp, asks_in_header, is_many, is_owned, is_to_many, user_data, asking_by, asking_in, asking_of}
-use Rattle.replies.specs.declared.request.Asking.{Asking}
-use Rattle.replies.specs.declared.request.Asking.TheVariants.{Asks, Nothing}
+use Rattle.replies.specs.declared.request.Request.{Request}
 use Rattle.replies.specs.Reply.{reply_addresses, reply_qos, reply_fields, seen_for, least, most_echoed, echoed_count, no_answer, made_of, fits_mtu, asked_by, is_asked, answer_to}
 use Rattle.replies.specs.Replied.{call_checks, destination_survey, heard_answer, answering_of}
 use Rattle.replies.specs.declared.Answering.{Answering}
@@ -91,44 +88,44 @@ to_one_case true many = refl
 to_one_case false many = refl
 
 -- what is delivered, asked and not dropped, and what its message asks
-abbrev answered : Bool → Asking → Asked → Survey → ℕ → Answering
+abbrev answered : Bool → Option Request → Asked → Survey → ℕ → Answering
 answered t w a s mtu = pick t (asked_by w a s mtu) (no_answer 0)
 
 -- a request's numbers, where there is room for its reply
-pub record Asking_for (t : Bool) (w : Asking) (a : Asked) (s : Survey) (mtu : ℕ) : Type 0 where
+pub record Asking_for (t : Bool) (w : Option Request) (a : Asked) (s : Survey) (mtu : ℕ) : Type 0 where
   pub is : t ≡ true
   pub identifier : ℕ
   pub sequence : ℕ
-  pub asks : w ≡ Asks identifier sequence
+  pub asks : w ≡ Some (record { identifier = identifier; sequence = sequence })
   pub room : fits_mtu a s mtu ≡ true
 
-made_when : (t : Bool) (w : Asking) (a : Asked) (s : Survey) (mtu : ℕ) → (answered t w a s mtu).made ≡ 1 → Asking_for t w a s mtu
-made_when true (Asks i q) a s mtu e = by (fits_mtu a s mtu) refl e
+made_when : (t : Bool) (w : Option Request) (a : Asked) (s : Survey) (mtu : ℕ) → (answered t w a s mtu).made ≡ 1 → Asking_for t w a s mtu
+made_when true (Some request) a s mtu e = by (fits_mtu a s mtu) refl e
   where
-    by : (u : Bool) → fits_mtu a s mtu ≡ u → (pick u (made_of a s mtu i q) (no_answer 0)).made ≡ 1 → Asking_for true (Asks i q) a s mtu
-    by true k f = record { is = refl; identifier = i; sequence = q; asks = refl; room = k }
+    by : (u : Bool) → fits_mtu a s mtu ≡ u → (pick u (made_of a s mtu request.identifier request.sequence) (no_answer 0)).made ≡ 1 → Asking_for true (Some request) a s mtu
+    by true k f = record { is = refl; identifier = request.identifier; sequence = request.sequence; asks = refl; room = k }
     by false k f = absurd (omega (arith, f))
-made_when true Nothing a s mtu e = absurd (omega (arith, e))
+made_when true None a s mtu e = absurd (omega (arith, e))
 made_when false w a s mtu e = absurd (omega (arith, e))
 
-when_made : (t : Bool) (w : Asking) (a : Asked) (s : Survey) (mtu : ℕ) (k : Asking_for t w a s mtu)
+when_made : (t : Bool) (w : Option Request) (a : Asked) (s : Survey) (mtu : ℕ) (k : Asking_for t w a s mtu)
     → answered t w a s mtu ≡ made_of a s mtu k.identifier k.sequence
 when_made t w a s mtu k =
-    ap₂ (λ (u : Bool) (v : Asking). answered u v a s mtu) k.is k.asks
+    ap₂ (λ (u : Bool) (v : Option Request). answered u v a s mtu) k.is k.asks
     ∙ ap (λ (u : Bool). pick u (made_of a s mtu k.identifier k.sequence) (no_answer 0)) k.room
 
 -- a reply is made or not
 abbrev IsOrNot : Answering → Type 0
 IsOrNot a = (a.made ≡ 0) ⊎ (a.made ≡ 1)
 
-made_either : (t : Bool) (w : Asking) (a : Asked) (s : Survey) (mtu : ℕ) → IsOrNot (answered t w a s mtu)
-made_either true (Asks i q) a s mtu = either IsOrNot (fits_mtu a s mtu) (inr refl) (inl refl)
-made_either true Nothing a s mtu = inl refl
+made_either : (t : Bool) (w : Option Request) (a : Asked) (s : Survey) (mtu : ℕ) → IsOrNot (answered t w a s mtu)
+made_either true (Some request) a s mtu = either IsOrNot (fits_mtu a s mtu) (inr refl) (inl refl)
+made_either true None a s mtu = inl refl
 made_either false w a s mtu = inl refl
 
-unrefused : (t : Bool) (w : Asking) (a : Asked) (s : Survey) (mtu : ℕ) → (answered t w a s mtu).refusal ≡ 0
-unrefused true (Asks i q) a s mtu = either (λ (x : Answering). x.refusal ≡ 0) (fits_mtu a s mtu) refl refl
-unrefused true Nothing a s mtu = refl
+unrefused : (t : Bool) (w : Option Request) (a : Asked) (s : Survey) (mtu : ℕ) → (answered t w a s mtu).refusal ≡ 0
+unrefused true (Some request) a s mtu = either (λ (x : Answering). x.refusal ≡ 0) (fits_mtu a s mtu) refl refl
+unrefused true None a s mtu = refl
 unrefused false w a s mtu = refl
 
 untested : (t : Bool) (a : Answering) → t ≡ false → (pick t a (no_answer 0)).made ≡ 0
@@ -160,32 +157,39 @@ unsourced_unasked dropping a s none =
 -- ---- the message
 pub record Requests (octets : List ℕ) (i q : ℕ) : Type 0 where
   pub message : Message
-  pub holds : reading_of octets ≡ reading.Good message
+  pub holds : reading_of octets ≡ Good message
   pub request : message.kind ≡ kind.Request
   pub identifier : message.identifier ≡ i
   pub sequence : message.sequence ≡ q
 
-asks_first : {i q j s : ℕ} → Asks i q ≡ Asks j s → (i ≡ j) × (q ≡ s)
-asks_first e = (cc, cc)
+some_same : {x y : Request} → Some x ≡ Some y → x ≡ y
+some_same e = cc
 
-asks_message : (octets : List ℕ) (i q : ℕ) → asking_in (reading_of octets) ≡ Asks i q → Requests octets i q
+asks_message : (octets : List ℕ) (i q : ℕ) → asking_in (reading_of octets) ≡ Some (record { identifier = i; sequence = q }) → Requests octets i q
 asks_message octets i q e = by (reading_of octets) refl e
   where
-    by_kind : (m : Message) (k : Kind) → m.kind ≡ k → reading_of octets ≡ reading.Good m → asking_by k m.identifier m.sequence ≡ Asks i q
+    by_kind : (m : Message) (k : Kind) → m.kind ≡ k → reading_of octets ≡ Good m → asking_by k m.identifier m.sequence ≡ Some (record { identifier = i; sequence = q })
         → Requests octets i q
     by_kind m kind.Request is reads f =
-        let same = asks_first f in record { message = m; holds = reads; request = is; identifier = same.0; sequence = same.1 }
+        let same = some_same f in
+        record {
+          message = m;
+          holds = reads;
+          request = is;
+          identifier = ap (λ (x : Request). x.identifier) same;
+          sequence = ap (λ (x : Request). x.sequence) same;
+        }
     by_kind m (kind.Reply s) is reads f = true_false cc
 
-    by : (x : Reading) → reading_of octets ≡ x → asking_in x ≡ Asks i q → Requests octets i q
-    by (reading.Good m) reads f = by_kind m m.kind refl reads f
-    by (reading.Refused n) reads f = true_false cc
+    by : (x : Reading) → reading_of octets ≡ x → asking_in x ≡ Some (record { identifier = i; sequence = q }) → Requests octets i q
+    by (Good m) reads f = by_kind m m.kind refl reads f
+    by (Refused n) reads f = true_false cc
 
-message_asks : (octets : List ℕ) (m : Message) → reading_of octets ≡ reading.Good m → m.kind ≡ kind.Request
-    → asking_in (reading_of octets) ≡ Asks m.identifier m.sequence
+message_asks : (octets : List ℕ) (m : Message) → reading_of octets ≡ Good m → m.kind ≡ kind.Request
+    → asking_in (reading_of octets) ≡ Some (record { identifier = m.identifier; sequence = m.sequence })
 message_asks octets m reads request = rw reads (ap (λ (k : Kind). asking_by k m.identifier m.sequence) request)
 
-good_same : {m k : Message} → reading.Good m ≡ reading.Good k → m ≡ k
+good_same : {m k : Message} → Good m ≡ Good k → m ≡ k
 good_same e = cc
 
 -- ---- the count
@@ -235,20 +239,20 @@ kind_same arrival own (BasicEndSystem d s) = refl
 kind_same arrival own (ExtendedEndSystem d s) = refl
 kind_same arrival own (Ipv6 d s) = refl
 
-qos_same : (q : Qos) → (precedence_asked (reply_qos q) ≡ precedence_asked q) × (qos_flag (reply_qos q) ≡ qos_flag q)
-qos_same qos.Absent = (refl, refl)
-qos_same (qos.Present precedence routing program) = (refl, refl)
+qos_same : (q : Option Qos) → (precedence_asked (reply_qos q) ≡ precedence_asked q) × (qos_flag (reply_qos q) ≡ qos_flag q)
+qos_same None = (refl, refl)
+qos_same (Some q) = (refl, refl)
 
-unflooded : (q : Qos) → routing_asked (reply_qos q) ≡ 0
-unflooded qos.Absent = refl
-unflooded (qos.Present precedence routing program) = refl
+unflooded : (q : Option Qos) → routing_asked (reply_qos q) ≡ 0
+unflooded None = refl
+unflooded (Some q) = refl
 
 -- what names an address, answered by a port whose own address this is or not
 pub record Named (arrival : Address) (own : Bool) (y : Addresses) (d : Address) : Type 0 where
-  pub destination : origin_of arrival.0 y ≡ From (record { 0 = source_in (origin_of arrival.0 y) })
+  pub destination : origin_of arrival.0 y ≡ Some (record { 0 = source_in (origin_of arrival.0 y) })
   pub names : aim_of arrival.0 (reply_addresses arrival own y) ≡ Node (record { 0 = source_in (origin_of arrival.0 y) })
-  pub from_own : own ≡ true → origin_of arrival.0 (reply_addresses arrival own y) ≡ From d
-  pub from_arrival : own ≡ false → origin_of arrival.0 (reply_addresses arrival own y) ≡ From arrival
+  pub from_own : own ≡ true → origin_of arrival.0 (reply_addresses arrival own y) ≡ Some d
+  pub from_arrival : own ≡ false → origin_of arrival.0 (reply_addresses arrival own y) ≡ Some arrival
 
 node_same : {x d : Address} → Node x ≡ Node d → x ≡ d
 node_same e = cc
@@ -264,16 +268,16 @@ named arrival own (ExtendedPath z) d e = true_false cc
 named arrival own (BasicEndSystem z s) d e = record {
   destination = refl;
   names = refl;
-  from_own = λ o. ap (λ (t : Bool). From (record { 0 = filled_in arrival.0 (pick t z (arrival.0 % 256)) })) o ∙ ap From (node_same e);
+  from_own = λ o. ap (λ (t : Bool). Some (record { 0 = filled_in arrival.0 (pick t z (arrival.0 % 256)) })) o ∙ ap Some (node_same e);
   from_arrival = λ o.
-      ap (λ (t : Bool). From (record { 0 = filled_in arrival.0 (pick t z (arrival.0 % 256)) })) o
-      ∙ ap (λ (n : ℕ). From (record { 0 = n })) (filled_back arrival.0);
+      ap (λ (t : Bool). Some (record { 0 = filled_in arrival.0 (pick t z (arrival.0 % 256)) })) o
+      ∙ ap (λ (n : ℕ). Some (record { 0 = n })) (filled_back arrival.0);
 }
 named arrival own (ExtendedEndSystem z s) d e = record {
   destination = refl;
   names = refl;
-  from_own = λ o. ap (λ (t : Bool). From (pick t z arrival)) o ∙ ap From (node_same e);
-  from_arrival = λ o. ap (λ (t : Bool). From (pick t z arrival)) o;
+  from_own = λ o. ap (λ (t : Bool). Some (pick t z arrival)) o ∙ ap Some (node_same e);
+  from_arrival = λ o. ap (λ (t : Bool). Some (pick t z arrival)) o;
 }
 named arrival own (Ipv6 z s) d e = true_false cc
 
@@ -384,9 +388,9 @@ module _ (r : Relay) (number dropping at : ℕ) (octets : List ℕ) (room : ℕ)
 
     -- what is read and carried and is asked so is answered
     module _ (good : first_of (read_checks octets) ≡ 0) (carried : first_of (arrival_checks own f) ≡ 0) where
-      reads : read_of octets ≡ read.Good h
+      reads : read_of octets ≡ Good h
       unfolding read_of
-      reads = ap (λ (t : Bool). pick t (read.Good h) (read.Refused (first_of (read_checks octets)))) (eq-eqb (first_of (read_checks octets)) 0 good)
+      reads = ap (λ (t : Bool). pick t (Good h) (Refused (first_of (read_checks octets)))) (eq-eqb (first_of (read_checks octets)) 0 good)
 
       asked_message : (k : Asks_it) → Requests (user_data h octets) k.identifier k.sequence
       unfolding asking_of
@@ -447,7 +451,7 @@ module _ (r : Relay) (number dropping at : ℕ) (octets : List ℕ) (room : ℕ)
             names = n.names;
             from_own = λ e aims has.
                 let to = node_same (sym is ∙ aims) in
-                n.from_own (owned_is ∙ ap (λ (z : Address). equals_port r (Node z)) to ∙ has) ∙ ap From to;
+                n.from_own (owned_is ∙ ap (λ (z : Address). equals_port r (Node z)) to ∙ has) ∙ ap Some to;
             from_arrival = λ none. n.from_arrival (same ∙ none);
             arrival = refl;
             identifier = sym m.identifier;
@@ -529,11 +533,11 @@ module _ (r : Relay) (number dropping at : ℕ) (octets : List ℕ) (room : ℕ)
         n : ℕ
         n = first_of (read_checks octets)
 
-        unread : (t : Bool) → t ≡ false → pick t (read.Good h) (read.Refused n) ≡ read.Good h → ⊥
+        unread : (t : Bool) → t ≡ false → pick t (Good h) (Refused n) ≡ Good h → ⊥
         unread true e g = true_false e
         unread false e g = true_false cc
 
-        by : (t : Bool) → eqb n 0 ≡ t → Agrees_so (octets_asked r number (arrival_at r at) (pick t (found.Good h k) (found.Refused n)))
+        by : (t : Bool) → eqb n 0 ≡ t → Agrees_so (octets_asked r number (arrival_at r at) (pick t (Good (h, k)) (Refused n)))
         by true e = carried_so (eqb-true n 0 e)
         by false e = none_so (refused_asked n) (refused_none n (eqb-false n 0 e)) (λ y. unread (eqb n 0) e y.reads)
 

@@ -10,6 +10,7 @@ use mathlib.Core.List.{List}
 use lib.Dec.{eqb, ltb}
 use lib.ListN.{length}
 use borrow.Author.Tests.{eqb-true, eqb-false, ltb-true, ltb-false, lt-ltb, le-ltb, not-true}
+use Rattle.std.proofs.Common.{Option, Some, None}
 use Rattle.checks.specs.Order.{pick}
 use Rattle.checks.proofs.Bools.{true_false, refuted, and_true, or_true}
 use Rattle.sets.specs.Sets.{any_below}
@@ -18,10 +19,8 @@ use Rattle.sets.proofs.Loops.{first_below_found}
 use Rattle.sets.proofs.First.{first_none}
 use Rattle.address.specs.declared.Address.{Address}
 use Rattle.routes.specs.Routes.{route_at, candidate}
-use Rattle.routes.specs.Search.{search_of}
+use Rattle.routes.specs.Search.{Found, found_route, search_of}
 use Rattle.routes.specs.declared.Route.{Route}
-use Rattle.routes.specs.declared.Found.{Found}
-use Rattle.routes.specs.declared.Found.TheVariants.{At, No}
 use Rattle.routes.proofs.Candidates.{candidate_within}
 use Rattle.routes.proofs.Longest.{CandidateAt, mask_at, search_found, search_no, search_greatest, search_first}
 use Rattle.meaning.specs.declared.Aim.TheVariants.{Node}
@@ -54,7 +53,7 @@ module _ (more : Route → Route → Bool) (r : Relay) (chooses : Chooses more r
   abbrev best : ℕ → Bool
   best q = is_best more r (Node a) q
 
-  module _ (place ones : ℕ) (x : Route) (found : search_of a rs ≡ At place ones x) where
+  module _ (place ones : ℕ) (x : Route) (found : search_of a rs ≡ found_route place ones x) where
     held : x ≡ route_at rs place
     held = (search_found a rs found).1
 
@@ -170,7 +169,7 @@ module _ (more : Route → Route → Bool) (r : Relay) (chooses : Chooses more r
       let both = and_true (best at.0) (eqb p (route_at rs at.0).port) at.2 in
       any_found (matches r (Node a)) at.0 (length rs) at.1 (and_true (candidate (route_at rs at.0) a) _ both.0).0
 
-  none_match : search_of a rs ≡ No → some_matches r (Node a) ≡ false
+  none_match : search_of a rs ≡ None → some_matches r (Node a) ≡ false
   unfolding some_matches
   none_match e =
       refuted _ λ h.
@@ -181,21 +180,21 @@ module _ (more : Route → Route → Bool) (r : Relay) (chooses : Chooses more r
   pub one_port : Alone (best_port more r (Node a))
   one_port = by (search_of a rs) refl
     where
-      by : (f : Found) → search_of a rs ≡ f → Alone (best_port more r (Node a))
-      by (At place ones x) e = port_alone place ones x e
-      by No e = λ p q l k hp hq. true_false (sym (some_best p hp) ∙ none_match e)
+      by : (f : Option Found) → search_of a rs ≡ f → Alone (best_port more r (Node a))
+      by (Some top) e = port_alone top.place top.ones top.route e
+      by None e = λ p q l k hp hq. true_false (sym (some_best p hp) ∙ none_match e)
 
   abbrev best_line : Line
   best_line = wanted (best_port more r (Node a)) (best_code more r (Node a))
 
-  found_same : (f : Found) → search_of a rs ≡ f
+  found_same : (f : Option Found) → search_of a rs ≡ f
       → Same (code_of (way_of f)) (route_line (way_of f)) (pick (not (some_matches r (Node a))) (refused 11) best_line)
   unfolding route_line
-  found_same No e = rw (none_match e)
-  found_same (At place ones x) e =
-      subst (λ (t : Bool). Same x.capabilities (route_line (way_of (At place ones x))) (pick (not t) (refused 11) best_line))
-      (sym (some_match place ones x e))
-      ((code_is place ones x e, λ some. port_alone place ones x e), λ p l. only_is p x.port l ∙ port_is place ones x e p)
+  found_same None e = rw (none_match e)
+  found_same (Some top) e =
+      subst (λ (t : Bool). Same top.route.capabilities (route_line (way_of (Some top))) (pick (not t) (refused 11) best_line))
+      (sym (some_match top.place top.ones top.route e))
+      ((code_is top.place top.ones top.route e, λ some. port_alone top.place top.ones top.route e), λ p l. only_is p top.route.port l ∙ port_is top.place top.ones top.route e p)
 
   -- The search and the table's line want the same, and their routes ask for the same.
   pub route_same : Same (code_of (way_of (search_of a rs))) (route_line (way_of (search_of a rs))) (pick (not (some_matches r (Node a))) (refused 11) best_line)

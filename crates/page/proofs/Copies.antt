@@ -7,6 +7,7 @@ use mathlib.Core.Bool.{Bool, true, false, not, ◌&&◌, ◌||◌, and-true, not
 use mathlib.Core.List.{[], ◌∷◌}
 use lib.Bits.{bit_and, and_le_r}
 use lib.Dec.{eqb, ltb}
+use Rattle.std.specs.Prelude.{Option, Some, None}
 use Rattle.checks.specs.Order.{pick, first_of}
 use Rattle.checks.proofs.Bools.{true_false, refuted}
 use Rattle.sets.specs.Sets.{in_set, only_port}
@@ -15,8 +16,6 @@ use Rattle.header.specs.Limits.{length_limit}
 use Rattle.header.specs.declared.Addresses.{Addresses}
 use Rattle.header.specs.declared.Addresses.TheVariants.{BasicPath, ExtendedPath, BasicEndSystem, ExtendedEndSystem, Ipv6}
 use Rattle.header.specs.declared.Header.{Header}
-use Rattle.header.specs.declared.Octet.{Octet}
-use Rattle.header.specs.declared.Octet.TheVariants as octet
 use Rattle.meaning.specs.Names.{is_bound}
 use Rattle.meaning.specs.Asked.{spent_of}
 use Rattle.meaning.specs.declared.Aim.{Aim}
@@ -90,9 +89,9 @@ empty_agrees local onward v here on granted took dropped = record {
 }
 
 -- ---- the tests
-spent_is : (n : Octet) → eqb (spent_of n) 0 ≡ not (hops_used_up n)
-spent_is octet.Absent = refl
-spent_is (octet.Present n) = pick_zero (ltb n 2)
+spent_is : (n : Option ℕ) → eqb (spent_of n) 0 ≡ not (hops_used_up n)
+spent_is None = refl
+spent_is (Some n) = pick_zero (ltb n 2)
 
 bound_is : (a : Addresses) → eqb (is_bound a) 0 ≡ not (one_octet_path a)
 bound_is (BasicPath z) = refl

@@ -1,4 +1,5 @@
 -- What becomes of a reply that is made, by the line of its route: the ruling is the table's, and C is told the octets that go. Assumes nothing.
+use Rattle.std.specs.Prelude.{Option, Some, None}
 use native.Mathlib.Omega.{arith}
 use Prim.Native.Nat.{ℕ, ◌<◌}
 use mathlib.Core.Path.{◌≡◌, refl, sym, ap, ap₂, subst, ◌∙◌}
@@ -24,7 +25,6 @@ use Rattle.verdict.specs.declared.Onward.TheVariants as onward
 use Rattle.verdict.specs.declared.Ruling.{Ruling}
 use Rattle.verdict.specs.declared.Survey.{Survey}
 use Rattle.verdict.specs.declared.Way.{Way}
-use Rattle.verdict.specs.declared.Way.TheVariants.{By, Lost}
 use Rattle.verdict.specs.declared.Wish.TheVariants.{Refused, Wanted}
 use Rattle.replies.specs.Replied.{wire_length, within_room, sought_for, replied_among, replied_via}
 use Rattle.replies.specs.declared.Answering.{Answering}
@@ -268,10 +268,10 @@ module _ (r : Relay) (at : ℕ) (a : Answering) (room : ℕ) (arrived : a.arriva
     among_wired alone = record { octets = octets_told alone; far = far_told alone }
 
   -- ---- by the way that was found, where the table's line says the same
-  pub way_agrees : (w : Way) (line : Line) → Same (code_of w) (route_line w) line → RepliesAs (replied_via r a w room) (reply_by r at a room line)
+  pub way_agrees : (w : Option Way) (line : Line) → Same (code_of w) (route_line w) line → RepliesAs (replied_via r a w room) (reply_by r at a room line)
   unfolding route_line ruling_of
-  way_agrees Lost not_asked e = absurd e
-  way_agrees Lost (refused n) e = record {
+  way_agrees None not_asked e = absurd e
+  way_agrees None (refused n) e = record {
     refusal = refl;
     local = refl;
     onward = e;
@@ -280,22 +280,22 @@ module _ (r : Relay) (at : ℕ) (a : Answering) (room : ℕ) (arrived : a.arriva
     dropped = λ p l. in_none p;
     code = refl;
   }
-  way_agrees Lost (wanted ports c) e = absurd e
-  way_agrees (By set code) not_asked e = absurd e
-  way_agrees (By set code) (refused n) e = absurd e
-  way_agrees (By set code) (wanted ports c) e =
-      subst (λ (n : ℕ). RepliesAs (replied_via r a (By set code) room) (reply_by r at a room (wanted ports n))) e.0.0 (among_agrees set code ports e.1)
+  way_agrees None (wanted ports c) e = absurd e
+  way_agrees (Some way) not_asked e = absurd e
+  way_agrees (Some way) (refused n) e = absurd e
+  way_agrees (Some way) (wanted ports c) e =
+      subst (λ (n : ℕ). RepliesAs (replied_via r a (Some way) room) (reply_by r at a room (wanted ports n))) e.0.0 (among_agrees way.port way.code ports e.1)
 
-  pub way_wired : (w : Way) (line : Line) → Same (code_of w) (route_line w) line → OnePort line → WiredAs r at a (replied_via r a w room)
+  pub way_wired : (w : Option Way) (line : Line) → Same (code_of w) (route_line w) line → OnePort line → WiredAs r at a (replied_via r a w room)
   unfolding route_line ruling_of
-  way_wired Lost line e one =
+  way_wired None line e one =
       record { octets = λ p l is. bools.true_false (sym is ∙ in_none p); far = λ p l is. bools.true_false (sym is ∙ in_none p) }
-  way_wired (By set code) not_asked e one = absurd e
-  way_wired (By set code) (refused n) e one = absurd e
-  way_wired (By set code) (wanted ports c) e one = among_wired set code ports e.1 one
+  way_wired (Some way) not_asked e one = absurd e
+  way_wired (Some way) (refused n) e one = absurd e
+  way_wired (Some way) (wanted ports c) e one = among_wired way.port way.code ports e.1 one
 
   -- No set has a port over 7.
-  pub way_small : (w : Way) → Small (replied_via r a w room).ruling
+  pub way_small : (w : Option Way) → Small (replied_via r a w room).ruling
   unfolding ruling_of replied_among
-  way_small Lost = record { granted = omega arith; took = omega arith; dropped = omega arith }
-  way_small (By set code) = among_small set code (λ (p : ℕ). in_set p set) (λ p l. refl)
+  way_small None = record { granted = omega arith; took = omega arith; dropped = omega arith }
+  way_small (Some way) = among_small way.port way.code (λ (p : ℕ). in_set p way.port) (λ p l. refl)

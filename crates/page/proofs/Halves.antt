@@ -1,4 +1,5 @@
 -- Both halves of the verdict, for whatever the destination names: receiving rules as the table says. Assumes nothing.
+use Rattle.std.specs.Prelude.{Option, None}
 use Prim.Native.Nat.{ℕ, ◌<◌}
 use mathlib.Core.Path.{◌≡◌, refl, sym, ap, ap₂, subst, ◌∙◌}
 use mathlib.Core.Bool.{Bool, true, false, not, ◌&&◌, ◌||◌, or-false, not-not}
@@ -29,9 +30,7 @@ use Rattle.verdict.specs.Rule.{except_by, granted_of, ruling_of, path_line, code
 use Rattle.verdict.specs.declared.Target.{Target}
 use Rattle.verdict.specs.declared.Target.TheVariants as target
 use Rattle.verdict.specs.declared.Place.{Place}
-use Rattle.verdict.specs.declared.Place.TheVariants.{Missing}
 use Rattle.verdict.specs.declared.Way.{Way}
-use Rattle.verdict.specs.declared.Way.TheVariants.{Lost}
 use Rattle.verdict.specs.declared.Flood.{Flood}
 use Rattle.verdict.specs.declared.Flood.TheVariants.{Plain}
 use Rattle.verdict.specs.declared.Case.{Case}
@@ -122,8 +121,8 @@ module _ (more : Route → Route → Bool) (r : Relay) (chooses : Chooses more r
   heard x = not (eqb (here x) 0)
 
   -- a ruling by the same name and the same line
-  ruled_agrees : (x : Aim) (t : Target) (p : Place) (w : Way)
-      → eqb (ours_by t (here_by p)) 0 ≡ not (ours_by_name r at x)
+  ruled_agrees : (x : Aim) (t : Target) (p : Option Place) (w : Option Way)
+      → ours_by t (here_by p) ≡ ours_by_name r at x
       → ((local : Local) → local_number local ≡ here x
       → Same (asks x) (line_of t p w (c x) (survey x).ready local) (onward_line more r at x h.fields))
       → Agrees (ruled_by t p w (c x) (survey x)) (judged more r at x h) × Coded (asks x) (onward_line more r at x h.fields)
@@ -161,26 +160,26 @@ module _ (more : Route → Route → Bool) (r : Relay) (chooses : Chooses more r
     unfolding group_place
     subscribed_none = by (has_group r a)
       where
-        by : (t : Bool) → eqb (here_by (pick t (group_says (group_in r (group_found r a)) arrival) Missing)) 0
+        by : (t : Bool) → eqb (here_by (pick t (group_says (group_in r (group_found r a)) arrival) None)) 0
             ≡ not (t && in_set at (group_in r (group_found r a)).subscribed)
         by true = only_in at (group_in r (group_found r a)).subscribed inside
         by false = refl
 
     node_ours : (own ours limited multicast : Bool)
-        → eqb (ours_by (by_tests_lem own ours limited multicast) (here_by (place_for r (by_tests_lem own ours limited multicast) a arrival))) 0
-        ≡ not (own || limited || ours || (multicast && is_subscribed r at a) || false)
+        → ours_by (by_tests_lem own ours limited multicast) (here_by (place_for r (by_tests_lem own ours limited multicast) a arrival))
+        ≡ (own || limited || ours || (multicast && is_subscribed r at a) || false)
     node_ours true ours limited multicast = refl
     node_ours false true true multicast = refl
     node_ours false false true multicast = refl
     node_ours false true false true = refl
     node_ours false true false false = refl
-    node_ours false false false true = subscribed_none ∙ ap not (sym (or-false (is_subscribed r at a)))
+    node_ours false false false true = ap not subscribed_none ∙ not-not (is_subscribed r at a) ∙ sym (or-false (is_subscribed r at a))
     node_ours false false false false = refl
 
     -- so what is looked up before the search makes it ours where its name does
-    pub asked_ours : eqb (ours_by (target_asked r a) (here_by (place_for r (target_asked r a) a arrival))) 0 ≡ not (ours_by_name r at (Node a))
+    pub asked_ours : ours_by (target_asked r a) (here_by (place_for r (target_asked r a) a arrival)) ≡ ours_by_name r at (Node a)
     asked_ours =
-        subst (λ (t : Target). eqb (ours_by t (here_by (place_for r t a arrival))) 0 ≡ not (ours_by_name r at (Node a))) (sym asked_is)
+        subst (λ (t : Target). ours_by t (here_by (place_for r t a arrival)) ≡ ours_by_name r at (Node a)) (sym asked_is)
         (node_ours (equals_port r (Node a)) (broadcast_of_ours r (Node a)) (is_limited a) (is_multicast a))
 
     -- what the pairs say, by the table's tests
@@ -318,7 +317,7 @@ module _ (more : Route → Route → Bool) (r : Relay) (chooses : Chooses more r
     unfolding path_place
     here_none = by (has_path r y)
       where
-        by : (t : Bool) → eqb (here_by (pick t (path_says (path_in r (path_found r y))) Missing)) 0 ≡ not (t && not (eqb (path_in r (path_found r y)).here 0))
+        by : (t : Bool) → eqb (here_by (pick t (path_says (path_in r (path_found r y))) None)) 0 ≡ not (t && not (eqb (path_in r (path_found r y)).here 0))
         by true = sym (not-not (eqb (path_in r (path_found r y)).here 0))
         by false = refl
 
@@ -330,8 +329,8 @@ module _ (more : Route → Route → Bool) (r : Relay) (chooses : Chooses more r
     path_agrees : Ruled (Path y)
     unfolding line_of plain_line onward_line
     path_agrees =
-        ruled_agrees (Path y) target.Path (path_place r y) Lost
-        (here_none ∙ ap not (sym (no_port_lem (Path y) (λ test. refl) (is_here r y))))
+        ruled_agrees (Path y) target.Path (path_place r y) None
+        (ap not here_none ∙ not-not (is_here r y) ∙ sym (no_port_lem (Path y) (λ test. refl) (is_here r y)))
         (λ local is.
         subst (λ (f : Flood). Same 0 (flood_line f (except_by (survey (Path y)).ready (only_port at)) (pick (is_host r) (unheard_by local) (path_line (path_place r y) (only_port at)))) (onward_line more r at (Path y) h.fields))
         (sym path_plain)

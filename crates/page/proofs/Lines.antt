@@ -1,4 +1,5 @@
 -- The lines of the onward half that take no route, one by one: receiving wants what the table's rows want. Assumes nothing.
+use Rattle.std.specs.Prelude.{Option, None}
 use Prim.Native.Nat.{ℕ, ◌<◌}
 use mathlib.Core.Path.{◌≡◌, refl, sym, ap, ap₂, subst, ◌∙◌}
 use mathlib.Core.Bool.{Bool, true, false, not, ◌&&◌, ◌||◌, not-not}
@@ -18,7 +19,6 @@ use Rattle.survey.specs.declared.Sought.{Sought}
 use Rattle.lookup.specs.Lookup.{group_found, path_found, group_says, path_says, group_place, path_place}
 use Rattle.verdict.specs.Numbers.{local_number}
 use Rattle.verdict.specs.Rule.{except_by, broadcast_line, alone_by, group_line, path_line, unheard_by, flood_line, code_of, way_under}
-use Rattle.verdict.specs.declared.Place.TheVariants.{Missing}
 use Rattle.verdict.specs.declared.Local.{Local}
 use Rattle.verdict.specs.declared.Local.TheVariants.{No, Delivered, Unknown}
 use Rattle.verdict.specs.declared.Obstacle.TheVariants.{NoRoute}
@@ -34,10 +34,6 @@ use Rattle.page.proofs.Ports.{others_in, others_none}
 use Rattle.page.proofs.Copies.{Same, no_route}
 
 -- ---- tests
-pick_one : (t : Bool) → eqb (pick t 1 0) 1 ≡ t
-pick_one true = refl
-pick_one false = refl
-
 pick_same : (t u : Bool) (a b : Wish) (l m : Line) → t ≡ u → Same 0 a l → Same 0 b m → Same 0 (pick t a b) (pick u l m)
 pick_same t u a b l m e s s' = subst (λ (v : Bool). Same 0 (pick t a b) (pick v l m)) e (both t)
   where
@@ -72,7 +68,7 @@ module _ (r : Relay) (at : ℕ) (inside : at < 8) where
     broadcast_same = pick_same _ _ _ _ _ _ (others_none r x q at) tt (no_route (other_ports r at), λ p l. others_in r x q p l at)
 
     -- a flood: what the pairs say decides, whatever the line were without it, and no route is taken
-    pub flood_same : (held free : Bool) (place : ℕ) (w : Way) (line : Wish)
+    pub flood_same : (held free : Bool) (place : ℕ) (w : Option Way) (line : Wish)
         → Same (code_of (way_under (pairs_say held free place) w)) (flood_line (pairs_say held free place) others line)
         (pick held not_asked (pick (not free) (refused 30) (pick no_other (refused 11) (wanted (other_ports r at) 0))))
     flood_same true free place w line = tt
@@ -90,13 +86,12 @@ module _ (r : Relay) (at : ℕ) (inside : at < 8) where
       unfolding group_place group_line
       group_same = by (has_group r a)
         where
-          alone : eqb (alone_by (bit_and group.subscribed (only_port at)) others) 1 ≡ (in_set at group.subscribed && no_other)
+          alone : alone_by (bit_and group.subscribed (only_port at)) others ≡ (in_set at group.subscribed && no_other)
           alone =
-              pick_one _
-              ∙ ap₂ (λ (s t : Bool). not s && t) (only_in at group.subscribed inside) (others_none r x q at)
+              ap₂ (λ (s t : Bool). not s && t) (only_in at group.subscribed inside) (others_none r x q at)
               ∙ ap (λ (t : Bool). t && no_other) (not-not (in_set at group.subscribed))
 
-          by : (t : Bool) → Same 0 (group_line (pick t (group_says group (only_port at)) Missing) (only_port at) others)
+          by : (t : Bool) → Same 0 (group_line (pick t (group_says group (only_port at)) None) (only_port at) others)
               (pick ((t && in_set at group.subscribed) && no_other) not_asked
               (pick (not t || nothing_but at group.send) (refused 11) (wanted (without at (group_ports r (Node a))) 0)))
           by true = pick_same _ _ _ _ _ _ alone tt (pick_same _ _ _ _ _ _ (nothing_is at group.send inside) refl (no_route (without at (group_ports r (Node a))), set_same group.send))
@@ -119,7 +114,7 @@ module _ (r : Relay) (at : ℕ) (inside : at < 8) where
         held true false = refl
         held false t = (no_route (without at (path_ports r (Path y))), set_same place.send)
 
-        by : (t : Bool) → Same 0 (path_line (pick t (path_says place) Missing) (only_port at))
+        by : (t : Bool) → Same 0 (path_line (pick t (path_says place) None) (only_port at))
             (pick (not t || (nothing_but at place.send && not (t && not (eqb place.here 0)))) (refused 11)
             (pick (nothing_but at place.send) not_asked (wanted (without at (path_ports r (Path y))) 0)))
         by true =

@@ -1,4 +1,5 @@
 -- The local half: receiving delivers, or says 26, where the table does. Assumes nothing.
+use Rattle.std.specs.Prelude.{Option}
 use native.Mathlib.Omega.{arith}
 use Prim.Native.Nat.{ℕ, zero, suc, ◌<◌}
 use mathlib.Core.Path.{◌≡◌, refl, ap₂, ◌∙◌}
@@ -32,7 +33,7 @@ pub pick_zero : (t : Bool) → eqb (pick t 1 0) 0 ≡ not t
 pick_zero true = refl
 pick_zero false = refl
 
-flag_is : (n : ℕ) → n < 2 → eqb n 0 ≡ not (eqb n 1)
+flag_is : (n : ℕ) → n < 2 → not (eqb n 0) ≡ eqb n 1
 flag_is zero h = refl
 flag_is (suc zero) h = refl
 flag_is (suc (suc n)) h = absurd (omega arith)
@@ -47,22 +48,11 @@ module _ (r : Relay) (at : ℕ) (x : Aim) (f : Fields) (flag : f.intermediate < 
   local_case true false = refl
   local_case false t = refl
 
-  not_or : (o i : Bool) → (not o && not i) ≡ not (o || i)
-  not_or true i = refl
-  not_or false i = refl
-
-  wanted_case : (t : Bool) → eqb (pick t 0 1) 0 ≡ t
-  wanted_case true = refl
-  wanted_case false = refl
-
   -- The local half, where the target and its place make it ours by its name.
-  pub local_is : (t : Target) (p : Place) → eqb (ours_by t (here_by p)) 0 ≡ not (ours_by_name r at x)
+  pub local_is : (t : Target) (p : Option Place) → ours_by t (here_by p) ≡ ours_by_name r at x
       → local_number (local_of t p c) ≡ first_of (local_rows r at x f)
   unfolding local_of local_rows is_ours
   local_is t p e =
-      let un : eqb (wanted_here (ours_by t (here_by p)) f.intermediate) 0 ≡ not (is_ours r at x f) =
-      wanted_case (eqb (ours_by t (here_by p)) 0 && eqb f.intermediate 0)
-      ∙ ap₂ ◌&&◌ e (flag_is f.intermediate flag)
-      ∙ not_or (ours_by_name r at x) (eqb f.intermediate 1) in
-      ap₂ (λ (s t : Bool). local_number (pick s No (pick t Unknown Delivered))) un (pick_zero (is_assigned f.tpid))
+      let wanted : wanted_here (ours_by t (here_by p)) f.intermediate ≡ is_ours r at x f = ap₂ ◌||◌ e (flag_is f.intermediate flag) in
+      ap₂ (λ (s t : Bool). local_number (pick (not s) No (pick t Unknown Delivered))) wanted (pick_zero (is_assigned f.tpid))
       ∙ local_case (is_ours r at x f) (is_assigned f.tpid)

@@ -10,7 +10,7 @@ use Rattle.checks.specs.Order.{pick, first_of}
 use Rattle.checks.proofs.Bools.{true_false}
 use Rattle.header.specs.Read.{header_of, read_checks, read_of}
 use Rattle.header.specs.declared.Header.{Header}
-use Rattle.header.specs.declared.Read.TheVariants as read
+use Rattle.checks.specs.Told.{Good, Refused}
 use Rattle.meaning.specs.Names.{bad_aim}
 use Rattle.meaning.specs.Flood.{is_flooded, pair_of}
 use Rattle.meaning.specs.Arrival.{arrival_checks}
@@ -127,7 +127,7 @@ module _ (r : Relay) (at second : ℕ) (octets : List ℕ) (room : ℕ) where
   unfolding read_of header_memory
   read_is = by (eqb m 0)
     where
-      by : (t : Bool) → octets_memory r (arrival_at r at) second (pick t (read.Good h) (read.Refused m)) ≡ pick t (heard (eqb k 0)) (put_last r.memory second)
+      by : (t : Bool) → octets_memory r (arrival_at r at) second (pick t (Good h) (Refused m)) ≡ pick t (heard (eqb k 0)) (put_last r.memory second)
       by true = refl
       by false = refl
 

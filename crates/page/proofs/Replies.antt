@@ -1,5 +1,6 @@
 -- Answering ends as page 02 says: for any relay, port, octets and room what becomes of the reply is the table's verdict (`reply_verdict`), each number exactly
 -- where its row decides; the one port that it goes by is that of a route that matches, of which none has more ones. Assumes nothing.
+use Rattle.std.specs.Prelude.{Option}
 use native.Mathlib.Omega.{arith}
 use Prim.Native.Nat.{ℕ, ◌≤◌, ◌<◌}
 use mathlib.Core.Path.{◌≡◌, refl, sym, ap, ap₂, subst, ◌∙◌}
@@ -120,7 +121,7 @@ module _ (r : Relay) (number dropping at : ℕ) (octets : List ℕ) (room : ℕ)
   abbrev onward : ℕ
   onward = onward_number replied.ruling.onward
 
-  abbrev way : Way
+  abbrev way : Option Way
   way = way_for r target.Route a.destination
 
   made_one : a.made ≢ 0 → a.made ≡ 1

@@ -1,4 +1,5 @@
 -- Every set of ports that a ruling has is one of the ports 0 to 7. Assumes nothing.
+use Rattle.std.specs.Prelude.{Option}
 use native.Mathlib.Omega.{arith}
 use Prim.Native.Nat.{ℕ, ◌<◌, ◌≤◌}
 use lib.Bits.{bit_and, and_le_l, and_le_r}
@@ -50,7 +51,7 @@ module _ (r : Relay) (x : Aim) (q : Sought) where
   abbrev survey : Survey
   survey = survey_of r (destination_asked x) q
 
-  pub ruled_small : (t : Target) (p : Place) (w : Way) (c : Case) → Small (ruled_by t p w c survey)
+  pub ruled_small : (t : Target) (p : Option Place) (w : Option Way) (c : Case) → Small (ruled_by t p w c survey)
   unfolding ruled_by granted_of
   ruled_small t p w c =
       let local = local_of t p c in

@@ -20,7 +20,7 @@ use Rattle.header.specs.Read.{fields_of, header_of, read_checks, read_of}
 use Rattle.header.specs.declared.Addresses.{Addresses}
 use Rattle.header.specs.declared.Addresses.TheVariants.{BasicPath, ExtendedPath, BasicEndSystem, ExtendedEndSystem, Ipv6}
 use Rattle.header.specs.declared.Header.{Header}
-use Rattle.header.specs.declared.Read.TheVariants as read
+use Rattle.checks.specs.Told.{Good, Refused}
 use Rattle.meaning.specs.Names.{aim_of, origin_of, not_carried, no_domain, bad_aim, bad_source}
 use Rattle.meaning.specs.Flood.{is_flooded, unmarked}
 use Rattle.meaning.specs.Arrival.{arrival_checks}
@@ -118,7 +118,7 @@ module _ (r : Relay) (at second : ℕ) (octets : List ℕ) (room : ℕ) where
   unfolding read_of
   read_is = by (eqb (first_of (read_checks octets)) 0)
     where
-      by : (t : Bool) → octets_ending r (arrival_at r at) (pick t (read.Good header) (read.Refused (first_of (read_checks octets))))
+      by : (t : Bool) → octets_ending r (arrival_at r at) (pick t (Good header) (Refused (first_of (read_checks octets))))
           ≡ pick t (header_ending r (arrival_at r at) header) (refused_by (first_of (read_checks octets)))
       by true = refl
       by false = refl

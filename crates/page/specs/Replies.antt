@@ -1,7 +1,7 @@
 -- Page 02's rules of echo replies (W-203), in the words of the page's tables: which datagrams are answered, what the reply is made of, and what becomes of it
 -- (page 01: "it takes the route line, on a host too, with 11 to 15"; W-204 gives 12 no more, and 13 is a path's, which no reply has). How the pages are read:
 -- docs/DECISIONS.md. proofs/Answered.antt and proofs/Replies.antt have that answering does exactly this. Assumes nothing.
-use Rattle.std.specs.Prelude.{ℕ, ◌+◌, ◌-◌, ◌≤◌, ◌<◌, ◌≡◌, ◌⊎◌, ◌≢◌, Bool, true, false, not, ◌&&◌, ◌||◌, List, [], ◌∷◌, eqb, ltb}
+use Rattle.std.specs.Prelude.{ℕ, ◌+◌, ◌-◌, ◌≤◌, ◌<◌, ◌≡◌, ◌⊎◌, ◌≢◌, Bool, true, false, not, ◌&&◌, ◌||◌, List, [], ◌∷◌, eqb, ltb, Some, None}
 use Rattle.checks.specs.Order.{pick, Checks, first_of}
 use Rattle.sets.specs.Limits.{port_count}
 use Rattle.sets.specs.Sets.{in_set}
@@ -11,20 +11,16 @@ use Rattle.header.specs.Limits.{length_limit}
 use Rattle.header.specs.Build.{source_flag, qos_flag, format_of, size_of}
 use Rattle.header.specs.Read.{header_of, read_of}
 use Rattle.header.specs.declared.Fields.{Fields}
-use Rattle.header.specs.declared.Octet.TheVariants as octet
-use Rattle.header.specs.declared.Timestamp.TheVariants as stamp
-use Rattle.header.specs.declared.Read.TheVariants as read
+use Rattle.checks.specs.Told.{Good}
 use Rattle.echo.specs.Message.{request_size, reply_size, reading_of}
 use Rattle.echo.specs.declared.Message.{Message}
 use Rattle.echo.specs.declared.Kind.TheVariants as kind
-use Rattle.echo.specs.declared.Reading.TheVariants as reading
 use Rattle.meaning.specs.Names.{aim_of, origin_of, is_basic, routing_asked}
 use Rattle.meaning.specs.Flood.{is_flooded}
 use Rattle.meaning.specs.Arrival.{arrival_checks}
 use Rattle.meaning.specs.Asked.{precedence_asked}
 use Rattle.meaning.specs.declared.Aim.{Aim}
 use Rattle.meaning.specs.declared.Aim.TheVariants.{Node}
-use Rattle.meaning.specs.declared.Origin.TheVariants.{From}
 use Rattle.next_leg.specs.Leg.{is_absent, data_of}
 use Rattle.routes.specs.declared.Route.{Route}
 use Rattle.state.specs.Relay.{Relay, port_in, port_set_up}
@@ -79,7 +75,7 @@ least_reply r at octets = size_of (reply_header r at octets) + reply_size
 -- The datagram, come in by port `at`, is an echo request that is answered; dropping is the setting that drops all requests.
 pub record RequestAnswered (r : Relay) (dropping at : ℕ) (octets : List ℕ) : Type 0 where
   -- steps 2 and 3 refuse nothing: it is read
-  pub reads : read_of octets ≡ read.Good (header_of octets)
+  pub reads : read_of octets ≡ Good (header_of octets)
   -- nor do steps 4 to 6, nor 28
   pub carried : first_of (arrival_checks (port_in r at).address (header_of octets).fields) ≡ 0
   -- "a request that page 01 does not deliver .. gets none"
@@ -88,7 +84,7 @@ pub record RequestAnswered (r : Relay) (dropping at : ℕ) (octets : List ℕ) :
   pub control : (header_of octets).fields.tpid ≡ 1
   -- its user data are an Echo Request
   pub message : Message
-  pub holds : reading_of (user_data (header_of octets) octets) ≡ reading.Good message
+  pub holds : reading_of (user_data (header_of octets) octets) ≡ Good message
   pub request : message.kind ≡ kind.Request
   -- ".. that is flooded .."
   pub not_flooded : is_flooded (header_of octets).fields ≡ false
@@ -116,18 +112,18 @@ pub record ReplyTo (r : Relay) (at : ℕ) (octets : List ℕ) (m : Message) (a :
   pub precedence_kept : precedence_asked a.fields.qos ≡ precedence_asked (header_of octets).fields.qos
   pub qos_kept : qos_flag a.fields.qos ≡ qos_flag (header_of octets).fields.qos
   pub routing : routing_asked a.fields.qos ≡ 0
-  pub hops : a.fields.hops ≡ octet.Present 64
+  pub hops : a.fields.hops ≡ Some 64
   -- SCMP's TP-ID; no other element before the rewrite, and no intermediate delivery (docs/DECISIONS.md)
   pub control : a.fields.tpid ≡ 1
-  pub unstamped : a.fields.stamp ≡ stamp.Absent
-  pub unexpanded : a.fields.expanded ≡ octet.Absent
+  pub unstamped : a.fields.stamp ≡ None
+  pub unexpanded : a.fields.expanded ≡ None
   pub unsummed : a.fields.checksum ≡ 0
   pub not_between : a.fields.intermediate ≡ 0
   -- what its addresses name at the arrival port: the request's source, and one of the two
-  pub destination : origin_of (port_in r at).address.0 (header_of octets).fields.addresses ≡ From a.destination
+  pub destination : origin_of (port_in r at).address.0 (header_of octets).fields.addresses ≡ Some a.destination
   pub names : aim_of (port_in r at).address.0 a.fields.addresses ≡ Node a.destination
-  pub from_own : (d : Address) → aim_at r at octets ≡ Node d → equals_port r (Node d) ≡ true → origin_of (port_in r at).address.0 a.fields.addresses ≡ From d
-  pub from_arrival : equals_port r (aim_at r at octets) ≡ false → origin_of (port_in r at).address.0 a.fields.addresses ≡ From (port_in r at).address
+  pub from_own : (d : Address) → aim_at r at octets ≡ Node d → equals_port r (Node d) ≡ true → origin_of (port_in r at).address.0 a.fields.addresses ≡ Some d
+  pub from_arrival : equals_port r (aim_at r at octets) ≡ false → origin_of (port_in r at).address.0 a.fields.addresses ≡ Some (port_in r at).address
   pub arrival : a.arrival ≡ (port_in r at).address
   -- "the fields of 3.3.4.7.5 in that order, receive rate and an absent timestamp as zeros"
   pub identifier : a.message.identifier ≡ m.identifier

@@ -2,7 +2,7 @@
 -- from page 02, W-204 ("Only routes that are up are now candidates"; 12 is given nowhere), W-214 (headers rewritten for the next leg) and W-207 (floods),
 -- not from the code: a set of ports is a test of a port's number here, and nothing is gathered beforehand. proofs/Verdict.antt has that receiving does
 -- exactly this. Assumes nothing.
-use Rattle.std.specs.Prelude.{ℕ, ◌*◌, ◌/◌, ◌^◌, ◌≡◌, ◌⊎◌, ◌↔◌, ◌≢◌, Bool, true, false, not, ◌&&◌, ◌||◌, List, [], ◌∷◌, eqb, ltb, length}
+use Rattle.std.specs.Prelude.{ℕ, ◌*◌, ◌/◌, ◌^◌, ◌≡◌, ◌⊎◌, ◌↔◌, ◌≢◌, Bool, true, false, not, ◌&&◌, ◌||◌, List, [], ◌∷◌, eqb, ltb, length, Option, Some, None}
 use Rattle.checks.specs.Order.{pick, Checks, first_of, NoneHolds, FirstHolds}
 use Rattle.sets.specs.Limits.{port_count, group_places, path_places, pair_places}
 use Rattle.sets.specs.Sets.{in_set, any_below, first_below}
@@ -19,8 +19,6 @@ use Rattle.header.specs.Read.{header_of, other_version, cut, misfit, wrong_check
 use Rattle.header.specs.declared.Addresses.{Addresses}
 use Rattle.header.specs.declared.Fields.{Fields}
 use Rattle.header.specs.declared.Header.{Header}
-use Rattle.header.specs.declared.Octet.{Octet}
-use Rattle.header.specs.declared.Octet.TheVariants as octet
 use Rattle.queue.specs.Queue.{entry_places}
 use Rattle.networks.specs.Networks.{in_net10, domain_of, last_of, subnet_broadcast}
 use Rattle.meaning.specs.Names.{aim_of, origin_of, is_basic, is_bound, not_carried, no_domain, bad_aim, bad_source}
@@ -301,13 +299,13 @@ onward_line more r at x f = first_row (onward_rows r at x f) (wanted (best_port 
 -- ---- with ports wanted
 
 -- "hop count present and 0 or 1"
-abbrev pub hops_used_up : Octet → Bool
-hops_used_up octet.Absent = false
-hops_used_up (octet.Present n) = ltb n 2
+abbrev pub hops_used_up : Option ℕ → Bool
+hops_used_up None = false
+hops_used_up (Some n) = ltb n 2
 
 -- "addresses are one octet"
 abbrev pub one_octet : Addresses → Bool
-one_octet a = eqb (is_basic a) 1
+one_octet a = is_basic a
 
 -- W-214: "one-octet paths keep 13"
 abbrev pub one_octet_path : Addresses → Bool

@@ -11,7 +11,7 @@ use Rattle.queue.specs.Queue.{waiting, insert, put_of, moved_up, taken_from, tak
 use Rattle.queue.specs.declared.Entry.{Entry}
 use Rattle.queue.specs.declared.Queue.{Queue}
 use Rattle.queue.specs.declared.Put.{Put}
-use Rattle.queue.specs.declared.Head.TheVariants.{First, Nothing}
+use Rattle.std.proofs.Common.{Some, None}
 use Rattle.queue.specs.declared.Taken.{Taken}
 
 module _ (q : Queue) where
@@ -32,10 +32,10 @@ module _ (q : Queue) where
   put_full e h = rw (le-ltb _ _ h)
 
   abbrev pub handed_none : Taken
-  handed_none = record { queue = q; head = Nothing }
+  handed_none = record { queue = q; head = None }
 
   abbrev pub handed_out : Entry → Taken
-  handed_out first = record { queue = record { entries = moved_up q.entries; count = q.count - 1 }; head = First first }
+  handed_out first = record { queue = record { entries = moved_up q.entries; count = q.count - 1 }; head = Some first }
 
   pub take_over : 32 < q.count → take_of q ≡ handed_none
   unfolding take_of

@@ -1,53 +1,50 @@
--- The turns of the code's loops, over plain lists: the search for a newcomer's place, the opening of that place, and the moving up of
--- all places. Assumes nothing.
+-- What the code's loops do, over plain lists: a newcomer's place is found, that place is opened, and all places move up. Assumes nothing.
 use Prim.Native.Nat.{ℕ, zero, suc, ◌+◌, ◌-◌, ◌≤◌, ◌<◌}
+use mathlib.Core.Bool.{Bool, not}
 use mathlib.Core.Path.{◌≡◌, refl, sym, ap, ◌∙◌}
 use mathlib.Core.List.{List, [], ◌∷◌, ◌++◌, append_assoc}
-use native.Mathlib.Nat.{le_of_suc-le-suc, not-suc-le-zero, le_of_lt, add_comm}
+use native.Mathlib.Nat.{le_of_suc-le-suc, not-suc-le-zero, add_comm}
 use native.Mathlib.Omega.{arith}
-use native.Mathlib.Numerals.{add-one, sub-one}
-use lib.ListN.{length, take, drop, get_or, set, replicate, length-take, length-drop, drop_of_length-le, take-append-drop, get_or-append}
-use lib.Seq.{drop-cons, take-suc, take-take, take-nil, drop-nil, get_or-take, append_snoc, length-take-le, take_all, get_or-drop}
+use native.Mathlib.Numerals.{add-one}
+use lib.Dec.{ltb}
+use lib.ListN.{length, take, drop, get_or, set, replicate, length-take, length-drop, take-append-drop, get_or-append}
+use lib.Seq.{drop-cons, take-take, take-nil, drop-nil, get_or-take, get_or-drop}
 use borrow.Author.Tests.{lt-ltb, le-ltb}
+use Rattle.std.proofs.Common.{position, unwrap_or}
+use Rattle.std.specs.List.{position_or_len}
+use Rattle.std.proofs.lemmas.List.Sums.{prefix_len-le-length}
 use Rattle.queue.specs.Order.{insert_by}
+use Rattle.queue.proofs.Compare.{by_order}
 
--- ---- the search for the place of a newcomer e among l
+-- ---- the place of a newcomer e among l: that of the first that is lower, else behind them all
 
 module _ {A : Type 0} (rank : A → ℕ) (e : A) where
-  -- the first k stay ahead of it
-  abbrev pub Stay : ℕ → List A → Type 0
-  Stay k l = insert_by rank e l ≡ take k l ++ insert_by rank e (drop k l)
+  abbrev lower : A → Bool
+  lower x = ltb (rank x) (rank e)
 
   -- its place is behind the first k
   abbrev pub Place : ℕ → List A → Type 0
   Place k l = insert_by rank e l ≡ take k l ++ e ∷ drop k l
 
-  pub stay_none : (l : List A) → Stay 0 l
-  stay_none l = refl
-
-  stay_on : (l : List A) (k : ℕ) (d : A) → k < length l → Stay k l → rank e ≤ rank (get_or l k d) → Stay (k + 1) l
+  place_first : (l : List A) → Place (position_or_len lower l) l
   unfolding insert_by
-  stay_on l k d h stay low =
-      stay ∙ rw (drop-cons l k d h, le-ltb _ _ low) (sym (rw (add-one k, take-suc l k d h) (append_snoc (take k l) (get_or l k d) _)))
+  place_first [] = refl
+  place_first (x ∷ l) =
+      let rest = ap (λ (t : List A). x ∷ t) (place_first l) in
+      by_order (rank x) (rank e)
+      (λ below. rw (lt-ltb _ _ below))
+      (λ above. rw (le-ltb _ _ above, add_comm 1 (position_or_len lower l), add-one) rest)
 
-  place_at : (l : List A) (k : ℕ) (d : A) → k < length l → Stay k l → rank (get_or l k d) < rank e → Place k l
-  unfolding insert_by
-  place_at l k d h stay high = stay ∙ rw (drop-cons l k d h, lt-ltb _ _ high)
+  is_place : (l : List A) (n : ℕ) → length l ≡ n → unwrap_or (position lower l) n ≡ position_or_len lower l
+  is_place l n wide =
+      by_order (position_or_len lower l) (length l)
+      (λ there. rw (lt-ltb _ _ there))
+      (λ past. rw (le-ltb _ _ past) (omega (arith, prefix_len-le-length (λ (x : A). not (lower x)) l)))
 
-  -- what the code reads at place k, among the first n
-  module _ (xs : List A) (n k : ℕ) (d : A) (fits : n < length xs) (within : k < n) (stay : Stay k (take n xs)) where
-    in_front : k < length (take n xs)
-    in_front = rw (length-take-le n xs (le_of_lt fits)) within
-
-    pub stay_more : rank e ≤ rank (get_or xs k d) → Stay (k + 1) (take n xs)
-    stay_more h = stay_on (take n xs) k d in_front stay (rw (get_or-take n xs k d within) h)
-
-    pub place_met : rank (get_or xs k d) < rank e → Place k (take n xs)
-    place_met h = place_at (take n xs) k d in_front stay (rw (get_or-take n xs k d within) h)
-
-  pub place_last : (xs : List A) (n k : ℕ) → n ≤ k → Stay k (take n xs) → Place k (take n xs)
-  unfolding insert_by
-  place_last xs n k h stay = stay ∙ rw (drop_of_length-le (take n xs) {i = k} (rw length-take (omega arith)))
+  pub place_found : (l : List A) (n k : ℕ) → length l ≡ n → k ≡ unwrap_or (position lower l) n → (k ≤ n) × Place k l
+  place_found l n k wide found =
+      let at : k ≡ position_or_len lower l = found ∙ is_place l n wide in
+      (rw (at, sym wide) (prefix_len-le-length _ l), rw at (place_first l))
 
 -- ---- the opening of a place: from the last of the first n down, each goes one place on
 
@@ -75,9 +72,8 @@ module _ {A : Type 0} where
         set_seam xs _ (suc j) (get_or xs j d) (omega arith) ∙ rw (e, drop-cons xs j d (omega arith))
 
     -- one turn, as the code writes it
-    pub shift_turn : (i : ℕ) → 0 < i → i ≤ n → set (shifted xs i n) i (get_or (shifted xs i n) (i - 1) d) ≡ shifted xs (i - 1) n
-    shift_turn zero p h = absurd (not-suc-le-zero p)
-    shift_turn (suc j) p h = rw (sub-one (suc j), shift_read j h) (shift_more j h)
+    pub shift_turn : (i j : ℕ) → i ≡ j + 1 → i ≤ n → set (shifted xs i n) (j + 1) (get_or (shifted xs i n) j d) ≡ shifted xs j n
+    shift_turn i j e h = rw (e, add-one j, shift_read j (omega arith)) (shift_more j (omega arith))
 
   drop_take : (k n : ℕ) (xs : List A) → drop k (take n xs) ≡ take (n - k) (drop k xs)
   drop_take zero n xs = let z : n - 0 ≡ n = omega arith in rw z
@@ -86,11 +82,10 @@ module _ {A : Type 0} where
   drop_take (suc k) (suc n) (x ∷ xs) = let z : suc n - suc k ≡ n - k = omega arith in rw z (drop_take k n xs)
 
   -- the newcomer in the place that was opened
-  pub shift_end : (rank : A → ℕ) (e : A) (xs : List A) (n k i : ℕ) (out : List A) → i ≡ k → k ≤ n → n < length xs → out ≡ shifted xs i n
-      → Place rank e k (take n xs) → set out i e ≡ insert_by rank e (take n xs) ++ drop (n + 1) xs
-  shift_end rank e xs n k i out met h fits open· place =
-      rw (open·, met)
-      (set_seam xs _ k e (omega arith) ∙ sym (rw (place, append_assoc, take-take k n xs h, drop_take k n xs, add-one n)))
+  pub shift_end : (rank : A → ℕ) (e : A) (xs : List A) (n k : ℕ) → k ≤ n → n < length xs → Place rank e k (take n xs)
+      → set (shifted xs k n) k e ≡ insert_by rank e (take n xs) ++ drop (n + 1) xs
+  shift_end rank e xs n k h fits place =
+      set_seam xs _ k e (omega arith) ∙ sym (rw (place, append_assoc, take-take k n xs h, drop_take k n xs, add-one n))
 
 -- ---- the moving up: a list of free places is filled from the front with all elements but the first
 
@@ -110,6 +105,3 @@ module _ {A : Type 0} where
     move_turn i d h =
         let next : get_or xs (i + 1) d ≡ get_or (drop 1 xs) i d = ap (λ (k : ℕ). get_or xs k d) (add_comm i 1) ∙ sym (get_or-drop 1 xs i d) in
         rw (next, add-one i) (fill (replicate 32 free) (drop 1 xs) i d (omega arith) (rw length-drop (omega arith)))
-
-    pub move_end : (i : ℕ) → i ≡ 31 → moved free xs i ≡ drop 1 xs ++ (free ∷ [])
-    move_end i e = rw (e, take_all 31 (drop 1 xs) (rw length-drop (omega arith)))

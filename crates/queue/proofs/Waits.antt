@@ -17,7 +17,7 @@ use Rattle.queue.specs.Waits.{Chosen, nobody, one, AsAsked, chosen_with, chosen,
 use Rattle.queue.specs.declared.Entry.{Entry}
 use Rattle.queue.specs.declared.Queue.{Queue}
 use Rattle.queue.specs.declared.Taken.{Taken}
-use Rattle.queue.specs.declared.Head.TheVariants.{First, Nothing}
+use Rattle.std.proofs.Common.{Some, None}
 use Rattle.queue.proofs.Compare.{by_order}
 use Rattle.queue.proofs.Each.{each_so, each_append}
 use Rattle.queue.proofs.Order.{insert_map}
@@ -248,7 +248,7 @@ module _ {A : Type 0} (entry_of : A → Entry) where
     waits_none empty = take_none q (waits_count ∙ ap length empty)
 
     pub waits_take : (x : A) (others : List A) → chosen rank line ≡ one x others
-        → ((take_of q).head ≡ First (entry_of x)) × Waits entry_of (take_of q).queue others
+        → ((take_of q).head ≡ Some (entry_of x)) × Waits entry_of (take_of q).queue others
     waits_take x others is = (take_head q bounded ∙ ap head_of out, record { sound = take_sound q waits.sound; same = rest })
       where
         out : waiting q ≡ map entry_of (x ∷ ordered rank others)
@@ -257,9 +257,9 @@ module _ {A : Type 0} (entry_of : A → Entry) where
         rest : waiting (take_of q).queue ≡ map entry_of (ordered rank others)
         rest = take_waiting q bounded ∙ ap (drop 1) out
 
-    pub waits_nothing : ((take_of q).head ≡ Nothing) ↔ (line ≡ [])
+    pub waits_nothing : ((take_of q).head ≡ None) ↔ (line ≡ [])
     waits_nothing = (found (chosen rank line) refl, λ empty. ap (λ (t : Taken). t.head) (waits_none empty))
       where
-        found : (c : Chosen A) → chosen rank line ≡ c → (take_of q).head ≡ Nothing → line ≡ []
+        found : (c : Chosen A) → chosen rank line ≡ c → (take_of q).head ≡ None → line ≡ []
         found nobody is h = (chosen_nobody rank line).0 is
         found (one x others) is h = let z : ◌≡◌ {A = ℕ} 0 1 = cc (waits_take x others is).0 in absurd (omega arith)

@@ -1,14 +1,12 @@
 -- A port's queue: page 01, "Numbers that hold everywhere" (32 entries per port queue), and the end of "One received datagram, step by
 -- step" (each with fewer than 32 waiting takes one entry, the others drop theirs; "Taking from a port"; where a newcomer goes).
 -- Assumes nothing.
-use Rattle.std.specs.Prelude.{ℕ, ◌+◌, ◌-◌, ◌≤◌, true, false, ◌≡◌, List, [], ◌∷◌, ◌++◌, length, take, drop, replicate, ltb}
+use Rattle.std.specs.Prelude.{Option, Some, None, ℕ, ◌+◌, ◌-◌, ◌≤◌, true, false, ◌≡◌, List, [], ◌∷◌, ◌++◌, length, take, drop, replicate, ltb}
 use Rattle.checks.specs.Order.{pick}
 use Rattle.queue.specs.Order.{insert_by, Sorted}
 use Rattle.queue.specs.declared.Entry.{Entry}
 use Rattle.queue.specs.declared.Queue.{Queue}
 use Rattle.queue.specs.declared.Put.{Put}
-use Rattle.queue.specs.declared.Head.{Head}
-use Rattle.queue.specs.declared.Head.TheVariants.{First, Nothing}
 use Rattle.queue.specs.declared.Taken.{Taken}
 
 -- how many entries a queue holds
@@ -50,19 +48,19 @@ moved_up entries = drop 1 entries ++ (free ∷ [])
 
 -- what a take answers, by the entries that wait: none, or the first, removed
 abbrev pub taken_from : Queue → List Entry → Taken
-taken_from q [] = record { queue = q; head = Nothing }
-taken_from q (first ∷ rest) = record { queue = record { entries = moved_up q.entries; count = q.count - 1 }; head = First first }
+taken_from q [] = record { queue = q; head = None }
+taken_from q (first ∷ rest) = record { queue = record { entries = moved_up q.entries; count = q.count - 1 }; head = Some first }
 
 -- where the count is over 32, as no call leaves it, nothing is handed out and the queue stays as it is
 unfoldable pub take_of : Queue → Taken
-take_of q = pick (ltb entry_places q.count) (record { queue = q; head = Nothing }) (taken_from q (waiting q))
+take_of q = pick (ltb entry_places q.count) (record { queue = q; head = None }) (taken_from q (waiting q))
 
 -- ---- the queues that calls leave
 
 -- what is handed out where these entries wait
-abbrev pub head_of : List Entry → Head
-head_of [] = Nothing
-head_of (first ∷ rest) = First first
+abbrev pub head_of : List Entry → Option Entry
+head_of [] = None
+head_of (first ∷ rest) = Some first
 
 -- a queue whose count can be that of its waiting entries
 pub record Bounded (q : Queue) : Type 0 where

@@ -12,7 +12,8 @@
 // with them at a take, and a put writes over the first place of it alone.
 #![tactic(auto)]
 
-ghost use Rattle.std.specs.Prelude.{◌≡◌, ◌++◌, ◌+◌, ◌<◌, take, drop};
+ghost use Rattle.std.specs.Prelude.{◌≡◌, ◌++◌, ◌+◌, ◌<◌, take, drop, ltb, length, position, unwrap_or};
+ghost use Rattle.queue.specs.declared.Entry.{Entry};
 ghost use Rattle.queue.specs.Queue.{entry_places, insert, moved_up, fresh, put_of, take_of};
 
 use address::Slot;
@@ -32,6 +33,7 @@ const PLACES: usize = ENTRIES as usize;
 
 const LAST: usize = PLACES - 1;
 
+// A fixed array and a count, and no `Vec`: the relay has fixed memory, and no heap.
 #[derive(Clone, Copy)]
 pub struct Queue {
     pub entries: [Entry; PLACES],
@@ -39,23 +41,18 @@ pub struct Queue {
 }
 
 // Whether the newcomer was taken in. The queue stands first in an answer, aligned as in the state: that spares copies.
+// A flag beside the queue, and no `Result`: our rules name the form, that put returns the queue with the answer.
 #[derive(Clone, Copy)]
 pub struct Put {
     pub queue: Queue,
     pub took: bool,
 }
 
-#[derive(Clone, Copy)]
-pub enum Head {
-    First(Entry),
-    Nothing,
-}
-
-// What was handed out, and the queue without it.
+// The entry that was handed out, if one waited, and the queue without it.
 #[derive(Clone, Copy)]
 pub struct Taken {
     pub queue: Queue,
-    pub head: Head,
+    pub head: Option<Entry>,
 }
 
 const FREE: Entry = Entry {
@@ -63,27 +60,26 @@ const FREE: Entry = Entry {
     precedence: 0,
 };
 
+// Where a newcomer is inserted: at the first with lower precedence, if there is one.
+fn inserted_newcomer(waiting: &[Entry], precedence: u16) -> Option<usize>
+    ensures { result ≡ position (λ (entry : Entry). ltb entry.precedence precedence) waiting.now }
+{
+    waiting
+        .iter()
+        .position(|entry| entry.precedence < precedence)
+}
+
 // The newcomer at its place among the first n, and those behind it one place on.
 fn inserted(entries: [Entry; PLACES], n: usize, newcomer: Entry) -> [Entry; PLACES]
     requires { n < entry_places }
     ensures { result ≡ insert newcomer (take n entries) ++ drop (n + 1) entries }
 {
+    let place = inserted_newcomer(&entries[..n], newcomer.precedence).unwrap_or(n);
     let mut out = entries;
-    let mut place = 0;
-    while place < n {
-        let waiting = out[place];
-        if waiting.precedence < newcomer.precedence {
-            break;
-        }
-        place += 1;
+    for i in (place..n).rev() {
+        out[i + 1] = out[i];
     }
-    let mut i = n;
-    while place < i {
-        let waiting = out[i - 1];
-        out[i] = waiting;
-        i -= 1;
-    }
-    out[i] = newcomer;
+    out[place] = newcomer;
     out
 }
 
@@ -94,8 +90,7 @@ fn moved_up(entries: [Entry; PLACES]) -> [Entry; PLACES]
 {
     let mut out = [FREE; PLACES];
     for i in 0..LAST {
-        let next = entries[i + 1];
-        out[i] = next;
+        out[i] = entries[i + 1];
     }
     out
 }
@@ -113,18 +108,17 @@ impl Queue {
     pub fn put(self, newcomer: Entry) -> Put
         ensures { result ≡ put_of self newcomer }
     {
-        let n = self.count;
-        if ENTRIES <= n {
+        if ENTRIES <= self.count {
             return Put {
                 queue: self,
                 took: false,
             };
         }
-        let old = self.entries;
-        let entries = inserted(old, n as usize, newcomer);
-        let count = n + 1;
         Put {
-            queue: Queue { entries, count },
+            queue: Queue {
+                entries: inserted(self.entries, self.count as usize, newcomer),
+                count: self.count + 1,
+            },
             took: true,
         }
     }
@@ -132,21 +126,17 @@ impl Queue {
     pub fn take(self) -> Taken
         ensures { result ≡ take_of self }
     {
-        let n = self.count;
-        match n {
-            1..=ENTRIES => {
-                let old = self.entries;
-                let first = old[0];
-                let entries = moved_up(old);
-                let count = n - 1;
-                Taken {
-                    queue: Queue { entries, count },
-                    head: Head::First(first),
-                }
-            }
+        match self.count {
+            1..=ENTRIES => Taken {
+                queue: Queue {
+                    entries: moved_up(self.entries),
+                    count: self.count - 1,
+                },
+                head: Some(self.entries[0]),
+            },
             _ => Taken {
                 queue: self,
-                head: Head::Nothing,
+                head: None,
             },
         }
     }

@@ -1,13 +1,15 @@
--- The first stage of reading: the control field, or the number of the first of the checks 1, 2, 1, 4 that fails (page 01, step 2). Assumes nothing.
-use Rattle.std.specs.Prelude.{ℕ, List, [], ◌∷◌, length, eqb, ltb}
-use Rattle.checks.specs.Order.{pick, Checks, first_of}
+-- The first stage of reading: the control field, or the first of the checks 1, 2, 1, 4 that fails (page 01, step 2). Assumes nothing.
+use Rattle.std.specs.Prelude.{ℕ, List, [], ◌∷◌, Result, length, ltb}
+use Rattle.checks.specs.Order.{Refusals, outcome}
+use Rattle.checks.specs.declared.Refusal.{Refusal}
+use Rattle.checks.specs.declared.Refusal.TheVariants.{TooShort, OtherVersion, WrongForm}
 use Rattle.header.specs.Form.{control_of, forbidden}
 use Rattle.header.specs.Read.{other_version, cut}
-use Rattle.reader.specs.declared.Front.{Front}
-use Rattle.reader.specs.declared.Front.TheVariants.{Good, Refused}
+use Rattle.header.specs.declared.Control.{Control}
 
-unfoldable pub front_checks : List ℕ → Checks
-front_checks s = (ltb (length s) 3, 1) ∷ (other_version s, 2) ∷ (cut s (control_of s), 1) ∷ (forbidden (control_of s), 4) ∷ []
+abbrev pub front_refusals : List ℕ → Refusals
+front_refusals s =
+    (ltb (length s) 3, TooShort) ∷ (other_version s, OtherVersion) ∷ (cut s (control_of s), TooShort) ∷ (forbidden (control_of s), WrongForm) ∷ []
 
-unfoldable pub front_of : List ℕ → Front
-front_of s = pick (eqb (first_of (front_checks s)) 0) (Good (control_of s)) (Refused (first_of (front_checks s)))
+abbrev pub front_of : List ℕ → Result Control Refusal
+front_of s = outcome (front_refusals s) (control_of s)

@@ -10,7 +10,7 @@ ghost use Rattle.header.specs.Form.{forbidden, qos_place, stamp_size, layout_of}
 ghost use Rattle.header.specs.Read.{six_of, addresses_of, qos_of, octet_of, stamp_of, length_of, fields_of};
 
 use address::{Address, PathAddress};
-use header::{Addresses, Control, Fields, Layout, Octet, Qos, Six, Timestamp, control_bits};
+use header::{Addresses, Control, Fields, Layout, Qos, Six, Timestamp, control_bits};
 
 // An address of sixteen octets.
 fn six_at(s: &[u8], place: usize) -> Six
@@ -48,42 +48,47 @@ fn addresses_at(s: &[u8], k: Control) -> Addresses
 }
 
 // Basic QOS at a place, where it is on.
-fn qos_at(s: &[u8], on: u8, place: usize) -> Qos
+fn qos_at(s: &[u8], on: u8, place: usize) -> Option<Qos>
     requires { place + on ≤ length s.now }
     ensures { result ≡ qos_of s.now on place }
 {
     if on == 0 {
-        return Qos::Absent;
+        return None;
     }
     let octet = octets::octet_within(s, place);
-    Qos::Present(octet / 16, octet / 4 % 4, octet % 4)
+    let (routing, program) = (octet / 4 % 4, octet % 4);
+    Some(Qos {
+        precedence: octet / 16,
+        routing,
+        program,
+    })
 }
 
 // An element of one octet at a place, where it is on.
-fn element_at(s: &[u8], on: u8, place: usize) -> Octet
+fn element_at(s: &[u8], on: u8, place: usize) -> Option<u8>
     requires { place + on ≤ length s.now }
     ensures { result ≡ octet_of s.now on place }
 {
     if on == 0 {
-        return Octet::Absent;
+        return None;
     }
-    Octet::Present(octets::octet_within(s, place))
+    Some(octets::octet_within(s, place))
 }
 
 // The timestamp of a format at a place.
-fn stamp_at(s: &[u8], format: u8, place: usize) -> Timestamp
+fn stamp_at(s: &[u8], format: u8, place: usize) -> Option<Timestamp>
     requires { place + stamp_size format (octet s.now place) ≤ length s.now }
     ensures { result ≡ stamp_of s.now format place }
 {
     match format {
-        0 => Timestamp::Absent,
-        1 => Timestamp::Implicit(octets::number_at(s, place, 3)),
+        0 => None,
+        1 => Some(Timestamp::Implicit(octets::number_at(s, place, 3))),
         2 => {
             let p = octets::octet_within(s, place);
             let time_size = header::pfield::time_size(p);
-            Timestamp::Explicit(p, octets::number_at(s, place + 1, time_size))
+            Some(Timestamp::Explicit(p, octets::number_at(s, place + 1, time_size)))
         }
-        _ => Timestamp::Binary(octets::number_at(s, place, 4)),
+        _ => Some(Timestamp::Binary(octets::number_at(s, place, 4))),
     }
 }
 
@@ -99,18 +104,13 @@ pub fn fields_at(s: &[u8], k: Control, l: Layout) -> Fields
     requires { (forbidden k ≡ false) × ((l ≡ layout_of s.now k) × (l.size ≤ length s.now)) }
     ensures { result ≡ fields_of s.now k l }
 {
-    let addresses = addresses_at(s, k);
-    let qos = qos_at(s, control_bits::has_qos(k), l.qos);
-    let hops = element_at(s, control_bits::has_hops(k), l.hops);
-    let stamp = stamp_at(s, control_bits::format_bits(k), l.stamp);
-    let expanded = element_at(s, control_bits::has_expanded(k), l.expanded);
     Fields {
         tpid: octets::octet_at(s, 2) / 16,
-        addresses,
-        qos,
-        hops,
-        stamp,
-        expanded,
+        addresses: addresses_at(s, k),
+        qos: qos_at(s, control_bits::has_qos(k), l.qos),
+        hops: element_at(s, control_bits::has_hops(k), l.hops),
+        stamp: stamp_at(s, control_bits::format_bits(k), l.stamp),
+        expanded: element_at(s, control_bits::has_expanded(k), l.expanded),
         checksum: control_bits::has_checksum(k),
         intermediate: control_bits::is_intermediate(k),
     }

@@ -1,6 +1,6 @@
-// The reader: octets to a header, or the number of the first check that fails.
+// The reader: octets to a header, or the refusal of the first check that fails.
 //
-// The checks stand in page 01's order 1, 2, 1, 4, 3, 5, each a function that answers a `Check`. Places are found before it is known
+// The checks stand in page 01's order 1, 2, 1, 4, 3, 5, each a function that answers a `Check`, and each stage hands a refusal on by `?`. Places are found before it is known
 // that the octets reach that far: an octet past the end reads as 0, and check 3 refuses every header whose own length passes the
 // length field, or whose length field passes the octets lent, before a field is made of it. The awkward case is a P-field that lies
 // past the end: it reads as 0, which only makes the header too long by less, and the answer is 3 all the same.
@@ -8,23 +8,15 @@
 
 pub mod fields;
 
-ghost use Rattle.std.specs.Prelude.{◌≡◌, ◌≤◌, length, ltb};
-ghost use Rattle.checks.specs.Order.{check_of};
+ghost use Rattle.std.specs.Prelude.{◌≡◌, ◌≤◌, length, ltb, Ok};
+ghost use Rattle.checks.specs.Order.{check_of, outcome};
 ghost use Rattle.header.specs.Form.{layout_of, has_hops, has_checksum};
-ghost use Rattle.header.specs.Onward.{found_of};
-ghost use Rattle.header.specs.Read.{other_version, cut, misfit, wrong_checksum, read_of};
+ghost use Rattle.header.specs.Onward.{renewal_of};
+ghost use Rattle.header.specs.Read.{other_version, cut, misfit, wrong_checksum, read_refusals, header_of};
 ghost use Rattle.reader.specs.Stages.{front_of};
-ghost use Rattle.reader.specs.declared.Front.TheVariants.{Good};
 
-use checks::Check;
-use header::{Control, Found, Header, Layout, Read, Renewal, control_bits};
-
-// The control field, or the number of the check that refuses it.
-#[derive(Clone, Copy)]
-enum Front {
-    Good(Control),
-    Refused(u8),
-}
+use checks::{Check, Refusal};
+use header::{Control, Header, Layout, Renewal, control_bits};
 
 // At least three octets are lent.
 fn check_start(s: &[u8]) -> Check
@@ -58,23 +50,23 @@ fn check_whole(s: &[u8], k: Control) -> Check
 
 // The control field that the octets begin with, checks 1, 2, 1 and 4. A stage of its own: the compiler takes what stands behind a long row
 // of tests for rare, and would then call the fields' readers one by one.
-fn front_of(s: &[u8]) -> Front
+fn front_of(s: &[u8]) -> Result<Control, Refusal>
     ensures { result ≡ front_of s.now }
 {
     let Check::Passed = check_start(s) else {
-        return Front::Refused(1);
+        return Err(Refusal::TooShort);
     };
     let Check::Passed = check_version(s) else {
-        return Front::Refused(2);
+        return Err(Refusal::OtherVersion);
     };
     let k = layout::control_of(s);
     let Check::Passed = check_whole(s, k) else {
-        return Front::Refused(1);
+        return Err(Refusal::TooShort);
     };
     let Check::Passed = layout::check_form(k) else {
-        return Front::Refused(4);
+        return Err(Refusal::WrongForm);
     };
-    Front::Good(k)
+    Ok(k)
 }
 
 // The length field is within the octets lent and not under the header's own length.
@@ -120,16 +112,16 @@ fn renewal_of(k: Control, l: Layout) -> Renewal
 }
 
 // Finds the header behind its control field, checks 3 and 5.
-fn find_behind(s: &[u8], k: Control) -> Found
-    requires { Good k ≡ front_of s.now }
-    ensures { result ≡ found_of s.now }
+fn find_behind(s: &[u8], k: Control) -> Result<(Header, Renewal), Refusal>
+    requires { front_of s.now ≡ Ok k }
+    ensures { result ≡ outcome (read_refusals s.now) (header_of s.now, renewal_of s.now) }
 {
     let l = layout::layout_of(s, k);
     let Check::Passed = check_length(s, l) else {
-        return Found::Refused(3);
+        return Err(Refusal::WrongLength);
     };
     let Check::Passed = check_sum(s, k, l) else {
-        return Found::Refused(5);
+        return Err(Refusal::WrongChecksum);
     };
     let fields = crate::fields::fields_at(s, k, l);
     let header = Header {
@@ -137,25 +129,26 @@ fn find_behind(s: &[u8], k: Control) -> Found
         length: crate::fields::length_at(s),
         size: l.size,
     };
-    Found::Good(header, renewal_of(k, l))
+    Ok((header, renewal_of(k, l)))
 }
 
 // Finds the header that the octets begin with, and where it differs when it is sent on.
-pub fn find_header(s: &[u8]) -> Found
-    ensures { result ≡ found_of s.now }
+pub fn find_header(s: &[u8]) -> Result<(Header, Renewal), Refusal>
+    ensures { result ≡ outcome (read_refusals s.now) (header_of s.now, renewal_of s.now) }
 {
     match front_of(s) {
-        Front::Refused(number) => Found::Refused(number),
-        Front::Good(k) => find_behind(s, k),
+        Ok(k) => find_behind(s, k),
+        Err(early) => Err(early),
     }
 }
 
 // Reads the header that the octets begin with.
-pub fn read_header(s: &[u8]) -> Read
-    ensures { result ≡ read_of s.now }
+pub fn read_header(s: &[u8]) -> Result<Header, Refusal>
+    ensures { result ≡ outcome (read_refusals s.now) (header_of s.now) }
 {
+    // Matched, and not handed on by `?`: two wrong programs change what is answered here.
     match find_header(s) {
-        Found::Refused(number) => Read::Refused(number),
-        Found::Good(h, _) => Read::Good(h),
+        Ok((h, _)) => Ok(h),
+        Err(refusal) => Err(refusal),
     }
 }

@@ -7,7 +7,7 @@
 #![tactic(auto)]
 
 ghost use Rattle.std.specs.Prelude.{◌≡◌};
-ghost use Rattle.records.specs.Held.{holds_number, holds_group, holds_path, holds_pair};
+ghost use Rattle.records.specs.Held.{holds_group, holds_path, holds_pair};
 
 use address::{Address, Mask, PathAddress};
 
@@ -52,7 +52,7 @@ pub struct PathPlace {
 // The source and the timestamp of a flooded datagram: the source as four octets, the format of the timestamp, and its octets, the P-field with the time's upper
 // part in one word, and the time's lower part in another.
 #[repr(C)]
-#[derive(Clone, Copy)]
+#[derive(Clone, Copy, PartialEq, Eq)]
 pub struct Pair {
     pub format: u32,
     pub source: Address,
@@ -68,42 +68,23 @@ pub struct PairPlace {
     pub second: u32,
 }
 
-// Whether a place is filled, and by this address.
-fn holds(filled: u32, held: u32, wanted: u32) -> bool
-    ensures { result ≡ holds_number filled held wanted }
-{
-    if filled == 0 {
-        return false;
-    }
-    held == wanted
-}
-
-// Whether a place holds this group address.
+// Whether a place is filled, and by this group address.
 pub fn holds_group(g: Group, a: Address) -> bool
     ensures { result ≡ holds_group g a }
 {
-    holds(g.filled, g.address.0, a.0)
+    g.filled != 0 && g.address == a
 }
 
-// Whether a place holds this path address.
+// Whether a place is filled, and by this path address.
 pub fn holds_path(x: PathPlace, p: PathAddress) -> bool
     ensures { result ≡ holds_path x p }
 {
-    holds(x.filled, x.path.0, p.0)
+    x.filled != 0 && x.path == p
 }
 
 // Whether a place holds this pair: format, source and all octets of the timestamp are the same.
 pub fn holds_pair(x: PairPlace, q: Pair) -> bool
     ensures { result ≡ holds_pair x q }
 {
-    if x.pair.format != q.format {
-        return false;
-    }
-    if x.pair.source.0 != q.source.0 {
-        return false;
-    }
-    if x.pair.upper != q.upper {
-        return false;
-    }
-    x.pair.lower == q.lower
+    x.pair == q
 }

@@ -4,16 +4,11 @@ use mathlib.Core.Path.{◌≡◌, refl, sym}
 use mathlib.Core.Logic.{◌↔◌, ◌≢◌}
 use mathlib.Core.Bool.{Bool, true, false, not, ◌&&◌}
 use mathlib.Core.List.{[], ◌∷◌, ◌++◌}
-use lib.ListN.{drop}
 use lib.Dec.{eqb}
 use borrow.Author.Tests.{eqb-false, not-true}
 use Rattle.checks.proofs.Bools.{and_true}
 use Rattle.checks.specs.Order.{Checks, first_of, NoneHolds, FirstHolds, Numbered}
 use Rattle.checks.proofs.Laws.{zero_none, none_zero, number_first, first_number}
-
--- past the first n checks the others decide
-abbrev pub Past : ℕ → Checks → Type 0
-Past n all = first_of (drop n all) ≡ first_of all
 
 -- ---- a list within a list
 after : (t : Bool) (n : ℕ) (xs ys : Checks) → (first_of xs ≡ 0 → first_of (xs ++ ys) ≡ first_of ys)

@@ -1,6 +1,4 @@
--- The laws of the lists of tests. To be read: Decided; Chains is for every function that takes checks in a row; Ready serves the code's proofs,
--- Places the calls.
+-- The laws of the lists of tests. To be read: Decided; Chains is for every function that takes checks in a row; Places serves the calls.
 pub mod Chains
 pub mod Decided
-pub mod Ready
 pub mod Places

@@ -1,7 +1,8 @@
 -- What refuses a setting, with its numbers: page 01, "Settings" and "Refusal numbers" ("Settings are tested in the order 21, 25, 22, 24,
 -- 23, 35"); page 02, W-208. Each list has the tests of one setting in that order, and its first test that holds decides. Assumes nothing.
 use Rattle.std.specs.Prelude.{ℕ, not, List, [], ◌∷◌, ◌++◌, length}
-use Rattle.checks.specs.Order.{Checks}
+use Rattle.checks.specs.Order.{Checks, Refusals, numbered}
+use Rattle.checks.specs.declared.Refusal.TheVariants.{NoPlace, WrongMask, EntryElsewhere, CodeOutOfRange, WrongClass, WrittenAlready}
 use Rattle.address.specs.declared.Address.{Address}
 use Rattle.address.specs.declared.Mask.{Mask}
 use Rattle.address.specs.declared.PathAddress.{PathAddress}
@@ -20,15 +21,18 @@ use Rattle.refusals.specs.Ready.{ready_set}
 use Rattle.refusals.specs.Elsewhere.{group_elsewhere, path_elsewhere}
 
 -- A port has no 23: two ports may share an address. "A port is written once; a second writing is refused by 35", whosever the port is.
-abbrev pub port_checks : Board → ℕ → Address → Mask → ℕ → ℕ → Checks
-port_checks b p address mask mtu mission =
-    (place_refused p port_count, 21)
-    ∷ (port_class_refused address, 25)
-    ∷ (port_mask_refused address mask, 22)
-    ∷ (mtu_refused mtu, 24)
-    ∷ (not (is_mission mission), 24)
-    ∷ (is_set_up (owned_at b p).port, 35)
+abbrev pub port_refusals : Board → ℕ → Address → Mask → ℕ → ℕ → Refusals
+port_refusals b p address mask mtu mission =
+    (place_refused p port_count, NoPlace)
+    ∷ (port_class_refused address, WrongClass)
+    ∷ (port_mask_refused address mask, WrongMask)
+    ∷ (mtu_refused mtu, CodeOutOfRange)
+    ∷ (not (is_mission mission), CodeOutOfRange)
+    ∷ (is_set_up (owned_at b p).port, WrittenAlready)
     ∷ []
+
+abbrev pub port_checks : Board → ℕ → Address → Mask → ℕ → ℕ → Checks
+port_checks b p address mask mtu mission = numbered (port_refusals b p address mask mtu mission)
 
 -- A route has no 25. Between place and same entry stand the tests of its record: 21, 22, 24. A list over 512 records is refused before all else.
 abbrev pub route_checks : Board → List Record → ℕ → Record → Checks
@@ -38,23 +42,29 @@ route_checks b rs i x = (too_long rs, 21) ∷ (place_refused i (length rs), 21) 
 abbrev pub clear_route_checks : List Record → ℕ → Checks
 clear_route_checks rs i = (too_long rs, 21) ∷ (place_refused i (length rs), 21) ∷ []
 
+abbrev pub group_refusals : Relay → ℕ → Address → ℕ → ℕ → Refusals
+group_refusals r i address send subscribed =
+    (place_refused i group_places, NoPlace)
+    ∷ (set_refused send (ready_set r), NoPlace)
+    ∷ (set_refused subscribed (ready_set r), NoPlace)
+    ∷ (group_class_refused address, WrongClass)
+    ∷ (group_elsewhere r.mission i address, EntryElsewhere)
+    ∷ []
+
 abbrev pub group_checks : Relay → ℕ → Address → ℕ → ℕ → Checks
-group_checks r i address send subscribed =
-    (place_refused i group_places, 21)
-    ∷ (set_refused send (ready_set r), 21)
-    ∷ (set_refused subscribed (ready_set r), 21)
-    ∷ (group_class_refused address, 25)
-    ∷ (group_elsewhere r.mission i address, 23)
+group_checks r i address send subscribed = numbered (group_refusals r i address send subscribed)
+
+abbrev pub path_refusals : Relay → ℕ → PathAddress → ℕ → ℕ → Refusals
+path_refusals r i path send here =
+    (place_refused i path_places, NoPlace)
+    ∷ (set_refused send (ready_set r), NoPlace)
+    ∷ (path_class_refused path, WrongClass)
+    ∷ (flag_refused here, CodeOutOfRange)
+    ∷ (path_elsewhere r.mission i path, EntryElsewhere)
     ∷ []
 
 abbrev pub path_checks : Relay → ℕ → PathAddress → ℕ → ℕ → Checks
-path_checks r i path send here =
-    (place_refused i path_places, 21)
-    ∷ (set_refused send (ready_set r), 21)
-    ∷ (path_class_refused path, 25)
-    ∷ (flag_refused here, 24)
-    ∷ (path_elsewhere r.mission i path, 23)
-    ∷ []
+path_checks r i path send here = numbered (path_refusals r i path send here)
 
 -- router or host; echo drop on or off (page 02, W-203)
 abbrev pub flag_checks : ℕ → Checks

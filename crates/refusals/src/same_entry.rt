@@ -12,10 +12,11 @@ ghost use Rattle.refusals.specs.Elsewhere.{other_group, other_path, group_elsewh
 use address::{Address, PathAddress};
 use checks::Check;
 use sets::indexes::{GROUPS, PATHS};
+use state::MissionWords;
 
 // Place i is not the one that is written, and holds the group address.
-fn other_group(mission: &[u32], place: usize, a: Address, i: usize) -> bool
-    requires { (length mission.now ≡ mission_words) × (i < group_places) }
+fn other_group(mission: &MissionWords, place: usize, a: Address, i: usize) -> bool
+    requires { i < group_places }
     ensures { result ≡ other_group (decode mission.now).mission place a i }
 {
     if i == place {
@@ -25,23 +26,20 @@ fn other_group(mission: &[u32], place: usize, a: Address, i: usize) -> bool
 }
 
 // Refusal 23 of a group.
-pub fn check_other_groups(mission: &[u32], place: usize, a: Address) -> Check
-    requires { length mission.now ≡ mission_words }
+pub fn check_other_groups(mission: &MissionWords, place: usize, a: Address) -> Check
     ensures { result ≡ check_of (group_elsewhere (decode mission.now).mission place a) }
 {
-    let mut i = 0;
-    while i < GROUPS {
+    for i in 0..GROUPS {
         if other_group(mission, place, a, i) {
             return Check::Failed;
         }
-        i += 1;
     }
     Check::Passed
 }
 
 // Place i is not the one that is written, and holds the path address.
-fn other_path(mission: &[u32], place: usize, p: PathAddress, i: usize) -> bool
-    requires { (length mission.now ≡ mission_words) × (i < path_places) }
+fn other_path(mission: &MissionWords, place: usize, p: PathAddress, i: usize) -> bool
+    requires { i < path_places }
     ensures { result ≡ other_path (decode mission.now).mission place p i }
 {
     if i == place {
@@ -51,16 +49,13 @@ fn other_path(mission: &[u32], place: usize, p: PathAddress, i: usize) -> bool
 }
 
 // Refusal 23 of a path.
-pub fn check_other_paths(mission: &[u32], place: usize, p: PathAddress) -> Check
-    requires { length mission.now ≡ mission_words }
+pub fn check_other_paths(mission: &MissionWords, place: usize, p: PathAddress) -> Check
     ensures { result ≡ check_of (path_elsewhere (decode mission.now).mission place p) }
 {
-    let mut i = 0;
-    while i < PATHS {
+    for i in 0..PATHS {
         if other_path(mission, place, p, i) {
             return Check::Failed;
         }
-        i += 1;
     }
     Check::Passed
 }

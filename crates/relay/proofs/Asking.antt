@@ -6,26 +6,17 @@ use mathlib.Core.Bool.{Bool, true, false}
 use mathlib.Core.List.{List}
 use lib.ListN.{length}
 use lib.Dec.{eqb, ltb}
-use borrow.Author.Tests.{eq-eqb, ne_eqb, lt-ltb, le-ltb, ltb-true, ltb-false, eqb-true, eqb-false}
+use borrow.Author.Tests.{lt-ltb, le-ltb, ltb-true, ltb-false, eqb-true, eqb-false}
 use Rattle.state.specs.Seen.{Board, State, seated}
 use Rattle.state.specs.Layout.{board_words, mission_words, decode_board, decode}
 use Rattle.lent_state.proofs.Calls.{both_held_told, no_board_told, no_mission_told}
-use Rattle.verdict.specs.declared.Target.{Target}
-use Rattle.verdict.specs.declared.Target.TheVariants as target
 use Rattle.judge.specs.declared.Asked.{Asked}
 use Rattle.judge.specs.Ending.{output_room}
-use Rattle.judge.specs.Asked.{route_sought, refused_asked, datagram_asked}
+use Rattle.judge.specs.Asked.{refused_asked, datagram_asked}
 use Rattle.judge.proofs.Took.{WasRead, asked_good}
 use Rattle.judge.proofs.Remembering.{asked_placed}
 use Rattle.floods.specs.Memory.{InPlaces}
 use Rattle.relay.specs.Split.{asked_of, Following}
-
--- ---- a route is sought by the route line alone, on a router
-pub routed_not : {t : Target} (router : ℕ) → t ≡ target.Route → router ≡ 0 → 0 ≡ route_sought t router
-routed_not router e h = rw e (simp (eq-eqb router 0 h))
-
-pub routed : {t : Target} (router : ℕ) → t ≡ target.Route → (router ≡ 0 → ⊥) → 1 ≡ route_sought t router
-routed router e h = rw e (simp (ne_eqb router 0 h))
 
 -- ---- what is asked
 module _ (b w : List ℕ) (port second : ℕ) (octets : List ℕ) (room : ℕ) where

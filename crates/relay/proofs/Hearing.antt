@@ -1,4 +1,5 @@
 -- The two halves of receiving, with the scan of the list between them, do to what is lent what hearing the datagram does. Assumes nothing.
+use Rattle.std.specs.Prelude.{Option}
 use Prim.Native.Nat.{ℕ}
 use mathlib.Core.Path.{◌≡◌, refl, sym, ap, subst, ◌∙◌}
 use mathlib.Core.Bool.{Bool, true, false}
@@ -97,7 +98,7 @@ module _ (b w : List ℕ) (rs : List Record) (port slot second : ℕ) (octets ou
   -- ---- they do not: nothing is asked, and nothing is written
   module _ (no_answer_lem : (A : Type 0) (f : Board → State → A) (d : A) → d ≡ told_both f d b w)
       (no_change : (f : Board → State → State) → lent w ≡ changed_both f b w) where
-    nobody : (r : Relay) (t : Bool) (way : Way) → finished_of r (pick t (refused_asked 21) (refused_asked 16)) way ≡ refused_by (pick t 21 16)
+    nobody : (r : Relay) (t : Bool) (way : Option Way) → finished_of r (pick t (refused_asked 21) (refused_asked 16)) way ≡ refused_by (pick t 21 16)
     unfolding finished_of
     nobody r true way = refl
     nobody r false way = refl

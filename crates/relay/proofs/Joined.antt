@@ -1,5 +1,6 @@
 -- Judged, scanned and finished: where the words hold a board and a mission's state, the ending, and what is remembered, are those of page 01's relay as
 -- the mission sees it with the list. Assumes nothing.
+use Rattle.std.specs.Prelude.{None}
 use Prim.Native.Nat.{ℕ}
 use mathlib.Core.Path.{◌≡◌, refl, sym, ap, ◌∙◌}
 use mathlib.Core.Bool.{Bool, true, false}
@@ -15,20 +16,18 @@ use Rattle.state.specs.Seen.{Board, State, ports_seen, seated}
 use Rattle.state.specs.Layout.{board_words, mission_words, decode_board, decode}
 use Rattle.lent_state.specs.View.{too_long}
 use Rattle.lent_state.proofs.Calls.{both_held_told}
-use Rattle.header.specs.Read.{read_of}
+use Rattle.header.specs.Read.{read_of, Read}
 use Rattle.header.specs.declared.Header.{Header}
-use Rattle.header.specs.declared.Read.{Read}
-use Rattle.header.specs.declared.Read.TheVariants as read
+use Rattle.checks.specs.Told.{Good, Refused}
 use Rattle.meaning.specs.Names.{aim_of}
 use Rattle.meaning.specs.declared.Aim.{Aim}
 use Rattle.meaning.specs.declared.Aim.TheVariants as aim
-use Rattle.verdict.specs.declared.Way.TheVariants.{By, Lost}
 use Rattle.lookup.specs.ForTarget.{way_of}
 use Rattle.listing.specs.declared.Scan.{Scan}
 use Rattle.listing.specs.Scan.{scan_of}
 use Rattle.listing.specs.Listed.{routes_seen, seen}
 use Rattle.listing.proofs.Loop.{scan_nothing}
-use Rattle.listing.proofs.Searched.{search_by}
+use Rattle.listing.proofs.Searched.{search_found}
 use Rattle.judge.specs.declared.Asked.{Asked}
 use Rattle.judge.specs.Asked.{searched_in, refused_asked, datagram_asked, finished_of}
 use Rattle.judge.specs.Ruling.{flood_for}
@@ -39,7 +38,7 @@ use Rattle.judge.proofs.Finished.{finished_is}
 use Rattle.judge.proofs.Searching.{search_asks}
 use Rattle.judge.proofs.Remembering.{remembered_is}
 use Rattle.relay.specs.Received.{heard_ending, heard_memory}
-use Rattle.relay.specs.Split.{asked_of, query_of, way_in, ending_after}
+use Rattle.relay.specs.Split.{asked_of, best_if, query_of, way_in, ending_after}
 
 -- what is remembered is asked of no route
 module _ (r : Relay) (rs : List Route) (second : ℕ) where
@@ -50,8 +49,8 @@ module _ (r : Relay) (rs : List Route) (second : ℕ) where
 
   octets_same : (at : Arrival) (x : Read) → octets_memory r at second x ≡ octets_memory (all_routes r rs) at second x
   unfolding header_memory
-  octets_same at (read.Good h) = simp (flood_same at (aim_of at.address.0 h.fields.addresses) h)
-  octets_same at (read.Refused n) = refl
+  octets_same at (Good h) = simp (flood_same at (aim_of at.address.0 h.fields.addresses) h)
+  octets_same at (Refused n) = refl
 
   memory_same : (port : ℕ) (octets : List ℕ) (room : ℕ) → memory_of r port second octets room ≡ memory_of (all_routes r rs) port second octets room
   unfolding memory_of call_checks
@@ -65,16 +64,16 @@ module _ (x : Board) (s : State) (rs : List Record) (port second : ℕ) (octets 
   scanned = scan_of (query_of asked) rs
 
   -- the scan found what the search finds
-  way_is : searched_in asked ≡ 1 → way_in scanned ≡ way_of (search_of (record { 0 = (query_of asked).address }) (routes_seen x s.number rs))
+  way_is : searched_in asked ≡ true → way_in scanned ≡ way_of (search_of (record { 0 = (query_of asked).address }) (routes_seen x s.number rs))
   way_is e =
       let asks = search_asks (seated x s) s.number port second octets room e in
       let own : asked.ready ≡ ready_of (ports_seen asked.number x) = asks.1 ∙ ap (λ (n : ℕ). ready_of (ports_seen n x)) (sym asks.0) in
-      sym (search_by x (query_of asked) own e rs way_of Lost (λ (place ones to code : ℕ). By (only_port to) code) refl (λ place ones r. refl))
+      sym (search_found x (query_of asked) own (ap best_if e) rs way_of (λ (place ones to code : ℕ). record { port = only_port to; code = code }) refl (λ place ones r. refl))
       ∙ ap (λ (n : ℕ). way_of (search_of (record { 0 = (query_of asked).address }) (routes_seen x n rs))) asks.0
 
   -- nothing is found where nothing is sought
-  no_way : searched_in asked ≡ 0 → way_in scanned ≡ Lost
-  no_way e = ap way_in (scan_nothing rs (query_of asked) e)
+  no_way : searched_in asked ≡ false → way_in scanned ≡ None
+  no_way e = ap way_in (scan_nothing rs (query_of asked) (ap best_if e))
 
   finished : finished_of (seated x s) asked (way_in scanned) ≡ ending_of (seen x s rs) port second octets room
   finished = finished_is (seated x s) (routes_seen x s.number rs) s.number (way_in scanned) port second octets room (way_is, no_way)

@@ -1,4 +1,5 @@
 -- What receiving leaves: counted and entered, or refused. Over plain variables. Assumes nothing.
+use Rattle.std.specs.Prelude.{Option}
 use Prim.Native.Nat.{ℕ}
 use mathlib.Core.Path.{◌≡◌, refl, sym, ap, ◌∙◌}
 use mathlib.Core.List.{List}
@@ -156,7 +157,7 @@ module _ (b w octets output : List ℕ) (slot second : ℕ) (a : Asked) (s : Sca
         ),
       )
 
-  pub after_done : (v : List ℕ) {out : List ℕ} {answer : ℕ} {way : Way} {e : Ending} {y : State}
+  pub after_done : (v : List ℕ) {out : List ℕ} {answer : ℕ} {way : Option Way} {e : Ending} {y : State}
       → a.refusal ≡ 0
       → length b ≡ board_words → length w ≡ mission_words → length v ≡ mission_words
       → way ≡ way_in s

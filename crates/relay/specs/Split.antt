@@ -1,6 +1,7 @@
 -- Receiving in two steps, with the scan of the list of routes between them: the list is lent, and no function but the scan and the exported call sees it
 -- (page 02, W-208). b is the board's words, w the mission's. Assumes nothing.
-use Rattle.std.specs.Prelude.{ℕ, ◌≡◌, List, eqb, ltb, length}
+use Rattle.std.specs.Prelude.{ℕ, ◌≡◌, Bool, List, ltb, length, Option}
+use Rattle.std.specs.Option.{option_map}
 use Rattle.checks.specs.Order.{pick}
 use Rattle.address.specs.declared.Slot.{Slot}
 use Rattle.sets.specs.Limits.{route_places}
@@ -9,9 +10,11 @@ use Rattle.state.specs.Seen.{Board, State, seated}
 use Rattle.state.specs.Layout.{board_words, decode_board, mission_words, decode}
 use Rattle.lent_state.specs.View.{Lent, told_both, changed_both}
 use Rattle.verdict.specs.declared.Way.{Way}
-use Rattle.verdict.specs.declared.Way.TheVariants.{By, Lost}
 use Rattle.survey.specs.declared.names.Names.{Names}
+use Rattle.listing.specs.declared.Sought.{Sought}
+use Rattle.listing.specs.declared.Sought.TheVariants.{Nothing, Best}
 use Rattle.listing.specs.declared.Query.{Query}
+use Rattle.listing.specs.declared.Match.{Match}
 use Rattle.listing.specs.declared.Scan.{Scan}
 use Rattle.judge.specs.declared.Asked.{Asked}
 use Rattle.judge.specs.declared.Ending.{Ending}
@@ -32,12 +35,15 @@ asked_of b w count port second octets room =
     pick (ltb route_places count) (refused_asked 21)
     (told_both (λ (x : Board) (s : State). datagram_asked (seated x s) s.number port second octets room) (refused_asked 16) b w)
 
+abbrev pub best_if : Bool → Sought
+best_if searched = pick searched Best Nothing
+
 -- what is asked of the list: the best route, where the route line decides
 abbrev pub query_of : Asked → Query
 query_of a =
     record {
       refusal = a.refusal;
-      sought = searched_in a;
+      sought = best_if (searched_in a);
       address = address_in a.destination;
       mask = 0;
       mission = a.number;
@@ -45,8 +51,8 @@ query_of a =
     }
 
 -- ---- after: the route that the scan found, if any
-abbrev pub way_in : Scan → Way
-way_in s = pick (eqb s.found 0) Lost (By (only_port s.port) s.capabilities)
+abbrev pub way_in : Scan → Option Way
+way_in s = option_map (λ (found : Match). record { port = only_port found.port; code = found.capabilities }) s.found
 
 unfoldable pub ending_after : List ℕ → List ℕ → Asked → Scan → Ending
 ending_after b w a s = finished_of (seated (decode_board b) (decode w)) a (way_in s)

@@ -12,8 +12,7 @@
 
 pub mod outgoing;
 
-ghost use Rattle.std.specs.Prelude.{◌≡◌, List, ℕ, ◌≤◌, eqb, length};
-ghost use Rattle.checks.specs.Order.{pick};
+ghost use Rattle.std.specs.Prelude.{◌≡◌, List, ℕ, ◌≤◌, ◌&&◌, eqb, length};
 ghost use Rattle.address.specs.declared.Slot.{Slot};
 ghost use Rattle.header.specs.Form.{places_of};
 ghost use Rattle.header.specs.Onward.{renewal_of};
@@ -30,6 +29,7 @@ ghost use Rattle.relay.specs.Received.{received_state};
 ghost use Rattle.relay.specs.Split.{
   Naming,
   asked_of,
+  best_if,
   query_of,
   way_in,
   Counted,
@@ -43,8 +43,9 @@ ghost use Rattle.relay.specs.Split.{
 use address::Slot;
 use header::{Header, Renewal};
 use judge::{Asked, Ending};
-use listing::{Query, Scan};
+use listing::{Query, Scan, Sought};
 use queue::Entry;
+use state::{BoardWords, MISSION_WORDS, MissionWords};
 use survey::names::Names;
 use verdict::{Flood, Target, Way};
 
@@ -65,12 +66,12 @@ pub fn before_named(
     if (sets::ROUTES as usize) < count {
         return judge::refused(21);
     }
-    if board.len() != state_board::BOARD_WORDS {
+    let Ok(board) = <&BoardWords>::try_from(board) else {
         return judge::refused(16);
-    }
-    if mission.len() != state_mission::MISSION_WORDS {
+    };
+    let Ok(mission) = <&MissionWords>::try_from(mission) else {
         return judge::refused(16);
-    }
+    };
     judge::judge(board, mission, port, second, octets, room, names)
 }
 
@@ -98,43 +99,42 @@ pub fn before(
     )
 }
 
-// 1 where a route is to be searched: nothing refuses, and the route line decides, on a router.
-fn route_sought(target: Target, router: u32) -> u32
+// Whether the route line decides, on a router.
+fn is_route_sought(target: Target, router: u32) -> bool
     ensures { result ≡ route_sought target router }
 {
     match target {
-        Target::Here => 0,
-        Target::Broadcast => 0,
-        Target::Group => 0,
-        Target::Path => 0,
-        Target::Route => {
-            if router == 0 {
-                return 0;
-            }
-            1
-        }
+        Target::Here | Target::Broadcast | Target::Group | Target::Path => false,
+        Target::Route => router != 0,
     }
 }
 
 // And none by a datagram that is flooded.
-fn unless_flood(flood: Flood, sought: u32) -> u32
+fn is_sought_unless_flood(flood: Flood, sought: bool) -> bool
     ensures { result ≡ unless_flood flood sought }
 {
     match flood {
         Flood::Plain => sought,
-        Flood::Unsent => 0,
-        Flood::Full => 0,
-        Flood::New(_) => 0,
+        Flood::Unsent | Flood::Full | Flood::New(_) => false,
     }
 }
 
-fn searched_in(refusal: u32, target: Target, router: u32, flood: Flood) -> u32
-    ensures { result ≡ pick (eqb refusal 0) (unless_flood flood (route_sought target router)) 0 }
+// Whether a route is to be searched: nothing refuses, and the route line decides.
+fn is_searched(refusal: u32, target: Target, router: u32, flood: Flood) -> bool
+    ensures { result ≡ (eqb refusal 0 && unless_flood flood (route_sought target router)) }
 {
-    if refusal != 0 {
-        return 0;
+    refusal == 0 && is_sought_unless_flood(flood, is_route_sought(target, router))
+}
+
+// The best route is sought, or nothing is.
+pub fn best_if(searched: bool) -> Sought
+    ensures { result ≡ best_if searched }
+{
+    if searched {
+        Sought::Best
+    } else {
+        Sought::Nothing
     }
-    unless_flood(flood, route_sought(target, router))
 }
 
 // What is asked of the list of routes.
@@ -147,7 +147,7 @@ pub fn query_of(a: Asked) -> Query
     let destination = a.destination;
     Query {
         refusal: a.refusal,
-        sought: searched_in(a.refusal, target, case.router, flood),
+        sought: best_if(is_searched(a.refusal, target, case.router, flood)),
         address: judge::address_in(destination),
         mask: 0,
         mission: a.number,
@@ -156,13 +156,13 @@ pub fn query_of(a: Asked) -> Query
 }
 
 // The way by the route that was found.
-pub fn way_in(s: Scan) -> Way
+pub fn way_in(s: Scan) -> Option<Way>
     ensures { result ≡ way_in s }
 {
-    if s.found == 0 {
-        return Way::Lost;
-    }
-    Way::By(sets::only_port(s.port), s.capabilities)
+    s.found.map(|found| Way {
+        port: sets::only_port(found.port),
+        code: found.capabilities,
+    })
 }
 
 // A refusal: counted, and its second accepted, but for 16, 17, 21 and 29.
@@ -186,6 +186,7 @@ pub fn refuse(mission: &mut [u32], refusal: u32, second: u32) -> u64
     if refusal == 29 {
         return answer;
     }
+    let mission = mission.as_mut_array::<MISSION_WORDS>().unwrap();
     tally::count(mission, e);
     state_pairs::put_last(mission, second);
     answer
@@ -193,7 +194,7 @@ pub fn refuse(mission: &mut [u32], refusal: u32, second: u32) -> u64
 
 // An ending carried out: counted, entered and sent on.
 fn carry_out(
-    mission: &mut [u32],
+    mission: &mut MissionWords,
     slot: Slot,
     octets: &[u8],
     output: &mut [u8],
@@ -201,9 +202,8 @@ fn carry_out(
     header: Header,
     renewal: Renewal,
 ) -> u64
-    requires { (length mission.old ≡ mission_words)
-        × ((output_room ≤ length output.old)
-        × (Sound header × ((header ≡ header_of octets.now) × (((places_of octets.now).size ≤ length octets.now) × (renewal ≡ renewal_of octets.now))))) }
+    requires { (output_room ≤ length output.old)
+        × (Sound header × ((header ≡ header_of octets.now) × (((places_of octets.now).size ≤ length octets.now) × (renewal ≡ renewal_of octets.now)))) }
     ensures value { result ≡ receive_number e }
     ensures mission_after { (b : Board) → decode mission.new ≡ received_state b (decode mission.old) slot (decode mission.old).memory e }
     ensures output_after { output.new ≡ sent_output e octets.now output.old }
@@ -249,6 +249,8 @@ pub fn after(
     let arrival = a.arrival;
     let case = a.case;
     let flood = case.flood;
+    let board = <&BoardWords>::try_from(board).unwrap();
+    let mission = mission.as_mut_array::<MISSION_WORDS>().unwrap();
     let way = way_in(s);
     let e = judge::finishing::finish(board, mission, a, way);
     let answer = carry_out(mission, Slot(slot), octets, output, e, header, renewal);

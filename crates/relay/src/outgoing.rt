@@ -20,10 +20,11 @@ use header::{Header, Renewal};
 use next_leg::Legs;
 use queue::Entry;
 use sets::indexes::PORTS;
+use state::MissionWords;
 
 // The entry in the queue of a port.
-fn enter(mission: &mut [u32], p: usize, e: Entry)
-    requires { (length mission.old ≡ mission_words) × (p < port_count) }
+fn enter(mission: &mut MissionWords, p: usize, e: Entry)
+    requires { p < port_count }
     ensures { (b : Board) → decode mission.new ≡ on_seated b (λ r. entered r p e) (decode mission.old) }
 {
     let q = state_queues::queue_of(mission, p);
@@ -33,8 +34,8 @@ fn enter(mission: &mut [u32], p: usize, e: Entry)
 }
 
 // The entry in the queue of a port, where the port is in the set.
-fn enter_if(mission: &mut [u32], p: usize, took: u32, e: Entry)
-    requires { (length mission.old ≡ mission_words) × (p < port_count) }
+fn enter_if(mission: &mut MissionWords, p: usize, took: u32, e: Entry)
+    requires { p < port_count }
     ensures { (b : Board) → decode mission.new ≡ on_seated b (λ r. entered_if r took e p) (decode mission.old) }
 {
     if took & sets::only_port(p as u32) == 0 {
@@ -44,14 +45,11 @@ fn enter_if(mission: &mut [u32], p: usize, took: u32, e: Entry)
 }
 
 // The entry in the queue of each port of the set.
-pub fn enter_all(mission: &mut [u32], took: u32, e: Entry)
-    requires { length mission.old ≡ mission_words }
+pub fn enter_all(mission: &mut MissionWords, took: u32, e: Entry)
     ensures { (b : Board) → decode mission.new ≡ on_seated b (λ r. entered_all r took e port_count) (decode mission.old) }
 {
-    let mut p = 0;
-    while p < PORTS {
+    for p in 0..PORTS {
         enter_if(mission, p, took, e);
-        p += 1;
     }
 }
 
@@ -77,10 +75,8 @@ fn send_each(took: u32, far: u32, near: &[u8], other: &[u8], output: &mut [u8])
     requires { (output_room ≤ length output.old) × ((length near.now ≤ longest_header) × (length other.now ≤ longest_header)) }
     ensures { output.new ≡ chosen_below took far near.now other.now output.old port_count }
 {
-    let mut p = 0;
-    while p < PORTS {
+    for p in 0..PORTS {
         send_if(p, took, far, near, other, output);
-        p += 1;
     }
 }
 

@@ -1,4 +1,5 @@
 -- The reply to octets that came in by a port, stage by stage, over plain variables. Assumes nothing.
+use Rattle.std.specs.Prelude.{Option}
 use native.Mathlib.Omega.{arith}
 use Prim.Native.Nat.{ℕ, ◌≤◌, ◌<◌}
 use mathlib.Core.Path.{◌≡◌, refl, sym, ap, subst⁻¹, ◌∙◌}
@@ -31,7 +32,7 @@ use Rattle.replies.specs.Request.{asking_of}
 use Rattle.replies.specs.Reply.{no_answer, asked_by, is_asked, answer_to, Within}
 use Rattle.replies.specs.Replied.{call_checks, heard_answer, answering_of}
 use Rattle.replies.specs.declared.Answering.{Answering}
-use Rattle.replies.specs.declared.request.Asking.{Asking}
+use Rattle.replies.specs.declared.request.Request.{Request}
 use Rattle.replies.proofs.Chosen.{denied, granted}
 
 -- ---- a header that was judged
@@ -44,10 +45,10 @@ module _ (dropping : ℕ) (a : Asked) (s : Survey) (mtu : ℕ) (octets : List �
   unfolding answer_to
   not_asked_lem h is = simp (denied (is_asked dropping a s) et h) is
 
-  pub is_asked_lem : not t ≡ false → {x : Asking} (v : Asking) → x ≡ asking_of a.header octets → x ≡ v → e ≡ asked_by v a s mtu
+  pub is_asked_lem : not t ≡ false → {x : Option Request} (v : Option Request) → x ≡ asking_of a.header octets → x ≡ v → e ≡ asked_by v a s mtu
       → e ≡ answer_to dropping a s mtu octets
   unfolding answer_to
-  is_asked_lem h v ex ev is = simp (granted (is_asked dropping a s) et h) (is ∙ ap (λ (y : Asking). asked_by y a s mtu) (sym ev ∙ ex))
+  is_asked_lem h v ex ev is = simp (granted (is_asked dropping a s) et h) (is ∙ ap (λ (y : Option Request). asked_by y a s mtu) (sym ev ∙ ex))
 
 -- ---- octets that were read
 pub within_read : (r : Relay) (number : ℕ) (at : Arrival) (octets : List ℕ) {a : Asked} → a ≡ octets_asked r number at (found_of octets) → Within a octets

@@ -1,4 +1,5 @@
 -- Which datagrams are answered, test by test, over plain variables. Assumes nothing.
+use Rattle.std.specs.Prelude.{Option, Some, None}
 use native.Mathlib.Omega.{arith}
 use Prim.Native.Nat.{ℕ, ◌+◌, ◌≤◌}
 use mathlib.Core.Path.{◌≡◌, refl, sym, ap, ◌∙◌}
@@ -9,17 +10,15 @@ use borrow.Author.Tests.{not-true, not-false}
 use Rattle.checks.proofs.Bools.{true_false}
 use Rattle.header.specs.declared.Header.{Header}
 use Rattle.next_leg.specs.Leg.{data_of}
-use Rattle.echo.specs.Message.{request_size, reading_of}
+use Rattle.echo.specs.Message.{request_size, reading_of, Reading}
 use Rattle.echo.proofs.Refusals.{passed}
 use Rattle.echo.specs.declared.Kind.{Kind}
-use Rattle.echo.specs.declared.Kind.TheVariants.{Request, Reply}
+use Rattle.echo.specs.declared.Kind.TheVariants as kind
 use Rattle.echo.specs.declared.Seen.{Seen}
 use Rattle.echo.specs.declared.Message.{Message}
-use Rattle.echo.specs.declared.Reading.{Reading}
-use Rattle.echo.specs.declared.Reading.TheVariants.{Good, Refused}
+use Rattle.checks.specs.Told.{Good, Refused}
 use Rattle.replies.specs.Request.{user_data, asking_by, asking_in, asking_of}
-use Rattle.replies.specs.declared.request.Asking.{Asking}
-use Rattle.replies.specs.declared.request.Asking.TheVariants.{Asks, Nothing}
+use Rattle.replies.specs.declared.request.Request.{Request}
 
 -- ---- tests in a row: the first that fails ends them
 pub and_stops : (v w : Bool) → v ≡ false → false ≡ (v && w)
@@ -53,16 +52,16 @@ module _ (owned many : Bool) {t u : Bool} (et : t ≡ owned) (eu : u ≡ many) w
       and_goes (not owned) (many || broadcast) (so_not owned et h) (is ∙ ap (λ (y : Bool). y || broadcast) (sym k ∙ eu))
 
 -- ---- the message
-pub asks_by : {k : Kind} (identifier sequence : ℕ) → k ≡ Request → Asks identifier sequence ≡ asking_by k identifier sequence
+pub asks_by : {k : Kind} (identifier sequence : ℕ) → k ≡ kind.Request → Some (record { identifier = identifier; sequence = sequence }) ≡ asking_by k identifier sequence
 asks_by identifier sequence e = sym (ap (λ (x : Kind). asking_by x identifier sequence) e)
 
-pub asks_nothing : {k : Kind} (identifier sequence : ℕ) (s : Seen) → k ≡ Reply s → Nothing ≡ asking_by k identifier sequence
+pub asks_nothing : {k : Kind} (identifier sequence : ℕ) (s : Seen) → k ≡ kind.Reply s → None ≡ asking_by k identifier sequence
 asks_nothing identifier sequence s e = sym (ap (λ (x : Kind). asking_by x identifier sequence) e)
 
-pub asks_in : {r : Reading} {x : Asking} (m : Message) → r ≡ Good m → x ≡ asking_by m.kind m.identifier m.sequence → x ≡ asking_in r
+pub asks_in : {r : Reading} {x : Option Request} (m : Message) → r ≡ Good m → x ≡ asking_by m.kind m.identifier m.sequence → x ≡ asking_in r
 asks_in m e is = is ∙ sym (ap asking_in e)
 
-pub asks_of : (h : Header) (octets : List ℕ) {r : Reading} {x : Asking} → r ≡ reading_of (user_data h octets) → x ≡ asking_in r → x ≡ asking_of h octets
+pub asks_of : (h : Header) (octets : List ℕ) {r : Reading} {x : Option Request} → r ≡ reading_of (user_data h octets) → x ≡ asking_in r → x ≡ asking_of h octets
 unfolding asking_of
 asks_of h octets e is = is ∙ ap asking_in e
 
@@ -70,43 +69,43 @@ asks_of h octets e is = is ∙ ap asking_in e
 pub record Asking_read (s : List ℕ) (x y : ℕ) : Type 0 where
   pub message : Message
   pub reads : reading_of s ≡ Good message
-  pub request : message.kind ≡ Request
+  pub request : message.kind ≡ kind.Request
   pub identifier : message.identifier ≡ x
   pub sequence : message.sequence ≡ y
 
--- an Asking's two numbers
-abbrev number_in : Asking → ℕ
-number_in (Asks identifier sequence) = identifier
-number_in Nothing = 0
+-- the two numbers of what asks
+abbrev number_in : Option Request → ℕ
+number_in (Some request) = request.identifier
+number_in None = 0
 
-abbrev sequence_in : Asking → ℕ
-sequence_in (Asks identifier sequence) = sequence
-sequence_in Nothing = 0
+abbrev sequence_in : Option Request → ℕ
+sequence_in (Some request) = request.sequence
+sequence_in None = 0
 
-abbrev is_asking : Asking → Bool
-is_asking (Asks identifier sequence) = true
-is_asking Nothing = false
+abbrev is_asking : Option Request → Bool
+is_asking (Some request) = true
+is_asking None = false
 
-pub nothing_asks : {X : Type 0} {identifier sequence : ℕ} → Nothing ≡ Asks identifier sequence → X
+pub nothing_asks : {X : Type 0} {request : Request} → None ≡ Some request → X
 nothing_asks e = true_false (sym (ap is_asking e))
 
-module _ (s : List ℕ) (identifier sequence : ℕ) where
-  by_kind : (m : Message) → reading_of s ≡ Good m → (k : Kind) → m.kind ≡ k → asking_by k m.identifier m.sequence ≡ Asks identifier sequence
-      → Asking_read s identifier sequence
-  by_kind m e Request ek is =
+module _ (s : List ℕ) (request : Request) where
+  by_kind : (m : Message) → reading_of s ≡ Good m → (k : Kind) → m.kind ≡ k → asking_by k m.identifier m.sequence ≡ Some request
+      → Asking_read s request.identifier request.sequence
+  by_kind m e kind.Request ek is =
       record { message = m; reads = e; request = ek; identifier = ap number_in is; sequence = ap sequence_in is }
-  by_kind m e (Reply x) ek is = nothing_asks is
+  by_kind m e (kind.Reply x) ek is = nothing_asks is
 
-  by_reading : (r : Reading) → reading_of s ≡ r → asking_in r ≡ Asks identifier sequence → Asking_read s identifier sequence
+  by_reading : (r : Reading) → reading_of s ≡ r → asking_in r ≡ Some request → Asking_read s request.identifier request.sequence
   by_reading (Good m) e is = by_kind m e m.kind refl is
   by_reading (Refused n) e is = nothing_asks is
 
-  pub asking_read : asking_in (reading_of s) ≡ Asks identifier sequence → Asking_read s identifier sequence
+  pub asking_read : asking_in (reading_of s) ≡ Some request → Asking_read s request.identifier request.sequence
   asking_read is = by_reading (reading_of s) refl is
 
 -- it has the octets of a request
-pub asks_long : (h : Header) (octets : List ℕ) {identifier sequence : ℕ} → asking_of h octets ≡ Asks identifier sequence → h.size + request_size ≤ h.length
+pub asks_long : (h : Header) (octets : List ℕ) {request : Request} → asking_of h octets ≡ Some request → h.size + request_size ≤ h.length
 unfolding asking_of
-asks_long h octets is =
-    let a = asking_read (user_data h octets) _ _ is in
+asks_long h octets {request} is =
+    let a = asking_read (user_data h octets) request is in
     omega (arith, (passed (user_data h octets) a.message a.reads).long, length-take (data_of h) (drop h.size octets))

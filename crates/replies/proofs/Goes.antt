@@ -1,4 +1,5 @@
 -- What is so of a reply that goes: it fits the room and the port, and has the octets that are told. Assumes nothing.
+use Rattle.std.specs.Prelude.{Option, Some, None}
 use native.Mathlib.Omega.{arith}
 use native.Mathlib.Nat.{div-eq_of_lt}
 use Prim.Native.Nat.{ℕ, ◌%◌, ◌≤◌, ◌<◌}
@@ -31,7 +32,6 @@ use Rattle.verdict.specs.declared.Local.TheVariants.{No}
 use Rattle.verdict.specs.declared.Ruling.{Ruling}
 use Rattle.verdict.specs.declared.Survey.{Survey}
 use Rattle.verdict.specs.declared.Way.{Way}
-use Rattle.verdict.specs.declared.Way.TheVariants.{By, Lost}
 use Rattle.verdict.specs.declared.Wish.TheVariants.{Refused, Wanted}
 use Rattle.verdict.specs.declared.Obstacle.TheVariants.{TooBig}
 use Rattle.replies.specs.Replied.{answering_of, wire_fields, message_size, wire_length, within_room, sought_for, no_reply, replied_among, replied_via, replied_to, echoed_of, wire_header, wire_reply, Goes}
@@ -201,19 +201,19 @@ module _ (r : Relay) (a : Answering) (room : ℕ) where
     pub took : in_set port e.ruling.took ≡ true
     pub fits : Fits r room port (wire_length (not (eqb e.far 0)) a e.code)
 
-  by_way : (w : Way) → (replied_via r a w room).ruling.took ≢ 0 → Sent (replied_via r a w room)
+  by_way : (w : Option Way) → (replied_via r a w room).ruling.took ≢ 0 → Sent (replied_via r a w room)
   unfolding ruling_of
-  by_way Lost some = absurd (some refl)
-  by_way (By set code) some =
-      let q = wire_fits r a set code room some in
-      record { octets = octets_are r a set code room some; port = q.0; below = q.1.0; took = q.1.1.0; fits = q.1.1.1 }
+  by_way None some = absurd (some refl)
+  by_way (Some way) some =
+      let q = wire_fits r a way.port way.code room some in
+      record { octets = octets_are r a way.port way.code room some; port = q.0; below = q.1.0; took = q.1.1.0; fits = q.1.1.1 }
 
-  by_made : (t : Bool) (w : Way) → (pick t (no_reply a.refusal) (replied_via r a w room)).ruling.took ≢ 0
+  by_made : (t : Bool) (w : Option Way) → (pick t (no_reply a.refusal) (replied_via r a w room)).ruling.took ≢ 0
       → (t ≡ false) × Sent (pick t (no_reply a.refusal) (replied_via r a w room))
   by_made true w some = absurd (some refl)
   by_made false w some = (refl, by_way w some)
 
-  pub goes_fits : (w : Way) → (replied_to r a w room).ruling.took ≢ 0 → (a.made ≢ 0) × Sent (replied_to r a w room)
+  pub goes_fits : (w : Option Way) → (replied_to r a w room).ruling.took ≢ 0 → (a.made ≢ 0) × Sent (replied_to r a w room)
   unfolding replied_to
   goes_fits w some =
       let g = by_made (eqb a.made 0) w some in
@@ -238,7 +238,7 @@ module _ (a : Answering) (e : Replied) (octets lent : List ℕ) (g : Goes a e oc
       )
 
 -- ---- a reply that was made
-module _ (r : Relay) (number dropping port : ℕ) (octets : List ℕ) (room : ℕ) (w : Way) where
+module _ (r : Relay) (number dropping port : ℕ) (octets : List ℕ) (room : ℕ) (w : Option Way) where
   abbrev answer : Answering
   answer = answering_of r number dropping port octets room
 

@@ -1,4 +1,5 @@
 -- Whether and how a reply goes, over plain variables. Assumes nothing.
+use Rattle.std.specs.Prelude.{Option, Some, None}
 use native.Mathlib.Omega.{arith}
 use Prim.Native.Nat.{ℕ, ◌+◌, ◌*◌, ◌≤◌, ◌<◌}
 use mathlib.Core.Path.{◌≡◌, sym, ap, ◌∙◌}
@@ -23,7 +24,6 @@ use Rattle.verdict.specs.declared.Obstacle.TheVariants.{NoRoute}
 use Rattle.verdict.specs.declared.Ruling.{Ruling}
 use Rattle.verdict.specs.declared.Survey.{Survey}
 use Rattle.verdict.specs.declared.Way.{Way}
-use Rattle.verdict.specs.declared.Way.TheVariants.{By, Lost}
 use Rattle.verdict.specs.declared.Wish.{Wish}
 use Rattle.verdict.specs.declared.Wish.TheVariants.{NotAsked, Refused}
 use Rattle.replies.specs.Replied.{wire_fields, wire_length, within_room, sought_for, no_reply, replied_among, replied_via, replied_to, Made}
@@ -117,19 +117,19 @@ among_told a set code s {w} {x} {far} {n} ew ex ef en =
     let first : e ≡ by_ruling a code s x = cc in
     first ∙ ap (by_ruling a code s) (ex ∙ ap (λ (y : Wish). ruling_of No y s.full) ew)
 
-pub by_port : (r : Relay) (a : Answering) (room : ℕ) {w : Way} (set code : ℕ) {q : Sought} {s : Survey} {e : Replied} → w ≡ By set code
+pub by_port : (r : Relay) (a : Answering) (room : ℕ) {w : Option Way} (set code : ℕ) {q : Sought} {s : Survey} {e : Replied} → w ≡ Some (record { port = set; code = code })
     → q ≡ sought_for a code room → s ≡ wanted_of r set q → e ≡ replied_among a set code s → e ≡ replied_via r a w room
 by_port r a room set code ew eq es is =
-    is ∙ ap (replied_among a set code) (es ∙ ap (wanted_of r set) eq) ∙ sym (ap (λ (x : Way). replied_via r a x room) ew)
+    is ∙ ap (replied_among a set code) (es ∙ ap (wanted_of r set) eq) ∙ sym (ap (λ (x : Option Way). replied_via r a x room) ew)
 
-pub by_none : (r : Relay) (a : Answering) (room : ℕ) {w : Way} {x : Ruling} → w ≡ Lost → x ≡ ruling_of No (Refused NoRoute) 0
+pub by_none : (r : Relay) (a : Answering) (room : ℕ) {w : Option Way} {x : Ruling} → w ≡ None → x ≡ ruling_of No (Refused NoRoute) 0
     → ◌≡◌ {A = Replied} (record { refusal = 0; ruling = x; precedence = a.precedence; code = 0; far = 0; octets = 0 }) (replied_via r a w room)
 by_none r a room {w} {x} ew ex =
     let e : Replied = record { refusal = 0; ruling = x; precedence = a.precedence; code = 0; far = 0; octets = 0 } in
-    let lost : e ≡ replied_via r a Lost room = cc in
-    lost ∙ sym (ap (λ (y : Way). replied_via r a y room) ew)
+    let lost : e ≡ replied_via r a None room = cc in
+    lost ∙ sym (ap (λ (y : Option Way). replied_via r a y room) ew)
 
-module _ (r : Relay) (a : Answering) (w : Way) (room : ℕ) {e : Replied} where
+module _ (r : Relay) (a : Answering) (w : Option Way) (room : ℕ) {e : Replied} where
   pub not_made : a.made ≡ 0 → e ≡ no_reply a.refusal → e ≡ replied_to r a w room
   unfolding replied_to
   not_made h is = simp (eq-eqb a.made 0 h) is

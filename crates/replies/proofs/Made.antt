@@ -1,4 +1,5 @@
 -- What was asked where a reply is made, and what is then so of it. Assumes nothing.
+use Rattle.std.specs.Prelude.{Option, Some, None}
 use native.Mathlib.Omega.{arith}
 use Prim.Native.Nat.{ℕ, ◌+◌, ◌-◌, ◌≤◌}
 use mathlib.Core.Path.{◌≡◌, refl, sym, ap, subst⁻¹, ◌∙◌}
@@ -23,8 +24,7 @@ use Rattle.replies.specs.Request.{asking_of}
 use Rattle.replies.specs.Reply.{reply_fields, least, most_echoed, echoed_count, no_answer, own_fields, made_of, fits_mtu, asked_by, is_asked, answer_to}
 use Rattle.replies.specs.Replied.{call_checks, destination_survey, answering_of, message_size, Made}
 use Rattle.replies.specs.declared.Answering.{Answering}
-use Rattle.replies.specs.declared.request.Asking.{Asking}
-use Rattle.replies.specs.declared.request.Asking.TheVariants.{Asks, Nothing}
+use Rattle.replies.specs.declared.request.Request.{Request}
 use Rattle.replies.proofs.Chosen.{asks_long}
 use Rattle.replies.proofs.Answered.{asked_free, within_read}
 
@@ -69,7 +69,7 @@ module _ (r : Relay) (number dropping port : ℕ) (octets : List ℕ) (room : �
     pub is_asked : is_asked dropping asked told ≡ true
     pub identifier : ℕ
     pub sequence : ℕ
-    pub asks : asking_of asked.header octets ≡ Asks identifier sequence
+    pub asks : asking_of asked.header octets ≡ Some (record { identifier = identifier; sequence = sequence })
     pub enough : fits_mtu asked told mtu ≡ true
     pub is : answer ≡ made_of asked told mtu identifier sequence
 
@@ -78,20 +78,20 @@ module _ (r : Relay) (number dropping port : ℕ) (octets : List ℕ) (room : �
   by_room identifier sequence true e some = e
   by_room identifier sequence false e some = absurd (some refl)
 
-  by_asking : first_of (call_checks r port room) ≡ 0 → is_asked dropping asked told ≡ true → (x : Asking) → asking_of asked.header octets ≡ x
+  by_asking : first_of (call_checks r port room) ≡ 0 → is_asked dropping asked told ≡ true → (x : Option Request) → asking_of asked.header octets ≡ x
       → answer ≡ asked_by x asked told mtu → (asked_by x asked told mtu).made ≢ 0 → WasMade
-  by_asking zero is (Asks identifier sequence) e same some =
-      let has = by_room identifier sequence (fits_mtu asked told mtu) refl some in
+  by_asking zero is (Some request) e same some =
+      let has = by_room request.identifier request.sequence (fits_mtu asked told mtu) refl some in
       record {
         passed = zero;
         is_asked = is;
-        identifier = identifier;
-        sequence = sequence;
+        identifier = request.identifier;
+        sequence = request.sequence;
         asks = e;
         enough = has;
-        is = same ∙ ap (λ (t : Bool). pick t (made_of asked told mtu identifier sequence) (no_answer 0)) has;
+        is = same ∙ ap (λ (t : Bool). pick t (made_of asked told mtu request.identifier request.sequence) (no_answer 0)) has;
       }
-  by_asking zero is Nothing e same some = absurd (some refl)
+  by_asking zero is None e same some = absurd (some refl)
 
   by_test : first_of (call_checks r port room) ≡ 0 → (t : Bool) → is_asked dropping asked told ≡ t
       → answer ≡ pick t (asked_by (asking_of asked.header octets) asked told mtu) (no_answer 0)

@@ -1,4 +1,5 @@
 -- What the reply is made of, over plain variables. Assumes nothing.
+use Rattle.std.specs.Prelude.{Some}
 use native.Mathlib.Omega.{arith}
 use Prim.Native.Nat.{ℕ, ◌+◌, ◌-◌, ◌%◌, ◌≤◌, ◌<◌}
 use mathlib.Core.Path.{◌≡◌, sym, ap, ◌∙◌}
@@ -7,6 +8,8 @@ use mathlib.Core.List.{List}
 use lib.ListN.{length, drop}
 use lib.Dec.{ltb}
 use borrow.Author.Tests.{lt-ltb, le-ltb}
+use Rattle.std.proofs.Common.{Option}
+use Rattle.std.specs.Prelude.{Some, None}
 use Rattle.checks.specs.Order.{pick}
 use Rattle.octets.specs.Octets.{number, pasted}
 use Rattle.octets.proofs.Laws.{number_append, pasted_front}
@@ -16,17 +19,13 @@ use Rattle.header.specs.Build.{size_of, format_of, stamp_octets}
 use Rattle.header.specs.declared.Addresses.{Addresses}
 use Rattle.header.specs.declared.Addresses.TheVariants.{BasicEndSystem, ExtendedEndSystem}
 use Rattle.header.specs.declared.Qos.{Qos}
-use Rattle.header.specs.declared.Qos.TheVariants as qos
-use Rattle.header.specs.declared.Octet.TheVariants as octet
 use Rattle.header.specs.declared.Timestamp.{Timestamp}
-use Rattle.header.specs.declared.Timestamp.TheVariants as stamp
 use Rattle.header.specs.declared.Fields.{Fields}
 use Rattle.echo.specs.Message.{request_size, reply_size}
 use Rattle.echo.specs.declared.Kind.TheVariants as kind
 use Rattle.echo.specs.declared.Seen.{Seen}
 use Rattle.meaning.specs.Names.{origin_of}
 use Rattle.meaning.specs.Flood.{source_in}
-use Rattle.meaning.specs.declared.Origin.{Origin}
 use Rattle.next_leg.specs.Leg.{first_hops, data_of}
 use Rattle.next_leg.proofs.Made.{small_size}
 use Rattle.verdict.specs.declared.Survey.{Survey}
@@ -35,7 +34,7 @@ use Rattle.judge.specs.declared.Asked.{Asked}
 use Rattle.replies.specs.Request.{scmp, is_owned}
 use Rattle.replies.specs.Reply.{reply_addresses, reply_qos, reply_fields, hops_in, stamp_number, seen_for, least, most_echoed, echoed_count, no_answer, own_fields, asked_by}
 use Rattle.replies.specs.declared.Answering.{Answering}
-use Rattle.replies.specs.declared.request.Asking.TheVariants.{Asks}
+use Rattle.replies.specs.declared.request.Request.{Request}
 
 -- ---- the header
 pub addresses_stay : (arrival : Address) (own : Bool) {a : Addresses} (v : Addresses) → a ≡ v → reply_addresses arrival own v ≡ v → v ≡ reply_addresses arrival own a
@@ -49,18 +48,15 @@ pub addresses_turned : (arrival : Address) (own : Bool) {a : Addresses} (d s : A
     → ExtendedEndSystem s x ≡ reply_addresses arrival own a
 addresses_turned arrival own d s e is = ap (ExtendedEndSystem s) is ∙ sym (ap (reply_addresses arrival own) e)
 
-pub qos_turned : {q : Qos} (precedence routing program : ℕ) → q ≡ qos.Present precedence routing program → qos.Present precedence 0 0 ≡ reply_qos q
-qos_turned precedence routing program e = sym (ap reply_qos e)
-
-pub fields_turned : (arrival : Address) (own : Bool) (f : Fields) {a : Addresses} {q : Qos} → a ≡ reply_addresses arrival own f.addresses → q ≡ reply_qos f.qos
+pub fields_turned : (arrival : Address) (own : Bool) (f : Fields) {a : Addresses} {q : Option Qos} → a ≡ reply_addresses arrival own f.addresses → q ≡ reply_qos f.qos
     → ◌≡◌ {A = Fields}
     (record {
       tpid = scmp;
       addresses = a;
       qos = q;
-      hops = octet.Present first_hops;
-      stamp = stamp.Absent;
-      expanded = octet.Absent;
+      hops = Some first_hops;
+      stamp = None;
+      expanded = None;
       checksum = 0;
       intermediate = 0;
     })
@@ -70,7 +66,7 @@ fields_turned arrival own f ea eq = cc
 
 -- ---- the message
 -- the octets of a timestamp, read where they were written
-pub stamp_told : (l m : List ℕ) (t : Timestamp) {n x : ℕ} → m ≡ pasted l 0 (stamp_octets t) → n ≡ 0 + length (stamp_octets t) → x ≡ number m 0 n → x ≡ stamp_number t
+pub stamp_told : (l m : List ℕ) (t : Option Timestamp) {n x : ℕ} → m ≡ pasted l 0 (stamp_octets t) → n ≡ 0 + length (stamp_octets t) → x ≡ number m 0 n → x ≡ stamp_number t
 unfolding stamp_number
 stamp_told l m t {n} {x} em en is =
     let s = stamp_octets t in
@@ -125,7 +121,7 @@ own_small arrival own f e = rw e (omega arith, omega arith)
 pub own_size : (arrival : Address) (own : Bool) (f : Fields) {g : Fields} {n : ℕ} → g ≡ reply_fields arrival own f → n ≡ size_of g → n ≤ longest_header
 own_size arrival own f {g} e en = omega (arith, en, small_size g (own_small arrival own f e).0)
 
-module _ (a : Asked) (s : Survey) (mtu identifier sequence : ℕ) {t : Bool} (et : t ≡ is_owned s)
+module _ (a : Asked) (s : Survey) (mtu : ℕ) (request : Request) {t : Bool} (et : t ≡ is_owned s)
     {g : Fields} (eg : g ≡ reply_fields a.arrival t a.header.fields) {n : ℕ} (en : n ≡ size_of g) where
   fields_are : g ≡ own_fields a s
   fields_are = eg ∙ ap (λ (x : Bool). reply_fields a.arrival x a.header.fields) et
@@ -133,18 +129,18 @@ module _ (a : Asked) (s : Survey) (mtu identifier sequence : ℕ) {t : Bool} (et
   size_is : n ≡ size_of (own_fields a s)
   size_is = en ∙ ap size_of fields_are
 
-  pub no_room : {e : Answering} → mtu < n + reply_size → e ≡ no_answer 0 → e ≡ asked_by (Asks identifier sequence) a s mtu
+  pub no_room : {e : Answering} → mtu < n + reply_size → e ≡ no_answer 0 → e ≡ asked_by (Some request) a s mtu
   no_room short is = simp (lt-ltb mtu (size_of (own_fields a s) + reply_size) (omega (arith, short, size_is))) is
 
   pub reply_made_lem : n + reply_size ≤ mtu → {x : Seen} → x ≡ seen_for a.header.fields mtu
       → {count : ℕ} → count ≡ echoed_count mtu n (a.header.length - a.header.size - request_size)
-      → {o : Origin} → o ≡ origin_of a.arrival.0 a.header.fields.addresses → {d : ℕ} → d ≡ source_in o
+      → {o : Option Address} → o ≡ origin_of a.arrival.0 a.header.fields.addresses → {d : ℕ} → d ≡ source_in o
       → ◌≡◌ {A = Answering}
       (record {
         refusal = 0;
         made = 1;
         fields = g;
-        message = record { identifier = identifier; sequence = sequence; kind = kind.Reply x };
+        message = record { identifier = request.identifier; sequence = request.sequence; kind = kind.Reply x };
         from = a.header.size + request_size;
         count = count;
         precedence = a.precedence;
@@ -153,7 +149,7 @@ module _ (a : Asked) (s : Survey) (mtu identifier sequence : ℕ) {t : Bool} (et
         ready = a.ready;
         number = a.number;
       })
-      (asked_by (Asks identifier sequence) a s mtu)
+      (asked_by (Some request) a s mtu)
   reply_made_lem enough ex {count} ec eo ed =
       let same = fields_are in
       let counted : count ≡ echoed_count mtu (size_of (own_fields a s)) (data_of a.header - request_size)

@@ -6,6 +6,7 @@ use mathlib.Core.Path.{◌≡◌, refl, sym, ap, ◌∙◌}
 use mathlib.Core.Logic.{◌≢◌}
 use mathlib.Core.Bool.{Bool, true, false}
 use mathlib.Core.List.{List}
+use Rattle.std.proofs.Common.{Option, Some}
 use Rattle.checks.specs.Order.{pick}
 use Rattle.checks.proofs.Bools.{true_false}
 use Rattle.address.specs.declared.Address.{Address}
@@ -18,8 +19,6 @@ use Rattle.meaning.specs.Names.{filled_in, aim_of, origin_of, is_bound}
 use Rattle.meaning.specs.Flood.{source_in}
 use Rattle.meaning.specs.declared.Aim.{Aim}
 use Rattle.meaning.specs.declared.Aim.TheVariants as aim
-use Rattle.meaning.specs.declared.Origin.{Origin}
-use Rattle.meaning.specs.declared.Origin.TheVariants.{From}
 use Rattle.next_leg.specs.Leg.{next_fields}
 use Rattle.next_leg.proofs.Names.{same_aim, same_origin}
 use Rattle.state.specs.Relay.{Relay, port_in}
@@ -56,7 +55,7 @@ uncarried d h = true_false (sym (ap is_node h))
 -- a request that has a source, and names a node
 module _ (at : Address) where
   turned_aim : (own : Bool) (a : Addresses) → source_flag a ≡ 1 → (d : Address) → aim_of at.0 a ≡ aim.Node d
-      → (s : Address) × ((origin_of at.0 a ≡ From s) × (aim_of at.0 (reply_addresses at own a) ≡ aim.Node s))
+      → (s : Address) × ((origin_of at.0 a ≡ Some s) × (aim_of at.0 (reply_addresses at own a) ≡ aim.Node s))
   unfolding aim_of origin_of
   turned_aim own (BasicPath z) source d e = absurd (omega (arith, source))
   turned_aim own (ExtendedPath p) source d e = absurd (omega (arith, source))
@@ -65,13 +64,13 @@ module _ (at : Address) where
   turned_aim own (Ipv6 x y) source d e = uncarried d e
 
   turned_origin : (own : Bool) (a : Addresses) → source_flag a ≡ 1 → (d : Address) → aim_of at.0 a ≡ aim.Node d
-      → origin_of at.0 (reply_addresses at own a) ≡ From (pick own d at)
+      → origin_of at.0 (reply_addresses at own a) ≡ Some (pick own d at)
   unfolding aim_of origin_of
   turned_origin own (BasicPath z) source d e = absurd (omega (arith, source))
   turned_origin own (ExtendedPath p) source d e = absurd (omega (arith, source))
-  turned_origin true (BasicEndSystem x y) source d e = ap From (ap node_in e)
-  turned_origin false (BasicEndSystem x y) source d e = ap (λ (n : ℕ). From (record { 0 = n })) (filled_own at)
-  turned_origin true (ExtendedEndSystem x y) source d e = ap From (ap node_in e)
+  turned_origin true (BasicEndSystem x y) source d e = ap Some (ap node_in e)
+  turned_origin false (BasicEndSystem x y) source d e = ap (λ (n : ℕ). Some (record { 0 = n })) (filled_own at)
+  turned_origin true (ExtendedEndSystem x y) source d e = ap Some (ap node_in e)
   turned_origin false (ExtendedEndSystem x y) source d e = refl
   turned_origin own (Ipv6 x y) source d e = uncarried d e
 
@@ -97,9 +96,9 @@ module _ (r : Relay) (number dropping port : ℕ) (octets : List ℕ) (room : �
 
   pub record Means (y : Requested r port octets) : Type 0 where
     pub source : Address
-    pub named : origin_of at.0 y.header.fields.addresses ≡ From source
+    pub named : origin_of at.0 y.header.fields.addresses ≡ Some source
     pub to : aim_of at.0 answer.fields.addresses ≡ aim.Node source
-    pub from : origin_of at.0 answer.fields.addresses ≡ From (sender y.destination)
+    pub from : origin_of at.0 answer.fields.addresses ≡ Some (sender y.destination)
     pub routed : answer.destination ≡ source
     pub arrival : answer.arrival ≡ at
     pub free : is_bound answer.fields.addresses ≡ 0
@@ -126,7 +125,7 @@ module _ (r : Relay) (number dropping port : ℕ) (octets : List ℕ) (room : �
           named = t.1.0;
           to = ap (λ (x : Answering). aim_of at.0 x.fields.addresses) is ∙ t.1.1;
           from = ap (λ (x : Answering). origin_of at.0 x.fields.addresses) is ∙ turned_origin at own addresses y.source y.destination y.aimed;
-          routed = ap (λ (x : Answering). x.destination) is ∙ ap (λ (o : Origin). record { 0 = source_in o }) t.1.0;
+          routed = ap (λ (x : Answering). x.destination) is ∙ ap (λ (o : Option Address). record { 0 = source_in o }) t.1.0;
           arrival = ap (λ (x : Answering). x.arrival) is;
           free = ap (λ (x : Answering). is_bound x.fields.addresses) is ∙ turned_free at own addresses y.source;
         }
@@ -137,6 +136,6 @@ module _ (r : Relay) (number dropping port : ℕ) (octets : List ℕ) (room : �
       unfolding wire_fields next_fields
       wire_to = same_aim out.0 at.0 code far answer.fields home (λ b. absurd (omega (arith, b, reply_meaning.free))) ∙ reply_meaning.to
 
-      pub wire_from : origin_of out.0 (wire_fields far at.0 code answer.fields).addresses ≡ From (sender y.destination)
+      pub wire_from : origin_of out.0 (wire_fields far at.0 code answer.fields).addresses ≡ Some (sender y.destination)
       unfolding wire_fields next_fields
       wire_from = same_origin out.0 at.0 code far answer.fields home (λ b. absurd (omega (arith, b, reply_meaning.free))) ∙ reply_meaning.from

@@ -1,5 +1,6 @@
 -- A reply reads back: as it is made and as it goes, with the fields and the length that it was made of, and its message; and it asks for no reply, so that two relays
 -- never answer each other for ever. Assumes nothing.
+use Rattle.std.specs.Prelude.{None}
 use native.Mathlib.Omega.{arith}
 use Prim.Native.Nat.{ℕ, zero, suc, ◌+◌, ◌-◌, ◌/◌, ◌%◌, ◌^◌, ◌≤◌, ◌<◌}
 use mathlib.Core.Path.{◌≡◌, refl, ap, subst⁻¹, ◌∙◌}
@@ -7,6 +8,7 @@ use mathlib.Core.Bool.{Bool}
 use mathlib.Core.List.{List, [], ◌∷◌, ◌++◌}
 use lib.ListN.{length, get_or, take, drop}
 use lib.Seq.{take_all, drop_at, get_or-drop}
+use Rattle.std.specs.Prelude.{Option, Some, None}
 use Rattle.checks.proofs.Laws.{either}
 use Rattle.octets.specs.Octets.{octets}
 use Rattle.address.specs.declared.Address.{Address}
@@ -17,19 +19,16 @@ use Rattle.header.specs.Range.{AddressesFit, QosFits, InRange}
 use Rattle.header.specs.declared.Addresses.{Addresses}
 use Rattle.header.specs.declared.Addresses.TheVariants.{BasicPath, ExtendedPath, BasicEndSystem, ExtendedEndSystem, Ipv6}
 use Rattle.header.specs.declared.Qos.{Qos}
-use Rattle.header.specs.declared.Qos.TheVariants as qos
 use Rattle.header.specs.declared.Fields.{Fields}
 use Rattle.header.specs.declared.Header.{Header}
-use Rattle.header.specs.declared.Read.TheVariants as read
+use Rattle.checks.specs.Told.{Good, Refused}
 use Rattle.header.proofs.BuiltLaws.{header_length, append_small}
 use Rattle.header.proofs.Trip.{read_built}
-use Rattle.echo.specs.Message.{fixed_size, seen_octets, kind_octets, fixed_octets, message_octets, reading_of}
+use Rattle.echo.specs.Message.{fixed_size, seen_octets, kind_octets, fixed_octets, message_octets, reading_of, Reading}
 use Rattle.echo.specs.declared.Kind.{Kind}
 use Rattle.echo.specs.declared.Kind.TheVariants as kind
 use Rattle.echo.specs.declared.Seen.{Seen}
 use Rattle.echo.specs.declared.Message.{Message}
-use Rattle.echo.specs.declared.Reading.{Reading}
-use Rattle.echo.specs.declared.Reading.TheVariants.{Good, Refused}
 use Rattle.echo.proofs.Trip.{written_length, reply_no_request}
 use Rattle.next_leg.specs.Leg.{asks_checksum}
 use Rattle.next_leg.proofs.Made.{checksum_case}
@@ -37,7 +36,6 @@ use Rattle.next_leg.proofs.ReadBack.{widened_fits}
 use Rattle.replies.specs.Request.{user_data, asking_by, asking_in}
 use Rattle.replies.specs.Reply.{reply_addresses, reply_qos, reply_fields}
 use Rattle.replies.specs.Replied.{wire_fields}
-use Rattle.replies.specs.declared.request.Asking.TheVariants.{Nothing}
 
 -- ---- its fields are in range, where the request's are
 turned_fits : (at : Address) (own : Bool) (a : Addresses) → at.0 < 2 ^ 32 → AddressesFit a → AddressesFit (reply_addresses at own a)
@@ -47,9 +45,9 @@ turned_fits at own (BasicEndSystem d s) small fits = (fits.1, either (λ (n : �
 turned_fits at own (ExtendedEndSystem d s) small fits = (fits.1, either (λ (x : Address). x.0 < 256 ^ 4) own fits.0 (omega (arith, small)))
 turned_fits at own (Ipv6 d s) small fits = fits
 
-qos_fits : (q : Qos) → QosFits q → QosFits (reply_qos q)
-qos_fits qos.Absent fits = tt
-qos_fits (qos.Present precedence routing program) fits = (fits.0, (omega arith, omega arith))
+qos_fits : (q : Option Qos) → QosFits q → QosFits (reply_qos q)
+qos_fits None fits = tt
+qos_fits (Some q) fits = (fits.0, (omega arith, omega arith))
 
 pub reply_range : (at : Address) (own : Bool) (f : Fields) → at.0 < 2 ^ 32 → InRange f → InRange (reply_fields at own f)
 unfolding reply_fields
@@ -90,7 +88,7 @@ module _ (f : Fields) (m : Message) (echoed : List ℕ) (n : ℕ) (count : fixed
   message_length : length (message_octets m echoed) ≡ n
   message_length = written_length m echoed ∙ count
 
-  pub whole_reads : read_of whole ≡ read.Good front
+  pub whole_reads : read_of whole ≡ Good front
   whole_reads = read_built f n (message_octets m echoed) range few (omega (arith, message_length))
 
   -- the user data are the message
@@ -103,15 +101,15 @@ module _ (f : Fields) (m : Message) (echoed : List ℕ) (n : ℕ) (count : fixed
 
 -- ---- a reply asks for nothing
 by_kind : (m told : Message) (echoed : List ℕ) (s : Seen) → m.kind ≡ kind.Reply s → reading_of (message_octets m echoed) ≡ Good told
-    → (k : Kind) → told.kind ≡ k → asking_by k told.identifier told.sequence ≡ Nothing
+    → (k : Kind) → told.kind ≡ k → asking_by k told.identifier told.sequence ≡ None
 by_kind m told echoed s e is kind.Request ek = absurd (reply_no_request m told echoed s e is ek)
 by_kind m told echoed s e is (kind.Reply x) ek = refl
 
-by_reading : (m : Message) (echoed : List ℕ) (s : Seen) → m.kind ≡ kind.Reply s → (x : Reading) → reading_of (message_octets m echoed) ≡ x → asking_in x ≡ Nothing
+by_reading : (m : Message) (echoed : List ℕ) (s : Seen) → m.kind ≡ kind.Reply s → (x : Reading) → reading_of (message_octets m echoed) ≡ x → asking_in x ≡ None
 by_reading m echoed s e (Good told) is = by_kind m told echoed s e is told.kind refl
 by_reading m echoed s e (Refused n) is = refl
 
-pub reply_asks_nothing : (m : Message) (echoed : List ℕ) (s : Seen) → m.kind ≡ kind.Reply s → asking_in (reading_of (message_octets m echoed)) ≡ Nothing
+pub reply_asks_nothing : (m : Message) (echoed : List ℕ) (s : Seen) → m.kind ≡ kind.Reply s → asking_in (reading_of (message_octets m echoed)) ≡ None
 reply_asks_nothing m echoed s e = by_reading m echoed s e (reading_of (message_octets m echoed)) refl
 
 -- ---- each octet is under 256, where the data's are

@@ -11,17 +11,14 @@ use Rattle.checks.specs.Order.{pick, first_of}
 use Rattle.checks.proofs.Bools.{true_false, and_true}
 use Rattle.checks.proofs.Laws.{zero_none}
 use Rattle.address.specs.declared.Address.{Address}
-use Rattle.header.specs.Read.{read_of}
+use Rattle.header.specs.Read.{read_of, Read}
 use Rattle.header.specs.Build.{source_flag}
-use Rattle.header.specs.Onward.{found_of}
+use Rattle.header.specs.Onward.{found_of, Found}
 use Rattle.header.specs.declared.Addresses.{Addresses}
 use Rattle.header.specs.declared.Addresses.TheVariants.{BasicPath, ExtendedPath, BasicEndSystem, ExtendedEndSystem, Ipv6}
 use Rattle.header.specs.declared.Fields.{Fields}
 use Rattle.header.specs.declared.Header.{Header}
-use Rattle.header.specs.declared.Read.{Read}
-use Rattle.header.specs.declared.Read.TheVariants as read
-use Rattle.header.specs.declared.Found.{Found}
-use Rattle.header.specs.declared.Found.TheVariants as found
+use Rattle.checks.specs.Told.{Good, Refused}
 use Rattle.header.specs.declared.Renewal.{Renewal}
 use Rattle.header.proofs.FoundLaws.{found_good, found_refused}
 use Rattle.header.proofs.Refusals.{never_zero}
@@ -46,7 +43,7 @@ use Rattle.replies.proofs.Made.{WasMade}
 pub record Requested (r : Relay) (port : ℕ) (octets : List ℕ) : Type 0 where
   -- they read as a datagram, and page 01's steps 4 to 6 do not refuse it
   pub header : Header
-  pub reads : read_of octets ≡ read.Good header
+  pub reads : read_of octets ≡ Good header
   pub carried : first_of (arrival_checks (port_in r port).address header.fields) ≡ 0
   -- it has a source, and names a node
   pub source : source_flag header.fields.addresses ≡ 1
@@ -55,12 +52,12 @@ pub record Requested (r : Relay) (port : ℕ) (octets : List ℕ) : Type 0 where
 
 -- ---- what is read
 abbrev header_in : Header → Read → Header
-header_in d (read.Good h) = h
-header_in d (read.Refused n) = d
+header_in d (Good h) = h
+header_in d (Refused n) = d
 
 abbrev is_good : Read → Bool
-is_good (read.Good h) = true
-is_good (read.Refused n) = false
+is_good (Good h) = true
+is_good (Refused n) = false
 
 -- a header with a source that is not refused is aimed at a node
 node_aimed : (port : ℕ) (a : Addresses) → source_flag a ≡ 1 → bad_aim (aim_of port a) ≡ false → (d : Address) × (aim_of port a ≡ aim.Node d)
@@ -118,7 +115,7 @@ module _ (r : Relay) (number dropping port : ℕ) (octets : List ℕ) (room : �
     zero = asked_free dropping all (destination_survey r all) w.is_asked
 
     by_found : (x : Found) → found_of octets ≡ x → Requested r port octets
-    by_found (found.Good h n) e =
+    by_found (Good (h, n)) e =
         let cs = arrival_checks at.address h.fields in
         let good = good_header h n (ap (λ (x : Found). (octets_asked r number at x).refusal) (sym e) ∙ zero) in
         let read = octets_read r number at octets (found_of octets) refl zero in
@@ -127,17 +124,17 @@ module _ (r : Relay) (number dropping port : ℕ) (octets : List ℕ) (room : �
         let none = zero_none cs ((λ z. omega arith), ((λ z. omega arith), ((λ z. omega arith), ((λ z. omega arith), ((λ z. omega arith), tt))))) good in
         let d = node_aimed at.address.0 h.fields.addresses sourced none.1.1.0 in
         record { header = h; reads = (found_good octets h n e).0; carried = good; source = sourced; destination = d.0; aimed = d.1 }
-    by_found (found.Refused m) e =
-        absurd (never_zero octets (found_refused octets m e ∙ ap read.Refused (ap (λ (x : Found). (octets_asked r number at x).refusal) (sym e) ∙ zero)))
+    by_found (Refused m) e =
+        absurd (never_zero octets (found_refused octets m e ∙ ap Refused (ap (λ (x : Found). (octets_asked r number at x).refusal) (sym e) ∙ zero)))
 
     pub made_requested : Requested r port octets
     made_requested = by_found (found_of octets) refl
 
   -- ---- what is then asked
   module _ (y : Requested r port octets) where
-    by_read : (x : Found) → found_of octets ≡ x → (n : Renewal) × (found_of octets ≡ found.Good y.header n)
-    by_read (found.Good h n) e = (n, e ∙ ap (λ (k : Header). found.Good k n) (ap (header_in h) (sym (found_good octets h n e).0 ∙ y.reads)))
-    by_read (found.Refused m) e = true_false (sym (ap is_good (sym (found_refused octets m e) ∙ y.reads)))
+    by_read : (x : Found) → found_of octets ≡ x → (n : Renewal) × (found_of octets ≡ Good (y.header, n))
+    by_read (Good (h, n)) e = (n, e ∙ ap (λ (k : Header). Good (k, n)) (ap (header_in h) (sym (found_good octets h n e).0 ∙ y.reads)))
+    by_read (Refused m) e = true_false (sym (ap is_good (sym (found_refused octets m e) ∙ y.reads)))
 
     pub requested_asked : (n : Renewal) × (all ≡ node_asked r number at y.header n y.destination)
     unfolding carried_asked aim_asked

@@ -1,16 +1,16 @@
 -- No route is read but by the search: what is known before it, and what becomes of the reply by the way that it found, are the same with any routes. Assumes
 -- nothing.
+use Rattle.std.specs.Prelude.{Option, Some, None}
 use Prim.Native.Nat.{ℕ}
 use mathlib.Core.Path.{◌≡◌, refl, ap}
 use mathlib.Core.List.{List}
 use lib.Dec.{eqb}
 use Rattle.checks.specs.Order.{pick, first_of}
 use Rattle.address.specs.declared.Address.{Address}
-use Rattle.header.specs.Onward.{found_of}
+use Rattle.header.specs.Onward.{found_of, Found}
 use Rattle.header.specs.declared.Header.{Header}
 use Rattle.header.specs.declared.Renewal.{Renewal}
-use Rattle.header.specs.declared.Found.{Found}
-use Rattle.header.specs.declared.Found.TheVariants as found
+use Rattle.checks.specs.Told.{Good, Refused}
 use Rattle.meaning.specs.Names.{aim_of}
 use Rattle.meaning.specs.Arrival.{arrival_checks}
 use Rattle.meaning.specs.declared.Aim.{Aim}
@@ -24,7 +24,6 @@ use Rattle.verdict.specs.declared.Place.{Place}
 use Rattle.verdict.specs.declared.Target.{Target}
 use Rattle.verdict.specs.declared.Target.TheVariants as target
 use Rattle.verdict.specs.declared.Way.{Way}
-use Rattle.verdict.specs.declared.Way.TheVariants.{By, Lost}
 use Rattle.judge.specs.Ruling.{target_asked}
 use Rattle.judge.specs.Ending.{arrival_at}
 use Rattle.judge.specs.Asked.{else_asked, header_asked, node_asked, path_asked, aim_asked, carried_asked, octets_asked}
@@ -51,15 +50,15 @@ module _ (r : Relay) (rs : List Route) where
   aim_same : (number : ℕ) (at : Arrival) (h : Header) (c : Renewal) (x : Aim) → aim_asked full number at h c x ≡ aim_asked r number at h c x
   unfolding aim_asked node_asked path_asked path_place
   aim_same number at h c (aim.Node a) =
-      ap (λ (p : Place). header_asked r number at h c (aim.Node a) (target_asked r a) p (named_of r.ports a).ready) (place_same (target_asked r a) a at.set)
+      ap (λ (p : Option Place). header_asked r number at h c (aim.Node a) (target_asked r a) p (named_of r.ports a).ready) (place_same (target_asked r a) a at.set)
   aim_same number at h c (aim.Path p) = refl
   aim_same number at h c aim.Uncarried = refl
 
   pub asked_routes : (number : ℕ) (at : Arrival) (x : Found) → octets_asked full number at x ≡ octets_asked r number at x
   unfolding carried_asked
-  asked_routes number at (found.Good h c) =
+  asked_routes number at (Good (h, c)) =
       ap (else_asked (first_of (arrival_checks at.address h.fields))) (aim_same number at h c (aim_of at.address.0 h.fields.addresses))
-  asked_routes number at (found.Refused n) = refl
+  asked_routes number at (Refused n) = refl
 
   pub answering_routes : (number dropping port : ℕ) (octets : List ℕ) (room : ℕ)
       → answering_of full number dropping port octets room ≡ answering_of r number dropping port octets room
@@ -70,11 +69,11 @@ module _ (r : Relay) (rs : List Route) where
       (asked_routes number (arrival_at r port) (found_of octets))
 
   -- ---- after it
-  pub replied_routes : (a : Answering) (w : Way) (room : ℕ) → replied_via full a w room ≡ replied_via r a w room
+  pub replied_routes : (a : Answering) (w : Option Way) (room : ℕ) → replied_via full a w room ≡ replied_via r a w room
   unfolding survey_within
-  replied_routes a Lost room = refl
-  replied_routes a (By set code) room = refl
+  replied_routes a None room = refl
+  replied_routes a (Some way) room = refl
 
-  pub ended_routes : (a : Answering) (w : Way) (room : ℕ) → replied_to full a w room ≡ replied_to r a w room
+  pub ended_routes : (a : Answering) (w : Option Way) (room : ℕ) → replied_to full a w room ≡ replied_to r a w room
   unfolding replied_to
   ended_routes a w room = ap (λ (e : Replied). pick (eqb a.made 0) (no_reply a.refusal) e) (replied_routes a w room)

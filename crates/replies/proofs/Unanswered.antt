@@ -1,4 +1,5 @@
 -- The reply to octets reads back, and no relay answers it. Assumes nothing.
+use Rattle.std.specs.Prelude.{None}
 use native.Mathlib.Omega.{arith}
 use native.Mathlib.Nat.{pow-le-pow_right}
 use Prim.Native.Nat.{ℕ, ◌+◌, ◌^◌, ◌≤◌, ◌<◌}
@@ -8,23 +9,21 @@ use mathlib.Core.Bool.{Bool, not}
 use mathlib.Core.List.{List}
 use lib.ListN.{length, drop}
 use lib.Dec.{eqb}
+use Rattle.std.specs.Prelude.{Option, Some, None}
 use Rattle.octets.specs.Octets.{number as number_in, octets as octets_of}
 use Rattle.address.specs.declared.Address.{Address}
 use Rattle.header.specs.Limits.{most_data}
 use Rattle.octets.proofs.Laws.{number_lt}
 use Rattle.header.specs.Form.{time_size}
-use Rattle.header.specs.Read.{read_of}
+use Rattle.header.specs.Read.{read_of, Read}
 use Rattle.header.specs.Onward.{found_of}
 use Rattle.header.specs.Build.{size_of, format_of, stamp_octets, header_octets}
 use Rattle.header.specs.Range.{OctetFits, InRange}
-use Rattle.header.specs.declared.Octet.{Octet}
-use Rattle.header.specs.declared.Octet.TheVariants as octet
 use Rattle.header.specs.declared.Timestamp.{Timestamp}
 use Rattle.header.specs.declared.Timestamp.TheVariants as stamp
 use Rattle.header.specs.declared.Fields.{Fields}
 use Rattle.header.specs.declared.Header.{Header}
-use Rattle.header.specs.declared.Read.{Read}
-use Rattle.header.specs.declared.Read.TheVariants as read
+use Rattle.checks.specs.Told.{Good, Refused}
 use Rattle.header.proofs.Answers.{read_in_range}
 use Rattle.header.proofs.BuiltLaws.{append_small, header_small}
 use Rattle.header.proofs.Pieces.{stamp_le}
@@ -32,7 +31,6 @@ use Rattle.echo.specs.Message.{fixed_size, message_of, message_octets, reading_o
 use Rattle.echo.specs.declared.Kind.{Kind}
 use Rattle.echo.specs.declared.Kind.TheVariants as kind
 use Rattle.echo.specs.declared.Message.{Message}
-use Rattle.echo.specs.declared.Reading.TheVariants.{Good}
 use Rattle.echo.proofs.Refusals.{passed}
 use Rattle.echo.proofs.Trip.{SeenFits, KindFits, Fits, read_written, written_data}
 use Rattle.next_leg.specs.Leg.{data_of}
@@ -46,7 +44,6 @@ use Rattle.replies.specs.Reply.{hops_in, stamp_number, seen_for}
 use Rattle.replies.specs.Replied.{answering_of, destination_survey, wire_fields, message_size, wire_length, echoed_of, own_reply, wire_reply}
 use Rattle.replies.specs.declared.Answering.{Answering}
 use Rattle.replies.specs.declared.sending.Replied.{Replied}
-use Rattle.replies.specs.declared.request.Asking.TheVariants.{Nothing}
 use Rattle.replies.proofs.Chosen.{asking_read, nothing_asks}
 use Rattle.replies.proofs.Answered.{asked_free}
 use Rattle.replies.proofs.Made.{WasMade, was_made, made_one, made_holds, made_within}
@@ -56,24 +53,24 @@ use Rattle.replies.proofs.Written.{count_length}
 use Rattle.replies.proofs.ReadBack.{Octets, octets_small, reply_range, wire_range, whole_reads, whole_data, reply_asks_nothing, message_small, take_small, drop_small}
 
 -- ---- what a reply says of the request fits its fields
-hops_fit : (o : Octet) → OctetFits o → hops_in o < 2 ^ 8
-hops_fit octet.Absent fits = omega arith
-hops_fit (octet.Present v) fits = fits
+hops_fit : (o : Option ℕ) → OctetFits o → hops_in o < 2 ^ 8
+hops_fit None fits = omega arith
+hops_fit (Some v) fits = fits
 
-format_fits : (t : Timestamp) → format_of t < 2 ^ 8
-format_fits stamp.Absent = omega arith
-format_fits (stamp.Implicit t) = omega arith
-format_fits (stamp.Explicit p t) = omega arith
-format_fits (stamp.Binary t) = omega arith
+format_fits : (t : Option Timestamp) → format_of t < 2 ^ 8
+format_fits None = omega arith
+format_fits (Some (stamp.Implicit t)) = omega arith
+format_fits (Some (stamp.Explicit p t)) = omega arith
+format_fits (Some (stamp.Binary t)) = omega arith
 
-stamp_octets_lem : (t : Timestamp) → Octets (stamp_octets t)
+stamp_octets_lem : (t : Option Timestamp) → Octets (stamp_octets t)
 unfolding stamp_octets
-stamp_octets_lem stamp.Absent = λ i. omega arith
-stamp_octets_lem (stamp.Implicit t) = octets_small 3 t
-stamp_octets_lem (stamp.Explicit p t) = append_small (octets_of 1 p) (octets_of (time_size p) t) (octets_small 1 p) (octets_small (time_size p) t)
-stamp_octets_lem (stamp.Binary t) = octets_small 4 t
+stamp_octets_lem None = λ i. omega arith
+stamp_octets_lem (Some (stamp.Implicit t)) = octets_small 3 t
+stamp_octets_lem (Some (stamp.Explicit p t)) = append_small (octets_of 1 p) (octets_of (time_size p) t) (octets_small 1 p) (octets_small (time_size p) t)
+stamp_octets_lem (Some (stamp.Binary t)) = octets_small 4 t
 
-stamp_fits : (t : Timestamp) → stamp_number t < 2 ^ 64
+stamp_fits : (t : Option Timestamp) → stamp_number t < 2 ^ 64
 unfolding stamp_number
 stamp_fits t =
     let s = stamp_octets t in
@@ -87,8 +84,8 @@ seen_fits f mtu r small =
 
 -- ---- a reply that is made
 abbrev header_in : Header → Read → Header
-header_in d (read.Good h) = h
-header_in d (read.Refused n) = d
+header_in d (Good h) = h
+header_in d (Refused n) = d
 
 module _ (r : Relay) (number dropping port : ℕ) (octets : List ℕ) (room : ℕ) where
   abbrev answer : Answering
@@ -127,7 +124,7 @@ module _ (r : Relay) (number dropping port : ℕ) (octets : List ℕ) (room : �
         let w = was_made r number dropping port octets room some in
         let heard = octets_asked r number (arrival_at r port) (found_of octets) in
         let s = user_data heard.header octets in
-        let m = asking_read s w.identifier w.sequence w.asks in
+        let m = asking_read s (record { identifier = w.identifier; sequence = w.sequence }) w.asks in
         let told = (passed s m.message m.reads).is in
         let part = take_small (data_of heard.header) (drop heard.header.size octets) (drop_small heard.header.size octets small) in
         let first : w.identifier ≡ number_in s 4 2 = sym m.identifier ∙ ap (λ (x : Message). x.identifier) told in
@@ -142,7 +139,7 @@ module _ (r : Relay) (number dropping port : ℕ) (octets : List ℕ) (room : �
     few = omega (arith, (made_holds r number dropping port octets room some).count)
 
     pub own_reads : read_of (own_reply answer octets)
-        ≡ read.Good (record { fields = answer.fields; length = size_of answer.fields + message_size answer; size = size_of answer.fields })
+        ≡ Good (record { fields = answer.fields; length = size_of answer.fields + message_size answer; size = size_of answer.fields })
     own_reads = whole_reads answer.fields answer.message (echoed_of answer octets) (message_size answer) count_is few fields_range
 
     module _ (e : Replied) where
@@ -158,7 +155,7 @@ module _ (r : Relay) (number dropping port : ℕ) (octets : List ℕ) (room : �
       range : InRange fields
       range = wire_range far answer.arrival.0 e.code answer.fields arrival_fits fields_range
 
-      pub wire_reads : read_of (wire_reply answer e octets) ≡ read.Good header
+      pub wire_reads : read_of (wire_reply answer e octets) ≡ Good header
       unfolding wire_reply wire_length
       wire_reads = whole_reads fields answer.message (echoed_of answer octets) (message_size answer) count_is few range
 
@@ -175,7 +172,7 @@ module _ (r : Relay) (number dropping port : ℕ) (octets : List ℕ) (room : �
           (message_small answer.message (echoed_of answer octets) (take_small answer.count (drop answer.from octets) (drop_small answer.from octets small)))
 
       -- it asks for nothing
-      pub wire_asks_nothing : asking_of header (wire_reply answer e octets) ≡ Nothing
+      pub wire_asks_nothing : asking_of header (wire_reply answer e octets) ≡ None
       unfolding asking_of
       wire_asks_nothing =
           ap (λ (l : List ℕ). asking_in (reading_of l)) wire_data

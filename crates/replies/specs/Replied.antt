@@ -1,7 +1,7 @@
 -- Whether a reply goes, and how: page 02, W-203 ("the caller lends room, at least the arrival port's MTU, else 17"; "page 01 says how a reply goes"); page 01, "it takes the
 -- route line, on a host too, with 11 to 15"; page 02, W-214 ("Size is tested against MTU and 8,191 after the rewrite, a reply's also against the room
 -- lent, and 14 reads so"). 12 is no longer given, and 13 is for paths, which no reply is. Assumes nothing.
-use Rattle.std.specs.Prelude.{ℕ, ◌+◌, ◌≤◌, ◌<◌, ◌≡◌, Bool, true, false, not, List, [], ◌∷◌, ◌++◌, length, take, drop, eqb, ltb}
+use Rattle.std.specs.Prelude.{ℕ, ◌+◌, ◌≤◌, ◌<◌, ◌≡◌, Bool, true, false, not, List, [], ◌∷◌, ◌++◌, length, take, drop, eqb, ltb, Option, Some, None}
 use Rattle.checks.specs.Order.{pick, Checks, first_of}
 use Rattle.octets.specs.Octets.{fronted}
 use Rattle.header.specs.Limits.{length_limit}
@@ -21,7 +21,6 @@ use Rattle.verdict.specs.declared.Obstacle.TheVariants.{NoRoute}
 use Rattle.verdict.specs.declared.Survey.{Survey}
 use Rattle.verdict.specs.declared.Target.TheVariants.{Route}
 use Rattle.verdict.specs.declared.Way.{Way}
-use Rattle.verdict.specs.declared.Way.TheVariants.{By, Lost}
 use Rattle.verdict.specs.declared.Wish.TheVariants.{Refused}
 use Rattle.judge.specs.Asked.{octets_asked, address_in}
 use Rattle.judge.specs.Ending.{no_ruling, arrival_at}
@@ -102,13 +101,13 @@ replied_among a set code s =
       octets = pick (eqb x.took 0) 0 (wire_length (not (eqb far 0)) a code);
     }
 
-abbrev pub replied_via : Relay → Answering → Way → ℕ → Replied
-replied_via r a Lost room =
+abbrev pub replied_via : Relay → Answering → Option Way → ℕ → Replied
+replied_via r a None room =
     record { refusal = 0; ruling = ruling_of No (Refused NoRoute) 0; precedence = a.precedence; code = 0; far = 0; octets = 0 }
-replied_via r a (By set code) room = replied_among a set code (wanted_of r set (sought_for a code room))
+replied_via r a (Some way) room = replied_among a way.port way.code (wanted_of r way.port (sought_for a way.code room))
 
 -- a reply that is made takes the route line
-unfoldable pub replied_to : Relay → Answering → Way → ℕ → Replied
+unfoldable pub replied_to : Relay → Answering → Option Way → ℕ → Replied
 replied_to r a w room = pick (eqb a.made 0) (no_reply a.refusal) (replied_via r a w room)
 
 unfoldable pub replied_of : Relay → ℕ → ℕ → ℕ → List ℕ → ℕ → Replied

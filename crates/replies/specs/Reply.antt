@@ -1,6 +1,6 @@
 -- The reply to a request: page 01, "Rules that later work keeps" ("A reply keeps the request's kind of address and precedence, has hop count 64 and as source the request's
 -- destination if a port has it, else the arrival port's address"); page 02, W-203; 003, 3.3.1 and 3.3.4.7. Assumes nothing.
-use Rattle.std.specs.Prelude.{ℕ, ◌+◌, ◌-◌, ◌%◌, ◌≤◌, ◌≡◌, Bool, not, ◌&&◌, List, length, eqb, ltb}
+use Rattle.std.specs.Prelude.{ℕ, ◌+◌, ◌-◌, ◌%◌, ◌≤◌, ◌≡◌, Bool, not, ◌&&◌, List, length, eqb, ltb, Option, Some, None}
 use Rattle.checks.specs.Order.{pick}
 use Rattle.octets.specs.Octets.{number}
 use Rattle.address.specs.declared.Address.{Address}
@@ -9,11 +9,7 @@ use Rattle.header.specs.Build.{stamp_octets, format_of, size_of}
 use Rattle.header.specs.declared.Addresses.{Addresses}
 use Rattle.header.specs.declared.Addresses.TheVariants.{BasicPath, ExtendedPath, BasicEndSystem, ExtendedEndSystem, Ipv6}
 use Rattle.header.specs.declared.Qos.{Qos}
-use Rattle.header.specs.declared.Qos.TheVariants as qos
-use Rattle.header.specs.declared.Octet.{Octet}
-use Rattle.header.specs.declared.Octet.TheVariants as octet
 use Rattle.header.specs.declared.Timestamp.{Timestamp}
-use Rattle.header.specs.declared.Timestamp.TheVariants as stamp
 use Rattle.header.specs.declared.Fields.{Fields}
 use Rattle.echo.specs.Message.{request_size, reply_size}
 use Rattle.echo.specs.declared.Seen.{Seen}
@@ -27,8 +23,7 @@ use Rattle.verdict.specs.declared.Survey.{Survey}
 use Rattle.judge.specs.Asked.{no_header, address_in}
 use Rattle.judge.specs.declared.Asked.{Asked}
 use Rattle.replies.specs.Request.{is_delivered, scmp, asks_in_header, is_owned, is_to_many, asking_of}
-use Rattle.replies.specs.declared.request.Asking.{Asking}
-use Rattle.replies.specs.declared.request.Asking.TheVariants.{Asks, Nothing}
+use Rattle.replies.specs.declared.request.Request.{Request}
 use Rattle.replies.specs.declared.Answering.{Answering}
 
 -- ---- its header
@@ -41,9 +36,9 @@ reply_addresses arrival own (ExtendedEndSystem d s) = ExtendedEndSystem s (pick 
 reply_addresses arrival own (Ipv6 d s) = Ipv6 d s
 
 -- basic QOS where the request has it: its precedence, "Routing Requirements subfield shall be set to '00'", "Program Specific .. '00'" (003, 3.3.1.5)
-abbrev pub reply_qos : Qos → Qos
-reply_qos qos.Absent = qos.Absent
-reply_qos (qos.Present precedence routing program) = qos.Present precedence 0 0
+abbrev pub reply_qos : Option Qos → Option Qos
+reply_qos None = None
+reply_qos (Some q) = Some (record { precedence = q.precedence; routing = 0; program = 0 })
 
 -- "hop count 64"; no timestamp, since there is no clock, and "The Expanded QOS shall not be used" (003, 3.3.1.6)
 unfoldable pub reply_fields : Address → Bool → Fields → Fields
@@ -52,20 +47,20 @@ reply_fields arrival own f =
       tpid = scmp;
       addresses = reply_addresses arrival own f.addresses;
       qos = reply_qos f.qos;
-      hops = octet.Present first_hops;
-      stamp = stamp.Absent;
-      expanded = octet.Absent;
+      hops = Some first_hops;
+      stamp = None;
+      expanded = None;
       checksum = 0;
       intermediate = 0;
     }
 
 -- ---- its message
-abbrev pub hops_in : Octet → ℕ
-hops_in octet.Absent = 0
-hops_in (octet.Present v) = v
+abbrev pub hops_in : Option ℕ → ℕ
+hops_in None = 0
+hops_in (Some v) = v
 
 -- "placed in the least-significant octets of the field and the unused octets shall be set to all '0s'": the number of all its octets, P-field and time, 0 without one
-unfoldable pub stamp_number : Timestamp → ℕ
+unfoldable pub stamp_number : Option Timestamp → ℕ
 stamp_number t = number (stamp_octets t) 0 (length (stamp_octets t))
 
 -- 003, 3.3.4.7.5 c: hop count, timestamp format and timestamp of the request, "the MTU of the interface over which the Echo Request was received"; "receive rate .. as
@@ -129,9 +124,9 @@ made_of a s mtu identifier sequence =
 abbrev pub fits_mtu : Asked → Survey → ℕ → Bool
 fits_mtu a s mtu = not (ltb mtu (size_of (own_fields a s) + reply_size))
 
-abbrev pub asked_by : Asking → Asked → Survey → ℕ → Answering
-asked_by (Asks identifier sequence) a s mtu = pick (fits_mtu a s mtu) (made_of a s mtu identifier sequence) (no_answer 0)
-asked_by Nothing a s mtu = no_answer 0
+abbrev pub asked_by : Option Request → Asked → Survey → ℕ → Answering
+asked_by (Some request) a s mtu = pick (fits_mtu a s mtu) (made_of a s mtu request.identifier request.sequence) (no_answer 0)
+asked_by None a s mtu = no_answer 0
 
 -- all that is asked of the header and of the destination, and by the setting
 unfoldable pub is_asked : ℕ → Asked → Survey → Bool

@@ -1,6 +1,6 @@
 -- Which datagrams an echo reply is made to: page 02, W-203 ("a request that page 01 does not deliver, that is flooded, lacks source or hop count, leaves no room for the
 -- fixed fields, or goes to a broadcast or multicast address gets none. A setting that drops all requests defaults to off"). Assumes nothing.
-use Rattle.std.specs.Prelude.{ℕ, Bool, true, false, not, ◌&&◌, ◌||◌, List, take, drop, eqb}
+use Rattle.std.specs.Prelude.{ℕ, Bool, true, false, not, ◌&&◌, ◌||◌, List, take, drop, eqb, Option, Some, None}
 use Rattle.address.specs.Class.{class_of}
 use Rattle.address.specs.declared.Address.{Address}
 use Rattle.address.specs.declared.Class.{Class}
@@ -8,18 +8,16 @@ use Rattle.address.specs.declared.Class.TheVariants as class
 use Rattle.header.specs.Build.{source_flag}
 use Rattle.header.specs.declared.Fields.{Fields}
 use Rattle.header.specs.declared.Header.{Header}
-use Rattle.echo.specs.Message.{reading_of}
+use Rattle.echo.specs.Message.{reading_of, Reading}
 use Rattle.echo.specs.declared.Kind.{Kind}
-use Rattle.echo.specs.declared.Kind.TheVariants.{Request, Reply}
-use Rattle.echo.specs.declared.Reading.{Reading}
-use Rattle.echo.specs.declared.Reading.TheVariants.{Good, Refused}
+use Rattle.checks.specs.Told.{Good, Refused}
+use Rattle.echo.specs.declared.Kind.TheVariants as kind
 use Rattle.meaning.specs.Flood.{is_flooded}
 use Rattle.next_leg.specs.Leg.{is_absent, data_of}
 use Rattle.verdict.specs.declared.Local.{Local}
 use Rattle.verdict.specs.declared.Local.TheVariants.{No, Delivered, Unknown}
 use Rattle.verdict.specs.declared.Survey.{Survey}
-use Rattle.replies.specs.declared.request.Asking.{Asking}
-use Rattle.replies.specs.declared.request.Asking.TheVariants.{Asks, Nothing}
+use Rattle.replies.specs.declared.request.Request.{Request}
 
 -- "that page 01 does not deliver": the local half is delivered, and not 26 either
 abbrev pub is_delivered : Local → Bool
@@ -60,13 +58,13 @@ abbrev pub user_data : Header → List ℕ → List ℕ
 user_data h octets = take (data_of h) (drop h.size octets)
 
 -- an Echo Request's identifier and sequence number; a reply asks for nothing
-abbrev pub asking_by : Kind → ℕ → ℕ → Asking
-asking_by Request identifier sequence = Asks identifier sequence
-asking_by (Reply s) identifier sequence = Nothing
+abbrev pub asking_by : Kind → ℕ → ℕ → Option Request
+asking_by kind.Request identifier sequence = Some (record { identifier = identifier; sequence = sequence })
+asking_by (kind.Reply s) identifier sequence = None
 
-abbrev pub asking_in : Reading → Asking
+abbrev pub asking_in : Reading → Option Request
 asking_in (Good m) = asking_by m.kind m.identifier m.sequence
-asking_in (Refused n) = Nothing
+asking_in (Refused n) = None
 
-unfoldable pub asking_of : Header → List ℕ → Asking
+unfoldable pub asking_of : Header → List ℕ → Option Request
 asking_of h octets = asking_in (reading_of (user_data h octets))

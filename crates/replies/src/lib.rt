@@ -34,16 +34,16 @@ ghost use Rattle.replies.specs.Reply.{
   answer_to,
   Within,
 };
-ghost use Rattle.replies.specs.declared.request.Asking.TheVariants.{Asks};
 ghost use Rattle.replies.specs.Replied.{heard_answer, answering_of};
 
-use crate::request::Asking;
+use crate::request::Request;
 use address::Address;
 use checks::Check;
 use echo::{Kind, Message, Seen};
-use header::{Addresses, Fields, Octet, Qos, Timestamp};
+use header::{Addresses, Fields, Qos, Timestamp};
 use judge::Asked;
 use judge::ruling::Arrival;
+use state::{BoardWords, MissionWords};
 use verdict::Survey;
 
 // The octets of the longest timestamp.
@@ -105,12 +105,16 @@ fn reply_addresses(arrival: Address, own: bool, a: Addresses) -> Addresses
     }
 }
 
-fn reply_qos(q: Qos) -> Qos
+fn reply_qos(q: Option<Qos>) -> Option<Qos>
     ensures { result ≡ reply_qos q }
 {
     match q {
-        Qos::Absent => Qos::Absent,
-        Qos::Present(precedence, _, _) => Qos::Present(precedence, 0, 0),
+        None => None,
+        Some(q) => Some(Qos {
+            precedence: q.precedence,
+            routing: 0,
+            program: 0,
+        }),
     }
 }
 
@@ -118,31 +122,26 @@ fn reply_qos(q: Qos) -> Qos
 fn reply_fields(arrival: Address, own: bool, f: Fields) -> Fields
     ensures { result ≡ reply_fields arrival own f }
 {
-    let addresses = f.addresses;
-    let qos = f.qos;
     Fields {
         tpid: crate::request::SCMP,
-        addresses: reply_addresses(arrival, own, addresses),
-        qos: reply_qos(qos),
-        hops: Octet::Present(next_leg::FIRST_HOPS),
-        stamp: Timestamp::Absent,
-        expanded: Octet::Absent,
+        addresses: reply_addresses(arrival, own, f.addresses),
+        qos: reply_qos(f.qos),
+        hops: Some(next_leg::FIRST_HOPS),
+        stamp: None,
+        expanded: None,
         checksum: 0,
         intermediate: 0,
     }
 }
 
-fn hops_in(o: Octet) -> u8
-    ensures { result ≡ hops_in o }
+fn hops_in(hops: Option<u8>) -> u8
+    ensures { result ≡ hops_in hops }
 {
-    match o {
-        Octet::Absent => 0,
-        Octet::Present(count) => count,
-    }
+    hops.unwrap_or(0)
 }
 
 // All octets of a timestamp as one number.
-fn stamp_number(t: Timestamp) -> u64
+fn stamp_number(t: Option<Timestamp>) -> u64
     ensures { result ≡ stamp_number t }
 {
     let mut field = [0u8; LONGEST_STAMP];
@@ -154,12 +153,10 @@ fn stamp_number(t: Timestamp) -> u64
 fn seen_for(f: Fields, mtu: u32) -> Seen
     ensures { result ≡ seen_for f mtu }
 {
-    let hops = f.hops;
-    let stamp = f.stamp;
     Seen {
-        hops: hops_in(hops),
-        format: header::flags::stamp_format(stamp),
-        stamp: stamp_number(stamp),
+        hops: hops_in(f.hops),
+        format: header::flags::stamp_format(f.stamp),
+        stamp: stamp_number(f.stamp),
         mtu,
         rate: 0,
     }
@@ -207,10 +204,10 @@ pub fn no_answer(refusal: u32) -> Answering
     }
 }
 
-// The reply to a request with these numbers, where the arrival port's MTU has room for its header and its fixed part.
-fn make_reply(a: Asked, s: Survey, mtu: u32, identifier: u16, sequence: u16) -> Answering
+// The reply to a request, where the arrival port's MTU has room for its header and its fixed part.
+fn make_reply(a: Asked, s: Survey, mtu: u32, request: Request) -> Answering
     requires { a.header.size + request_size ≤ a.header.length }
-    ensures { result ≡ asked_by (Asks identifier sequence) a s mtu }
+    ensures { result ≡ asked_by (Some request) a s mtu }
 {
     let header = a.header;
     let asked = header.fields;
@@ -222,8 +219,8 @@ fn make_reply(a: Asked, s: Survey, mtu: u32, identifier: u16, sequence: u16) -> 
         return no_answer(0);
     }
     let message = Message {
-        identifier,
-        sequence,
+        identifier: request.identifier,
+        sequence: request.sequence,
         kind: Kind::Reply(seen_for(asked, mtu)),
     };
     Answering {
@@ -280,14 +277,19 @@ fn answer_to(dropping: u32, a: Asked, s: Survey, mtu: u32, octets: &[u8]) -> Ans
     }
     let header = a.header;
     match crate::request::asking_of(header, octets) {
-        Asking::Asks(identifier, sequence) => make_reply(a, s, mtu, identifier, sequence),
-        Asking::Nothing => no_answer(0),
+        Some(request) => make_reply(a, s, mtu, request),
+        None => no_answer(0),
     }
 }
 
 // The reply to octets that came in by a port of this MTU.
-fn answer_octets(board: &[u32], mission: &[u32], at: Arrival, mtu: u32, octets: &[u8]) -> Answering
-    requires { (length board.now ≡ board_words) × (length mission.now ≡ mission_words) }
+fn answer_octets(
+    board: &BoardWords,
+    mission: &MissionWords,
+    at: Arrival,
+    mtu: u32,
+    octets: &[u8],
+) -> Answering
     ensures { result
         ≡ heard_answer (seated (decode_board board.now) (decode mission.now)) (decode_board board.now).drop
         (octets_asked (seated (decode_board board.now) (decode mission.now)) (decode mission.now).number at
@@ -304,8 +306,13 @@ fn answer_octets(board: &[u32], mission: &[u32], at: Arrival, mtu: u32, octets: 
 }
 
 // What is known before the search of the reply to octets that came in by a port, with so much room for it.
-pub fn answer(board: &[u32], mission: &[u32], port: u32, octets: &[u8], room: usize) -> Answering
-    requires { (length board.now ≡ board_words) × (length mission.now ≡ mission_words) }
+pub fn answer(
+    board: &BoardWords,
+    mission: &MissionWords,
+    port: u32,
+    octets: &[u8],
+    room: usize,
+) -> Answering
     ensures { result
         ≡ answering_of (seated (decode_board board.now) (decode mission.now)) (decode mission.now).number
         (decode_board board.now).drop port octets.now room }

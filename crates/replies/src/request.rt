@@ -3,6 +3,7 @@
 // A request is answered where the relay delivers it here and now, and where its header, its destination and its message ask for a reply; what does not is passed
 // over without a number. The awkward case is a broadcast of ours that is also the address of one of our ports: it names one system, and is answered.
 ghost use Rattle.std.specs.Prelude.{◌≡◌, ◌≤◌, length};
+ghost use Rattle.checks.specs.Told.{told};
 ghost use Rattle.replies.specs.Request.{
   is_delivered,
   asks_in_header,
@@ -15,18 +16,19 @@ ghost use Rattle.replies.specs.Request.{
 };
 
 use address::{Address, Class};
-use echo::{Kind, Reading};
+use checks::Refusal;
+use echo::{Kind, Message};
 use header::{Fields, Header};
 use verdict::{Local, Survey};
 
 // The TP-ID of control messages.
 pub const SCMP: u8 = 1;
 
-// The identifier and the sequence number of a request, or that there is none.
+// The numbers by which a request is told from others, and which its reply gives back.
 #[derive(Clone, Copy)]
-pub enum Asking {
-    Asks(u16, u16),
-    Nothing,
+pub struct Request {
+    pub identifier: u16,
+    pub sequence: u16,
 }
 
 pub fn is_delivered(local: Local) -> bool
@@ -43,18 +45,10 @@ pub fn is_delivered(local: Local) -> bool
 pub fn asks_in_header(f: Fields) -> bool
     ensures { result ≡ asks_in_header f }
 {
-    let addresses = f.addresses;
-    let hops = f.hops;
-    if f.tpid != SCMP {
-        return false;
-    }
-    if meaning::flood::is_flooded(f) {
-        return false;
-    }
-    if header::flags::source_flag(addresses) == 0 {
-        return false;
-    }
-    !next_leg::is_absent(hops)
+    f.tpid == SCMP
+        && !meaning::flood::is_flooded(f)
+        && header::flags::source_flag(f.addresses) != 0
+        && f.hops.is_some()
 }
 
 fn is_many(c: Class) -> bool
@@ -91,29 +85,29 @@ pub fn is_to_many(s: Survey, a: Address) -> bool
     s.broadcast != 0
 }
 
-fn asking_by(kind: Kind, identifier: u16, sequence: u16) -> Asking
+fn asking_by(kind: Kind, identifier: u16, sequence: u16) -> Option<Request>
     ensures { result ≡ asking_by kind identifier sequence }
 {
     match kind {
-        Kind::Request => Asking::Asks(identifier, sequence),
-        Kind::Reply(_) => Asking::Nothing,
+        Kind::Request => Some(Request {
+            identifier,
+            sequence,
+        }),
+        Kind::Reply(_) => None,
     }
 }
 
-fn asking_in(r: Reading) -> Asking
-    ensures { result ≡ asking_in r }
+fn asking_in(r: Result<Message, Refusal>) -> Option<Request>
+    ensures { result ≡ asking_in (told r) }
 {
     match r {
-        Reading::Good(m) => {
-            let kind = m.kind;
-            asking_by(kind, m.identifier, m.sequence)
-        }
-        Reading::Refused(_) => Asking::Nothing,
+        Ok(m) => asking_by(m.kind, m.identifier, m.sequence),
+        Err(_) => None,
     }
 }
 
-// What the user data of a datagram asks.
-pub fn asking_of(h: Header, octets: &[u8]) -> Asking
+// The request that the user data of a datagram is, if it is one.
+pub fn asking_of(h: Header, octets: &[u8]) -> Option<Request>
     requires { (h.size ≤ h.length) × (h.length ≤ length octets.now) }
     ensures { result ≡ asking_of h octets.now }
 {

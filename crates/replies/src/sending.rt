@@ -28,6 +28,7 @@ ghost use Rattle.replies.specs.Replied.{
 use crate::Answering;
 use header::Fields;
 use header::limits::{LENGTH_LIMIT, LONGEST_HEADER};
+use state::{BoardWords, MissionWords};
 use survey::Sought;
 use verdict::{Local, Obstacle, Ruling, Survey, Way, Wish};
 
@@ -143,16 +144,22 @@ fn reply_among(a: Answering, set: u32, code: u32, s: Survey) -> Replied
     }
 }
 
-fn reply_by(board: &[u32], mission: &[u32], a: Answering, way: Way, room: usize) -> Replied
-    requires { (length board.now ≡ board_words) × ((length mission.now ≡ mission_words) × Made a) }
+fn reply_by(
+    board: &BoardWords,
+    mission: &MissionWords,
+    a: Answering,
+    way: Option<Way>,
+    room: usize,
+) -> Replied
+    requires { Made a }
     ensures { result ≡ replied_via (seated (decode_board board.now) (decode mission.now)) a way room }
 {
     match way {
-        Way::By(set, code) => {
-            let s = survey::wanted(board, mission, set, sought_for(a, code, room));
-            reply_among(a, set, code, s)
+        Some(Way { port, code }) => {
+            let s = survey::wanted(board, mission, port, sought_for(a, code, room));
+            reply_among(a, port, code, s)
         }
-        Way::Lost => Replied {
+        None => Replied {
             refusal: 0,
             ruling: verdict::copies::ruling_of(Local::No, Wish::Refused(Obstacle::NoRoute), 0),
             precedence: a.precedence,
@@ -164,8 +171,14 @@ fn reply_by(board: &[u32], mission: &[u32], a: Answering, way: Way, room: usize)
 }
 
 // What becomes of the reply, with the route that was found for it.
-pub fn finish(board: &[u32], mission: &[u32], a: Answering, way: Way, room: usize) -> Replied
-    requires { (length board.now ≡ board_words) × ((length mission.now ≡ mission_words) × (a.made ≢ 0 → Made a)) }
+pub fn finish(
+    board: &BoardWords,
+    mission: &MissionWords,
+    a: Answering,
+    way: Option<Way>,
+    room: usize,
+) -> Replied
+    requires { a.made ≢ 0 → Made a }
     ensures { result ≡ replied_to (seated (decode_board board.now) (decode mission.now)) a way room }
 {
     if a.made == 0 {

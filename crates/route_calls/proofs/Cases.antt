@@ -11,7 +11,6 @@ use Rattle.checks.specs.declared.Check.{Check}
 use Rattle.checks.specs.declared.Check.TheVariants.{Passed, Failed}
 use Rattle.checks.proofs.Laws.{passed_false, failed_true}
 use Rattle.checks.specs.Answer.{refusal_number}
-use Rattle.address.specs.Mask.{ones_of}
 use Rattle.sets.specs.Limits.{route_places}
 use Rattle.settings.specs.Refusals.{place_refused}
 use Rattle.routes.specs.declared.Record.{Record}
@@ -22,12 +21,12 @@ use Rattle.state.specs.Layout.{board_words, decode_board, mission_words, decode}
 use Rattle.lent_state.specs.Read.{word_answer}
 use Rattle.lent_state.proofs.Calls.{board_held_told, board_other_told, both_held_told, no_board_told, no_mission_told}
 use Rattle.lent_state.proofs.Read.{no_word}
+use Rattle.listing.specs.declared.Sought.TheVariants.{Best}
 use Rattle.listing.specs.declared.Query.{Query}
 use Rattle.listing.specs.declared.Scan.{Scan}
 use Rattle.listing.specs.Listed.{checks_of}
 use Rattle.route_calls.specs.declared.Order.{Order}
 use Rattle.route_calls.specs.declared.Emptying.{Emptying}
-use Rattle.route_calls.specs.Search.{search_parts}
 use Rattle.route_calls.specs.Calls.{
   refused_query,
   best_query,
@@ -67,14 +66,14 @@ module _ (b w : List ℕ) (count address : ℕ) where
     query_no_mission h e = rw (le-ltb route_places count few) (e ∙ no_mission_told b w h best (refused_query 21))
 
     pub query_best : length b ≡ board_words → length w ≡ mission_words → (n own : ℕ) → n ≡ (decode w).number → own ≡ ready_of (ports_seen n (decode_board b))
-        → ◌≡◌ {A = Query} (record { refusal = 0; sought = 1; address = address; mask = 0; mission = n; own = own }) (search_query b w count address)
+        → ◌≡◌ {A = Query} (record { refusal = 0; sought = Best; address = address; mask = 0; mission = n; own = own }) (search_query b w count address)
     unfolding search_query
     query_best hb hw n own en eo =
         rw (le-ltb route_places count few)
         (both_held_told b w hb hw best (refused_query 21)
         (λ i. record {
           refusal = 0;
-          sought = 1;
+          sought = Best;
           address = address;
           mask = 0;
           mission = en i;
@@ -82,14 +81,6 @@ module _ (b w : List ℕ) (count address : ℕ) where
         }))
 
 module _ (s : Scan) where
-  pub scan_none : s.found ≡ 0 → 0 ≡ scan_number s
-  unfolding scan_number
-  scan_none h = rw (eq-eqb s.found 0 h)
-
-  pub scan_some : s.found ≢ 0 → (n r : ℕ) → n ≡ ones_of s.mask → r ≡ search_parts 1 s.place n s.port → r ≡ scan_number s
-  unfolding scan_number
-  scan_some h n r en er = rw (ne_eqb s.found 0 h) (er ∙ ap (λ (x : ℕ). search_parts 1 s.place x s.port) en)
-
   module _ (q : Query) where
     pub number_refused : q.refusal ≢ 0 → q.refusal ≡ search_number q s
     unfolding search_number
@@ -151,22 +142,6 @@ module _ (o : Order) where
   same_sought h = rw (eq-eqb o.refusal 0 h)
 
   module _ (s : Scan) where
-    pub answer_refused : o.refusal ≢ 0 → o.refusal ≡ order_answer o s
-    unfolding order_answer
-    answer_refused h = rw (ne_eqb o.refusal 0 h)
-
-    pub answer_none : o.refusal ≡ 0 → s.found ≡ 0 → 0 ≡ order_answer o s
-    unfolding order_answer
-    answer_none h n = rw (eq-eqb o.refusal 0 h, eq-eqb s.found 0 n)
-
-    pub answer_here : o.refusal ≡ 0 → s.found ≢ 0 → s.place ≡ o.place → 0 ≡ order_answer o s
-    unfolding order_answer
-    answer_here h n e = rw (eq-eqb o.refusal 0 h, ne_eqb s.found 0 n, eq-eqb s.place o.place e)
-
-    pub answer_elsewhere : o.refusal ≡ 0 → s.found ≢ 0 → s.place ≢ o.place → 23 ≡ order_answer o s
-    unfolding order_answer
-    answer_elsewhere h n e = rw (eq-eqb o.refusal 0 h, ne_eqb s.found 0 n, ne_eqb s.place o.place e)
-
     module _ (old : Record) {n : ℕ} (told : n ≡ order_answer o s) where
       pub chosen_new : n ≡ 0 → o.route ≡ chosen_record o s old
       unfolding chosen_record

@@ -2,7 +2,8 @@
 -- A list over 512 records, and words of the wrong number, are refused by 21 before all else (docs/DECISIONS.md), and then nothing is sought. The
 -- definitions read no list, only the number of its records and what a scan found; the crate harpjuniper_routes has what they come to over a list.
 -- Assumes nothing.
-use Rattle.std.specs.Prelude.{ℕ, Bool, not, ◌&&◌, List, [], ◌∷◌, eqb, ltb}
+use Rattle.std.specs.Prelude.{ℕ, Bool, List, [], ◌∷◌, eqb, ltb}
+use Rattle.std.specs.Option.{option_map_or}
 use Rattle.checks.specs.Order.{pick, Checks, first_of}
 use Rattle.checks.specs.Answer.{refusal_number}
 use Rattle.address.specs.Mask.{ones_of}
@@ -14,9 +15,12 @@ use Rattle.state.specs.Relay.{ready_of}
 use Rattle.state.specs.Seen.{Board, State, ports_seen, all_ports}
 use Rattle.lent_state.specs.View.{told_board, told_both}
 use Rattle.lent_state.specs.Read.{word_answer, place_answer}
+use Rattle.listing.specs.declared.Sought.TheVariants.{Nothing, Best, Same}
 use Rattle.listing.specs.declared.Query.{Query}
+use Rattle.listing.specs.declared.Match.{Match}
 use Rattle.listing.specs.declared.Scan.{Scan}
 use Rattle.listing.specs.Listed.{checks_of}
+use Rattle.listing.specs.Scan.{found_elsewhere}
 use Rattle.route_calls.specs.declared.Order.{Order}
 use Rattle.route_calls.specs.declared.Emptying.{Emptying}
 use Rattle.route_calls.specs.Search.{search_parts}
@@ -27,13 +31,13 @@ too_many count = ltb route_places count
 
 -- nothing is sought
 abbrev pub refused_query : ℕ → Query
-refused_query n = record { refusal = n; sought = 0; address = 0; mask = 0; mission = 0; own = 0 }
+refused_query n = record { refusal = n; sought = Nothing; address = 0; mask = 0; mission = 0; own = 0 }
 
 -- ---- the search of a mission
 -- the longest match among the mission's own routes
 abbrev pub best_query : Board → State → ℕ → Query
 best_query b s address =
-    record { refusal = 0; sought = 1; address = address; mask = 0; mission = s.number; own = ready_of (ports_seen s.number b) }
+    record { refusal = 0; sought = Best; address = address; mask = 0; mission = s.number; own = ready_of (ports_seen s.number b) }
 
 unfoldable pub search_query : List ℕ → List ℕ → ℕ → ℕ → Query
 search_query b w count address =
@@ -41,7 +45,7 @@ search_query b w count address =
 
 -- what a scan found, as C is told it
 unfoldable pub scan_number : Scan → ℕ
-scan_number s = pick (eqb s.found 0) 0 (search_parts 1 s.place (ones_of s.mask) s.port)
+scan_number s = option_map_or (λ (found : Match). search_parts 1 found.place (ones_of found.mask) found.port) s.found 0
 
 unfoldable pub search_number : Query → Scan → ℕ
 search_number q s = pick (eqb q.refusal 0) (scan_number s) q.refusal
@@ -67,7 +71,7 @@ abbrev pub entry_query : Order → Query
 entry_query o =
     record {
       refusal = 0;
-      sought = 2;
+      sought = Same;
       address = o.route.prefix;
       mask = o.route.mask;
       mission = o.route.mission;
@@ -79,7 +83,7 @@ same_query o = pick (eqb o.refusal 0) (entry_query o) (refused_query o.refusal)
 
 -- 23 where another place has the entry
 unfoldable pub order_answer : Order → Scan → ℕ
-order_answer o s = pick (eqb o.refusal 0) (pick (not (eqb s.found 0) && not (eqb s.place o.place)) 23 0) o.refusal
+order_answer o s = pick (eqb o.refusal 0) (pick (found_elsewhere s o.place) 23 0) o.refusal
 
 -- the record that is stored: the old one again where the writing is refused
 unfoldable pub chosen_record : Order → Scan → Record → Record

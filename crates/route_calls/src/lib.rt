@@ -32,8 +32,9 @@ ghost use Rattle.adjust.specs.Settled.{new_record};
 
 use address::Mask;
 use checks::Check;
-use listing::{Query, Scan};
+use listing::{Query, Scan, Sought};
 use routes::Record;
+use state::{BoardWords, MissionWords};
 
 // A record to be written: what refuses it before the list is read, its place, the ports of the mission that may use it, and the record.
 #[derive(Clone, Copy)]
@@ -57,7 +58,7 @@ fn refused(refusal: u32) -> Query
 {
     Query {
         refusal: refusal,
-        sought: listing::NOTHING,
+        sought: Sought::Nothing,
         address: 0,
         mask: 0,
         mission: 0,
@@ -72,16 +73,16 @@ pub fn asked(board: &[u32], mission: &[u32], count: usize, address: u32) -> Quer
     if sets::indexes::ROUTES < count {
         return refused(21);
     }
-    if board.len() != state_board::BOARD_WORDS {
+    let Ok(board) = <&BoardWords>::try_from(board) else {
         return refused(21);
-    }
-    if mission.len() != state_mission::MISSION_WORDS {
+    };
+    let Ok(mission) = <&MissionWords>::try_from(mission) else {
         return refused(21);
-    }
+    };
     let number = state_mission::number_of(mission);
     Query {
         refusal: 0,
-        sought: listing::BEST,
+        sought: Sought::Best,
         address: address,
         mask: 0,
         mission: number,
@@ -102,11 +103,11 @@ fn parts(place: usize, ones: u32, port: u32) -> u64
 fn scan_number(s: Scan) -> u64
     ensures { result ≡ scan_number s }
 {
-    if s.found == 0 {
+    let Some(found) = s.found else {
         return 0;
-    }
-    let ones = address::count_ones(Mask(s.mask));
-    parts(s.place, ones, s.port)
+    };
+    let ones = address::count_ones(Mask(found.mask));
+    parts(found.place, ones, found.port)
 }
 
 // What the mission is told: the refusal, or what was found.
@@ -122,9 +123,9 @@ pub fn search_number(q: Query, s: Scan) -> u64
 fn own_ports(board: &[u32], mission: u32) -> u32
     ensures { result ≡ own_ports board.now mission }
 {
-    if board.len() != state_board::BOARD_WORDS {
+    let Ok(board) = <&BoardWords>::try_from(board) else {
         return 0;
-    }
+    };
     state_board::ready::ready_ports(board, mission)
 }
 
@@ -132,16 +133,16 @@ fn own_ports(board: &[u32], mission: u32) -> u32
 fn order_refusal(board: &[u32], count: usize, place: u32, x: Record, own: u32) -> u32
     ensures { result ≡ order_refusal board.now count place x own }
 {
-    if board.len() != state_board::BOARD_WORDS {
+    let Ok(board) = <&BoardWords>::try_from(board) else {
         return 21;
-    }
+    };
     if sets::indexes::ROUTES < count {
         return 21;
     }
     let Check::Passed = settings::check_place(place, count as u32) else {
         return 21;
     };
-    listing::record_refusal(x, state_board::ready::all_ready(board), own)
+    checks::number_in(listing::record_refusal(x, state_board::ready::all_ready(board), own))
 }
 
 // The record to be written, with all that is known of it before the list is read.
@@ -177,6 +178,13 @@ pub fn ordered(
     }
 }
 
+// The place of the record to be written.
+pub fn place_of(o: Order) -> usize
+    ensures { result ≡ o.place }
+{
+    o.place
+}
+
 // What is sought before the record is written: the same entry.
 pub fn same_query(o: Order) -> Query
     ensures { result ≡ same_query o }
@@ -186,7 +194,7 @@ pub fn same_query(o: Order) -> Query
     }
     Query {
         refusal: 0,
-        sought: listing::SAME,
+        sought: Sought::Same,
         address: o.route.prefix,
         mask: o.route.mask,
         mission: o.route.mission,
@@ -201,13 +209,13 @@ pub fn answer(o: Order, s: Scan) -> u32
     if o.refusal != 0 {
         return o.refusal;
     }
-    if s.found == 0 {
+    let Some(_) = s.found else {
         return 0;
+    };
+    if listing::place_of(s) != o.place {
+        return 23;
     }
-    if s.place == o.place {
-        return 0;
-    }
-    23
+    0
 }
 
 // The record to store: the new one, or the old one again.
@@ -264,28 +272,18 @@ pub fn index(place: u32) -> usize
 fn word_of(x: Record, i: u32) -> u64
     ensures { result ≡ word_answer (record_words x) i }
 {
-    if i == 0 {
-        return x.filled as u64;
-    }
-    if i == 1 {
-        return x.prefix as u64;
-    }
-    if i == 2 {
-        return x.mask as u64;
-    }
-    if i == 3 {
-        return x.port as u64;
-    }
-    if i == 4 {
-        return x.availability as u64;
-    }
-    if i == 5 {
-        return x.capabilities as u64;
-    }
-    if i == 6 {
-        return x.mission as u64;
-    }
-    checks::refusal_number(21)
+    lent_state::word_of(
+        &[
+            x.filled,
+            x.prefix,
+            x.mask,
+            x.port,
+            x.availability,
+            x.capabilities,
+            x.mission,
+        ],
+        i,
+    )
 }
 
 // Word i of the record x that stands at this place, among so many.

@@ -5,12 +5,11 @@ use mathlib.Core.Path.{◌≡◌, refl}
 use mathlib.Core.Logic.{◌↔◌, ◌≢◌}
 use mathlib.Core.Bool.{false}
 use borrow.Author.Tests.{eq-eqb, ne_eqb, eqb-true, eqb-false}
+use Rattle.std.proofs.Common.{Option, Some, None}
 use Rattle.checks.proofs.Bools.{true_false, or_false, and_not_false, and_not}
 use Rattle.address.specs.Mask.{mask_of, mask_form}
 use Rattle.address.specs.declared.Address.{Address}
 use Rattle.address.specs.declared.Mask.{Mask}
-use Rattle.address.specs.declared.MaskForm.{MaskForm}
-use Rattle.address.specs.declared.MaskForm.TheVariants.{Ones, Mixed}
 use Rattle.address.proofs.Masks.{form_ones}
 use Rattle.networks.specs.Networks.{subnet_broadcast}
 use Rattle.networks.proofs.Subnets.{own_broadcast_lem}
@@ -46,9 +45,9 @@ pub mask_taken : (a : Address) (m : Mask) → (port_mask_refused a m ≡ false) 
 unfolding port_mask_refused form_refused
 mask_taken a m = (there (mask_form m.0) refl, back)
   where
-    there : (f : MaskForm) → mask_form m.0 ≡ f → form_refused a f ≡ false → GoodMask a m
-    there Mixed e r = true_false r
-    there (Ones n) e r =
+    there : (f : Option ℕ) → mask_form m.0 ≡ f → form_refused a f ≡ false → GoodMask a m
+    there None e r = true_false r
+    there (Some n) e r =
         let p = or_false _ _ r in
         let ones = (ones_taken a n).0 p.0 in
         (n, ((form_ones m.0 n).0 e).1, ones.0, ones.1, ones.2, eqb-false _ _ p.1)
@@ -59,7 +58,7 @@ mask_taken a m = (there (mask_form m.0) refl, back)
         (both_false _ _ ((ones_taken a g.0).1 (g.2, g.3, g.4)) (ne_eqb _ _ g.5))
 
 -- Of a mask of n ones, as the code tests it: the address is not its own subnet's broadcast.
-pub broadcast_taken : (a : Address) (m : Mask) (n : ℕ) → mask_form m.0 ≡ Ones n
+pub broadcast_taken : (a : Address) (m : Mask) (n : ℕ) → mask_form m.0 ≡ Some n
     → (port_mask_refused a m ≡ false) ↔ ((ones_refused a n ≡ false) × ((subnet_broadcast a m).0 ≢ a.0))
 unfolding port_mask_refused form_refused
 broadcast_taken a m n e =

@@ -1,6 +1,6 @@
 -- When a value of a setting is refused: page 01, "Settings", and the numbers of its "Refusal numbers". Each definition is the condition
 -- that refuses. Assumes nothing.
-use Rattle.std.specs.Prelude.{ℕ, ◌-◌, ◌%◌, ◌^◌, Bool, true, false, not, ◌&&◌, ◌||◌, eqb, ltb}
+use Rattle.std.specs.Prelude.{ℕ, ◌-◌, ◌%◌, ◌^◌, Bool, true, false, not, ◌&&◌, ◌||◌, eqb, ltb, Option, Some, None}
 use Rattle.address.specs.Class.{between, class_number, class_of}
 use Rattle.address.specs.Path.{path_form}
 use Rattle.address.specs.Mask.{mask_form}
@@ -11,8 +11,6 @@ use Rattle.address.specs.declared.Class.{Class}
 use Rattle.address.specs.declared.Class.TheVariants.{Unicast, Multicast}
 use Rattle.address.specs.declared.PathForm.{PathForm}
 use Rattle.address.specs.declared.PathForm.TheVariants.{Invalid, Valid}
-use Rattle.address.specs.declared.MaskForm.{MaskForm}
-use Rattle.address.specs.declared.MaskForm.TheVariants.{Ones, Mixed}
 use Rattle.networks.specs.Networks.{in_net10}
 
 -- the address is of another class
@@ -44,9 +42,9 @@ abbrev pub host_bits_all_ones : Address → ℕ → Bool
 host_bits_all_ones a n = eqb (a.0 % 2 ^ (32 - n)) (2 ^ (32 - n) - 1)
 
 -- by the form: ones and then zeros, or not
-unfoldable pub form_refused : Address → MaskForm → Bool
-form_refused a Mixed = true
-form_refused a (Ones n) = ones_refused a n || host_bits_all_ones a n
+unfoldable pub form_refused : Address → Option ℕ → Bool
+form_refused a None = true
+form_refused a (Some n) = ones_refused a n || host_bits_all_ones a n
 
 -- 22 of a port: "host bits are not all ones"
 unfoldable pub port_mask_refused : Address → Mask → Bool

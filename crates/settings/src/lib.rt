@@ -20,7 +20,7 @@ ghost use Rattle.settings.specs.Refusals.{
 };
 ghost use Rattle.settings.specs.Sets.{is_ready, set_refused};
 
-use address::{Address, Class, Mask, MaskForm, PathAddress, PathForm};
+use address::{Address, Class, Mask, PathAddress, PathForm};
 use checks::Check;
 
 // Refusal 25 of a port: its address is unicast.
@@ -77,7 +77,7 @@ fn check_ones(a: Address, ones: u32) -> Check
 pub fn check_port_mask(a: Address, m: Mask) -> Check
     ensures { result ≡ check_of (port_mask_refused a m) }
 {
-    let MaskForm::Ones(ones) = address::mask_form(m) else {
+    let Some(ones) = address::mask_form(m) else {
         return Check::Failed;
     };
     let Check::Passed = check_ones(a, ones) else {

@@ -22,9 +22,7 @@ ghost use Rattle.state.specs.Seen.{owned_at, put_router, put_owned, put_lifetime
 use address::{Address, Mask};
 use checks::Check;
 use records::{OwnedPort, Port};
-
-// How many words the board has.
-pub const BOARD_WORDS: usize = 43;
+use state::{BOARD_WORDS, BoardWords};
 
 // Where the sections begin.
 const ROUTER_AT: usize = 0;
@@ -38,51 +36,42 @@ const LIFETIME_AT: usize = 41;
 const DROP_AT: usize = 42;
 
 // 0 for a host.
-pub fn router_of(board: &[u32]) -> u32
-    requires { length board.now ≡ board_words }
+pub fn router_of(board: &BoardWords) -> u32
     ensures { result ≡ (decode_board board.now).router }
 {
     board[ROUTER_AT]
 }
 
-pub fn put_router(board: &mut [u32], x: u32)
-    requires { length board.old ≡ board_words }
+pub fn put_router(board: &mut BoardWords, x: u32)
     ensures { decode_board board.new ≡ put_router (decode_board board.old) x }
 {
-    let at = ROUTER_AT;
-    board[at] = x;
+    board[ROUTER_AT] = x;
 }
 
 // How old a pair may be before a sweep frees it, in seconds.
-pub fn lifetime_of(board: &[u32]) -> u32
-    requires { length board.now ≡ board_words }
+pub fn lifetime_of(board: &BoardWords) -> u32
     ensures { result ≡ (decode_board board.now).lifetime }
 {
     board[LIFETIME_AT]
 }
 
-pub fn put_lifetime(board: &mut [u32], x: u32)
-    requires { length board.old ≡ board_words }
+pub fn put_lifetime(board: &mut BoardWords, x: u32)
     ensures { decode_board board.new ≡ put_lifetime (decode_board board.old) x }
 {
-    let at = LIFETIME_AT;
-    board[at] = x;
+    board[LIFETIME_AT] = x;
 }
 
 // 0 where echo requests are answered.
-pub fn drop_of(board: &[u32]) -> u32
-    requires { length board.now ≡ board_words }
+pub fn drop_of(board: &BoardWords) -> u32
     ensures { result ≡ (decode_board board.now).drop }
 {
     board[DROP_AT]
 }
 
-pub fn put_drop(board: &mut [u32], x: u32)
-    requires { length board.old ≡ board_words }
+pub fn put_drop(board: &mut BoardWords, x: u32)
     ensures { decode_board board.new ≡ put_drop (decode_board board.old) x }
 {
-    let at = DROP_AT;
-    board[at] = x;
+    board[DROP_AT] = x;
 }
 
 fn read_owned(s: &[u32]) -> OwnedPort
@@ -111,32 +100,28 @@ fn write_owned(s: &mut [u32], x: OwnedPort)
     s[4] = x.mission;
 }
 
-pub fn owned_of(board: &[u32], p: usize) -> OwnedPort
-    requires { (length board.now ≡ board_words) × (p < port_count) }
+pub fn owned_of(board: &BoardWords, p: usize) -> OwnedPort
+    requires { p < port_count }
     ensures { result ≡ owned_at (decode_board board.now) p }
 {
     let from = PORTS_AT + p * PORT_WORDS;
-    let to = from + PORT_WORDS;
-    read_owned(&board[from..to])
+    read_owned(&board[from..from + PORT_WORDS])
 }
 
-pub fn put_owned(board: &mut [u32], p: usize, x: OwnedPort)
-    requires { (length board.old ≡ board_words) × (p < port_count) }
+pub fn put_owned(board: &mut BoardWords, p: usize, x: OwnedPort)
+    requires { p < port_count }
     ensures { decode_board board.new ≡ put_owned (decode_board board.old) p x }
 {
-    let start = PORTS_AT + p * PORT_WORDS;
-    let end = start + PORT_WORDS;
-    write_owned(&mut board[start..end], x);
+    let from = PORTS_AT + p * PORT_WORDS;
+    write_owned(&mut board[from..from + PORT_WORDS], x);
 }
 
 // The port as a mission sees it.
 fn seen(x: OwnedPort, number: u32) -> Port
     ensures { result ≡ seen_port number x }
 {
-    if number < sets::MISSIONS {
-        if x.mission == number {
-            return x.port;
-        }
+    if number < sets::MISSIONS && x.mission == number {
+        return x.port;
     }
     Port {
         ready: 0,
@@ -147,37 +132,31 @@ fn seen(x: OwnedPort, number: u32) -> Port
 }
 
 // Port p as the mission of this number sees it.
-pub fn seen_port(board: &[u32], number: u32, p: usize) -> Port
-    requires { (length board.now ≡ board_words) × (p < port_count) }
+pub fn seen_port(board: &BoardWords, number: u32, p: usize) -> Port
+    requires { p < port_count }
     ensures { result ≡ get_or (ports_seen number (decode_board board.now)) p fresh_port }
 {
-    let x = owned_of(board, p);
-    seen(x, number)
+    seen(owned_of(board, p), number)
 }
 
 // The port is one of the eight, set up, and the mission's: what receiving asks of the port that a datagram came in by, and taking of its own.
-pub fn check_port(board: &[u32], number: u32, port: u32) -> Check
-    requires { length board.now ≡ board_words }
+pub fn check_port(board: &BoardWords, number: u32, port: u32) -> Check
     ensures { result ≡ check_of (not (among_ports (ports_seen number (decode_board board.now)) port)) }
 {
     if sets::PORTS <= port {
         return Check::Failed;
     }
-    let p = seen_port(board, number, port as usize);
-    if p.ready == 0 {
+    if seen_port(board, number, port as usize).ready == 0 {
         return Check::Failed;
     }
     Check::Passed
 }
 
 // A fresh board, whatever stood there.
-pub fn clear_board(board: &mut [u32])
-    requires { length board.old ≡ board_words }
+pub fn clear_board(board: &mut BoardWords)
     ensures { decode_board board.new ≡ fresh_board }
 {
-    let mut i = 0;
-    while i < BOARD_WORDS {
+    for i in 0..BOARD_WORDS {
         board[i] = 0;
-        i += 1;
     }
 }

@@ -13,6 +13,7 @@ ghost use Rattle.state.specs.Seen.{ports_seen, all_ports};
 
 use records::Port;
 use sets::indexes::PORTS;
+use state::BoardWords;
 
 // Port p as a set of its own where it is set up, else the empty set.
 fn bit_of(x: Port, p: usize) -> u32
@@ -26,31 +27,23 @@ fn bit_of(x: Port, p: usize) -> u32
 }
 
 // The set of the ports that the mission of this number sees as set up.
-pub fn ready_ports(board: &[u32], number: u32) -> u32
-    requires { length board.now ≡ board_words }
+pub fn ready_ports(board: &BoardWords, number: u32) -> u32
     ensures { result ≡ ready_of (ports_seen number (decode_board board.now)) }
 {
     let mut set: u32 = 0;
-    let mut p: usize = 0;
-    while p < PORTS {
-        let x = crate::seen_port(board, number, p);
-        set += bit_of(x, p);
-        p += 1;
+    for p in 0..PORTS {
+        set += bit_of(crate::seen_port(board, number, p), p);
     }
     set
 }
 
 // The set of all ports that are set up, whosever they are.
-pub fn all_ready(board: &[u32]) -> u32
-    requires { length board.now ≡ board_words }
+pub fn all_ready(board: &BoardWords) -> u32
     ensures { result ≡ ready_of (all_ports (decode_board board.now)) }
 {
     let mut set: u32 = 0;
-    let mut p: usize = 0;
-    while p < PORTS {
-        let x = crate::owned_of(board, p);
-        set += bit_of(x.port, p);
-        p += 1;
+    for p in 0..PORTS {
+        set += bit_of(crate::owned_of(board, p).port, p);
     }
     set
 }

@@ -12,8 +12,7 @@ ghost use Rattle.state.specs.Layout.{mission_words, decode};
 ghost use Rattle.state.specs.Relay.{counter_in, added};
 ghost use Rattle.state.specs.Seen.{fresh_state, on_counters};
 
-// How many words a mission's state has.
-pub const MISSION_WORDS: usize = 732;
+use state::{MISSION_WORDS, MissionWords};
 
 // Where the sections begin.
 const NUMBER_AT: usize = 0;
@@ -21,25 +20,23 @@ const NUMBER_AT: usize = 0;
 const COUNTERS_AT: usize = 393;
 
 // The mission's number.
-pub fn number_of(mission: &[u32]) -> u32
-    requires { length mission.now ≡ mission_words }
+pub fn number_of(mission: &MissionWords) -> u32
     ensures { result ≡ (decode mission.now).number }
 {
     mission[NUMBER_AT]
 }
 
 // The counters in their order, npInReceives first.
-pub fn counter_of(mission: &[u32], i: usize) -> u32
-    requires { (length mission.now ≡ mission_words) × (i < counter_count) }
+pub fn counter_of(mission: &MissionWords, i: usize) -> u32
+    requires { i < counter_count }
     ensures { result ≡ counter_in (decode mission.now).counters i }
 {
-    let from = COUNTERS_AT + i;
-    mission[from]
+    mission[COUNTERS_AT + i]
 }
 
 // n more at counter i, modulo 2^32.
-pub fn add_count(mission: &mut [u32], i: usize, n: u32)
-    requires { (length mission.old ≡ mission_words) × (i < counter_count) }
+pub fn add_count(mission: &mut MissionWords, i: usize, n: u32)
+    requires { i < counter_count }
     ensures { decode mission.new ≡ on_counters (λ l. added l i n) (decode mission.old) }
 {
     let at = COUNTERS_AT + i;
@@ -47,15 +44,11 @@ pub fn add_count(mission: &mut [u32], i: usize, n: u32)
 }
 
 // The state of a fresh mission of this number, whatever stood there.
-pub fn clear_mission(mission: &mut [u32], number: u32)
-    requires { length mission.old ≡ mission_words }
+pub fn clear_mission(mission: &mut MissionWords, number: u32)
     ensures { decode mission.new ≡ fresh_state number }
 {
-    let mut i = 0;
-    while i < MISSION_WORDS {
+    for i in 0..MISSION_WORDS {
         mission[i] = 0;
-        i += 1;
     }
-    let at = NUMBER_AT;
-    mission[at] = number;
+    mission[NUMBER_AT] = number;
 }

@@ -13,6 +13,7 @@ ghost use Rattle.state.specs.Seen.{on_memory};
 
 use address::Address;
 use records::{Pair, PairPlace};
+use state::MissionWords;
 
 // Where the sections begin.
 const LAST_AT: usize = 411;
@@ -22,19 +23,16 @@ const PAIRS_AT: usize = 412;
 const PAIR_WORDS: usize = 5;
 
 // The last second that was accepted.
-pub fn last_of(mission: &[u32]) -> u32
-    requires { length mission.now ≡ mission_words }
+pub fn last_of(mission: &MissionWords) -> u32
     ensures { result ≡ (decode mission.now).memory.last }
 {
     mission[LAST_AT]
 }
 
-pub fn put_last(mission: &mut [u32], second: u32)
-    requires { length mission.old ≡ mission_words }
+pub fn put_last(mission: &mut MissionWords, second: u32)
     ensures { decode mission.new ≡ on_memory (λ k. put_last k second) (decode mission.old) }
 {
-    let at = LAST_AT;
-    mission[at] = second;
+    mission[LAST_AT] = second;
 }
 
 fn read_pair(s: &[u32]) -> PairPlace
@@ -63,20 +61,18 @@ fn write_pair(s: &mut [u32], x: PairPlace)
     s[4] = x.second;
 }
 
-pub fn place_of(mission: &[u32], i: usize) -> PairPlace
-    requires { (length mission.now ≡ mission_words) × (i < pair_places) }
+pub fn place_of(mission: &MissionWords, i: usize) -> PairPlace
+    requires { i < pair_places }
     ensures { result ≡ pair_at (decode mission.now).memory i }
 {
     let from = PAIRS_AT + i * PAIR_WORDS;
-    let to = from + PAIR_WORDS;
-    read_pair(&mission[from..to])
+    read_pair(&mission[from..from + PAIR_WORDS])
 }
 
-pub fn put_pair(mission: &mut [u32], i: usize, x: PairPlace)
-    requires { (length mission.old ≡ mission_words) × (i < pair_places) }
+pub fn put_pair(mission: &mut MissionWords, i: usize, x: PairPlace)
+    requires { i < pair_places }
     ensures { decode mission.new ≡ on_memory (λ k. put_pair k i x) (decode mission.old) }
 {
-    let start = PAIRS_AT + i * PAIR_WORDS;
-    let end = start + PAIR_WORDS;
-    write_pair(&mut mission[start..end], x);
+    let from = PAIRS_AT + i * PAIR_WORDS;
+    write_pair(&mut mission[from..from + PAIR_WORDS], x);
 }

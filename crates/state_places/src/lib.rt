@@ -12,6 +12,7 @@ ghost use Rattle.state.specs.Seen.{on_mission};
 
 use address::{Address, PathAddress};
 use records::{Group, PathPlace};
+use state::MissionWords;
 
 // Where the sections begin.
 const GROUPS_AT: usize = 1;
@@ -44,22 +45,20 @@ fn write_group(s: &mut [u32], x: Group)
     s[3] = x.subscribed;
 }
 
-pub fn group_of(mission: &[u32], i: usize) -> Group
-    requires { (length mission.now ≡ mission_words) × (i < group_places) }
+pub fn group_of(mission: &MissionWords, i: usize) -> Group
+    requires { i < group_places }
     ensures { result ≡ group_at (decode mission.now).mission i }
 {
     let from = GROUPS_AT + i * GROUP_WORDS;
-    let to = from + GROUP_WORDS;
-    read_group(&mission[from..to])
+    read_group(&mission[from..from + GROUP_WORDS])
 }
 
-pub fn put_group(mission: &mut [u32], i: usize, x: Group)
-    requires { (length mission.old ≡ mission_words) × (i < group_places) }
+pub fn put_group(mission: &mut MissionWords, i: usize, x: Group)
+    requires { i < group_places }
     ensures { decode mission.new ≡ on_mission (λ m. put_group m i x) (decode mission.old) }
 {
-    let start = GROUPS_AT + i * GROUP_WORDS;
-    let end = start + GROUP_WORDS;
-    write_group(&mut mission[start..end], x);
+    let from = GROUPS_AT + i * GROUP_WORDS;
+    write_group(&mut mission[from..from + GROUP_WORDS], x);
 }
 
 fn read_path(s: &[u32]) -> PathPlace
@@ -84,20 +83,18 @@ fn write_path(s: &mut [u32], x: PathPlace)
     s[3] = x.here;
 }
 
-pub fn path_of(mission: &[u32], i: usize) -> PathPlace
-    requires { (length mission.now ≡ mission_words) × (i < path_places) }
+pub fn path_of(mission: &MissionWords, i: usize) -> PathPlace
+    requires { i < path_places }
     ensures { result ≡ path_at (decode mission.now).mission i }
 {
     let from = PATHS_AT + i * PATH_WORDS;
-    let to = from + PATH_WORDS;
-    read_path(&mission[from..to])
+    read_path(&mission[from..from + PATH_WORDS])
 }
 
-pub fn put_path(mission: &mut [u32], i: usize, x: PathPlace)
-    requires { (length mission.old ≡ mission_words) × (i < path_places) }
+pub fn put_path(mission: &mut MissionWords, i: usize, x: PathPlace)
+    requires { i < path_places }
     ensures { decode mission.new ≡ on_mission (λ m. put_path m i x) (decode mission.old) }
 {
-    let start = PATHS_AT + i * PATH_WORDS;
-    let end = start + PATH_WORDS;
-    write_path(&mut mission[start..end], x);
+    let from = PATHS_AT + i * PATH_WORDS;
+    write_path(&mut mission[from..from + PATH_WORDS], x);
 }

@@ -13,6 +13,7 @@ ghost use Rattle.state.specs.Seen.{on_mission};
 
 use address::Slot;
 use queue::{Entry, Queue};
+use state::MissionWords;
 
 // Where the section begins.
 const QUEUES_AT: usize = 129;
@@ -48,10 +49,8 @@ fn read_queue(s: &[u32]) -> Queue
         slot: Slot(0),
         precedence: 0,
     }; ENTRIES];
-    let mut i = 0;
-    while i < ENTRIES {
+    for i in 0..ENTRIES {
         entries[i] = entry_of(s[i]);
-        i += 1;
     }
     Queue {
         entries,
@@ -63,22 +62,18 @@ fn write_queue(s: &mut [u32], q: Queue)
     requires { length s.old ≡ 33 }
     ensures { s.new ≡ queue_words q }
 {
-    let mut i = 0;
-    while i < ENTRIES {
-        let e = q.entries[i];
-        s[i] = entry_word(e);
-        i += 1;
+    for i in 0..ENTRIES {
+        s[i] = entry_word(q.entries[i]);
     }
     s[ENTRIES] = q.count;
 }
 
-pub fn queue_of(mission: &[u32], p: usize) -> Queue
-    requires { (length mission.now ≡ mission_words) × (p < port_count) }
+pub fn queue_of(mission: &MissionWords, p: usize) -> Queue
+    requires { p < port_count }
     ensures { result ≡ queue_at (decode mission.now).mission p }
 {
     let from = QUEUES_AT + p * QUEUE_WORDS;
-    let to = from + QUEUE_WORDS;
-    read_queue(&mission[from..to])
+    read_queue(&mission[from..from + QUEUE_WORDS])
 }
 
 fn read_count(s: &[u32]) -> u32
@@ -89,20 +84,18 @@ fn read_count(s: &[u32]) -> u32
 }
 
 // How many wait on a port, as its queue says.
-pub fn count_of(mission: &[u32], p: usize) -> u32
-    requires { (length mission.now ≡ mission_words) × (p < port_count) }
+pub fn count_of(mission: &MissionWords, p: usize) -> u32
+    requires { p < port_count }
     ensures { result ≡ (queue_at (decode mission.now).mission p).count }
 {
     let from = QUEUES_AT + p * QUEUE_WORDS;
-    let to = from + QUEUE_WORDS;
-    read_count(&mission[from..to])
+    read_count(&mission[from..from + QUEUE_WORDS])
 }
 
-pub fn put_queue(mission: &mut [u32], p: usize, q: Queue)
-    requires { (length mission.old ≡ mission_words) × (p < port_count) }
+pub fn put_queue(mission: &mut MissionWords, p: usize, q: Queue)
+    requires { p < port_count }
     ensures { decode mission.new ≡ on_mission (λ m. put_queue m p q) (decode mission.old) }
 {
-    let start = QUEUES_AT + p * QUEUE_WORDS;
-    let end = start + QUEUE_WORDS;
-    write_queue(&mut mission[start..end], q);
+    let from = QUEUES_AT + p * QUEUE_WORDS;
+    write_queue(&mut mission[from..from + QUEUE_WORDS], q);
 }

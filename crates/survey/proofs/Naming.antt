@@ -13,14 +13,13 @@ use lib.ListN.{get_or, set, length, replicate, length-set}
 use lib.Pow.{pow-lt}
 use lib.Seq.{get_or-set_same, get_or-set_other}
 use borrow.Author.Tests.{ne_eqb}
+use Rattle.std.proofs.Common.{Option, Some, None}
 use Rattle.checks.proofs.Bools.{true_false, or_false}
 use Rattle.address.specs.declared.Address.{Address}
 use Rattle.sets.specs.Sets.{in_set, port_set, only_port}
 use Rattle.sets.proofs.Loops.{port_set_next}
 use Rattle.sets.proofs.Members.{in_gathered}
 use Rattle.networks.specs.Networks.{subnet_broadcast, class_broadcast}
-use Rattle.networks.specs.declared.Broadcast.{Broadcast}
-use Rattle.networks.specs.declared.Broadcast.TheVariants.{At, None}
 use Rattle.networks.proofs.Bits.{bit, bit_small, or_bit}
 use Rattle.records.specs.Fresh.{fresh_port}
 use Rattle.records.specs.SetUp.{is_set_up}
@@ -70,7 +69,7 @@ abbrev pub Gathered : List Port → ℕ → Names → Type 0
 Gathered ports i k = (length k.own ≡ 8) × ((length k.subnet ≡ 8) × ((length k.class ≡ 8) × NamesBelow ports i k))
 
 module _ (ports : List Port) (i : ℕ) (k : Names) where
-  pub turn_names : {ready port marks class : ℕ} {p : Port} {subnet : Address} {broadcast : Broadcast}
+  pub turn_names : {ready port marks class : ℕ} {p : Port} {subnet : Address} {broadcast : Option Address}
       → i < 8
       → Gathered ports i k
       → p ≡ get_or ports i fresh_port
@@ -164,8 +163,8 @@ none_marked ports b (suc m) h p l =
 
 -- ---- what comparing says
 -- the broadcast that stands in for none adds no name
-stood_in : (b : Broadcast) (s : ℕ) (a : Address) → (eqb s a.0 || eqb (broadcast_or b s) a.0) ≡ (eqb s a.0 || broadcast_is b a)
-stood_in (At x) s a = refl
+stood_in : (b : Option Address) (s : ℕ) (a : Address) → (eqb s a.0 || eqb (broadcast_or b s) a.0) ≡ (eqb s a.0 || broadcast_is b a)
+stood_in (Some x) s a = refl
 stood_in None s a = both_ways (eqb s a.0)
   where
     both_ways : (t : Bool) → (t || t) ≡ (t || false)

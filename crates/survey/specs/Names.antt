@@ -1,12 +1,10 @@
 -- The names of the ports, gathered once for many datagrams (page 02, W-201): what a datagram is compared with in place of the ports. Assumes nothing.
-use Rattle.std.specs.Prelude.{ℕ, zero, suc, ◌%◌, ◌^◌, ◌<◌, Bool, true, ◌||◌, List, ◌≡◌, eqb, get_or, replicate}
+use Rattle.std.specs.Prelude.{ℕ, zero, suc, ◌%◌, ◌^◌, ◌<◌, Bool, true, ◌||◌, List, ◌≡◌, eqb, get_or, replicate, Option, Some, None}
 use Rattle.std.specs.Int.Bits.{bit_and, bit_or}
 use Rattle.address.specs.declared.Address.{Address}
 use Rattle.sets.specs.Limits.{port_count}
 use Rattle.sets.specs.Sets.{port_set}
 use Rattle.networks.specs.Networks.{subnet_broadcast, class_broadcast}
-use Rattle.networks.specs.declared.Broadcast.{Broadcast}
-use Rattle.networks.specs.declared.Broadcast.TheVariants.{At, None}
 use Rattle.records.specs.Fresh.{fresh_port}
 use Rattle.records.specs.declared.Port.{Port}
 use Rattle.verdict.specs.declared.Survey.{Survey}
@@ -18,8 +16,8 @@ abbrev pub no_names : Names
 no_names = record { looked = 0; ready = 0; marks = 0; own = replicate port_count 0; subnet = replicate port_count 0; class = replicate port_count 0 }
 
 -- ---- the names of a port: its address and its two broadcasts; a class without a network broadcast has the subnet's in its place, which is a name already
-abbrev pub broadcast_or : Broadcast → ℕ → ℕ
-broadcast_or (At x) other = x.0
+abbrev pub broadcast_or : Option Address → ℕ → ℕ
+broadcast_or (Some x) other = x.0
 broadcast_or None other = other
 
 abbrev pub own_name : Port → ℕ

@@ -1,26 +1,22 @@
 -- What the ports say of a datagram: page 01, "Local half" (a port's address; a broadcast of ours) and "Onward half" (set-up ports; the arrival
 -- port's first three octets; size; 32 waiting). Only ports that are set up are in a set. Assumes nothing.
-use Rattle.std.specs.Prelude.{ℕ, ◌+◌, ◌<◌, Bool, true, false, not, ◌&&◌, ◌||◌, List, eqb, ltb, get_or}
+use Rattle.std.specs.Prelude.{ℕ, ◌+◌, ◌<◌, Bool, true, false, not, ◌&&◌, ◌||◌, List, eqb, ltb, get_or, Option, Some, None}
 use Rattle.checks.specs.Order.{pick}
 use Rattle.sets.specs.Limits.{port_count}
 use Rattle.sets.specs.Sets.{port_set, in_set}
 use Rattle.address.specs.declared.Address.{Address}
 use Rattle.header.specs.Limits.{length_limit}
 use Rattle.networks.specs.Networks.{domain_of, subnet_broadcast, class_broadcast}
-use Rattle.networks.specs.declared.Broadcast.{Broadcast}
-use Rattle.networks.specs.declared.Broadcast.TheVariants.{At, None}
 use Rattle.queue.specs.Queue.{entry_places}
 use Rattle.records.specs.Fresh.{fresh_port}
 use Rattle.records.specs.SetUp.{is_set_up}
 use Rattle.records.specs.declared.Port.{Port}
 use Rattle.state.specs.Relay.{Relay, port_in, queue_in}
 use Rattle.verdict.specs.declared.Survey.{Survey}
-use Rattle.survey.specs.declared.Destination.{Destination}
-use Rattle.survey.specs.declared.Destination.TheVariants.{Node, Other}
 use Rattle.survey.specs.declared.Sought.{Sought}
 
-abbrev pub broadcast_is : Broadcast → Address → Bool
-broadcast_is (At x) a = eqb x.0 a.0
+abbrev pub broadcast_is : Option Address → Address → Bool
+broadcast_is (Some x) a = eqb x.0 a.0
 broadcast_is None a = false
 
 -- "net broadcast of a port's class network, a port's own subnet with host bits all ones under that port's mask, or 10.255.255.255 with a port
@@ -30,14 +26,14 @@ own_broadcast p a = eqb (subnet_broadcast p.address p.mask).0 a.0 || broadcast_i
 
 -- ---- what is asked of a port that is set up, with so many entries waiting
 -- "the destination equals any port's address"
-abbrev pub is_addressed : Address → Destination → Bool
-is_addressed own (Node a) = eqb own.0 a.0
-is_addressed own Other = false
+abbrev pub is_addressed : Address → Option Address → Bool
+is_addressed own (Some a) = eqb own.0 a.0
+is_addressed own None = false
 
 -- "is a broadcast of ours"
-abbrev pub is_broadcast : Port → Destination → Bool
-is_broadcast p (Node a) = own_broadcast p a
-is_broadcast p Other = false
+abbrev pub is_broadcast : Port → Option Address → Bool
+is_broadcast p (Some a) = own_broadcast p a
+is_broadcast p None = false
 
 abbrev pub in_domain : Port → Sought → Bool
 in_domain p q = eqb (domain_of p.address) q.domain
@@ -60,7 +56,7 @@ is_full waiting = not (ltb waiting entry_places)
 abbrev pub ports_below : Relay → (ℕ → Bool) → ℕ → ℕ
 ports_below r test n = port_set (λ (p : ℕ). is_set_up (port_in r p) && test p) n
 
-unfoldable pub survey_below : Relay → Destination → Sought → ℕ → Survey
+unfoldable pub survey_below : Relay → Option Address → Sought → ℕ → Survey
 survey_below r d q n =
     record {
       ready = ports_below r (λ (p : ℕ). true) n;
@@ -71,7 +67,7 @@ survey_below r d q n =
       full = ports_below r (λ (p : ℕ). is_full (queue_in r p).count) n;
     }
 
-abbrev pub survey_of : Relay → Destination → Sought → Survey
+abbrev pub survey_of : Relay → Option Address → Sought → Survey
 survey_of r d q = survey_below r d q port_count
 
 -- no port in any set
@@ -87,8 +83,8 @@ unfoldable pub named_below : List Port → Address → ℕ → Survey
 named_below ports a n =
     record {
       ready = port_set (set_up_and ports (λ (x : Port). true)) n;
-      addressed = port_set (set_up_and ports (λ (x : Port). is_addressed x.address (Node a))) n;
-      broadcast = port_set (set_up_and ports (λ (x : Port). is_broadcast x (Node a))) n;
+      addressed = port_set (set_up_and ports (λ (x : Port). is_addressed x.address (Some a))) n;
+      broadcast = port_set (set_up_and ports (λ (x : Port). is_broadcast x (Some a))) n;
       domain = 0;
       fitting = 0;
       full = 0;
@@ -129,8 +125,8 @@ unfoldable pub with_named : Survey → ℕ → Port → Address → Survey
 with_named s port p a =
     record {
       ready = joined_by s.ready (is_set_up p && true) port;
-      addressed = joined_by s.addressed (is_set_up p && is_addressed p.address (Node a)) port;
-      broadcast = joined_by s.broadcast (is_set_up p && is_broadcast p (Node a)) port;
+      addressed = joined_by s.addressed (is_set_up p && is_addressed p.address (Some a)) port;
+      broadcast = joined_by s.broadcast (is_set_up p && is_broadcast p (Some a)) port;
       domain = s.domain;
       fitting = s.fitting;
       full = s.full;

@@ -33,17 +33,10 @@ ghost use Rattle.survey.specs.Survey.{
 };
 
 use address::Address;
-use networks::Broadcast;
 use records::Port;
 use sets::indexes::PORTS;
+use state::{BoardWords, MissionWords};
 use verdict::Survey;
-
-// The destination: an end system's address or a group's, or none that a port could have.
-#[derive(Clone, Copy)]
-pub enum Destination {
-    Node(Address),
-    Other,
-}
 
 // What is asked of the wanted ports: the arrival port's domain, and the octets of the datagram as a port of that domain gets it, and as another does.
 #[derive(Clone, Copy)]
@@ -53,13 +46,10 @@ pub struct Sought {
     pub far: u32,
 }
 
-fn broadcast_is(b: Broadcast, a: Address) -> bool
+fn broadcast_is(b: Option<Address>, a: Address) -> bool
     ensures { result ≡ broadcast_is b a }
 {
-    match b {
-        Broadcast::At(x) => x.0 == a.0,
-        Broadcast::None => false,
-    }
+    b.is_some_and(|x| x.0 == a.0)
 }
 
 // Whether the address is a broadcast of a port's subnet or class network. That of a class network ends with 255, so that for most addresses
@@ -67,14 +57,8 @@ fn broadcast_is(b: Broadcast, a: Address) -> bool
 fn own_broadcast(p: Port, a: Address) -> bool
     ensures { result ≡ own_broadcast p a }
 {
-    let own = p.address;
-    if networks::subnet_broadcast(own, p.mask).0 == a.0 {
-        return true;
-    }
-    if a.0 % 256 != 255 {
-        return false;
-    }
-    broadcast_is(networks::class_broadcast(own), a)
+    networks::subnet_broadcast(p.address, p.mask).0 == a.0
+        || a.0 % 256 == 255 && broadcast_is(networks::class_broadcast(p.address), a)
 }
 
 // A set with one more port, where a test says so.
@@ -122,16 +106,13 @@ fn see_named(s: Survey, port: u32, p: Port, a: Address) -> Survey
 }
 
 // Before the search: the ports that are set up, those with the address, and those that have it as a broadcast.
-pub fn named(board: &[u32], number: u32, a: Address) -> Survey
-    requires { length board.now ≡ board_words }
+pub fn named(board: &BoardWords, number: u32, a: Address) -> Survey
     ensures { result ≡ named_of (ports_seen number (decode_board board.now)) a }
 {
     let mut s = none();
-    let mut i = 0;
-    while i < PORTS {
+    for i in 0..PORTS {
         let p = state_board::seen_port(board, number, i);
         s = see_named(s, sets::only_port(i as u32), p, a);
-        i += 1;
     }
     s
 }
@@ -177,8 +158,15 @@ fn see_wanted(s: Survey, port: u32, p: Port, waiting: u32, q: Sought) -> Survey
 }
 
 // The survey with port i, where it is in the set: the words of other ports are not looked at.
-fn see_if(board: &[u32], mission: &[u32], s: Survey, i: usize, set: u32, q: Sought) -> Survey
-    requires { (length board.now ≡ board_words) × ((length mission.now ≡ mission_words) × ((i < port_count) × Roomy s)) }
+fn see_if(
+    board: &BoardWords,
+    mission: &MissionWords,
+    s: Survey,
+    i: usize,
+    set: u32,
+    q: Sought,
+) -> Survey
+    requires { (i < port_count) × Roomy s }
     ensures { result
         ≡ with_wanted s (2 ^ i) (in_set i set) (port_in (seated (decode_board board.now) (decode mission.now)) i)
         (queue_in (seated (decode_board board.now) (decode mission.now)) i).count q }
@@ -197,15 +185,12 @@ fn see_if(board: &[u32], mission: &[u32], s: Survey, i: usize, set: u32, q: Soug
 }
 
 // After the search: of the ports of a set, those in the domain, those that the datagram fits, and those with a full queue.
-pub fn wanted(board: &[u32], mission: &[u32], set: u32, q: Sought) -> Survey
-    requires { (length board.now ≡ board_words) × (length mission.now ≡ mission_words) }
+pub fn wanted(board: &BoardWords, mission: &MissionWords, set: u32, q: Sought) -> Survey
     ensures { result ≡ wanted_of (seated (decode_board board.now) (decode mission.now)) set q }
 {
     let mut s = none();
-    let mut i = 0;
-    while i < PORTS {
+    for i in 0..PORTS {
         s = see_if(board, mission, s, i, set, q);
-        i += 1;
     }
     s
 }

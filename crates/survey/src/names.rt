@@ -21,8 +21,8 @@ ghost use Rattle.survey.specs.Names.{
 };
 
 use address::Address;
-use networks::Broadcast;
 use sets::indexes::PORTS;
+use state::BoardWords;
 use verdict::Survey;
 
 // 1 where the ports were looked at; the set of those that are set up; the marks of all names; and of each port the address, the broadcast of its
@@ -52,13 +52,10 @@ pub fn no_names() -> Names
 }
 
 // The broadcast of a class network, or where there is none another number.
-fn broadcast_or(b: Broadcast, other: u32) -> u32
+fn broadcast_or(b: Option<Address>, other: u32) -> u32
     ensures { result ≡ broadcast_or b other }
 {
-    match b {
-        Broadcast::At(x) => x.0,
-        Broadcast::None => other,
-    }
+    b.map_or(other, |x| x.0)
 }
 
 // What marks a name: its last six bits.
@@ -76,8 +73,7 @@ fn marked_by(marks: u64, own: u32, subnet: u32, class: u32) -> u64
 }
 
 // The names of the ports that the mission of this number sees.
-pub fn names_of(board: &[u32], number: u32) -> Names
-    requires { length board.now ≡ board_words }
+pub fn names_of(board: &BoardWords, number: u32) -> Names
     ensures { NamesOf (ports_seen number (decode_board board.now)) result }
 {
     let mut ready = 0;
@@ -85,8 +81,7 @@ pub fn names_of(board: &[u32], number: u32) -> Names
     let mut own = [0; PORTS];
     let mut subnet = [0; PORTS];
     let mut class = [0; PORTS];
-    let mut i = 0;
-    while i < PORTS {
+    for i in 0..PORTS {
         let p = state_board::seen_port(board, number, i);
         let address = p.address;
         let near = networks::subnet_broadcast(address, p.mask).0;
@@ -96,7 +91,6 @@ pub fn names_of(board: &[u32], number: u32) -> Names
         own[i] = address.0;
         subnet[i] = near;
         class[i] = far;
-        i += 1;
     }
     Names {
         looked: 1,
@@ -124,12 +118,10 @@ fn compared(k: Names, a: Address) -> Survey
 {
     let mut addressed = 0;
     let mut broadcast = 0;
-    let mut i = 0;
-    while i < PORTS {
+    for i in 0..PORTS {
         let port = sets::only_port(i as u32);
         addressed = crate::with_port(addressed, k.own[i] == a.0, port);
         broadcast = crate::with_port(broadcast, is_either(k.subnet[i], k.class[i], a.0), port);
-        i += 1;
     }
     Survey {
         ready: k.ready,
@@ -142,8 +134,8 @@ fn compared(k: Names, a: Address) -> Survey
 }
 
 // What `named` says, by the names where the ports were looked at.
-pub fn named_by(board: &[u32], number: u32, k: Names, a: Address) -> Survey
-    requires { (length board.now ≡ board_words) × NamesFor (ports_seen number (decode_board board.now)) k }
+pub fn named_by(board: &BoardWords, number: u32, k: Names, a: Address) -> Survey
+    requires { NamesFor (ports_seen number (decode_board board.now)) k }
     ensures { result ≡ named_of (ports_seen number (decode_board board.now)) a }
 {
     if k.looked != 1 {

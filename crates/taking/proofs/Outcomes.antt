@@ -8,12 +8,12 @@ use Rattle.checks.specs.declared.Check.TheVariants.{Passed, Failed}
 use Rattle.checks.proofs.Laws.{passed_false, failed_true}
 use Rattle.queue.specs.Queue.{take_of}
 use Rattle.queue.specs.declared.Entry.{Entry}
-use Rattle.queue.specs.declared.Head.TheVariants.{First, Nothing}
+use Rattle.std.proofs.Common.{Some, None}
 use Rattle.queue.specs.declared.Queue.{Queue}
 use Rattle.queue.specs.declared.Taken.{Taken}
 use Rattle.state.specs.Relay.{among_ports, queue_at, put_queue}
 use Rattle.state.specs.Seen.{Board, State, ports_seen, seated, on_mission, on_seated}
-use Rattle.taking.specs.declared.Taking.TheVariants.{Handed, Refused}
+use Rattle.checks.specs.Told.{Good, Refused}
 use Rattle.taking.specs.Taking.{take_outcome, taken_relay}
 
 module _ (b : Board) (s : State) (port : ℕ) {number : ℕ} {c : Check} (own : number ≡ s.number)
@@ -32,11 +32,11 @@ module _ (b : Board) (s : State) (port : ℕ) {number : ℕ} {c : Check} (own : 
     taken : take_of (queue_at s.mission port) ≡ t
     taken = sym (et ∙ ap take_of eq)
 
-    pub nothing_waits : t.head ≡ Nothing → (Refused 18 ≡ take_outcome (seated b s) port) × (s ≡ on_seated b (λ r. taken_relay r port) s)
+    pub nothing_waits : t.head ≡ None → (Refused 18 ≡ take_outcome (seated b s) port) × (s ≡ on_seated b (λ r. taken_relay r port) s)
     unfolding take_outcome taken_relay
     nothing_waits h = (simp (open_port, taken, h), simp (open_port, taken, h))
 
-    pub one_handed : {left : State} (e : Entry) → t.head ≡ First e → left ≡ on_mission (λ m. put_queue m port t.queue) s
-        → (Handed e ≡ take_outcome (seated b s) port) × (left ≡ on_seated b (λ r. taken_relay r port) s)
+    pub one_handed : {left : State} (e : Entry) → t.head ≡ Some e → left ≡ on_mission (λ m. put_queue m port t.queue) s
+        → (Good e ≡ take_outcome (seated b s) port) × (left ≡ on_seated b (λ r. taken_relay r port) s)
     unfolding take_outcome taken_relay
     one_handed e h es = (simp (open_port, taken, h), simp (open_port, taken, h) es)

@@ -1,6 +1,7 @@
 -- The counters that are moved: each is one of the eighteen, or none; and one move after the other. Assumes nothing.
+use Rattle.std.specs.Prelude.{Option}
 use native.Mathlib.Omega.{arith}
-use Prim.Native.Nat.{ℕ, ◌<◌}
+use Prim.Native.Nat.{ℕ}
 use mathlib.Core.Path.{◌≡◌, refl}
 use mathlib.Core.Bool.{Bool, true, ◌&&◌}
 use mathlib.Core.List.{List, [], ◌∷◌}
@@ -8,7 +9,6 @@ use lib.Dec.{eqb, ltb}
 use borrow.Author.Tests.{ltb-true}
 use Rattle.checks.proofs.Bools.{and_true}
 use Rattle.checks.proofs.Laws.{either}
-use Rattle.state.specs.Relay.{added}
 use Rattle.state.specs.Seen.{State, on_counters}
 use Rattle.address.specs.Mask.{ones_of}
 use Rattle.verdict.specs.Numbers.{obstacle_number}
@@ -20,8 +20,6 @@ use Rattle.verdict.specs.declared.Ruling.{Ruling}
 use Rattle.sets.specs.Limits.{counter_count}
 use Rattle.judge.specs.Remembered.{is_unheard}
 use Rattle.judge.specs.declared.Ending.{Ending}
-use Rattle.tally.specs.declared.Counter.{Counter}
-use Rattle.tally.specs.declared.Counter.TheVariants.{At, Nothing}
 use Rattle.tally.specs.Tally.{CounterRow, numbered, in_table, Inside, counter_for, receipt_counter, local_counter, onward_counter, discard_counter, ruling_moves, moves_of, made_counter, unsent_counter, reply_moves, counted_at, counted_all}
 
 -- ---- each counter is one of the eighteen, or none
@@ -60,7 +58,7 @@ unsent_inside SentOn = tt
 unsent_inside (Refused o) = number_inside (obstacle_number o)
 
 -- the same of a counter that was told
-module _ {c : Counter} where
+module _ {c : Option ℕ} where
   pub receipt_told : (refusal : ℕ) → c ≡ receipt_counter refusal → Inside c
   receipt_told refusal e = rw e (either Inside (is_unheard refusal) tt (omega arith))
 
@@ -82,22 +80,9 @@ module _ {c : Counter} where
   pub unsent_told : (onward : Onward) → c ≡ unsent_counter onward → Inside c
   unsent_told onward e = rw e (unsent_inside onward)
 
--- ---- one counter moved, or none
-pub none_moved : (s : State) (n : ℕ) {c : Counter} → c ≡ Nothing → s ≡ on_counters (λ l. counted_at l c n) s
-unfolding counted_at
-none_moved s n e = rw e
-
-pub one_moved : (s : State) (place n : ℕ) {c : Counter} {a : State}
-    → c ≡ At place → a ≡ on_counters (λ l. added l place n) s → a ≡ on_counters (λ l. counted_at l c n) s
-unfolding counted_at
-one_moved s place n e is = rw e is
-
-pub place_inside : (place : ℕ) {c : Counter} → c ≡ At place → Inside c → place < counter_count
-place_inside place e h = rw e at h
-
--- one after the other
+-- ---- one counter moved after the other
 pub ruling_moved :
-    (s : State) (x : Ruling) {a b c : State} {local onward discard : Counter} {dropped : ℕ}
+    (s : State) (x : Ruling) {a b c : State} {local onward discard : Option ℕ} {dropped : ℕ}
     → dropped ≡ ones_of x.dropped
     → local ≡ local_counter x.local
     → a ≡ on_counters (λ l. counted_at l local 1) s
@@ -109,7 +94,7 @@ pub ruling_moved :
 ruling_moved s x e1 e2 e3 e4 e5 e6 e7 = cc
 
 pub ending_moved :
-    (s : State) (e : Ending) {a b c : State} {receipt refusal : Counter}
+    (s : State) (e : Ending) {a b c : State} {receipt refusal : Option ℕ}
     → receipt ≡ receipt_counter e.refusal
     → a ≡ on_counters (λ l. counted_at l receipt 1) s
     → refusal ≡ counter_for e.refusal
@@ -119,7 +104,7 @@ pub ending_moved :
 ending_moved s e e1 e2 e3 e4 e5 = cc
 
 pub reply_moved :
-    (s : State) (x : Ruling) {a b c : State} {made unsent discard : Counter} {dropped : ℕ}
+    (s : State) (x : Ruling) {a b c : State} {made unsent discard : Option ℕ} {dropped : ℕ}
     → dropped ≡ ones_of x.dropped
     → made ≡ made_counter x.onward
     → a ≡ on_counters (λ l. counted_at l made 1) s

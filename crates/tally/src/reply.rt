@@ -7,39 +7,37 @@ ghost use Rattle.state.specs.Seen.{on_counters};
 ghost use Rattle.state.specs.Layout.{mission_words, decode};
 ghost use Rattle.tally.specs.Tally.{made_counter, unsent_counter, counted_all, reply_moves};
 
-use crate::Counter;
+use state::MissionWords;
 use verdict::{Onward, Ruling};
 
 // npOutRequests for a reply that was made, whether it goes or not.
-fn made_counter(onward: Onward) -> Counter
+fn made_counter(onward: Onward) -> Option<u32>
     ensures { result ≡ made_counter onward }
 {
     match onward {
-        Onward::NotAsked => Counter::Nothing,
-        Onward::SentOn => Counter::At(17),
-        Onward::Refused(_) => Counter::At(17),
+        Onward::NotAsked => None,
+        Onward::SentOn => Some(17),
+        Onward::Refused(_) => Some(17),
     }
 }
 
 // The number's for one that does not go.
-fn unsent_counter(onward: Onward) -> Counter
+fn unsent_counter(onward: Onward) -> Option<u32>
     ensures { result ≡ unsent_counter onward }
 {
     match onward {
-        Onward::NotAsked => Counter::Nothing,
-        Onward::SentOn => Counter::Nothing,
-        Onward::Refused(obstacle) => crate::counter_for(verdict::obstacle_number(obstacle)),
+        Onward::NotAsked => None,
+        Onward::SentOn => None,
+        Onward::Refused(obstacle) => crate::counter_for(obstacle.into()),
     }
 }
 
 // All that a reply counts.
-pub fn count_reply(mission: &mut [u32], ruling: Ruling)
-    requires { length mission.old ≡ mission_words }
+pub fn count_reply(mission: &mut MissionWords, ruling: Ruling)
     ensures { decode mission.new ≡ on_counters (λ l. counted_all l (reply_moves ruling)) (decode mission.old) }
 {
-    let onward = ruling.onward;
     let dropped = crate::ports_in(ruling.dropped);
-    crate::count_at(mission, made_counter(onward), 1);
-    crate::count_at(mission, unsent_counter(onward), 1);
+    crate::count_at(mission, made_counter(ruling.onward), 1);
+    crate::count_at(mission, unsent_counter(ruling.onward), 1);
     crate::count_at(mission, crate::discard_counter(ruling.dropped), dropped);
 }

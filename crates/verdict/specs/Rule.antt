@@ -1,6 +1,6 @@
 -- The verdict on a datagram that has been read and whose addresses are good (page 01, "Local half" and "Onward half"). A set of ports is a number
 -- in which port p is 2 ^ p. Assumes nothing.
-use Rattle.std.specs.Prelude.{ℕ, ◌-◌, not, ◌&&◌, eqb}
+use Rattle.std.specs.Prelude.{ℕ, ◌-◌, Bool, true, false, not, ◌&&◌, ◌||◌, eqb, Option, Some, None}
 use Rattle.std.specs.Int.Bits.{bit_and}
 use Rattle.checks.specs.Order.{pick}
 use Rattle.address.specs.declared.Class.{Class}
@@ -9,9 +9,7 @@ use Rattle.verdict.specs.declared.Target.{Target}
 use Rattle.verdict.specs.declared.Target.TheVariants.{Here, Broadcast, Group, Path, Route}
 use Rattle.verdict.specs.declared.Survey.{Survey}
 use Rattle.verdict.specs.declared.Place.{Place}
-use Rattle.verdict.specs.declared.Place.TheVariants.{Held, Missing}
 use Rattle.verdict.specs.declared.Way.{Way}
-use Rattle.verdict.specs.declared.Way.TheVariants.{By, Lost}
 use Rattle.verdict.specs.declared.Flood.{Flood}
 use Rattle.verdict.specs.declared.Flood.TheVariants.{Plain, Unsent, Full, New}
 use Rattle.verdict.specs.declared.Case.{Case}
@@ -49,24 +47,24 @@ target_of c s = pick (not (eqb s.addressed 0)) Here (pick (not (eqb s.broadcast 
 -- ---- the local half
 
 -- what the place for the group or path says, 0 where it says no: the arrival port where it is subscribed, or delivered here
-abbrev pub here_by : Place → ℕ
-here_by (Held send here) = here
-here_by Missing = 0
+abbrev pub here_by : Option Place → ℕ
+here_by (Some place) = place.here
+here_by None = 0
 
--- 0 where the target alone does not make the datagram ours
-abbrev pub ours_by : Target → ℕ → ℕ
-ours_by Here here = 1
-ours_by Broadcast here = 1
-ours_by Group here = here
-ours_by Path here = here
-ours_by Route here = 0
+-- whether the target makes the datagram ours, by what its place says
+abbrev pub ours_by : Target → ℕ → Bool
+ours_by Here here = true
+ours_by Broadcast here = true
+ours_by Group here = not (eqb here 0)
+ours_by Path here = not (eqb here 0)
+ours_by Route here = false
 
-abbrev pub wanted_here : ℕ → ℕ → ℕ
-wanted_here ours intermediate = pick (eqb ours 0 && eqb intermediate 0) 0 1
+abbrev pub wanted_here : Bool → ℕ → Bool
+wanted_here ours intermediate = ours || not (eqb intermediate 0)
 
 -- "If it would be delivered and its TP-ID is not assigned in table 3-2, the local half is 26"
-unfoldable pub local_of : Target → Place → Case → Local
-local_of t p c = pick (eqb (wanted_here (ours_by t (here_by p)) c.intermediate) 0) No (pick (eqb c.assigned 0) Unknown Delivered)
+unfoldable pub local_of : Target → Option Place → Case → Local
+local_of t p c = pick (not (wanted_here (ours_by t (here_by p)) c.intermediate)) No (pick (eqb c.assigned 0) Unknown Delivered)
 
 -- ---- the lines of the onward half
 
@@ -78,32 +76,32 @@ abbrev pub broadcast_line : ℕ → Wish
 broadcast_line set = pick (eqb set 0) NotAsked (Wanted set)
 
 -- subscribed on the arrival port, and no other port is set up
-abbrev pub alone_by : ℕ → ℕ → ℕ
-alone_by subscribed others = pick (not (eqb subscribed 0) && eqb others 0) 1 0
+abbrev pub alone_by : ℕ → ℕ → Bool
+alone_by subscribed others = not (eqb subscribed 0) && eqb others 0
 
 -- the group's set without the arrival port; `others` are the other ports set up
-unfoldable pub group_line : Place → ℕ → ℕ → Wish
-group_line Missing arrival others = Refused NoRoute
-group_line (Held send subscribed) arrival others =
-    pick (eqb (alone_by subscribed others) 1) NotAsked (pick (eqb (except_by send arrival) 0) (Refused NoRoute) (Wanted (except_by send arrival)))
+unfoldable pub group_line : Option Place → ℕ → ℕ → Wish
+group_line None arrival others = Refused NoRoute
+group_line (Some place) arrival others =
+    pick (alone_by place.here others) NotAsked (pick (eqb (except_by place.send arrival) 0) (Refused NoRoute) (Wanted (except_by place.send arrival)))
 
 -- the path's set without the arrival port
-unfoldable pub path_line : Place → ℕ → Wish
-path_line Missing arrival = Refused NoRoute
-path_line (Held send here) arrival =
-    pick (not (eqb (except_by send arrival) 0)) (Wanted (except_by send arrival)) (pick (not (eqb here 0)) NotAsked (Refused NoRoute))
+unfoldable pub path_line : Option Place → ℕ → Wish
+path_line None arrival = Refused NoRoute
+path_line (Some place) arrival =
+    pick (not (eqb (except_by place.send arrival) 0)) (Wanted (except_by place.send arrival)) (pick (not (eqb place.here 0)) NotAsked (Refused NoRoute))
 
 -- the port of the route taken; 11 if no route that is up matches (page 02, W-204)
-unfoldable pub route_line : Way → Wish
-route_line Lost = Refused NoRoute
-route_line (By port code) = Wanted port
+unfoldable pub route_line : Option Way → Wish
+route_line None = Refused NoRoute
+route_line (Some way) = Wanted way.port
 
 -- what a header needs on its next leg: the capabilities of the route taken; "Copies without a route get no added elements" (page 02, W-214)
-abbrev pub code_of : Way → ℕ
-code_of Lost = 0
-code_of (By port code) = code
+abbrev pub code_of : Option Way → ℕ
+code_of None = 0
+code_of (Some way) = way.code
 
-abbrev pub router_line : Target → Place → Way → ℕ → ℕ → Wish
+abbrev pub router_line : Target → Option Place → Option Way → ℕ → ℕ → Wish
 router_line Here p w arrival ready = NotAsked
 router_line Broadcast p w arrival ready = broadcast_line (except_by ready arrival)
 router_line Group p w arrival ready = group_line p arrival (except_by ready arrival)
@@ -123,7 +121,7 @@ host_line Group local = unheard_by local
 host_line Path local = unheard_by local
 host_line Route local = unheard_by local
 
-unfoldable pub plain_line : Target → Place → Way → Case → ℕ → Local → Wish
+unfoldable pub plain_line : Target → Option Place → Option Way → Case → ℕ → Local → Wish
 plain_line t p w c ready local = pick (eqb c.router 0) (host_line t local) (router_line t p w c.arrival ready)
 
 -- a flooded datagram, on a router (page 02, W-207): "not asked for a held pair, a port's address or limited broadcast; with all places held 30 ..; else the
@@ -134,15 +132,15 @@ flood_line Unsent others line = NotAsked
 flood_line Full others line = Refused PairsHeld
 flood_line (New place) others line = pick (eqb others 0) (Refused NoRoute) (Wanted others)
 
-unfoldable pub line_of : Target → Place → Way → Case → ℕ → Local → Wish
+unfoldable pub line_of : Target → Option Place → Option Way → Case → ℕ → Local → Wish
 line_of t p w c ready local = flood_line c.flood (except_by ready c.arrival) (plain_line t p w c ready local)
 
 -- a flood takes no route: W-214, "Copies without a route get no added elements"
-abbrev pub way_under : Flood → Way → Way
+abbrev pub way_under : Flood → Option Way → Option Way
 way_under Plain w = w
-way_under Unsent w = Lost
-way_under Full w = Lost
-way_under (New place) w = Lost
+way_under Unsent w = None
+way_under Full w = None
+way_under (New place) w = None
 
 -- ---- with ports wanted: 10, 13, 14, in this order
 

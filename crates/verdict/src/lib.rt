@@ -7,7 +7,7 @@
 // set of ports is a number in which port p is 2 to the power of p.
 //
 // The awkward case is a number of page 01 that both halves use, 1: delivered in one, sent on in the other. So each half is a kind of its
-// own, and has its number (0, 1, 26; 0, 1, 9 to 11, 13 to 15, 30) by a function.
+// own, and has its number (0, 1, 26; 0, 1, 9 to 11, 13 to 15, 30) by `u32::from`.
 #![tactic(auto)]
 
 pub mod copies;
@@ -15,7 +15,6 @@ pub mod local_half;
 pub mod onward_half;
 
 ghost use Rattle.std.specs.Prelude.{◌≡◌};
-ghost use Rattle.verdict.specs.Numbers.{local_number, obstacle_number, onward_number};
 ghost use Rattle.verdict.specs.Rule.{code_of, except_by};
 
 // Which line of the onward half a destination falls under, apart from what a host makes of it.
@@ -40,20 +39,20 @@ pub struct Survey {
     pub full: u32,
 }
 
-// What the place for a group or a path says, where there is one: the ports to send to, and whether it is delivered here (a path) or
-// subscribed on the arrival port (a group).
+// What the place for a group or a path says: the ports to send to, and whether it is delivered here (a path) or subscribed on the
+// arrival port (a group), 0 where not. There may be no place.
 #[derive(Clone, Copy)]
-pub enum Place {
-    Held(u32, u32),
-    Missing,
+pub struct Place {
+    pub send: u32,
+    pub here: u32,
 }
 
-// What the route search found: the port of the route taken, as a set, and its capabilities, which say what a header needs on that leg. A route that is
-// taken is up.
+// The way that the route search found, if it found one: the port of the route taken, as a set, and its capabilities, the code of what a header needs on
+// that leg. A route that is taken is up.
 #[derive(Clone, Copy)]
-pub enum Way {
-    By(u32, u32),
-    Lost,
+pub struct Way {
+    pub port: u32,
+    pub code: u32,
 }
 
 // What the pairs of a mission say of a datagram that is to be flooded by a router. Plain: it is not, and the lines of the onward half decide. Unsent: its pair
@@ -127,50 +126,62 @@ pub struct Ruling {
 }
 
 // Page 01's number of a local half.
-pub fn local_number(local: Local) -> u32
-    ensures { result ≡ local_number local }
-{
-    match local {
-        Local::No => 0,
-        Local::Delivered => 1,
-        Local::Unknown => 26,
+impl From<Local> for u32 {
+    ghost use Rattle.std.specs.Prelude.{◌≡◌};
+    ghost use Rattle.verdict.specs.Numbers.{local_number};
+
+    ghost from_gives = { λ local n. n ≡ local_number local };
+
+    fn from(local: Local) -> u32 {
+        match local {
+            Local::No => 0,
+            Local::Delivered => 1,
+            Local::Unknown => 26,
+        }
     }
 }
 
 // Page 01's number of an obstacle.
-pub fn obstacle_number(obstacle: Obstacle) -> u32
-    ensures { result ≡ obstacle_number obstacle }
-{
-    match obstacle {
-        Obstacle::NotForUs => 9,
-        Obstacle::HopsUsedUp => 10,
-        Obstacle::NoRoute => 11,
-        Obstacle::LeavesDomain => 13,
-        Obstacle::TooBig => 14,
-        Obstacle::QueuesFull => 15,
-        Obstacle::PairsHeld => 30,
+impl From<Obstacle> for u32 {
+    ghost use Rattle.std.specs.Prelude.{◌≡◌};
+    ghost use Rattle.verdict.specs.Numbers.{obstacle_number};
+
+    ghost from_gives = { λ obstacle n. n ≡ obstacle_number obstacle };
+
+    fn from(obstacle: Obstacle) -> u32 {
+        match obstacle {
+            Obstacle::NotForUs => 9,
+            Obstacle::HopsUsedUp => 10,
+            Obstacle::NoRoute => 11,
+            Obstacle::LeavesDomain => 13,
+            Obstacle::TooBig => 14,
+            Obstacle::QueuesFull => 15,
+            Obstacle::PairsHeld => 30,
+        }
     }
 }
 
 // Page 01's number of an onward half.
-pub fn onward_number(onward: Onward) -> u32
-    ensures { result ≡ onward_number onward }
-{
-    match onward {
-        Onward::NotAsked => 0,
-        Onward::SentOn => 1,
-        Onward::Refused(obstacle) => obstacle_number(obstacle),
+impl From<Onward> for u32 {
+    ghost use Rattle.std.specs.Prelude.{◌≡◌};
+    ghost use Rattle.verdict.specs.Numbers.{onward_number};
+
+    ghost from_gives = { λ onward n. n ≡ onward_number onward };
+
+    fn from(onward: Onward) -> u32 {
+        match onward {
+            Onward::NotAsked => 0,
+            Onward::SentOn => 1,
+            Onward::Refused(obstacle) => obstacle.into(),
+        }
     }
 }
 
 // What the route taken asks of a header, 0 without a route.
-pub fn code_of(w: Way) -> u32
+pub fn code_of(w: Option<Way>) -> u32
     ensures { result ≡ code_of w }
 {
-    match w {
-        Way::By(_, code) => code,
-        Way::Lost => 0,
-    }
+    w.map_or(0, |way| way.code)
 }
 
 // A set of ports without those of another.

@@ -52,47 +52,36 @@ pub fn target_of(class: Class, s: Survey) -> Target
 }
 
 // What a place says of this node, 0 where it says no: delivered here, or the set of the arrival port where that is subscribed.
-fn here_by(p: Place) -> u32
+fn here_by(p: Option<Place>) -> u32
     ensures { result ≡ here_by p }
 {
-    match p {
-        Place::Held(_, here) => here,
-        Place::Missing => 0,
-    }
+    p.map_or(0, |place| place.here)
 }
 
-// Not 0 where the target makes the datagram ours, by what its place says.
-fn ours_by(t: Target, here: u32) -> u32
+// Whether the target makes the datagram ours, by what its place says.
+fn is_ours(t: Target, here: u32) -> bool
     ensures { result ≡ ours_by t here }
 {
     match t {
-        Target::Here => 1,
-        Target::Broadcast => 1,
-        Target::Group => here,
-        Target::Path => here,
-        Target::Route => 0,
+        Target::Here | Target::Broadcast => true,
+        Target::Group | Target::Path => here != 0,
+        Target::Route => false,
     }
 }
 
-// 1 where the datagram would be delivered: it is ours, or intermediate delivery is asked for.
-fn wanted_here(ours: u32, intermediate: u32) -> u32
+// Whether the datagram would be delivered: it is ours, or intermediate delivery is asked for.
+fn is_wanted_here(ours: bool, intermediate: u32) -> bool
     ensures { result ≡ wanted_here ours intermediate }
 {
-    if ours != 0 {
-        return 1;
-    }
-    if intermediate != 0 {
-        return 1;
-    }
-    0
+    ours || intermediate != 0
 }
 
 // The local half.
-pub fn local_of(t: Target, p: Place, c: Case) -> Local
+pub fn local_of(t: Target, p: Option<Place>, c: Case) -> Local
     ensures { result ≡ local_of t p c }
 {
-    let ours = ours_by(t, here_by(p));
-    if wanted_here(ours, c.intermediate) == 0 {
+    let ours = is_ours(t, here_by(p));
+    if !is_wanted_here(ours, c.intermediate) {
         return Local::No;
     }
     if c.assigned == 0 {

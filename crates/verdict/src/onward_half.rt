@@ -22,30 +22,24 @@ fn broadcast_line(set: u32) -> Wish
     Wish::Wanted(set)
 }
 
-// 1 where the arrival port is subscribed and no other port is set up.
-fn alone(subscribed: u32, others: u32) -> u32
+// Whether the arrival port is subscribed and no other port is set up.
+fn is_alone(subscribed: u32, others: u32) -> bool
     ensures { result ≡ alone_by subscribed others }
 {
-    if subscribed == 0 {
-        return 0;
-    }
-    if others != 0 {
-        return 0;
-    }
-    1
+    subscribed != 0 && others == 0
 }
 
 // A group's set without the arrival port; 11 where it is empty or there is no group.
-fn group_line(p: Place, arrival: u32, others: u32) -> Wish
+fn group_line(p: Option<Place>, arrival: u32, others: u32) -> Wish
     ensures { result ≡ group_line p arrival others }
 {
-    let Place::Held(send, subscribed) = p else {
+    let Some(place) = p else {
         return Wish::Refused(Obstacle::NoRoute);
     };
-    if alone(subscribed, others) == 1 {
+    if is_alone(place.here, others) {
         return Wish::NotAsked;
     }
-    let set = crate::except(send, arrival);
+    let set = crate::except(place.send, arrival);
     if set == 0 {
         return Wish::Refused(Obstacle::NoRoute);
     }
@@ -53,34 +47,34 @@ fn group_line(p: Place, arrival: u32, others: u32) -> Wish
 }
 
 // A path's set without the arrival port; where that is empty, not asked if the path is delivered here, else 11.
-fn path_line(p: Place, arrival: u32) -> Wish
+fn path_line(p: Option<Place>, arrival: u32) -> Wish
     ensures { result ≡ path_line p arrival }
 {
-    let Place::Held(send, here) = p else {
+    let Some(place) = p else {
         return Wish::Refused(Obstacle::NoRoute);
     };
-    let set = crate::except(send, arrival);
+    let set = crate::except(place.send, arrival);
     if set != 0 {
         return Wish::Wanted(set);
     }
-    if here != 0 {
+    if place.here != 0 {
         return Wish::NotAsked;
     }
     Wish::Refused(Obstacle::NoRoute)
 }
 
 // The port of the route taken, which may be the arrival port; 11 where no route was found.
-fn route_line(w: Way) -> Wish
+fn route_line(w: Option<Way>) -> Wish
     ensures { result ≡ route_line w }
 {
-    let Way::By(port, _) = w else {
+    let Some(way) = w else {
         return Wish::Refused(Obstacle::NoRoute);
     };
-    Wish::Wanted(port)
+    Wish::Wanted(way.port)
 }
 
 // What a router makes of a target.
-fn router_line(t: Target, p: Place, w: Way, arrival: u32, ready: u32) -> Wish
+fn router_line(t: Target, p: Option<Place>, w: Option<Way>, arrival: u32, ready: u32) -> Wish
     ensures { result ≡ router_line t p w arrival ready }
 {
     let others = crate::except(ready, arrival);
@@ -119,7 +113,14 @@ fn host_line(t: Target, local: Local) -> Wish
 }
 
 // The first line of the onward half that fits, no pair asked.
-fn plain_line(t: Target, p: Place, w: Way, c: Case, ready: u32, local: Local) -> Wish
+fn plain_line(
+    t: Target,
+    p: Option<Place>,
+    w: Option<Way>,
+    c: Case,
+    ready: u32,
+    local: Local,
+) -> Wish
     ensures { result ≡ plain_line t p w c ready local }
 {
     if c.router == 0 {
@@ -151,7 +152,14 @@ fn flood_line(f: Flood, others: u32) -> Wish
 }
 
 // The first line of the onward half that fits.
-pub fn line_of(t: Target, p: Place, w: Way, c: Case, ready: u32, local: Local) -> Wish
+pub fn line_of(
+    t: Target,
+    p: Option<Place>,
+    w: Option<Way>,
+    c: Case,
+    ready: u32,
+    local: Local,
+) -> Wish
     ensures { result ≡ line_of t p w c ready local }
 {
     let flood = c.flood;

@@ -7,50 +7,50 @@ ghost use Rattle.std.specs.Prelude.{◌≡◌, ◌+◌, ◌≤◌, ◌<◌, leng
 ghost use Rattle.octets.specs.Octets.{pasted};
 ghost use Rattle.header.specs.Build.{qos_octets, octet_octets, stamp_octets, checksum_octets};
 
-use header::{Octet, Qos, Timestamp};
+use header::{Qos, Timestamp};
 
 // Basic QOS: precedence in four bits, then routing requirements and program specific in two each.
-pub fn put_qos(out: &mut [u8], place: usize, q: Qos) -> usize
+pub fn put_qos(out: &mut [u8], place: usize, q: Option<Qos>) -> usize
     requires { place + 1 ≤ length out.old }
     ensures value { result ≡ place + length (qos_octets q) }
     ensures out_after { out.new ≡ pasted out.old place (qos_octets q) }
 {
     match q {
-        Qos::Absent => place,
-        Qos::Present(precedence, routing, program) => {
-            let octet = precedence as u64 * 16 + routing as u64 * 4 + program as u64;
+        None => place,
+        Some(q) => {
+            let octet = q.precedence as u64 * 16 + q.routing as u64 * 4 + q.program as u64;
             octets::put_number(out, place, 1, octet)
         }
     }
 }
 
 // An element of one octet.
-pub fn put_octet(out: &mut [u8], place: usize, o: Octet) -> usize
+pub fn put_octet(out: &mut [u8], place: usize, o: Option<u8>) -> usize
     requires { place + 1 ≤ length out.old }
     ensures value { result ≡ place + length (octet_octets o) }
     ensures out_after { out.new ≡ pasted out.old place (octet_octets o) }
 {
     match o {
-        Octet::Absent => place,
-        Octet::Present(v) => octets::put_number(out, place, 1, v as u64),
+        None => place,
+        Some(v) => octets::put_number(out, place, 1, v as u64),
     }
 }
 
 // A timestamp; with an explicit P-field, as many octets of time as that gives.
-pub fn put_stamp(out: &mut [u8], place: usize, t: Timestamp) -> usize
+pub fn put_stamp(out: &mut [u8], place: usize, t: Option<Timestamp>) -> usize
     requires { place + 8 ≤ length out.old }
     ensures value { result ≡ place + length (stamp_octets t) }
     ensures out_after { out.new ≡ pasted out.old place (stamp_octets t) }
 {
     match t {
-        Timestamp::Absent => place,
-        Timestamp::Implicit(time) => octets::put_number(out, place, 3, time),
-        Timestamp::Explicit(p, time) => {
+        None => place,
+        Some(Timestamp::Implicit(time)) => octets::put_number(out, place, 3, time),
+        Some(Timestamp::Explicit(p, time)) => {
             let next = octets::put_number(out, place, 1, p as u64);
             let time_size = header::pfield::time_size(p);
             octets::put_number(out, next, time_size, time)
         }
-        Timestamp::Binary(time) => octets::put_number(out, place, 4, time),
+        Some(Timestamp::Binary(time)) => octets::put_number(out, place, 4, time),
     }
 }
 

@@ -23,10 +23,8 @@ pub fn third_octet(f: Fields) -> u8
     requires { f.intermediate < 2 }
     ensures { result ≡ third_octet f }
 {
-    let addresses = f.addresses;
-    let expanded = f.expanded;
-    control_bits::IPV6 * header::flags::ipv6_flag(addresses)
-        + control_bits::EXPANDED * header::flags::octet_flag(expanded)
+    control_bits::IPV6 * header::flags::ipv6_flag(f.addresses)
+        + control_bits::EXPANDED * header::flags::octet_flag(f.expanded)
         + control_bits::INTERMEDIATE * f.intermediate
 }
 
@@ -35,16 +33,12 @@ pub fn second_octet(f: Fields, third: u8) -> u8
     requires { third ≡ third_octet f }
     ensures { result ≡ second_octet f }
 {
-    let addresses = f.addresses;
-    let hops = f.hops;
-    let stamp = f.stamp;
-    let qos = f.qos;
     control_bits::THIRD_OCTET * presence(third)
-        + control_bits::SOURCE * header::flags::source_flag(addresses)
-        + control_bits::HOPS * header::flags::octet_flag(hops)
-        + control_bits::STAMP * header::flags::stamp_format(stamp)
-        + control_bits::QOS * header::flags::qos_flag(qos)
-        + control_bits::EXTENDED * header::flags::extended_flag(addresses)
+        + control_bits::SOURCE * header::flags::source_flag(f.addresses)
+        + control_bits::HOPS * header::flags::octet_flag(f.hops)
+        + control_bits::STAMP * header::flags::stamp_format(f.stamp)
+        + control_bits::QOS * header::flags::qos_flag(f.qos)
+        + control_bits::EXTENDED * header::flags::extended_flag(f.addresses)
 }
 
 // Version, length field, TP-ID and control field; `shared` is the octet that TP-ID and bits 20 to 23 share. A length that does not fit its field

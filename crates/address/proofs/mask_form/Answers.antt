@@ -3,8 +3,8 @@ use borrow.Author.Rules.{rules}
 use Rattle.address.proofs.Leading.{ones_told, mixed_told}
 use Rattle.address.proofs.mask_form.Goals as goal
 
-pub returns-then-v-ones : goal.returns-then-v-ones
-returns-then-v-ones c = mixed_told _ (search rules) c.if-v-ones.true
+pub returns-then-m-ones : goal.returns-then-m-ones
+returns-then-m-ones c = mixed_told _ (search rules) c.if-m-ones.true
 
 pub returns : goal.returns
-returns c = ones_told _ (search rules) c.if-v-ones.false
+returns c = ones_told _ (search rules) c.if-m-ones.false

@@ -1,6 +1,5 @@
 -- `answering::pass_over` meets its contract. Assumes nothing.
 use Rattle.answering.proofs.Left.{passed_over}
-use borrow.Author.Rules.{rules}
 use Rattle.answering.proofs.pass_over.Goals as goal
 
 pub returns : goal.returns

@@ -1,5 +1,4 @@
 -- `builder::put_rest` meets its contract: five elements, one after the other, in room for the most that each has. Assumes nothing.
-use borrow.Author.Rules.{rules}
 use native.Mathlib.Omega.{arith}
 use Rattle.builder.proofs.Laws.{element_sizes, rest_put}
 use Rattle.builder.proofs.put_rest.Goals as goal

@@ -1,5 +1,4 @@
 -- `builder::write_header` meets its contract: the elements, the front before them and the checksum behind them make the header. Assumes nothing.
-use borrow.Author.Rules.{rules}
 use Prim.Native.Nat.{ℕ, ◌+◌, ◌*◌, ◌≤◌}
 use mathlib.Core.Path.{◌≡◌, ap, ◌∙◌}
 use native.Mathlib.Omega.{arith}

@@ -4,7 +4,6 @@ use native.Mathlib.Omega.{arith}
 use lib.ListN.{length-take}
 use Rattle.checksum.proofs.Words.{Octets}
 use Rattle.checksum.proofs.Laws.{element_before}
-use borrow.Author.Rules.{rules}
 use Rattle.checksum.proofs.element.Goals as goal
 
 pub slice_bounds-checksum-end : goal.slice_bounds-checksum-end
@@ -12,5 +11,5 @@ slice_bounds-checksum-end c = simp length-take (omega (arith, c.requires))
 
 pub returns : goal.returns
 returns c = let start = c.before.before.before in
-    let octets : Octets start.args.s.now = λ i. (c.shared_slice_known-1.given i).fits in
+    let octets : Octets start.args.s.now = λ i. (c.type_inv.s i).fits in
     c.checksum.ensures ∙ sym (element_before start.args.s.now start.args.at octets)

@@ -3,7 +3,6 @@ use native.Mathlib.Omega.{arith}
 use mathlib.Core.Path.{◌≡◌, ap, ◌∙◌}
 use Rattle.checksum.specs.Sum.{around}
 use Rattle.checksum.proofs.TwoAtOnce.{folds}
-use borrow.Author.Rules.{rules}
 use Rattle.checksum.proofs.folded.Goals as goal
 
 is : (c : goal.After-fold-3) → c.fold-3.result ≡ around (around (around c.args.sum))

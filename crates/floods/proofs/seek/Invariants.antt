@@ -10,6 +10,3 @@ use Rattle.floods.proofs.seek.Given as goal
 
 abbrev pub invariant-loop-i : goal.invariant-loop-i
 invariant-loop-i l = (l.i ≤ 64) × ((any_below (λ (j : ℕ). holds_pair (pair_at (decode l.mission).memory j) l.q) l.i ≡ false) × (l.free ≡ first_below (λ (j : ℕ). is_free (pair_at (decode l.mission).memory j)) l.i))
-
-abbrev pub decreases-loop-i : goal.decreases-loop-i
-decreases-loop-i l = 64 - l.i

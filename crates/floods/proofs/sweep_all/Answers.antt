@@ -6,7 +6,7 @@ use borrow.Author.Rules.{rules}
 use Rattle.floods.proofs.sweep_all.Goals as goal
 
 pub loop-i-init : goal.loop-i-init
-loop-i-init c = (omega arith, (c.requires, refl))
+loop-i-init c = (omega arith, (c.told-mission, refl))
 
 pub loop-i-preserved : goal.loop-i-preserved
 loop-i-preserved c = (omega arith, (search rules, one_further _ _ _ _ c.loop-i.invariant.1.1 c.sweep_at.ensures))

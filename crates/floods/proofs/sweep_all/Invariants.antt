@@ -9,6 +9,3 @@ use Rattle.floods.proofs.sweep_all.Given as goal
 
 abbrev pub invariant-loop-i : goal.invariant-loop-i
 invariant-loop-i l = (l.i ≤ 64) × ((length l.mission ≡ mission_words) × (decode l.mission ≡ on_memory (λ k. swept_below l.lifetime l.second k l.i) (decode l.initial.mission)))
-
-abbrev pub decreases-loop-i : goal.decreases-loop-i
-decreases-loop-i l = 64 - l.i

@@ -1,6 +1,5 @@
 -- `harpjuniper::hj_build_words` meets its contract: another number of words, or the numbers of the words are built. Assumes nothing.
 use Rattle.harpjuniper.proofs.Laws.{other_words, words_built}
-use borrow.Author.Rules.{rules}
 use Rattle.harpjuniper.proofs.hj_build_words.Goals as goal
 
 pub returns-then-words-ne-FIELD_WORDS : goal.returns-then-words-ne-FIELD_WORDS

@@ -8,4 +8,4 @@ pub bounds-words-1 : goal.bounds-words-1
 bounds-words-1 c = simp length-set (search rules)
 
 pub returns : goal.returns
-returns c = reading_written c.args.words.now c.args.h _ _ c.requires.0 c.numbers_of-n.ensures c.write_numbers.ensures
+returns c = reading_written c.args.words.now c.args.h _ _ c.requires.0 c.from.ensures c.write_numbers.ensures

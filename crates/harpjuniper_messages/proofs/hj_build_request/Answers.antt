@@ -1,9 +1,9 @@
 -- `harpjuniper_messages::hj_build_request` meets its contract. Assumes nothing.
 use Rattle.harpjuniper_messages.specs.Face.{request_of}
 use Rattle.harpjuniper_messages.proofs.Laws.{answered}
-use borrow.Author.Rules.{rules}
+use Rattle.echo.proofs.Refusals.{built_told}
 use Rattle.harpjuniper_messages.proofs.hj_build_request.Goals as goal
 
 pub returns : goal.returns
-returns c = let t = answered (request_of c.args.identifier c.args.sequence) _ _ _ _ _ _ c.message_with-m.ensures c.build_message.ensures.value
+returns c = let t = answered (request_of c.args.identifier c.args.sequence) _ _ _ _ _ _ c.message_with-m.ensures (built_told _ _ _ _ c.build_message.ensures.value)
     c.build_message.ensures.out_after c.built_answer.ensures in record { value = t.0; output_after = t.1 }

@@ -1,5 +1,4 @@
 -- `harpjuniper_messages::seen_in` meets its contract. Assumes nothing.
-use borrow.Author.Rules.{rules}
 use Rattle.harpjuniper_messages.proofs.seen_in.Goals as goal
 
 pub returns-in-Request : goal.returns-in-Request

@@ -2,7 +2,6 @@
 use native.Mathlib.Omega.{arith}
 use lib.ListN.{length-set}
 use Rattle.harpjuniper_messages.proofs.Laws.{size_fits, message_written}
-use borrow.Author.Rules.{rules}
 use Rattle.harpjuniper_messages.proofs.write_words.Goals as goal
 
 pub bounds-words-1 : goal.bounds-words-1

@@ -1,11 +1,10 @@
 -- `harpjuniper_reads::hj_get_echo_drop` meets its contract. Assumes nothing.
-use mathlib.Core.Path.{◌∙◌}
+use Rattle.std.proofs.Common.{◌∙◌, rules}
 use Rattle.lent_state.proofs.Calls.{board_held_told, board_other_told}
-use borrow.Author.Rules.{rules}
 use Rattle.harpjuniper_reads.proofs.hj_get_echo_drop.Goals as goal
 
-pub returns-then-board-ne-BOARD_WORDS : goal.returns-then-board-ne-BOARD_WORDS
-returns-then-board-ne-BOARD_WORDS c = c.refusal_number.ensures ∙ board_other_told _ c.if-board-ne-BOARD_WORDS.true _ _
+pub returns-in_default : goal.returns-in_default
+returns-in_default c = c.refusal_number.ensures ∙ board_other_told _ (search rules) _ _
 
 pub returns : goal.returns
-returns c = board_held_told _ c.if-board-ne-BOARD_WORDS.false _ _ c.drop_of.ensures
+returns c = board_held_told c.args.board.now (search rules) _ _ (rw (← c.in-Ok.ensures.1.same) c.drop_of.ensures)

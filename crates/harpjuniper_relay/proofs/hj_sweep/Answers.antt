@@ -1,14 +1,27 @@
 -- `harpjuniper_relay::hj_sweep` meets its contract. Assumes nothing.
-use Rattle.lent_state.proofs.Calls.{no_board_call, no_mission_call}
-use Rattle.harpjuniper_relay.proofs.Calls.{sweep_called}
-use borrow.Author.Rules.{rules}
+use Rattle.std.proofs.Common.{◌≡◌, ◌∙◌, rules}
+use Rattle.lent_state.proofs.Calls.{both_held_told, no_board_told, no_board_changed, no_mission_told}
+use Rattle.harpjuniper_relay.proofs.Kept.{both_kept, both_left}
 use Rattle.harpjuniper_relay.proofs.hj_sweep.Goals as goal
 
-pub returns-then-board-ne-BOARD_WORDS : goal.returns-then-board-ne-BOARD_WORDS
-returns-then-board-ne-BOARD_WORDS c = let t = no_board_call _ _ c.if-board-ne-BOARD_WORDS.true _ _ _ in record { value = t.0; mission_after = t.1 }
+pub returns-in_default-clause-value : goal.returns-in_default-clause-value
+returns-in_default-clause-value c = no_board_told _ _ (search rules) _ _
 
-pub returns-then-mission-ne-MISSION_WORDS : goal.returns-then-mission-ne-MISSION_WORDS
-returns-then-mission-ne-MISSION_WORDS c = let t = no_mission_call _ _ c.if-mission-ne-MISSION_WORDS.true _ _ _ in record { value = t.0; mission_after = t.1 }
+pub returns-in_default-clause-mission_after : goal.returns-in_default-clause-mission_after
+returns-in_default-clause-mission_after c = no_board_changed _ _ (search rules) _
 
-pub returns : goal.returns
-returns c = let t = sweep_called _ _ _ _ c.if-board-ne-BOARD_WORDS.false c.if-mission-ne-MISSION_WORDS.false (search rules) c.lifetime_of.ensures (c.sweep.ensures.value, c.sweep.ensures.mission_after) in record { value = t.0; mission_after = t.1 }
+pub returns-in_default-as_mut_array-clause-value : goal.returns-in_default-as_mut_array-clause-value
+returns-in_default-as_mut_array-clause-value c = no_mission_told _ _ (search rules) _ _
+
+pub returns-in_default-as_mut_array-clause-mission_after : goal.returns-in_default-as_mut_array-clause-mission_after
+returns-in_default-as_mut_array-clause-mission_after c = both_kept _ _ _ (search rules) (search rules) _
+
+pub returns-clause-value : goal.returns-clause-value
+returns-clause-value c = let same : c.in-Some.mission.now ≡ c.args.mission.now = search rules in
+    both_held_told c.args.board.now c.args.mission.now (search rules) (search rules) _ _ (rw (← same) (c.number_in.ensures ∙ c.sweep.ensures.value))
+
+pub returns-clause-mission_after : goal.returns-clause-mission_after
+returns-clause-mission_after c = let same_board : c.in-Ok.board.now ≡ c.args.board.now = search rules in
+    let same : c.in-Some.mission.now ≡ c.args.mission.now = search rules in
+    both_left c.args.board.now c.args.mission.now c.sweep.new.mission _ (search rules) (search rules) _ (search rules) (search rules)
+    (rw (← same_board, ← same, ← c.lifetime_of.ensures) c.sweep.ensures.mission_after)

@@ -1,11 +1,19 @@
 -- `harpjuniper_settings::hj_set_lifetime` meets its contract. Assumes nothing.
-use mathlib.Core.Path.{refl}
-use Rattle.lent_state.proofs.Calls.{board_held_call, board_other_call}
-use borrow.Author.Rules.{rules}
+use Rattle.std.proofs.Common.{◌≡◌, refl, rules}
+use Rattle.lent_state.proofs.Calls.{board_held_told, board_other_told}
+use Rattle.harpjuniper_settings.proofs.Kept.{board_kept, board_left}
 use Rattle.harpjuniper_settings.proofs.hj_set_lifetime.Goals as goal
 
-pub returns-then-board-ne-BOARD_WORDS : goal.returns-then-board-ne-BOARD_WORDS
-returns-then-board-ne-BOARD_WORDS c = let t = board_other_call _ c.if-board-ne-BOARD_WORDS.true _ _ _ in record { value = t.0; board_after = t.1 }
+pub returns-in_default-clause-value : goal.returns-in_default-clause-value
+returns-in_default-clause-value c = board_other_told _ (search rules) _ _
 
-pub returns : goal.returns
-returns c = let t = board_held_call _ c.if-board-ne-BOARD_WORDS.false _ _ _ _ (search rules) refl c.put_lifetime.ensures in record { value = t.0; board_after = t.1 }
+pub returns-in_default-clause-board_after : goal.returns-in_default-clause-board_after
+returns-in_default-clause-board_after c = board_kept _ _ (search rules) (search rules) _
+
+pub returns-clause-value : goal.returns-clause-value
+returns-clause-value c = let same : c.in-Some.board.now ≡ c.args.board.now = search rules in
+    board_held_told c.args.board.now (search rules) _ _ (refl)
+
+pub returns-clause-board_after : goal.returns-clause-board_after
+returns-clause-board_after c = let same : c.in-Some.board.now ≡ c.args.board.now = search rules in
+    board_left c.args.board.now c.put_lifetime.new.board _ (search rules) _ (search rules) (search rules) (rw (← same) c.put_lifetime.ensures)

@@ -13,7 +13,7 @@ pub returns-then-second-last_of : goal.returns-then-second-last_of
 returns-then-second-last_of c = past_second _ _ _ _ _ _ (port_told _ _ c.number_of-number.ensures c.check_port.ensures) c.in-Passed.is c.if-room-lt-OUTPUT_ROOM.false c.last_of.ensures c.if-second-last_of.true c.refused-then-second-last_of.ensures
 
 pub seen_port-p-requires : goal.seen_port-p-requires
-seen_port-p-requires c = (c.requires.0, passed_port _ _ c.check_port.ensures c.in-Passed.is)
+seen_port-p-requires c = passed_port _ _ c.check_port.ensures c.in-Passed.is
 
 pub returns : goal.returns
 returns c = judged _ _ _ _ _ _ (port_told _ _ c.number_of-number.ensures c.check_port.ensures) c.in-Passed.is c.if-room-lt-OUTPUT_ROOM.false c.last_of.ensures c.if-second-last_of.false (port_seen _ _ c.number_of-number.ensures c.seen_port-p.ensures) c.only_port.ensures c.ask_octets.ensures

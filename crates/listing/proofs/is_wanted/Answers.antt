@@ -1,12 +1,12 @@
 -- `listing::is_wanted` meets its contract. Assumes nothing.
-use borrow.Author.Tests.{eq-eqb, ne_eqb}
+use Rattle.std.proofs.Common.{rules}
 use Rattle.listing.specs.Scan.{is_wanted}
 use Rattle.listing.proofs.is_wanted.Goals as goal
 
-pub returns-then-q-eq-BEST : goal.returns-then-q-eq-BEST
+pub returns-in-Best : goal.returns-in-Best
 unfolding is_wanted
-returns-then-q-eq-BEST c = simp (eq-eqb _ _ c.if-q-eq-BEST.true)
+returns-in-Best c = search rules
 
-pub returns : goal.returns
+pub returns-in-Same : goal.returns-in-Same
 unfolding is_wanted
-returns c = simp (ne_eqb _ _ c.if-q-eq-BEST.false)
+returns-in-Same c = search rules

@@ -16,16 +16,16 @@ returns-in_default-mask_form c = mixed _ _ _ _ c.check_ready.ensures c.check_cod
     (sym c.mask_form.ensures ∙ c.in_default-mask_form.is)
 
 pub overflow_shr-s : goal.overflow_shr-s
-overflow_shr-s c = omega (arith, ((form_ones _ _).0 (sym c.mask_form.ensures ∙ c.in-Ones.is)).0)
+overflow_shr-s c = omega (arith, ((form_ones _ _).0 (sym c.mask_form.ensures ∙ c.in-Some.is)).0)
 
 pub returns-then-s-n-eq1 : goal.returns-then-s-n-eq1
 returns-then-s-n-eq1 c = hidden _ _ _ _ c.check_ready.ensures c.check_codes.ensures c.in-Passed.is c.in-Passed-check_codes.is _
-    (sym c.mask_form.ensures ∙ c.in-Ones.is) c.if-s-n-eq1.true
+    (sym c.mask_form.ensures ∙ c.in-Some.is) c.if-s-n-eq1.true
 
 pub overflow_shl-noted : goal.overflow_shl-noted
-overflow_shl-noted c = omega (arith, ((form_ones _ _).0 (sym c.mask_form.ensures ∙ c.in-Ones.is)).0)
+overflow_shl-noted c = omega (arith, ((form_ones _ _).0 (sym c.mask_form.ensures ∙ c.in-Some.is)).0)
 
 pub returns : goal.returns
 returns c = c.taken.ensures
     ∙ shown _ _ _ _ c.check_ready.ensures c.check_codes.ensures c.in-Passed.is c.in-Passed-check_codes.is _
-    (sym c.mask_form.ensures ∙ c.in-Ones.is) c.if-s-n-eq1.false
+    (sym c.mask_form.ensures ∙ c.in-Some.is) c.if-s-n-eq1.false

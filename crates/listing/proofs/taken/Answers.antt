@@ -6,11 +6,11 @@ use Rattle.listing.proofs.taken.Goals as goal
 pub returns-then-not-is_wanted : goal.returns-then-not-is_wanted
 returns-then-not-is_wanted c = unwanted _ _ _ _ (sym c.is_wanted.ensures ∙ c.if-not-is_wanted.true)
 
-pub returns-then-r-s : goal.returns-then-r-s
-returns-then-r-s c = not_longer _ _ _ _ (sym c.is_wanted.ensures ∙ c.if-not-is_wanted.false) c.if-s-ne0.true c.if-r-s.true
+pub returns-then-r-found : goal.returns-then-r-found
+returns-then-r-found c = not_longer _ _ _ _ (sym c.is_wanted.ensures ∙ c.if-not-is_wanted.false) _ c.in-Some.is c.if-r-found.true
 
-pub returns-else-r-s : goal.returns-else-r-s
-returns-else-r-s c = longer _ _ _ _ (sym c.is_wanted.ensures ∙ c.if-not-is_wanted.false) c.if-r-s.false
+pub returns-else-r-found : goal.returns-else-r-found
+returns-else-r-found c = longer _ _ _ _ (sym c.is_wanted.ensures ∙ c.if-not-is_wanted.false) _ c.in-Some.is c.if-r-found.false
 
-pub returns-else-s-ne0 : goal.returns-else-s-ne0
-returns-else-s-ne0 c = first _ _ _ _ (sym c.is_wanted.ensures ∙ c.if-not-is_wanted.false) c.if-s-ne0.false
+pub returns-in_default : goal.returns-in_default
+returns-in_default c = first _ _ _ _ (sym c.is_wanted.ensures ∙ c.if-not-is_wanted.false) c.in_default.is

@@ -9,6 +9,3 @@ use Rattle.lookup.proofs.path_place.Given as goal
 
 abbrev pub invariant-loop-i : goal.invariant-loop-i
 invariant-loop-i l = (l.i ≤ 16) × (first_below (λ (j : ℕ). holds_path (path_at (decode l.mission).mission j) l.p) l.i ≡ l.i)
-
-abbrev pub decreases-loop-i : goal.decreases-loop-i
-decreases-loop-i l = 16 - l.i

@@ -1,5 +1,4 @@
 -- `numbers::destination_number` meets its contract: the destination of each variant, made wide by `narrow` where it is short. Assumes nothing.
-use borrow.Author.Rules.{rules}
 use Rattle.numbers.proofs.destination_number.Goals as goal
 
 pub returns-in-BasicPath : goal.returns-in-BasicPath

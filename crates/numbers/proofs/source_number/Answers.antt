@@ -1,5 +1,4 @@
 -- `numbers::source_number` meets its contract: the source of each variant, 0 where it has none. Assumes nothing.
-use borrow.Author.Rules.{rules}
 use Rattle.numbers.proofs.source_number.Goals as goal
 
 pub returns-in-BasicPath : goal.returns-in-BasicPath

@@ -7,6 +7,7 @@ use mathlib.Core.Path.{◌≡◌, refl, sym, ◌∙◌}
 use mathlib.Core.Bool.{Bool, true, false, not, ◌&&◌, ◌||◌}
 use lib.Dec.{eqb, leb}
 use borrow.Author.Tests.{eqb-true, leb-false, lt-leb}
+use Rattle.std.specs.Prelude.{Option, Some, None}
 use Rattle.checks.specs.Order.{pick}
 use Rattle.checks.proofs.Bools.{true_false, or_false, not-false}
 use Rattle.header.specs.Build.{source_flag, extended_flag, ipv6_flag, qos_flag, octet_flag, format_of}
@@ -14,9 +15,6 @@ use Rattle.header.specs.Range.{AddressesFit, OctetFits, QosTyped, StampTyped, Ty
 use Rattle.header.specs.declared.Addresses.{Addresses}
 use Rattle.header.specs.declared.Addresses.TheVariants.{BasicPath, ExtendedPath, BasicEndSystem, ExtendedEndSystem, Ipv6}
 use Rattle.header.specs.declared.Qos.{Qos}
-use Rattle.header.specs.declared.Qos.TheVariants as qos
-use Rattle.header.specs.declared.Octet.{Octet}
-use Rattle.header.specs.declared.Octet.TheVariants as octet
 use Rattle.header.specs.declared.Timestamp.{Timestamp}
 use Rattle.header.specs.declared.Timestamp.TheVariants as stamp
 use Rattle.header.specs.declared.Fields.{Fields}
@@ -106,7 +104,7 @@ octet_back (suc zero) v h = (refl, sym (mod-eq_of_lt (octet_in 1 v h).1))
 octet_back (suc (suc on)) v h = absurd (omega (arith, (octet_in (suc (suc on)) v h).0))
 
 -- basic QOS has these numbers
-record QosBack (n : Numbers) (q : Qos) : Type 0 where
+record QosBack (n : Numbers) (q : Option Qos) : Type 0 where
   qualified : n.qualified ≡ qos_flag q
   precedence : n.precedence ≡ precedence_number q
   routing : n.routing ≡ routing_number q
@@ -131,7 +129,7 @@ qos_back n h =
     qos_case n n.qualified _ refl precedence.0 refl precedence.1 routing.1 program.1
 
 -- the timestamp has these numbers
-record StampBack (n : Numbers) (t : Timestamp) : Type 0 where
+record StampBack (n : Numbers) (t : Option Timestamp) : Type 0 where
   time : n.time ≡ time_number t
   format : n.format ≡ format_of t
   pfield : n.pfield ≡ pfield_number t
@@ -190,24 +188,24 @@ addresses_there f (ExtendedEndSystem d s) e t =
     rw e (refl, (simp (lt-leb (256 ^ 4) d.0 t.0, lt-leb (256 ^ 4) s.0 t.1), rw (mod-eq_of_lt t.0, mod-eq_of_lt t.1)))
 addresses_there f (Ipv6 d s) e t = rw e (refl, (refl, refl))
 
-octet_there : (o : Octet) → OctetFits o → (octet_out (octet_flag o) (octet_number o) ≡ false) × (octet_from (octet_flag o) (octet_number o) ≡ o)
+octet_there : (o : Option ℕ) → OctetFits o → (octet_out (octet_flag o) (octet_number o) ≡ false) × (octet_from (octet_flag o) (octet_number o) ≡ o)
 unfolding octet_out octet_from
-octet_there octet.Absent t = (refl, refl)
-octet_there (octet.Present v) t = (lt-leb 256 v t, rw (mod-eq_of_lt t))
+octet_there None t = (refl, refl)
+octet_there (Some v) t = (lt-leb 256 v t, rw (mod-eq_of_lt t))
 
-qos_there : (f : Fields) (q : Qos) → f.qos ≡ q → QosTyped q → (qos_out (numbers_of f) ≡ false) × (qos_from (numbers_of f) ≡ q)
+qos_there : (f : Fields) (q : Option Qos) → f.qos ≡ q → QosTyped q → (qos_out (numbers_of f) ≡ false) × (qos_from (numbers_of f) ≡ q)
 unfolding numbers_of octet_out qos_from
-qos_there f qos.Absent e t = rw e (refl, refl)
-qos_there f (qos.Present a b c) e t =
+qos_there f None e t = rw e (refl, refl)
+qos_there f (Some q) e t =
     rw e
-    (simp (lt-leb 256 a t.0, lt-leb 256 b t.1.0, lt-leb 256 c t.1.1), rw (mod-eq_of_lt t.0, mod-eq_of_lt t.1.0, mod-eq_of_lt t.1.1))
+    (simp (lt-leb 256 q.precedence t.0, lt-leb 256 q.routing t.1.0, lt-leb 256 q.program t.1.1), rw (mod-eq_of_lt t.0, mod-eq_of_lt t.1.0, mod-eq_of_lt t.1.1))
 
-stamp_there : (f : Fields) (m : Timestamp) → f.stamp ≡ m → StampTyped m → (stamp_out (numbers_of f) ≡ false) × (stamp_from (numbers_of f) ≡ m)
+stamp_there : (f : Fields) (m : Option Timestamp) → f.stamp ≡ m → StampTyped m → (stamp_out (numbers_of f) ≡ false) × (stamp_from (numbers_of f) ≡ m)
 unfolding numbers_of stamp_out stamp_from
-stamp_there f stamp.Absent e t = rw e (refl, refl)
-stamp_there f (stamp.Implicit v) e t = rw e (refl, refl)
-stamp_there f (stamp.Explicit p v) e t = rw e (simp (lt-leb 256 p t.0), rw (mod-eq_of_lt t.0))
-stamp_there f (stamp.Binary v) e t = rw e (refl, refl)
+stamp_there f None e t = rw e (refl, refl)
+stamp_there f (Some (stamp.Implicit v)) e t = rw e (refl, refl)
+stamp_there f (Some (stamp.Explicit p v)) e t = rw e (simp (lt-leb 256 p t.0), rw (mod-eq_of_lt t.0))
+stamp_there f (Some (stamp.Binary v)) e t = rw e (refl, refl)
 
 -- the numbers of fields are never refused, and stand for these fields
 pub fields_back : (f : Fields) → Typed f → (numbers_out (numbers_of f) ≡ false) × (fields_from (numbers_of f) ≡ f)

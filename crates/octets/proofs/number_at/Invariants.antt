@@ -1,12 +1,7 @@
--- `octets::number_at` meets its contract. The loop's invariant: the value is the number of the octets passed so far, and fits them.
--- Assumes nothing.
-use Prim.Native.Nat.{◌-◌, ◌^◌, ◌≤◌, ◌<◌}
-use mathlib.Core.Path.{◌≡◌}
+-- The value is the number of the octets passed so far, and fits them.
+use Rattle.std.proofs.Common.{◌≡◌, ◌<◌, ◌^◌}
 use Rattle.octets.specs.Octets.{number}
 use Rattle.octets.proofs.number_at.Given as goal
 
-abbrev pub invariant-loop-i : goal.invariant-loop-i
-invariant-loop-i l = (l.i ≤ l.count) × ((l.value ≡ number l.s l.place l.i) × (l.value < 256 ^ l.i))
-
-abbrev pub decreases-loop-i : goal.decreases-loop-i
-decreases-loop-i l = l.count - l.i
+abbrev pub invariant-loop-x : goal.invariant-loop-x
+invariant-loop-x l = (l.value ≡ number l.s l.place l.x-index) × (l.value < 256 ^ l.x-index)

@@ -1,25 +1,16 @@
--- `octets::put_number` meets its contract. The loop's invariant: what is still to be put over what stands there now makes what was to be made.
--- Assumes nothing.
-use Prim.Native.Nat.{suc, ◌+◌, ◌-◌, ◌<◌}
-use mathlib.Core.Path.{◌≡◌, refl, sym, ◌∙◌}
-use native.Mathlib.Omega.{arith}
-use lib.ListN.{length, length-set}
+-- The last octet that is left to put may be stored first.
+use Rattle.std.proofs.Common.{◌≡◌, ◌-◌, suc, sym, ◌∙◌, arith}
 use Rattle.octets.specs.Octets.{octets}
 use Rattle.octets.proofs.Laws.{pasted_none, octets_step}
 use Rattle.octets.proofs.put_number.Goals as goal
 
-pub loop-i-init : goal.loop-i-init
-loop-i-init c = (omega arith, (refl, refl))
-
 pub loop-i-preserved : goal.loop-i-preserved
-loop-i-preserved c = let l = c.loop-i in
-    let place = c.args.place in
-    let room : place + (l.i - 1) < length l.out = omega arith in
-    let e : suc (l.i - 1) ≡ l.i = omega arith in
-    let step = sym (octets_step l.out place (l.i - 1) l.rest room) in
-    (omega arith, (step ∙ rw e l.invariant.1.0, simp length-set l.invariant.1.1))
+loop-i-preserved c =
+    let e : suc (c.loop-i.i - 1) ≡ c.loop-i.i = omega arith in
+    sym (octets_step _ c.args.place (c.loop-i.i - 1) _ (omega arith)) ∙ rw e c.loop-i.invariant
 
-pub returns : goal.returns
+pub returns-clause-out_after : goal.returns-clause-out_after
 unfolding octets
-returns c = let l = c.loop-i in
-    let none : l.i ≡ 0 = omega arith in record { value = refl; out_after = sym (pasted_none l.out c.args.place) ∙ rw none at l.invariant.1.0 }
+returns-clause-out_after c =
+    let none : c.loop-i.i ≡ 0 = omega arith in
+    sym (pasted_none c.loop-i.out c.args.place) ∙ rw none at c.loop-i.invariant

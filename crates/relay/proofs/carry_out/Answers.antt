@@ -3,11 +3,8 @@ use Rattle.relay.specs.Outgoing.{sent_output}
 use Rattle.relay.proofs.Received.{received}
 use Rattle.relay.proofs.carry_out.Goals as goal
 
-pub count-requires : goal.count-requires
-count-requires c = c.requires.0
-
 pub send_all-requires : goal.send_all-requires
-send_all-requires c = c.requires.1
+send_all-requires c = c.requires
 
 pub returns : goal.returns
 unfolding sent_output

@@ -1,7 +1,9 @@
 -- `relay::refuse` meets its contract. Assumes nothing.
 use mathlib.Core.Path.{◌≡◌, ap, ◌∙◌}
 use lib.ListN.{length}
-use Rattle.state.specs.Layout.{mission_words}
+use Rattle.state.specs.Layout.{decode, mission_words}
+use Rattle.state.specs.Seen.{on_counters}
+use Rattle.tally.specs.Tally.{counted_all, moves_of}
 use Rattle.answers.specs.Answers.{receive_number}
 use Rattle.relay.specs.Split.{Counted}
 use Rattle.relay.proofs.Received.{refused_counted, idle_16, idle_17, idle_21, idle_29}
@@ -20,12 +22,12 @@ returns-then-refusal-eq21 c = record { value = c.receive_number-answer.ensures �
 pub returns-then-refusal-eq29 : goal.returns-then-refusal-eq29
 returns-then-refusal-eq29 c = record { value = c.receive_number-answer.ensures ∙ ap receive_number c.ended_by-e.ensures; by_index = λ b slot k. idle_29 _ b _ slot _ c.if-refusal-eq29.true }
 
-pub count-requires : goal.count-requires
-count-requires c = c.requires (c.if-refusal-eq16.false, (c.if-refusal-eq17.false, (c.if-refusal-eq21.false, c.if-refusal-eq29.false)))
-
-pub put_last-requires : goal.put_last-requires
-put_last-requires c = let long : length c.args.mission.now ≡ mission_words = c.requires (c.if-refusal-eq16.false, (c.if-refusal-eq17.false, (c.if-refusal-eq21.false, c.if-refusal-eq29.false))) in search rules
+pub unwrap-mission-requires : goal.unwrap-mission-requires
+unwrap-mission-requires c = let counts : Counted c.args.refusal = (c.if-refusal-eq16.false, (c.if-refusal-eq17.false, (c.if-refusal-eq21.false, c.if-refusal-eq29.false))) in
+    let long : length c.args.mission.now ≡ mission_words = c.requires counts in search rules
 
 pub returns : goal.returns
 returns c = let counts : Counted c.args.refusal = (c.if-refusal-eq16.false, (c.if-refusal-eq17.false, (c.if-refusal-eq21.false, c.if-refusal-eq29.false))) in
-    let long : length c.args.mission.now ≡ mission_words = c.requires counts in record { value = c.receive_number-answer.ensures ∙ ap receive_number c.ended_by-e.ensures; by_index = λ b slot k. refused_counted b _ _ slot _ _ counts (k counts) long (search rules) c.ended_by-e.ensures c.count.ensures c.put_last.ensures }
+    let long : length c.args.mission.now ≡ mission_words = c.requires counts in
+    let counted : decode c.count.new.mission ≡ on_counters (λ l. counted_all l (moves_of c.ended_by-e.result)) (decode c.args.mission.now) = search rules in
+    record { value = c.receive_number-answer.ensures ∙ ap receive_number c.ended_by-e.ensures; by_index = λ b slot k. refused_counted b _ _ slot _ _ counts (k counts) long (search rules) c.ended_by-e.ensures counted (search rules) }

@@ -5,10 +5,7 @@ use Rattle.replies.proofs.Answered.{within_read, octets_told}
 use Rattle.replies.proofs.answer_octets.Goals as goal
 
 pub ask_octets-a-requires : goal.ask_octets-a-requires
-ask_octets-a-requires c = (
-  c.requires.0,
-  (c.requires.1, unlooked _ _ c.no_names.ensures),
-)
+ask_octets-a-requires c = unlooked _ _ c.no_names.ensures
 
 pub answer_to-requires : goal.answer_to-requires
 answer_to-requires c = within_read _ _ _ _ c.ask_octets-a.ensures

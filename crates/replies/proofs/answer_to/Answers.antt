@@ -13,10 +13,10 @@ pub asking_of-requires : goal.asking_of-requires
 asking_of-requires c = c.requires (asked_free c.args.dropping c.args.a c.args.s (granted _ c.is_asked.ensures (ap not c.if-not-is_asked.false)))
 
 pub make_reply-requires : goal.make_reply-requires
-make_reply-requires c = asks_long c.args.a.header _ (sym c.asking_of.ensures ∙ c.in-Asks.is)
+make_reply-requires c = asks_long c.args.a.header _ (sym c.asking_of.ensures ∙ c.in-Some.is)
 
-pub returns-in-Asks : goal.returns-in-Asks
-returns-in-Asks c = is_asked_lem c.args.dropping c.args.a c.args.s c.args.mtu c.args.octets.now c.is_asked.ensures (ap not c.if-not-is_asked.false) _ c.asking_of.ensures c.in-Asks.is c.make_reply.ensures
+pub returns-in-Some : goal.returns-in-Some
+returns-in-Some c = is_asked_lem c.args.dropping c.args.a c.args.s c.args.mtu c.args.octets.now c.is_asked.ensures (ap not c.if-not-is_asked.false) _ c.asking_of.ensures c.in-Some.is c.make_reply.ensures
 
-pub returns-in-Nothing : goal.returns-in-Nothing
-returns-in-Nothing c = is_asked_lem c.args.dropping c.args.a c.args.s c.args.mtu c.args.octets.now c.is_asked.ensures (ap not c.if-not-is_asked.false) _ c.asking_of.ensures c.in-Nothing.is c.no_answer-in-Nothing.ensures
+pub returns-in-None : goal.returns-in-None
+returns-in-None c = is_asked_lem c.args.dropping c.args.a c.args.s c.args.mtu c.args.octets.now c.is_asked.ensures (ap not c.if-not-is_asked.false) _ c.asking_of.ensures c.in-None.is c.no_answer-in-None.ensures

@@ -1,16 +1,20 @@
 -- `route_calls::answer` meets its contract. Assumes nothing.
-use borrow.Author.Rules.{rules}
-use Rattle.route_calls.proofs.Cases.{answer_refused, answer_none, answer_here, answer_elsewhere}
+use Rattle.std.proofs.Common.{rules}
+use Rattle.route_calls.specs.Calls.{order_answer}
 use Rattle.route_calls.proofs.answer.Goals as goal
 
 pub returns-then-o-ne0 : goal.returns-then-o-ne0
-returns-then-o-ne0 c = search (answer_refused, rules)
+unfolding order_answer
+returns-then-o-ne0 c = search rules
 
-pub returns-then-s-eq0 : goal.returns-then-s-eq0
-returns-then-s-eq0 c = search (answer_none, rules)
+pub returns-in_default : goal.returns-in_default
+unfolding order_answer
+returns-in_default c = search rules
 
-pub returns-then-s-o : goal.returns-then-s-o
-returns-then-s-o c = search (answer_here, rules)
+pub returns-then-place_of-o : goal.returns-then-place_of-o
+unfolding order_answer
+returns-then-place_of-o c = search rules
 
 pub returns : goal.returns
-returns c = search (answer_elsewhere, rules)
+unfolding order_answer
+returns c = search rules

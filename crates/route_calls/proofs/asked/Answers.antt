@@ -6,11 +6,11 @@ use Rattle.route_calls.proofs.asked.Goals as goal
 pub returns-then-count-gt-ROUTES : goal.returns-then-count-gt-ROUTES
 returns-then-count-gt-ROUTES c = search (query_many, rules)
 
-pub returns-then-board-ne-BOARD_WORDS : goal.returns-then-board-ne-BOARD_WORDS
-returns-then-board-ne-BOARD_WORDS c = search (query_no_board, rules)
+pub returns-in_default : goal.returns-in_default
+returns-in_default c = search (query_no_board, rules)
 
-pub returns-then-mission-ne-MISSION_WORDS : goal.returns-then-mission-ne-MISSION_WORDS
-returns-then-mission-ne-MISSION_WORDS c = search (query_no_mission, rules)
+pub returns-in_default-try_from : goal.returns-in_default-try_from
+returns-in_default-try_from c = search (query_no_mission, rules)
 
 pub returns : goal.returns
 returns c = search (query_best, rules)

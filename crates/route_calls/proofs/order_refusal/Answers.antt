@@ -1,16 +1,23 @@
 -- `route_calls::order_refusal` meets its contract. Assumes nothing.
 use borrow.Author.Rules.{rules}
+use mathlib.Core.Path.{◌≡◌, ◌∙◌}
+use Rattle.checks.specs.Order.{first_of}
+use Rattle.listing.specs.Listed.{refusals_of, checks_of}
+use Rattle.adjust.proofs.Settled.{told_number}
 use Rattle.route_calls.proofs.Cases.{order_no_board, order_many, order-beyond, order-judged}
 use Rattle.route_calls.proofs.order_refusal.Goals as goal
 
-pub returns-then-board-ne-BOARD_WORDS : goal.returns-then-board-ne-BOARD_WORDS
-returns-then-board-ne-BOARD_WORDS c = search (order_no_board, rules)
+pub returns-in_default : goal.returns-in_default
+returns-in_default c = search (order_no_board, rules)
 
 pub returns-then-count-gt-ROUTES : goal.returns-then-count-gt-ROUTES
 returns-then-count-gt-ROUTES c = search (order_many, rules)
 
-pub returns-in_default : goal.returns-in_default
-returns-in_default c = search (order-beyond, rules)
+pub returns-in_default-check_place : goal.returns-in_default-check_place
+returns-in_default-check_place c = search (order-beyond, rules)
 
 pub returns : goal.returns
-returns c = search (order-judged, rules)
+returns c =
+    let told : c.number_in.result ≡ first_of (checks_of c.args.x c.all_ready.result c.args.own) =
+    c.number_in.ensures ∙ told_number (refusals_of c.args.x c.all_ready.result c.args.own) _ c.record_refusal.ensures in
+    search (order-judged, told, rules)

@@ -3,8 +3,8 @@ use borrow.Author.Rules.{rules}
 use Rattle.route_calls.proofs.Cases.{no_ports, has_ports}
 use Rattle.route_calls.proofs.own_ports.Goals as goal
 
-pub returns-then-board-ne-BOARD_WORDS : goal.returns-then-board-ne-BOARD_WORDS
-returns-then-board-ne-BOARD_WORDS c = search (no_ports, rules)
+pub returns-in_default : goal.returns-in_default
+returns-in_default c = search (no_ports, rules)
 
 pub returns : goal.returns
 returns c = search (has_ports, rules)

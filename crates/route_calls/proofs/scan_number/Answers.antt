@@ -1,10 +1,12 @@
 -- `route_calls::scan_number` meets its contract. Assumes nothing.
-use borrow.Author.Rules.{rules}
-use Rattle.route_calls.proofs.Cases.{scan_none, scan_some}
+use Rattle.std.proofs.Common.{rules}
+use Rattle.route_calls.specs.Calls.{scan_number}
 use Rattle.route_calls.proofs.scan_number.Goals as goal
 
-pub returns-then-s-eq0 : goal.returns-then-s-eq0
-returns-then-s-eq0 c = search (scan_none, rules)
+pub returns-in_default : goal.returns-in_default
+unfolding scan_number
+returns-in_default c = search rules
 
 pub returns : goal.returns
-returns c = search (scan_some, rules)
+unfolding scan_number
+returns c = search rules

@@ -1,5 +1,4 @@
 -- `routes::check_prefix` meets its contract: the mask's form is told before the prefix is looked at. Assumes nothing.
-use borrow.Author.Rules.{rules}
 use borrow.Author.Tests.{eq-eqb, ne_eqb}
 use mathlib.Core.Path.{sym, ◌∙◌}
 use Rattle.routes.specs.Refusals.{prefix_refused}
@@ -12,9 +11,9 @@ returns-in_default c = simp (sym c.mask_form.ensures ∙ c.in_default.is)
 pub returns-then-prefix-mask : goal.returns-then-prefix-mask
 unfolding prefix_refused
 returns-then-prefix-mask c = let k = c.before.before.before.before in
-    simp (sym k.mask_form.ensures ∙ k.in-Ones.is, ne_eqb _ _ c.if-prefix-mask.true)
+    simp (sym k.mask_form.ensures ∙ k.in-Some.is, ne_eqb _ _ c.if-prefix-mask.true)
 
 pub returns : goal.returns
 unfolding prefix_refused
 returns c = let k = c.before.before.before.before in
-    simp (sym k.mask_form.ensures ∙ k.in-Ones.is, eq-eqb _ _ c.if-prefix-mask.false)
+    simp (sym k.mask_form.ensures ∙ k.in-Some.is, eq-eqb _ _ c.if-prefix-mask.false)

@@ -1,5 +1,4 @@
 -- `sets::only_port` meets its contract. Assumes nothing.
-use borrow.Author.Rules.{rules}
 use Rattle.sets.proofs.Loops.{only_shifted, only_none}
 use Rattle.sets.proofs.only_port.Goals as goal
 

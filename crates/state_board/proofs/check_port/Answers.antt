@@ -5,8 +5,8 @@ use Rattle.state_board.proofs.check_port.Goals as goal
 pub returns-then-port-ge-PORTS : goal.returns-then-port-ge-PORTS
 returns-then-port-ge-PORTS c = over_seven _ _ c.if-port-ge-PORTS.true
 
-pub returns-then-p-eq0 : goal.returns-then-p-eq0
-returns-then-p-eq0 c = not_ready _ _ c.if-port-ge-PORTS.false c.seen_port-p.ensures c.if-p-eq0.true
+pub returns-then-seen_port-eq0 : goal.returns-then-seen_port-eq0
+returns-then-seen_port-eq0 c = not_ready _ _ c.if-port-ge-PORTS.false c.seen_port.ensures c.if-seen_port-eq0.true
 
 pub returns : goal.returns
-returns c = set_up_lem _ _ c.if-port-ge-PORTS.false c.seen_port-p.ensures c.if-p-eq0.false
+returns c = set_up_lem _ _ c.if-port-ge-PORTS.false c.seen_port.ensures c.if-seen_port-eq0.false

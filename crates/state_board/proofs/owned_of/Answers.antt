@@ -3,4 +3,4 @@ use Rattle.state.proofs.Reading.{owned_read}
 use Rattle.state_board.proofs.owned_of.Goals as goal
 
 pub returns : goal.returns
-returns c = owned_read _ _ _ c.requires.1 c.read_owned.ensures
+returns c = owned_read _ _ _ c.requires c.read_owned.ensures

@@ -3,4 +3,4 @@ use Rattle.state.proofs.Writing.{drop_written}
 use Rattle.state_board.proofs.put_drop.Goals as goal
 
 pub returns : goal.returns
-returns c = drop_written _ c.requires _
+returns c = drop_written _ c.told-board _

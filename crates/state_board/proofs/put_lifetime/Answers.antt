@@ -3,4 +3,4 @@ use Rattle.state.proofs.Writing.{lifetime_written}
 use Rattle.state_board.proofs.put_lifetime.Goals as goal
 
 pub returns : goal.returns
-returns c = lifetime_written _ c.requires _
+returns c = lifetime_written _ c.told-board _

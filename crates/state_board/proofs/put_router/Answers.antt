@@ -3,4 +3,4 @@ use Rattle.state.proofs.Writing.{router_written}
 use Rattle.state_board.proofs.put_router.Goals as goal
 
 pub returns : goal.returns
-returns c = router_written _ c.requires _
+returns c = router_written _ c.told-board _

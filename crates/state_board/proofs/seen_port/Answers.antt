@@ -7,4 +7,4 @@ use Rattle.state_board.proofs.seen_port.Goals as goal
 
 pub returns : goal.returns
 returns c = let n = c.args.number in
-    c.seen.ensures ∙ ap (seen_port n) c.owned_of-x.ensures ∙ sym (seen_at (decode_board c.args.board.now) c.args.p n)
+    c.seen.ensures ∙ ap (seen_port n) c.owned_of.ensures ∙ sym (seen_at (decode_board c.args.board.now) c.args.p n)

@@ -4,4 +4,4 @@ use Rattle.state_mission.proofs.add_count.Goals as goal
 
 pub returns : goal.returns
 returns c = rw c.wrapping_add_u32.ensures.value
-    (counter_added c.args.mission.now c.requires.0 c.args.i c.args.n c.requires.1)
+    (counter_added c.args.mission.now c.told-mission c.args.i c.args.n c.requires)

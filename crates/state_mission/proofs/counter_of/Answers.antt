@@ -3,4 +3,4 @@ use Rattle.state.proofs.Reading.{counter_read}
 use Rattle.state_mission.proofs.counter_of.Goals as goal
 
 pub returns : goal.returns
-returns c = counter_read _ _ c.requires.1
+returns c = counter_read _ _ c.requires

@@ -3,4 +3,4 @@ use Rattle.state.proofs.Writing.{last_written}
 use Rattle.state_pairs.proofs.put_last.Goals as goal
 
 pub returns : goal.returns
-returns c = last_written _ c.requires _
+returns c = last_written _ c.told-mission _

@@ -3,5 +3,5 @@ use Rattle.state.proofs.Writing.{pair_written}
 use Rattle.state_pairs.proofs.put_pair.Goals as goal
 
 pub returns : goal.returns
-returns c = pair_written c.args.mission.now c.requires.0 c.args.i c.args.x _ c.requires.1
+returns c = pair_written c.args.mission.now c.told-mission c.args.i c.args.x _ c.requires
     c.write_pair.ensures

@@ -3,4 +3,4 @@ use Rattle.state.proofs.Reading.{path_read}
 use Rattle.state_places.proofs.path_of.Goals as goal
 
 pub returns : goal.returns
-returns c = path_read _ _ _ c.requires.1 c.read_path.ensures
+returns c = path_read _ _ _ c.requires c.read_path.ensures

@@ -3,5 +3,5 @@ use Rattle.state.proofs.Writing.{group_written}
 use Rattle.state_places.proofs.put_group.Goals as goal
 
 pub returns : goal.returns
-returns c = group_written c.args.mission.now c.requires.0 c.args.i c.args.x _ c.requires.1
+returns c = group_written c.args.mission.now c.told-mission c.args.i c.args.x _ c.requires
     c.write_group.ensures

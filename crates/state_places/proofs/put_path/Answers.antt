@@ -3,5 +3,5 @@ use Rattle.state.proofs.Writing.{path_written}
 use Rattle.state_places.proofs.put_path.Goals as goal
 
 pub returns : goal.returns
-returns c = path_written c.args.mission.now c.requires.0 c.args.i c.args.x _ c.requires.1
+returns c = path_written c.args.mission.now c.told-mission c.args.i c.args.x _ c.requires
     c.write_path.ensures

@@ -5,4 +5,4 @@ use Rattle.queue.specs.declared.Queue.{Queue}
 use Rattle.state_queues.proofs.count_of.Goals as goal
 
 pub returns : goal.returns
-returns c = c.read_count.ensures ∙ ap (λ (q : Queue). q.count) (queue_read _ _ _ c.requires.1 refl)
+returns c = c.read_count.ensures ∙ ap (λ (q : Queue). q.count) (queue_read _ _ _ c.requires refl)

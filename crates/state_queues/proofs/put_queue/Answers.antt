@@ -9,5 +9,5 @@ use Rattle.state_queues.proofs.put_queue.Goals as goal
 pub returns : goal.returns
 returns c = let q = c.args.q in
     let wide : length q.entries ≡ 32 = omega arith in
-    queue_written c.args.mission.now c.requires.0 c.args.p q _ wide
-    (held q.entries _ c.well_formed.1.1.0.1.1.0.1.1) c.requires.1 c.write_queue.ensures
+    queue_written c.args.mission.now c.told-mission c.args.p q _ wide
+    (held q.entries _ c.well_formed.1.1.0.1.1.0.1.1) c.requires c.write_queue.ensures

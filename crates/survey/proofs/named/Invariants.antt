@@ -8,6 +8,3 @@ use Rattle.survey.proofs.named.Given as goal
 
 abbrev pub invariant-loop-i : goal.invariant-loop-i
 invariant-loop-i l = (l.i ≤ 8) × (l.s ≡ named_below (ports_seen l.number (decode_board l.board)) l.a l.i)
-
-abbrev pub decreases-loop-i : goal.decreases-loop-i
-decreases-loop-i l = 8 - l.i

@@ -10,7 +10,7 @@ unfolding survey_within
 loop-i-init c = (omega arith, c.none-s.ensures)
 
 pub see_if-s-requires : goal.see_if-s-requires
-see_if-s-requires c = (c.requires.0, (c.requires.1, (c.loop-i-test.true, roomy_wanted _ _ _ _ _ c.loop-i-test.true c.loop-i.invariant.1)))
+see_if-s-requires c = (c.loop-i-test.true, roomy_wanted _ _ _ _ _ c.loop-i-test.true c.loop-i.invariant.1)
 
 pub loop-i-preserved : goal.loop-i-preserved
 loop-i-preserved c = (omega arith, c.see_if-s.ensures ∙ turn_wanted _ _ _ _ c.loop-i.invariant.1)

@@ -8,6 +8,3 @@ use Rattle.survey.proofs.wanted.Given as goal
 
 abbrev pub invariant-loop-i : goal.invariant-loop-i
 invariant-loop-i l = (l.i ≤ 8) × (l.s ≡ survey_within (seated (decode_board l.board) (decode l.mission)) l.set l.q l.i)
-
-abbrev pub decreases-loop-i : goal.decreases-loop-i
-decreases-loop-i l = 8 - l.i

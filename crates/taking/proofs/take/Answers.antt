@@ -7,13 +7,13 @@ pub returns-in_default : goal.returns-in_default
 returns-in_default c = let t = no_port_lem _ _ _ c.number_of-number.ensures c.check_port.ensures c.in_default.is in record { value = t.0; mission_after = t.1 }
 
 pub queue_of-q-requires : goal.queue_of-q-requires
-queue_of-q-requires c = (c.requires.1, passed_port _ _ c.check_port.ensures c.in-Passed.is)
+queue_of-q-requires c = passed_port _ _ c.check_port.ensures c.in-Passed.is
 
 pub returns-in_default-head : goal.returns-in_default-head
 returns-in_default-head c = let t = nothing_waits _ _ _ c.number_of-number.ensures c.check_port.ensures c.in-Passed.is c.queue_of-q.ensures c.take-taken.ensures c.in_default-head.is in record { value = t.0; mission_after = t.1 }
 
 pub put_queue-requires : goal.put_queue-requires
-put_queue-requires c = (c.requires.1, passed_port _ _ c.check_port.ensures c.in-Passed.is)
+put_queue-requires c = passed_port _ _ c.check_port.ensures c.in-Passed.is
 
 pub returns : goal.returns
-returns c = let t = one_handed _ _ _ c.number_of-number.ensures c.check_port.ensures c.in-Passed.is c.queue_of-q.ensures c.take-taken.ensures _ c.in-First.is c.put_queue.ensures in record { value = t.0; mission_after = t.1 }
+returns c = let t = one_handed _ _ _ c.number_of-number.ensures c.check_port.ensures c.in-Passed.is c.queue_of-q.ensures c.take-taken.ensures _ c.in-Some.is c.put_queue.ensures in record { value = t.0; mission_after = t.1 }

@@ -1,5 +1,4 @@
 -- `adjust::groups_and_paths::clear_path` meets its contract. Assumes nothing.
-use borrow.Author.Rules.{rules}
 use native.Mathlib.Omega.{arith}
 use Rattle.state.specs.Layout.{decode}
 use Rattle.refusals.proofs.Places.{tested_there}
@@ -11,7 +10,7 @@ returns-in_default c = let t = check_failed (own (decode c.args.mission.now)) _ 
     c.check_place.ensures c.in_default.is (λ zero. omega arith) in record { answer = t.0; left = t.1 }
 
 pub put_path-requires : goal.put_path-requires
-put_path-requires c = (search rules, tested_there _ _ _ c.check_place.ensures c.in-Passed.is)
+put_path-requires c = tested_there _ _ _ c.check_place.ensures c.in-Passed.is
 
 pub returns : goal.returns
 returns c = let t = check_passed (own (decode c.args.mission.now)) _ _ _ _ _ c.check_place.ensures _

@@ -3,7 +3,6 @@ use native.Mathlib.Omega.{arith}
 use Rattle.header.proofs.Pieces.{present_le}
 use Rattle.builder.proofs.Laws.{rest_le}
 use Rattle.builder.proofs.measure.Laws.{all_measured}
-use borrow.Author.Rules.{rules}
 use Rattle.builder.proofs.measure.header_size.Goals as goal
 
 pub overflow_add-result : goal.overflow_add-result

@@ -1,7 +1,6 @@
 -- `builder::measure::rest_size` meets its contract. Assumes nothing.
 use native.Mathlib.Omega.{arith}
 use Rattle.builder.proofs.measure.Laws.{few_addresses, few_qos, few_octet, few_stamp, rest_measured}
-use borrow.Author.Rules.{rules}
 use Rattle.builder.proofs.measure.rest_size.Goals as goal
 
 pub overflow_add-result : goal.overflow_add-result

@@ -1,5 +1,4 @@
 -- `builder::range::check_time` meets its contract: one test against the bound that `numbers_in` answers. Assumes nothing.
-use borrow.Author.Rules.{rules}
 use borrow.Author.Tests.{le-leb, lt-leb}
 use Rattle.builder.proofs.range.check_time.Goals as goal
 

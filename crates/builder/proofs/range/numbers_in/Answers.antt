@@ -1,5 +1,4 @@
 -- `builder::range::numbers_in` meets its contract: 256 to a power is 2 to eight times that power, and 2 to 56 fits the word. Assumes nothing.
-use borrow.Author.Rules.{rules}
 use native.Mathlib.Omega.{arith}
 use native.Mathlib.Nat.{mod-eq_of_lt, pow-suc}
 use Prim.Native.Nat.{ℕ, zero, suc, ◌+◌, ◌*◌, ◌^◌, ◌%◌, ◌≤◌}

@@ -1,5 +1,4 @@
 -- `numbers::fields_from::addresses_from` meets its contract, by the tests of the three flags. Assumes nothing.
-use borrow.Author.Rules.{rules}
 use borrow.Author.Tests.{eq-eqb, ne_eqb}
 use Rattle.numbers.specs.Fields.{addresses_from}
 use Rattle.numbers.proofs.fields_from.addresses_from.Goals as goal

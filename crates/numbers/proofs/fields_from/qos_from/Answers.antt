@@ -1,5 +1,4 @@
 -- `numbers::fields_from::qos_from` meets its contract, by the test of the flag. Assumes nothing.
-use borrow.Author.Rules.{rules}
 use borrow.Author.Tests.{eq-eqb, ne_eqb}
 use Rattle.numbers.specs.Fields.{qos_from}
 use Rattle.numbers.proofs.fields_from.qos_from.Goals as goal

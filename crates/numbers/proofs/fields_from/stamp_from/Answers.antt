@@ -1,5 +1,4 @@
 -- `numbers::fields_from::stamp_from` meets its contract, format by format. Assumes nothing.
-use borrow.Author.Rules.{rules}
 use borrow.Author.Tests.{ne_eqb}
 use Rattle.numbers.specs.Fields.{stamp_from}
 use Rattle.numbers.proofs.fields_from.stamp_from.Goals as goal

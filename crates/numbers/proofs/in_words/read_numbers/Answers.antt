@@ -1,5 +1,4 @@
 -- `numbers::in_words::read_numbers` gives the numbers that the words have, each from its place. Assumes nothing.
-use borrow.Author.Rules.{rules}
 use Rattle.numbers.proofs.in_words.Halves.{read_made}
 use Rattle.numbers.proofs.in_words.read_numbers.Goals as goal
 

@@ -3,7 +3,6 @@ use native.Mathlib.Omega.{arith}
 use lib.ListN.{length-set}
 use Rattle.numbers.specs.InWords.{numbers_words}
 use Rattle.words.proofs.Parts.{all_stored}
-use borrow.Author.Rules.{rules}
 use Rattle.numbers.proofs.in_words.write_numbers.Goals as goal
 
 pub bounds-words-2 : goal.bounds-words-2

@@ -1,5 +1,4 @@
 -- `numbers::validity::check_address_flags` meets its contract, check by check. Assumes nothing.
-use borrow.Author.Rules.{rules}
 use mathlib.Core.Bool.{Bool}
 use mathlib.Core.Path.{◌∙◌}
 use Rattle.checks.proofs.Steps.{or_fails, or_passes}

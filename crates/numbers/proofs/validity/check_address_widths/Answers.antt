@@ -1,5 +1,4 @@
 -- `numbers::validity::check_address_widths` meets its contract: each address is held to the limit that its flags give. Assumes nothing.
-use borrow.Author.Rules.{rules}
 use borrow.Author.Tests.{eq-eqb, ne_eqb}
 use mathlib.Core.Path.{sym, ◌∙◌}
 use Rattle.checks.proofs.Laws.{passed_false, failed_true}

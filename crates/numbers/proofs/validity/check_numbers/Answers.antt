@@ -1,5 +1,4 @@
 -- `numbers::validity::check_numbers` meets its contract, check by check: what each answers tells its condition. Assumes nothing.
-use borrow.Author.Rules.{rules}
 use mathlib.Core.Path.{◌≡◌, sym, ◌∙◌}
 use mathlib.Core.Bool.{false}
 use Rattle.checks.proofs.Laws.{passed_false, failed_true}

@@ -1,5 +1,4 @@
 -- `numbers::validity::check_stamp` meets its contract, test by test, with the limit that `pfield_limit` gives. Assumes nothing.
-use borrow.Author.Rules.{rules}
 use mathlib.Core.Path.{◌≡◌}
 use mathlib.Core.Bool.{not, ◌&&◌}
 use lib.Dec.{eqb}

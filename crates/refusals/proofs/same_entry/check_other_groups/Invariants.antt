@@ -7,6 +7,3 @@ use Rattle.refusals.proofs.same_entry.check_other_groups.Given as goal
 
 abbrev pub invariant-loop-i : goal.invariant-loop-i
 invariant-loop-i l = (l.i ≤ 16) × NoneBelow (other_group (decode l.mission).mission l.place l.a) l.i
-
-abbrev pub decreases-loop-i : goal.decreases-loop-i
-decreases-loop-i l = 16 - l.i

@@ -7,6 +7,3 @@ use Rattle.refusals.proofs.same_entry.check_other_paths.Given as goal
 
 abbrev pub invariant-loop-i : goal.invariant-loop-i
 invariant-loop-i l = (l.i ≤ 16) × NoneBelow (other_path (decode l.mission).mission l.place l.p) l.i
-
-abbrev pub decreases-loop-i : goal.decreases-loop-i
-decreases-loop-i l = 16 - l.i

@@ -5,7 +5,7 @@ use borrow.Author.Rules.{rules}
 use Rattle.relay.proofs.outgoing.enter_all.Goals as goal
 
 pub loop-p-init : goal.loop-p-init
-loop-p-init c = (omega arith, (c.requires, λ b. nobody_yet b _ _ _))
+loop-p-init c = (omega arith, (c.told-mission, λ b. nobody_yet b _ _ _))
 
 pub loop-p-preserved : goal.loop-p-preserved
 loop-p-preserved c = (omega arith, (search rules, λ b. one_further b _ _ _ _ (c.loop-p.invariant.1.1 b) (c.enter_if.ensures b)))

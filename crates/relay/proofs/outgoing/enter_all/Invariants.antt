@@ -1,5 +1,5 @@
 -- `relay::outgoing::enter_all` meets its contract: after p turns the first p ports have their entry. Assumes nothing.
-use Prim.Native.Nat.{◌-◌, ◌≤◌}
+use Prim.Native.Nat.{◌≤◌}
 use mathlib.Core.Path.{◌≡◌}
 use lib.ListN.{length}
 use Rattle.state.specs.Seen.{Board, on_seated}
@@ -9,6 +9,3 @@ use Rattle.relay.proofs.outgoing.enter_all.Given as goal
 
 abbrev pub invariant-loop-p : goal.invariant-loop-p
 invariant-loop-p l = (l.p ≤ 8) × ((length l.mission ≡ mission_words) × ((b : Board) → decode l.mission ≡ on_seated b (λ r. entered_all r l.took l.e l.p) (decode l.initial.mission)))
-
-abbrev pub decreases-loop-p : goal.decreases-loop-p
-decreases-loop-p l = 8 - l.p

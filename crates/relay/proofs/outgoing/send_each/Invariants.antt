@@ -1,5 +1,5 @@
 -- `relay::outgoing::send_each` meets its contract. Assumes nothing.
-use Prim.Native.Nat.{◌-◌, ◌≤◌}
+use Prim.Native.Nat.{◌≤◌}
 use mathlib.Core.Path.{◌≡◌}
 use lib.ListN.{length}
 use Rattle.relay.specs.Outgoing.{chosen_below}
@@ -7,6 +7,3 @@ use Rattle.relay.proofs.outgoing.send_each.Given as goal
 
 abbrev pub invariant-loop-p : goal.invariant-loop-p
 invariant-loop-p l = (l.p ≤ 8) × ((length l.output ≡ length l.initial.output) × (l.output ≡ chosen_below l.took l.far l.near l.other l.initial.output l.p))
-
-abbrev pub decreases-loop-p : goal.decreases-loop-p
-decreases-loop-p l = 8 - l.p

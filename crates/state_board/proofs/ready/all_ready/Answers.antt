@@ -16,7 +16,7 @@ pub overflow_add-set : goal.overflow_add-set
 overflow_add-set c = omega (
   arith,
   room (all_ports (decode_board c.args.board.now)) _ c.loop-p.p c.loop-p.invariant.1 _ _
-      (ap (λ (x : OwnedPort). x.port) c.owned_of-x.ensures ∙ sym (all_at _ _))
+      (ap (λ (x : OwnedPort). x.port) c.owned_of.ensures ∙ sym (all_at _ _))
       c.bit_of-set.ensures c.loop-p-test.true,
 )
 
@@ -24,7 +24,7 @@ pub loop-p-preserved : goal.loop-p-preserved
 loop-p-preserved c = (
   search rules,
   turn (all_ports (decode_board c.args.board.now)) _ c.loop-p.p c.loop-p.invariant.1 _ _
-      (ap (λ (x : OwnedPort). x.port) c.owned_of-x.ensures ∙ sym (all_at _ _))
+      (ap (λ (x : OwnedPort). x.port) c.owned_of.ensures ∙ sym (all_at _ _))
       c.bit_of-set.ensures,
 )
 

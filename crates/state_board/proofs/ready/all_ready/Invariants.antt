@@ -1,5 +1,5 @@
 -- `state_board::ready::all_ready` meets its contract: the set so far is that of the first p ports. Assumes nothing.
-use Prim.Native.Nat.{◌-◌, ◌≤◌}
+use Prim.Native.Nat.{◌≤◌}
 use mathlib.Core.Path.{◌≡◌}
 use Rattle.state.specs.Layout.{decode_board}
 use Rattle.state.specs.Seen.{all_ports}
@@ -8,6 +8,3 @@ use Rattle.state_board.proofs.ready.all_ready.Given as goal
 
 abbrev pub invariant-loop-p : goal.invariant-loop-p
 invariant-loop-p l = (l.p ≤ 8) × (l.set ≡ ready_below (all_ports (decode_board l.board)) l.p)
-
-abbrev pub decreases-loop-p : goal.decreases-loop-p
-decreases-loop-p l = 8 - l.p

@@ -14,7 +14,7 @@ pub overflow_add-set : goal.overflow_add-set
 overflow_add-set c = omega (
   arith,
   room (ports_seen c.args.number (decode_board c.args.board.now)) _ c.loop-p.p c.loop-p.invariant.1 _ _
-      c.seen_port-x.ensures
+      c.seen_port.ensures
       c.bit_of-set.ensures c.loop-p-test.true,
 )
 
@@ -22,7 +22,7 @@ pub loop-p-preserved : goal.loop-p-preserved
 loop-p-preserved c = (
   search rules,
   turn (ports_seen c.args.number (decode_board c.args.board.now)) _ c.loop-p.p c.loop-p.invariant.1 _ _
-      c.seen_port-x.ensures
+      c.seen_port.ensures
       c.bit_of-set.ensures,
 )
 

@@ -7,6 +7,3 @@ use Rattle.survey.proofs.names.compared.Given as goal
 
 abbrev pub invariant-loop-i : goal.invariant-loop-i
 invariant-loop-i l = (l.i ≤ 8) × ((l.addressed ≡ port_set (has_own l.k l.a) l.i) × (l.broadcast ≡ port_set (has_broadcast l.k l.a) l.i))
-
-abbrev pub decreases-loop-i : goal.decreases-loop-i
-decreases-loop-i l = 8 - l.i

@@ -9,6 +9,3 @@ abbrev pub invariant-loop-i : goal.invariant-loop-i
 invariant-loop-i l = (l.i ≤ 8)
     × Gathered (ports_seen l.number (decode_board l.board)) l.i
     (record { looked = 1; ready = l.ready; marks = l.marks; own = l.own; subnet = l.subnet; class = l.class })
-
-abbrev pub decreases-loop-i : goal.decreases-loop-i
-decreases-loop-i l = 8 - l.i

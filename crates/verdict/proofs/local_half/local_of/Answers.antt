@@ -1,12 +1,16 @@
--- `verdict::local_half::local_of` meets its contract: each answer by the law of its return. Assumes nothing.
-use Rattle.verdict.proofs.local_half.Laws.{local_no, local_unknown, local_yes}
+-- `verdict::local_half::local_of` meets its contract. Assumes nothing.
+use Rattle.std.proofs.Common.{rules}
+use Rattle.verdict.specs.Rule.{local_of}
 use Rattle.verdict.proofs.local_half.local_of.Goals as goal
 
-pub returns-then-wanted_here-eq0 : goal.returns-then-wanted_here-eq0
-returns-then-wanted_here-eq0 c = local_no c.args.t c.args.p c.args.c _ _ _ c.here_by.ensures c.ours_by-ours.ensures c.wanted_here.ensures c.if-wanted_here-eq0.true
+pub returns-then-not-is_wanted_here : goal.returns-then-not-is_wanted_here
+unfolding local_of
+returns-then-not-is_wanted_here c = search rules
 
 pub returns-then-c-eq0 : goal.returns-then-c-eq0
-returns-then-c-eq0 c = local_unknown c.args.t c.args.p c.args.c _ _ _ c.here_by.ensures c.ours_by-ours.ensures c.wanted_here.ensures c.if-wanted_here-eq0.false c.if-c-eq0.true
+unfolding local_of
+returns-then-c-eq0 c = search rules
 
 pub returns : goal.returns
-returns c = local_yes c.args.t c.args.p c.args.c _ _ _ c.here_by.ensures c.ours_by-ours.ensures c.wanted_here.ensures c.if-wanted_here-eq0.false c.if-c-eq0.false
+unfolding local_of
+returns c = search rules

@@ -1,12 +1,16 @@
--- `verdict::local_half::target_of` meets its contract: each answer by the law of its return. Assumes nothing.
-use Rattle.verdict.proofs.local_half.Laws.{ours_itself, broadcast_of_ours_lem, by_class_lem}
+-- `verdict::local_half::target_of` meets its contract. Assumes nothing.
+use Rattle.std.proofs.Common.{rules}
+use Rattle.verdict.specs.Rule.{target_of}
 use Rattle.verdict.proofs.local_half.target_of.Goals as goal
 
 pub returns-then-s-ne0 : goal.returns-then-s-ne0
-returns-then-s-ne0 c = ours_itself _ _ c.if-s-ne0.true
+unfolding target_of
+returns-then-s-ne0 c = search rules
 
 pub returns-then-s-ne0-2 : goal.returns-then-s-ne0-2
-returns-then-s-ne0-2 c = broadcast_of_ours_lem _ _ c.if-s-ne0.false c.class_target.ensures c.if-s-ne0-2.true c.over_broadcast.ensures
+unfolding target_of
+returns-then-s-ne0-2 c = search rules
 
 pub returns : goal.returns
-returns c = by_class_lem _ _ c.if-s-ne0.false c.class_target-2.ensures c.if-s-ne0-2.false
+unfolding target_of
+returns c = search rules

@@ -1,0 +1,2 @@
+-- What a call leaves, by what it called.
+mod Kept

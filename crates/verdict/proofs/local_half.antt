@@ -1,2 +1,0 @@
--- What the local half hands together.
-mod Laws

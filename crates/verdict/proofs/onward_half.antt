@@ -1,2 +1,0 @@
--- What the lines hand together.
-mod Laws
