@@ -1,5 +1,5 @@
 -- Answering in two steps, with the scan of the list of routes between them, as receiving is (crate relay). b is the board's words, w the mission's. Assumes nothing.
-use Rattle.std.specs.Prelude.{ℕ, ◌≡◌, not, List, eqb, ltb}
+use Rattle.std.specs.Prelude.{ℕ, ◌≡◌, List, eqb, ltb}
 use Rattle.checks.specs.Order.{pick}
 use Rattle.sets.specs.Limits.{route_places}
 use Rattle.state.specs.Seen.{Board, State, seated}
@@ -7,8 +7,10 @@ use Rattle.state.specs.Layout.{decode_board, decode}
 use Rattle.lent_state.specs.View.{Lent, told_both, changed_both}
 use Rattle.listing.specs.declared.Query.{Query}
 use Rattle.listing.specs.declared.Scan.{Scan}
+use Rattle.listing.specs.declared.Sought.{Sought}
+use Rattle.listing.specs.declared.Sought.TheVariants.{Nothing, Best, Same}
 use Rattle.answers.specs.Answers.{reply_number}
-use Rattle.relay.specs.Split.{best_if, way_in}
+use Rattle.relay.specs.Split.{way_in}
 use Rattle.replies.specs.Reply.{no_answer}
 use Rattle.replies.specs.Replied.{answering_of, replied_to, replied_output}
 use Rattle.replies.specs.declared.Answering.{Answering}
@@ -21,12 +23,16 @@ answering_in b w count port octets room =
     pick (ltb route_places count) (no_answer 21)
     (told_both (λ (x : Board) (s : State). answering_of (seated x s) s.number x.drop port octets room) (no_answer 16) b w)
 
+-- what is sought where so many replies are made: nothing, or the best route. There is no more than one; of any other number the same entry is sought
+abbrev pub sought_by : ℕ → Sought
+sought_by made = pick (eqb made 0) Nothing (pick (eqb made 1) Best Same)
+
 -- what is asked of the list: the best route to the reply's destination, where one is made
 abbrev pub query_of : Answering → Query
 query_of a =
     record {
       refusal = a.refusal;
-      sought = best_if (not (eqb a.made 0));
+      sought = sought_by a.made;
       address = a.destination.0;
       mask = 0;
       mission = a.number;

@@ -15,6 +15,7 @@ ghost use Rattle.replies.specs.Replied.{no_reply, replied_output, Goes};
 ghost use Rattle.answering.specs.Echoed.{replied_state};
 ghost use Rattle.answering.specs.Split.{
   answering_in,
+  sought_by,
   query_of,
   replied_after,
   number_for,
@@ -24,7 +25,7 @@ ghost use Rattle.answering.specs.Split.{
 };
 
 use address::Slot;
-use listing::{Query, Scan};
+use listing::{Query, Scan, Sought};
 use queue::Entry;
 use replies::Answering;
 use replies::sending::Replied;
@@ -54,6 +55,18 @@ pub fn before(
     replies::answer(board, mission, port, octets, room)
 }
 
+// What is sought by the number that says whether a reply is made: nothing by 0, the best route by 1. No reply is made with another number;
+// any of these seeks the same entry.
+fn sought_by(made: u32) -> Sought
+    ensures { result ≡ sought_by made }
+{
+    match made {
+        0 => Sought::Nothing,
+        1 => Sought::Best,
+        _ => Sought::Same,
+    }
+}
+
 // What is asked of the list of routes.
 pub fn query_of(a: Answering) -> Query
     ensures { result ≡ query_of a }
@@ -61,7 +74,7 @@ pub fn query_of(a: Answering) -> Query
     let destination = a.destination;
     Query {
         refusal: a.refusal,
-        sought: relay::best_if(a.made != 0),
+        sought: sought_by(a.made),
         address: destination.0,
         mask: 0,
         mission: a.number,

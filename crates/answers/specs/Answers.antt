@@ -1,6 +1,6 @@
 -- The numbers that C is told (include/harpjuniper.h): page 01, "the answer gives the local half .. and the onward half"; each case of an answer
 -- has its number here. Assumes nothing.
-use Rattle.std.specs.Prelude.{ℕ, ◌+◌, ◌*◌, ◌/◌, ◌%◌, ◌^◌}
+use Rattle.std.specs.Prelude.{ℕ, ◌+◌, ◌*◌, ◌/◌, ◌%◌, ◌^◌, Result, Ok, Err}
 use Rattle.checks.specs.Answer.{refusal_number}
 use Rattle.queue.specs.declared.Entry.{Entry}
 use Rattle.verdict.specs.Numbers.{local_number, onward_number}
@@ -53,6 +53,11 @@ wide_at low n = n / 2 ^ low % 65536
 -- ---- taking: the precedence above the slot
 abbrev pub entry_number : Entry → ℕ
 entry_number e = e.precedence * 2 ^ 16 + e.slot.0
+
+-- what is told of an entry or a number that refuses
+abbrev pub numbered_taking : Result Entry ℕ → Taking
+numbered_taking (Ok e) = Good e
+numbered_taking (Err n) = Refused n
 
 abbrev pub taking_number : Taking → ℕ
 taking_number (Good e) = entry_number e

@@ -8,10 +8,8 @@
 #![tactic(auto)]
 
 ghost use Rattle.std.specs.Prelude.{◌≡◌, ◌%◌, ◌^◌, ◌<◌};
-ghost use Rattle.checks.specs.Told.{told};
-ghost use Rattle.answers.specs.Answers.{ruling_parts, header_parts, receive_number, reply_number, taking_number};
+ghost use Rattle.answers.specs.Answers.{ruling_parts, header_parts, receive_number, reply_number, numbered_taking, taking_number};
 
-use checks::Refusal;
 use judge::Ending;
 use queue::Entry;
 use verdict::Ruling;
@@ -82,12 +80,12 @@ pub fn reply_number(refusal: u32, x: Ruling, octets: usize) -> u64
     header_parts(below, octets_part(octets), octets_part(octets / 256), 0)
 }
 
-// What taking answers.
-pub fn taking_number(t: Result<Entry, Refusal>) -> u64
-    ensures { result ≡ taking_number (told t) }
+// What taking answers: the entry, or the refusal's number, whichever that is.
+pub fn taking_number(t: Result<Entry, u32>) -> u64
+    ensures { result ≡ taking_number (numbered_taking t) }
 {
     match t {
         Ok(e) => e.precedence as u64 * 0x1_0000 + e.slot.0 as u64,
-        Err(refusal) => checks::refusal_number(refusal.number()),
+        Err(number) => checks::refusal_number(number),
     }
 }

@@ -27,9 +27,9 @@ use Rattle.replies.specs.Reply.{no_answer}
 use Rattle.replies.specs.Replied.{answering_of, replied_to}
 use Rattle.replies.specs.declared.Answering.{Answering}
 use Rattle.replies.proofs.Routes.{answering_routes, ended_routes}
-use Rattle.relay.specs.Split.{best_if, way_in}
+use Rattle.relay.specs.Split.{way_in}
 use Rattle.answering.specs.Echoed.{echo_answering, echo_reply}
-use Rattle.answering.specs.Split.{answering_in, query_of, replied_after}
+use Rattle.answering.specs.Split.{answering_in, sought_by, query_of, replied_after}
 use Rattle.answering.proofs.Searching.{searches, none_same}
 
 module _ (x : Board) (s : State) (rs : List Record) (port : ℕ) (octets : List ℕ) (room : ℕ) where
@@ -44,7 +44,7 @@ module _ (x : Board) (s : State) (rs : List Record) (port : ℕ) (octets : List 
   way_is made =
       let asks = searches (seated x s) s.number x.drop port octets room made in
       let own : asked.ready ≡ ready_of (ports_seen asked.number x) = asks.1.1 ∙ ap (λ (n : ℕ). ready_of (ports_seen n x)) (sym asks.1.0) in
-      sym (search_found x (query_of asked) own (ap (λ (n : ℕ). best_if (not (eqb n 0))) asks.0) rs way_of (λ (place ones to code : ℕ). record { port = only_port to; code = code }) refl (λ place ones r. refl))
+      sym (search_found x (query_of asked) own (ap sought_by asks.0) rs way_of (λ (place ones to code : ℕ). record { port = only_port to; code = code }) refl (λ place ones r. refl))
       ∙ ap (λ (n : ℕ). way_of (search_of asked.destination (routes_seen x n rs))) asks.1.0
 
   replied : replied_to (seated x s) asked (way_in (scan_of (query_of asked) rs)) room ≡ replied_to (seen x s rs) asked (way_to asked) room

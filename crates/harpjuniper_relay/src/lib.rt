@@ -12,6 +12,8 @@ ghost use Rattle.state.specs.Seen.{Board, State, on_memory};
 ghost use Rattle.taking.specs.Taking.{taken_relay};
 ghost use Rattle.checks.specs.Order.{first_of};
 ghost use Rattle.checks.specs.Answer.{refusal_number};
+ghost use Rattle.answers.specs.Answers.{numbered_taking};
+ghost use Rattle.checks.specs.Told.{told as told_taking};
 ghost use Rattle.floods.specs.Sweep.{sweep_checks, swept_memory};
 ghost use Rattle.lent_state.specs.View.{lent, told, told_both, changed_both, told_relay, changed_relay};
 ghost use Rattle.harpjuniper_relay.specs.Face.{
@@ -20,7 +22,19 @@ ghost use Rattle.harpjuniper_relay.specs.Face.{
   waiting_answer,
 };
 
+use checks::Refusal;
+use queue::Entry;
 use state::{BoardWords, MISSION_WORDS, MissionWords};
+
+// What taking answers, with the refusal's number.
+fn numbered(taken: Result<Entry, Refusal>) -> Result<Entry, u32>
+    ensures { numbered_taking result ≡ told_taking taken }
+{
+    match taken {
+        Ok(entry) => Ok(entry),
+        Err(refusal) => Err(refusal.number()),
+    }
+}
 
 // The first entry that waits on a port, removed.
 #[unsafe(no_mangle)]
@@ -34,7 +48,7 @@ pub extern "C" fn hj_take(board: &[u32], mission: &mut [u32], port: u32) -> u64
     let Some(mission) = mission.as_mut_array::<MISSION_WORDS>() else {
         return checks::refusal_number(16);
     };
-    answers::taking_number(taking::take(board, mission, port))
+    answers::taking_number(numbered(taking::take(board, mission, port)))
 }
 
 // A counter.

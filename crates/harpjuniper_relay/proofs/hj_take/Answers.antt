@@ -20,7 +20,7 @@ returns-in_default-as_mut_array-clause-mission_after c = both_kept _ _ _ (search
 pub returns-clause-value : goal.returns-clause-value
 returns-clause-value c = let same_board : c.in-Ok.board.now ≡ c.args.board.now = search rules in
     let same : c.in-Some.mission.now ≡ c.args.mission.now = search rules in
-    both_held_told c.args.board.now c.args.mission.now (search rules) (search rules) _ _ (rw (← same_board, ← same) (c.taking_number.ensures ∙ ap taking_number c.take.ensures.value))
+    both_held_told c.args.board.now c.args.mission.now (search rules) (search rules) _ _ (rw (← same_board, ← same) (c.taking_number.ensures ∙ ap taking_number (c.numbered.ensures ∙ c.take.ensures.value)))
 
 pub returns-clause-mission_after : goal.returns-clause-mission_after
 returns-clause-mission_after c = let same_board : c.in-Ok.board.now ≡ c.args.board.now = search rules in
