@@ -10,13 +10,15 @@ use borrow.Author.Tests.{lt-ltb, le-ltb, ltb-true, ltb-false, eqb-true, eqb-fals
 use Rattle.state.specs.Seen.{Board, State, seated}
 use Rattle.state.specs.Layout.{board_words, mission_words, decode_board, decode}
 use Rattle.lent_state.proofs.Calls.{both_held_told, no_board_told, no_mission_told}
+use Rattle.listing.specs.declared.Sought.{Sought}
+use Rattle.listing.specs.declared.Query.{Query}
 use Rattle.judge.specs.declared.Asked.{Asked}
 use Rattle.judge.specs.Ending.{output_room}
-use Rattle.judge.specs.Asked.{refused_asked, datagram_asked}
+use Rattle.judge.specs.Asked.{refused_asked, datagram_asked, searched_in, address_in}
 use Rattle.judge.proofs.Took.{WasRead, asked_good}
 use Rattle.judge.proofs.Remembering.{asked_placed}
 use Rattle.floods.specs.Memory.{InPlaces}
-use Rattle.relay.specs.Split.{asked_of, Following}
+use Rattle.relay.specs.Split.{asked_of, best_if, query_of, Following}
 
 -- ---- what is asked
 module _ (b w : List ℕ) (port second : ℕ) (octets : List ℕ) (room : ℕ) where
@@ -91,3 +93,10 @@ judged_placed b w second octets room a f zero =
     let j = judged_good b w second octets room a f zero in
     subst⁻¹ (λ (x : Asked). InPlaces x.case.flood) j.1.1.1
     (asked_placed (seated (decode_board b) (decode w)) (decode w).number j.1.1.0 second octets room)
+
+-- ---- what is asked of the list of routes, where these are the answers of the three functions that are called for it
+pub queried : (a : Asked) {searched : Bool} {s : Sought} {d : ℕ} → searched ≡ searched_in a → s ≡ best_if searched → d ≡ address_in a.destination
+    → ◌≡◌ {A = Query} (record { refusal = a.refusal; sought = s; address = d; mask = 0; mission = a.number; own = a.ready }) (query_of a)
+queried a {d = d} told e ed =
+    ap (λ (x : Sought). record { refusal = a.refusal; sought = x; address = d; mask = 0; mission = a.number; own = a.ready }) (e ∙ ap best_if told)
+    ∙ ap (λ (x : ℕ). record { refusal = a.refusal; sought = best_if (searched_in a); address = x; mask = 0; mission = a.number; own = a.ready }) ed

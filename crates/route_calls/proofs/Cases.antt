@@ -1,16 +1,19 @@
 -- What each definition gives, by the tests that the code makes in their order. Assumes nothing.
 use native.Mathlib.Omega.{arith}
-use Prim.Native.Nat.{ℕ, ◌+◌, ◌≤◌, ◌<◌}
-use mathlib.Core.Path.{◌≡◌, sym, ap, ◌∙◌}
+use Prim.Native.Nat.{ℕ, ◌+◌, ◌*◌, ◌%◌, ◌≤◌, ◌<◌}
+use mathlib.Core.Path.{◌≡◌, refl, sym, ap, ◌∙◌}
 use mathlib.Core.Logic.{◌≢◌}
 use mathlib.Core.List.{List}
 use lib.ListN.{length}
 use borrow.Author.Tests.{eq-eqb, ne_eqb, lt-ltb, le-ltb}
+use Rattle.std.specs.Option.{option_map_or}
+use Rattle.std.proofs.Common.{Some, None}
 use Rattle.checks.specs.Order.{check_of, first_of}
 use Rattle.checks.specs.declared.Check.{Check}
 use Rattle.checks.specs.declared.Check.TheVariants.{Passed, Failed}
 use Rattle.checks.proofs.Laws.{passed_false, failed_true}
 use Rattle.checks.specs.Answer.{refusal_number}
+use Rattle.address.specs.Mask.{ones_of}
 use Rattle.sets.specs.Limits.{route_places}
 use Rattle.settings.specs.Refusals.{place_refused}
 use Rattle.routes.specs.declared.Record.{Record}
@@ -23,10 +26,12 @@ use Rattle.lent_state.proofs.Calls.{board_held_told, board_other_told, both_held
 use Rattle.lent_state.proofs.Read.{no_word}
 use Rattle.listing.specs.declared.Sought.TheVariants.{Best}
 use Rattle.listing.specs.declared.Query.{Query}
+use Rattle.listing.specs.declared.Match.{Match}
 use Rattle.listing.specs.declared.Scan.{Scan}
 use Rattle.listing.specs.Listed.{checks_of}
 use Rattle.route_calls.specs.declared.Order.{Order}
 use Rattle.route_calls.specs.declared.Emptying.{Emptying}
+use Rattle.route_calls.specs.Search.{search_parts}
 use Rattle.route_calls.specs.Calls.{
   refused_query,
   best_query,
@@ -80,7 +85,21 @@ module _ (b w : List ℕ) (count address : ℕ) where
           own = (eo ∙ ap (λ (x : ℕ). ready_of (ports_seen x (decode_board b))) en) i;
         }))
 
+-- the three parts, as the code adds them up
+pub parts_are : (place ones port : ℕ)
+    → 0x100 + place % 0x1_0000 * 0x1_0000 + ones % 0x100 * 0x1_0000_0000 + port % 0x100 * 0x100_0000_0000 ≡ search_parts 1 place ones port
+unfolding search_parts
+parts_are place ones port = refl
+
 module _ (s : Scan) where
+  pub scan_none : s.found ≡ None → 0 ≡ scan_number s
+  unfolding scan_number
+  scan_none e = rw e
+
+  pub scan_some : (m : Match) → s.found ≡ Some m → {n r : ℕ} → n ≡ ones_of m.mask → r ≡ search_parts 1 m.place n m.port → r ≡ scan_number s
+  unfolding scan_number
+  scan_some m e en er = rw e (er ∙ ap (λ (x : ℕ). search_parts 1 m.place x m.port) en)
+
   module _ (q : Query) where
     pub number_refused : q.refusal ≢ 0 → q.refusal ≡ search_number q s
     unfolding search_number
@@ -142,6 +161,27 @@ module _ (o : Order) where
   same_sought h = rw (eq-eqb o.refusal 0 h)
 
   module _ (s : Scan) where
+    pub answer_refused : o.refusal ≢ 0 → o.refusal ≡ order_answer o s
+    unfolding order_answer
+    answer_refused h = rw (ne_eqb o.refusal 0 h)
+
+    module _ (h : o.refusal ≡ 0) where
+      pub answer_none : s.found ≡ None → 0 ≡ order_answer o s
+      unfolding order_answer
+      answer_none e = rw (eq-eqb o.refusal 0 h, e)
+
+      module _ (m : Match) (e : s.found ≡ Some m) {n : ℕ} (told : n ≡ option_map_or (λ (found : Match). found.place) s.found 0) where
+        found_place : n ≡ m.place
+        found_place = told ∙ rw e
+
+        pub answer_elsewhere : n ≢ o.place → 23 ≡ order_answer o s
+        unfolding order_answer
+        answer_elsewhere differs = rw (eq-eqb o.refusal 0 h, e, ne_eqb m.place o.place (λ same. differs (found_place ∙ same)))
+
+        pub answer_here : n ≡ o.place → 0 ≡ order_answer o s
+        unfolding order_answer
+        answer_here same = rw (eq-eqb o.refusal 0 h, e, eq-eqb m.place o.place (sym found_place ∙ same))
+
     module _ (old : Record) {n : ℕ} (told : n ≡ order_answer o s) where
       pub chosen_new : n ≡ 0 → o.route ≡ chosen_record o s old
       unfolding chosen_record

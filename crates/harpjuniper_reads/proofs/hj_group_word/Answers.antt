@@ -17,4 +17,4 @@ returns-then-place-ge-GROUPS c = held_told _ (search rules) _ _ (no_place _ _ _ 
 pub returns : goal.returns
 unfolding group_answer
 returns c = held_told _ (search rules) _ _
-    (read_here group_words _ _ _ c.if-place-ge-GROUPS.false c.group_word.ensures (rw (← c.in-Ok.ensures.1.same) c.group_of.ensures))
+    (read_here group_words _ _ _ (assumption) c.group_word.ensures (rw (← c.in-Ok.ensures.1.same) c.group_of.ensures))

@@ -17,4 +17,4 @@ returns-then-place-ge-PAIRS c = held_told _ (search rules) _ _ (no_place _ _ _ c
 pub returns : goal.returns
 unfolding pair_answer
 returns c = held_told _ (search rules) _ _
-    (read_here pair_words _ _ _ c.if-place-ge-PAIRS.false c.pair_word.ensures (rw (← c.in-Ok.ensures.1.same) c.place_of.ensures))
+    (read_here pair_words _ _ _ (assumption) c.pair_word.ensures (rw (← c.in-Ok.ensures.1.same) c.place_of.ensures))

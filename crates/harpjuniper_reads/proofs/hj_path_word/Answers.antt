@@ -17,4 +17,4 @@ returns-then-place-ge-PATHS c = held_told _ (search rules) _ _ (no_place _ _ _ c
 pub returns : goal.returns
 unfolding path_answer
 returns c = held_told _ (search rules) _ _
-    (read_here path_words _ _ _ c.if-place-ge-PATHS.false c.path_word.ensures (rw (← c.in-Ok.ensures.1.same) c.path_of.ensures))
+    (read_here path_words _ _ _ (assumption) c.path_word.ensures (rw (← c.in-Ok.ensures.1.same) c.path_of.ensures))

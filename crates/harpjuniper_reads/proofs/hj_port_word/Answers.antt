@@ -17,4 +17,4 @@ returns-then-port-ge-PORTS c = board_held_told c.args.board.now (search rules) _
 pub returns : goal.returns
 unfolding port_answer
 returns c = board_held_told c.args.board.now (search rules) _ _
-    (read_here owned_words _ _ _ c.if-port-ge-PORTS.false c.owned_word.ensures (rw (← c.in-Ok.ensures.1.same) c.owned_of.ensures))
+    (read_here owned_words _ _ _ (assumption) c.owned_word.ensures (rw (← c.in-Ok.ensures.1.same) c.owned_of.ensures))

@@ -11,4 +11,4 @@ pub returns-then-counter-ge-COUNTERS : goal.returns-then-counter-ge-COUNTERS
 returns-then-counter-ge-COUNTERS c = held_told _ (search rules) _ _ (no_counter _ _ c.if-counter-ge-COUNTERS.true c.refusal_number-then-counter-ge-COUNTERS.ensures)
 
 pub returns : goal.returns
-returns c = held_told _ (search rules) _ _ (rw (← c.in-Ok.ensures.1.same) (counter _ _ c.if-counter-ge-COUNTERS.false c.counter_of.ensures))
+returns c = held_told _ (search rules) _ _ (rw (← c.in-Ok.ensures.1.same) (counter _ _ (assumption) c.counter_of.ensures))

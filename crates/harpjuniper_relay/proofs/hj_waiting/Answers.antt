@@ -11,4 +11,4 @@ pub returns-then-port-ge-PORTS : goal.returns-then-port-ge-PORTS
 returns-then-port-ge-PORTS c = held_told _ (search rules) _ _ (no_queue _ _ c.if-port-ge-PORTS.true c.refusal_number-then-port-ge-PORTS.ensures)
 
 pub returns : goal.returns
-returns c = held_told _ (search rules) _ _ (rw (← c.in-Ok.ensures.1.same) (count _ _ c.if-port-ge-PORTS.false c.count_of.ensures))
+returns c = held_told _ (search rules) _ _ (rw (← c.in-Ok.ensures.1.same) (count _ _ (assumption) c.count_of.ensures))

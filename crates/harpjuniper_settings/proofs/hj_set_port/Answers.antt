@@ -1,5 +1,6 @@
 -- `harpjuniper_settings::hj_set_port` meets its contract. Assumes nothing.
-use Rattle.std.proofs.Common.{◌≡◌, ◌∙◌, rules}
+use Rattle.std.proofs.Common.{◌≡◌, ◌∙◌, length, rules}
+use Rattle.state.specs.Layout.{board_words}
 use Rattle.lent_state.proofs.Calls.{board_held_told, board_other_told}
 use Rattle.harpjuniper_settings.proofs.Kept.{board_kept, board_left}
 use Rattle.harpjuniper_settings.proofs.hj_set_port.Goals as goal
@@ -10,10 +11,19 @@ returns-in_default-clause-value c = board_other_told _ (search rules) _ _
 pub returns-in_default-clause-board_after : goal.returns-in_default-clause-board_after
 returns-in_default-clause-board_after c = board_kept _ _ (search rules) (search rules) _
 
-pub returns-clause-value : goal.returns-clause-value
-returns-clause-value c = let same : c.in-Some.board.now ≡ c.args.board.now = search rules in
-    board_held_told c.args.board.now (search rules) _ _ (rw (← same) (c.number_in.ensures ∙ c.set_port.ensures.answer))
+-- the words are as many as they should be, as they were lent and as they are left
+module _ (c : goal.After-number_in) where
+  same : c.in-Some.board.now ≡ c.args.board.now
+  same = search rules
 
-pub returns-clause-board_after : goal.returns-clause-board_after
-returns-clause-board_after c = let same : c.in-Some.board.now ≡ c.args.board.now = search rules in
-    board_left c.args.board.now c.set_port.new.board _ (search rules) _ (search rules) (search rules) (rw (← same) c.set_port.ensures.left)
+  right : length c.args.board.now ≡ board_words
+  right = search rules
+
+  long : length c.set_port.new.board ≡ board_words
+  long = search rules
+
+pub returns : goal.returns
+returns c = record {
+  value = board_held_told c.args.board.now (right c) _ _ (rw (← same c) (c.number_in.ensures ∙ c.set_port.ensures.answer));
+  board_after = board_left c.args.board.now c.set_port.new.board _ (right c) _ (long c) (search rules) (rw (← same c) c.set_port.ensures.left);
+}

@@ -1,20 +1,15 @@
 -- `route_calls::answer` meets its contract. Assumes nothing.
-use Rattle.std.proofs.Common.{rules}
-use Rattle.route_calls.specs.Calls.{order_answer}
+use Rattle.route_calls.proofs.Cases.{answer_refused, answer_none, answer_here, answer_elsewhere}
 use Rattle.route_calls.proofs.answer.Goals as goal
 
 pub returns-then-o-ne0 : goal.returns-then-o-ne0
-unfolding order_answer
-returns-then-o-ne0 c = search rules
+returns-then-o-ne0 c = answer_refused _ _ c.if-o-ne0.true
 
 pub returns-in_default : goal.returns-in_default
-unfolding order_answer
-returns-in_default c = search rules
+returns-in_default c = answer_none _ _ c.if-o-ne0.false c.in_default.is
 
 pub returns-then-place_of-o : goal.returns-then-place_of-o
-unfolding order_answer
-returns-then-place_of-o c = search rules
+returns-then-place_of-o c = answer_elsewhere _ _ c.if-o-ne0.false _ c.in-Some.is c.place_of.ensures c.if-place_of-o.true
 
 pub returns : goal.returns
-unfolding order_answer
-returns c = search rules
+returns c = answer_here _ _ c.if-o-ne0.false _ c.in-Some.is c.place_of.ensures c.if-place_of-o.false

@@ -10,10 +10,10 @@ pub put_front-requires : goal.put_front-requires
 put_front-requires c = omega (arith, wide_enough c.args.p c.args.output.now (omega (arith, c.requires)), c.requires.1.1.1)
 
 pub returns-then-far-p-eq1 : goal.returns-then-far-p-eq1
-returns-then-far-p-eq1 c = far_sent c.args.took c.args.far _ _ c.args.p c.args.output.now c.if-took-p-ne1.false (omega (arith, c.requires)) c.if-far-p-eq1.true c.requires.1.1.1 c.put_front.ensures
+returns-then-far-p-eq1 c = far_sent c.args.took c.args.far _ _ c.args.p c.args.output.now (omega arith) (omega (arith, c.requires)) c.if-far-p-eq1.true c.requires.1.1.1 c.put_front.ensures
 
 pub put_front-requires-2 : goal.put_front-requires-2
 put_front-requires-2 c = omega (arith, wide_enough c.args.p c.args.output.now (omega (arith, c.requires)), c.requires.1.1.0)
 
 pub returns : goal.returns
-returns c = near_sent c.args.took c.args.far _ _ c.args.p c.args.output.now c.if-took-p-ne1.false (omega (arith, c.requires)) c.if-far-p-eq1.false c.requires.1.1.0 c.put_front-2.ensures
+returns c = near_sent c.args.took c.args.far _ _ c.args.p c.args.output.now (omega arith) (omega (arith, c.requires)) (λ e. omega (arith, e)) c.requires.1.1.0 c.put_front-2.ensures

@@ -1,0 +1,6 @@
+-- `harpjuniper_settings::hj_mission_words` meets its contract. Assumes nothing.
+use Rattle.std.proofs.Common.{refl}
+use Rattle.harpjuniper_settings.proofs.hj_mission_words.Goals as goal
+
+pub returns : goal.returns
+returns c = refl
