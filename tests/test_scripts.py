@@ -606,6 +606,22 @@ class TryEdits(Tree):
         with open(os.path.join(self.root, "crates/pair/src/lib.rt"), encoding="utf-8") as file:
             self.assertEqual(file.read(), SOURCE)
 
+    def test_what_is_proved_at_one_edit_is_kept_for_the_next(self):
+        """In a folder of the crate, in which one prover works at a time, and which is gone at the end."""
+        self.write("crates/pair/must-fail/second.edit", self.EDIT.replace("new: x / 3", "new: x / 4"))
+        self.prover("for kept; do :; done\necho holds $(ls $kept)\nmkdir $kept/busy || echo together\nsleep 0.2\nrmdir $kept/busy\n"
+                    "touch $kept/by-$(sed -n 's|.*x / ||p' src/lib.rt)\necho logic=not-proved; exit 1")
+        self.assertEqual(self.tried(RT_JOBS="4"), (0, "try-edits: 4 files of wrong programs, each refused\n"))
+        holds, folders = {}, set()
+        for crate, label in (("low", "first"), ("pair", "first"), ("pair", "second"), ("user", "first")):
+            with open(os.path.join(self.root, f"build/must-fail/{crate}/{label}.log"), encoding="utf-8") as file:
+                log = file.read()
+            self.assertNotIn("together", log)
+            holds[crate, label] = re.search(r"^holds(.*)$", log, re.M)[1]
+            folders.add(re.search(r" --incremental (\S+)", log)[1])
+        self.assertEqual(holds, {("low", "first"): "", ("pair", "first"): "", ("pair", "second"): " by-3", ("user", "first"): ""})
+        self.assertEqual((len(folders), [folder for folder in folders if os.path.exists(folder)]), (3, []))
+
     def test_what_it_stands_on_is_below(self):
         self.tried("user")
         words = self.log("user")[1]
@@ -629,6 +645,17 @@ class TryEdits(Tree):
         self.assertNotEqual(whole, MustFail.ANSWERS)
         self.write("crates/pair/proofs/half/Answers.antt", whole)
         at = whole.splitlines().index("  two,") + 1
+        self.prover(f"cat proofs/half/Answers.antt\ngrep -q brace-eq1 proofs/half/Answers.antt && echo '{self.GONE.format(at)}' || "
+                    "echo logic=not-proved; exit 1")
+        self.assertEqual(self.tried("pair")[0], 0)
+        left = [line for line in MustFail.ANSWERS.splitlines() if "brace-eq1" not in line]
+        self.assertEqual([line for line in self.log()[2:-1] if line], [line for line in left if line])
+
+    def test_an_answer_is_left_out_with_what_it_unfolds(self):
+        whole = MustFail.ANSWERS.replace("returns-then-brace-eq1 c =", "unfolding half_of\nreturns-then-brace-eq1 c =")
+        self.assertNotEqual(whole, MustFail.ANSWERS)
+        self.write("crates/pair/proofs/half/Answers.antt", whole)
+        at = whole.splitlines().index("returns-then-brace-eq1 c = search rules") + 1
         self.prover(f"cat proofs/half/Answers.antt\ngrep -q brace-eq1 proofs/half/Answers.antt && echo '{self.GONE.format(at)}' || "
                     "echo logic=not-proved; exit 1")
         self.assertEqual(self.tried("pair")[0], 0)
