@@ -8,5 +8,5 @@ returns c =
     set_told c.args.routes.now c.args.place
     (new_record c.args.prefix c.args.mask c.args.port c.args.availability c.args.capabilities c.args.mission)
     c.args.board.now c.ordered-o.result c.same_query-q.result c.scan-s.result c.record_at-old.result c.chosen-x.result c.set_at.new.list
-    c.answer.result c.ordered-o.ensures c.same_query-q.ensures c.scan-s.ensures (rw (← c.place_of.ensures) c.record_at-old.ensures) c.chosen-x.ensures
-    (rw (← c.place_of-2.ensures) c.set_at.ensures) c.answer.ensures
+    c.answer-refusal.result c.ordered-o.ensures c.same_query-q.ensures c.scan-s.ensures (rw (← c.place_of.ensures) c.record_at-old.ensures) c.chosen-x.ensures
+    (rw (← c.place_of-2.ensures) c.set_at.ensures) c.answer-refusal.ensures
