@@ -6,6 +6,8 @@
 // is not set up: it is read like any other, and its first word says so; a pair's first word is its format, and 0 where the place is free. A port is read
 // whosever it is. The routes are lent as a list of records, and
 // are read in the crate `harpjuniper_routes`.
+// A place or port that does not exist is refused before the words are looked at. Both tests answer 21, so the order cannot be seen, and no proof of that
+// refusal has to read the words.
 // A refusal of words is written as its number here, and not by `Refusal`: C is told numbers.
 #![tactic(auto)]
 
@@ -73,12 +75,12 @@ fn owned_word(x: OwnedPort, word: u32) -> u64
 pub extern "C" fn hj_port_word(board: &[u32], port: u32, word: u32) -> u64
     ensures { result ≡ told_board (λ (x : Board). port_answer x port word) (refusal_number 21) board.now }
 {
-    let Ok(board) = <&BoardWords>::try_from(board) else {
-        return checks::refusal_number(21);
-    };
     if sets::PORTS <= port {
         return checks::refusal_number(21);
     }
+    let Ok(board) = <&BoardWords>::try_from(board) else {
+        return checks::refusal_number(21);
+    };
     owned_word(state_board::owned_of(board, port as usize), word)
 }
 
@@ -93,12 +95,12 @@ fn group_word(x: Group, word: u32) -> u64
 pub extern "C" fn hj_group_word(mission: &[u32], place: u32, word: u32) -> u64
     ensures { result ≡ told (λ (x : State). group_answer x.mission place word) (refusal_number 21) mission.now }
 {
-    let Ok(mission) = <&MissionWords>::try_from(mission) else {
-        return checks::refusal_number(21);
-    };
     if sets::GROUPS <= place {
         return checks::refusal_number(21);
     }
+    let Ok(mission) = <&MissionWords>::try_from(mission) else {
+        return checks::refusal_number(21);
+    };
     group_word(state_places::group_of(mission, place as usize), word)
 }
 
@@ -113,12 +115,12 @@ fn path_word(x: PathPlace, word: u32) -> u64
 pub extern "C" fn hj_path_word(mission: &[u32], place: u32, word: u32) -> u64
     ensures { result ≡ told (λ (x : State). path_answer x.mission place word) (refusal_number 21) mission.now }
 {
-    let Ok(mission) = <&MissionWords>::try_from(mission) else {
-        return checks::refusal_number(21);
-    };
     if sets::PATHS <= place {
         return checks::refusal_number(21);
     }
+    let Ok(mission) = <&MissionWords>::try_from(mission) else {
+        return checks::refusal_number(21);
+    };
     path_word(state_places::path_of(mission, place as usize), word)
 }
 
@@ -154,11 +156,11 @@ fn pair_word(x: PairPlace, word: u32) -> u64
 pub extern "C" fn hj_pair_word(mission: &[u32], place: u32, word: u32) -> u64
     ensures { result ≡ told (λ (x : State). pair_answer x.memory place word) (refusal_number 21) mission.now }
 {
-    let Ok(mission) = <&MissionWords>::try_from(mission) else {
-        return checks::refusal_number(21);
-    };
     if sets::PAIRS <= place {
         return checks::refusal_number(21);
     }
+    let Ok(mission) = <&MissionWords>::try_from(mission) else {
+        return checks::refusal_number(21);
+    };
     pair_word(state_pairs::place_of(mission, place as usize), word)
 }

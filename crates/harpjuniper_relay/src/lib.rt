@@ -1,6 +1,8 @@
 // What C calls of what waits, of what was counted and of what is remembered: taking, how many wait, the counters, and the sweep. All are of one mission.
 //
-// Each function tests the number of words lent and then calls the relay. None requires anything: whatever words or port come, the answer is
+// Each function tests the number of words lent and then calls the relay; the two that read test the number of the counter or the port before that.
+// Both tests of these answer 21, so the order cannot be seen, and no proof that such a number is refused has to read the words.
+// None requires anything: whatever words or port come, the answer is
 // the one that the definitions state. Where the words are not as many as a board or a mission's state has, there is no port: taking answers
 // 16, reading and sweeping answer 21, and nothing is written. The board is lent to read: a sweep takes the lifetime from it.
 // A refusal of words is written as its number here, and not by `Refusal`: C is told numbers.
@@ -56,12 +58,12 @@ pub extern "C" fn hj_take(board: &[u32], mission: &mut [u32], port: u32) -> u64
 pub extern "C" fn hj_counter(mission: &[u32], counter: u32) -> u64
     ensures { result ≡ told (λ (x : State). counter_answer x.counters counter) (refusal_number 21) mission.now }
 {
-    let Ok(mission) = <&MissionWords>::try_from(mission) else {
-        return checks::refusal_number(21);
-    };
     if sets::COUNTERS <= counter {
         return checks::refusal_number(21);
     }
+    let Ok(mission) = <&MissionWords>::try_from(mission) else {
+        return checks::refusal_number(21);
+    };
     state_mission::counter_of(mission, counter as usize) as u64
 }
 
@@ -70,12 +72,12 @@ pub extern "C" fn hj_counter(mission: &[u32], counter: u32) -> u64
 pub extern "C" fn hj_waiting(mission: &[u32], port: u32) -> u64
     ensures { result ≡ told (λ (x : State). waiting_answer x.mission port) (refusal_number 21) mission.now }
 {
-    let Ok(mission) = <&MissionWords>::try_from(mission) else {
-        return checks::refusal_number(21);
-    };
     if sets::PORTS <= port {
         return checks::refusal_number(21);
     }
+    let Ok(mission) = <&MissionWords>::try_from(mission) else {
+        return checks::refusal_number(21);
+    };
     state_queues::count_of(mission, port as usize) as u64
 }
 

@@ -10,6 +10,19 @@ use Rattle.state.specs.Layout.{board_words, decode_board, mission_words, decode}
 use Rattle.lent_state.specs.View.{Lent, Held, Other, by_lent, lent_board, lent, told_board, changed_board, told, changed}
 use Rattle.lent_state.specs.View.{told_both, changed_both, told_relay, changed_relay}
 
+-- ---- what the words hold is not asked
+pub same_by_lent : {S A : Type 0} (f : S → A) (d : A) → ((s : S) → d ≡ f s) → (l : Lent S) → d ≡ by_lent f d l
+same_by_lent f d h (Held s) = h s
+same_by_lent f d h (Other w) = refl
+
+pub board_same_told : {A : Type 0} (f : Board → A) (d : A) (w : List ℕ) → ((x : Board) → d ≡ f x) → d ≡ told_board f d w
+unfolding told_board
+board_same_told f d w h = same_by_lent f d h (lent_board w)
+
+pub same_told : {A : Type 0} (f : State → A) (d : A) (w : List ℕ) → ((x : State) → d ≡ f x) → d ≡ told f d w
+unfolding told
+same_told f d w h = same_by_lent f d h (lent w)
+
 -- ---- the board
 module _ (w : List ℕ) (right : length w ≡ board_words) where
   board_is_held : lent_board w ≡ Held (decode_board w)
@@ -114,20 +127,10 @@ module _ (b w : List ℕ) (wrong : length b ≡ board_words → ⊥) where
 -- the mission's words are wrong
 module _ (b w : List ℕ) (wrong : length w ≡ mission_words → ⊥) where
   pub no_mission_told : {A : Type 0} (f : Board → State → A) (d : A) → d ≡ told_both f d b w
-  unfolding told_board
-  no_mission_told f d = by_view (lent_board b)
-    where
-      by_view : (l : Lent Board) → d ≡ by_lent (λ (x : Board). told (f x) d w) d l
-      by_view (Held x) = other_told w wrong (f x) d
-      by_view (Other o) = refl
+  no_mission_told f d = board_same_told (λ (x : Board). told (f x) d w) d b (λ (x : Board). other_told w wrong (f x) d)
 
   pub no_mission_changed : (f : Board → State → State) → lent w ≡ changed_both f b w
-  unfolding told_board
-  no_mission_changed f = by_view (lent_board b)
-    where
-      by_view : (l : Lent Board) → lent w ≡ by_lent (λ (x : Board). changed (f x) w) (lent w) l
-      by_view (Held x) = other_changed w wrong (f x)
-      by_view (Other o) = refl
+  no_mission_changed f = board_same_told (λ (x : Board). changed (f x) w) (lent w) b (λ (x : Board). other_changed w wrong (f x))
 
   pub no_mission_call : {A : Type 0} (f : Board → State → A) (d : A) (g : Board → State → State)
       → (d ≡ told_both f d b w) × (lent w ≡ changed_both g b w)
