@@ -205,13 +205,17 @@ build/readme.c: README.md scripts/readme-program | tools
 
 plain_version := -DPLAIN_VERSION='"$(VERSION)"'
 
-build/plain: host/plain/plain.c $(PLAIN) $(HEADERS) VERSION | tools
-	@mkdir -p build
-	gcc $(CFLAGS) $(plain_version) -o $@ host/plain/plain.c $(PLAIN)
+# The plain implementation, compiled once for build/plain and its tests.
+PLAIN_OBJECTS := $(PLAIN:host/plain/%.c=build/plain-objects/%.o)
+$(PLAIN_OBJECTS): build/plain-objects/%.o: host/plain/%.c $(HEADERS) | tools
+	@mkdir -p $(@D)
+	gcc $(CFLAGS) -c -o $@ $<
 
-build/test_%: host/plain/test_%.c $(PLAIN) $(HEADERS) | tools
-	@mkdir -p build
-	gcc $(CFLAGS) -o $@ $< $(PLAIN)
+build/plain: host/plain/plain.c $(PLAIN_OBJECTS) $(HEADERS) VERSION | tools
+	gcc $(CFLAGS) $(plain_version) -o $@ host/plain/plain.c $(PLAIN_OBJECTS)
+
+build/test_%: host/plain/test_%.c $(PLAIN_OBJECTS) $(HEADERS) | tools
+	gcc $(CFLAGS) -o $@ $< $(PLAIN_OBJECTS)
 
 build/generate: $(GENERATE)
 build/coverage: $(COVERAGE)
