@@ -63,10 +63,10 @@ extern "C" {
 /* ---- The version -------------------------------------------------------- */
 
 /* The version of this header and of the library that it comes with. */
-#define HJ_VERSION "0.5.3"
+#define HJ_VERSION "0.5.4"
 #define HJ_VERSION_MAJOR 0
 #define HJ_VERSION_MINOR 5
-#define HJ_VERSION_PATCH 3
+#define HJ_VERSION_PATCH 4
 
 /* ---- Numbers that hold everywhere ------------------------------------- */
 
