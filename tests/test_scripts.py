@@ -629,8 +629,10 @@ class TryEdits(Tree):
         self.assertIn("--extern pair=" + rlib.format("pair") + "/pair.rlib -L dependency=" + rlib.format("low") +
                       " -L dependency=" + rlib.format("pair") + " --antt", words)
 
-    def test_an_answer_that_does_not_fit_is_left_out(self):
-        at = MustFail.ANSWERS.splitlines().index("returns-then-brace-eq1 c = search rules") + 1
+    def leaves_out(self, answers, line):
+        """The answer that this line is in does not fit: it alone is left out, and only in the copy."""
+        self.write("crates/pair/proofs/half/Answers.antt", answers)
+        at = answers.splitlines().index(line) + 1
         self.prover(f"cat proofs/half/Answers.antt\ngrep -q brace-eq1 proofs/half/Answers.antt && echo '{self.GONE.format(at)}' || "
                     "echo logic=not-proved; exit 1")
         self.assertEqual(self.tried("pair")[0], 0)
@@ -638,29 +640,20 @@ class TryEdits(Tree):
         left = [line for line in MustFail.ANSWERS.splitlines() if "brace-eq1" not in line]
         self.assertEqual([line for line in self.log()[2:-1] if line], [line for line in left if line])
         with open(os.path.join(self.root, "crates/pair/proofs/half/Answers.antt"), encoding="utf-8") as file:
-            self.assertEqual(file.read(), MustFail.ANSWERS)
+            self.assertEqual(file.read(), answers)
+
+    def test_an_answer_that_does_not_fit_is_left_out(self):
+        self.leaves_out(MustFail.ANSWERS, "returns-then-brace-eq1 c = search rules")
 
     def test_an_answer_over_several_lines_is_left_out(self):
-        whole = MustFail.ANSWERS.replace("brace-eq1 c = search rules", "brace-eq1 c = simp (\n  one,\n  two,\n)")
-        self.assertNotEqual(whole, MustFail.ANSWERS)
-        self.write("crates/pair/proofs/half/Answers.antt", whole)
-        at = whole.splitlines().index("  two,") + 1
-        self.prover(f"cat proofs/half/Answers.antt\ngrep -q brace-eq1 proofs/half/Answers.antt && echo '{self.GONE.format(at)}' || "
-                    "echo logic=not-proved; exit 1")
-        self.assertEqual(self.tried("pair")[0], 0)
-        left = [line for line in MustFail.ANSWERS.splitlines() if "brace-eq1" not in line]
-        self.assertEqual([line for line in self.log()[2:-1] if line], [line for line in left if line])
+        answers = MustFail.ANSWERS.replace("brace-eq1 c = search rules", "brace-eq1 c = simp (\n  one,\n  two,\n)")
+        self.assertNotEqual(answers, MustFail.ANSWERS)
+        self.leaves_out(answers, "  two,")
 
     def test_an_answer_is_left_out_with_what_it_unfolds(self):
-        whole = MustFail.ANSWERS.replace("returns-then-brace-eq1 c =", "unfolding half_of\nreturns-then-brace-eq1 c =")
-        self.assertNotEqual(whole, MustFail.ANSWERS)
-        self.write("crates/pair/proofs/half/Answers.antt", whole)
-        at = whole.splitlines().index("returns-then-brace-eq1 c = search rules") + 1
-        self.prover(f"cat proofs/half/Answers.antt\ngrep -q brace-eq1 proofs/half/Answers.antt && echo '{self.GONE.format(at)}' || "
-                    "echo logic=not-proved; exit 1")
-        self.assertEqual(self.tried("pair")[0], 0)
-        left = [line for line in MustFail.ANSWERS.splitlines() if "brace-eq1" not in line]
-        self.assertEqual([line for line in self.log()[2:-1] if line], [line for line in left if line])
+        answers = MustFail.ANSWERS.replace("returns-then-brace-eq1 c =", "unfolding half_of\nreturns-then-brace-eq1 c =")
+        self.assertNotEqual(answers, MustFail.ANSWERS)
+        self.leaves_out(answers, "returns-then-brace-eq1 c = search rules")
 
     def test_answers_that_fit_nowhere(self):
         """Where it is no answer that does not fit, all of the file is left out."""
